@@ -1,0 +1,4 @@
+pub mod Cause
+pub mod Disk
+pub mod Name
+pub mod Shelf

@@ -1,0 +1,50 @@
+-- What a shelf holds, and what its calls do.
+use Rattle.std.specs.Prelude.{◌≡◌, ◌⊎◌, ℕ, ◌≤◌, nat_le, if◌then◌else◌, List, [], ◌++◌, length, take, Option, Some, None, unwrap_or, Result, MatchResult}
+use Rattle.std.specs.Cmp.Lexicographic.{slice_cmp}
+use Rattle.std.specs.Ordering.{nat_cmp}
+use Rattle.std.specs.FinMap as map
+use Rattle.door_outside.specs.Disk.{read_count, read_into}
+use Rattle.door_outside.specs.declared.shelf.Piece.{Piece}
+use Rattle.door_outside.specs.declared.shelf.Piece.TheVariants.{Missing, Count}
+use Rattle.door_outside.specs.declared.fetch.Fetched.{Fetched}
+use Rattle.door_outside.specs.declared.fetch.Fetched.TheVariants as fetch
+
+-- the files by their names
+abbrev pub Files : Type 0
+Files = map.FinMap (slice_cmp nat_cmp) (List ℕ)
+
+abbrev pub held : Files → List ℕ → Option (List ℕ)
+held files name = map.get files name
+
+abbrev pub PieceWithin : ℕ → Piece → Type 0
+PieceWithin room Missing = Unit {0}
+PieceWithin room (Count n) = n ≤ room
+
+-- what a piece of a file is
+abbrev pub PieceIs : Option (List ℕ) → ℕ → List ℕ → List ℕ → Piece → Type 0
+PieceIs None at old new Missing = Unit {0}
+PieceIs None at old new (Count n) = ⊥
+PieceIs (Some file) at old new Missing = ⊥
+PieceIs (Some file) at old new (Count n) = (n ≡ read_count file at (length old)) × (new ≡ read_into file at old)
+
+-- the file is made empty, or left as it was
+abbrev pub Begins : {E : Type 0} → List ℕ → Files → Files → Result (Unit {0}) E → Type 0
+Begins name old new result = MatchResult result (λ _. new ≡ map.insert old name []) (λ _. (new ≡ old) ⊎ (new ≡ map.insert old name []))
+
+-- the bytes are at its end, or some of them
+abbrev pub Appends : {E : Type 0} → List ℕ → List ℕ → Files → Files → Result (Unit {0}) E → Type 0
+Appends name bytes old new result =
+    MatchResult result
+    (λ _. new ≡ map.insert old name (unwrap_or (held old name) [] ++ bytes))
+    (λ _. (new ≡ old) ⊎ ((count : ℕ) × (new ≡ map.insert old name (unwrap_or (held old name) [] ++ take count bytes))))
+
+-- the whole of a file of at most so many bytes
+abbrev pub fetched : ℕ → Option (List ℕ) → Fetched
+fetched most None = fetch.Missing
+fetched most (Some file) = if nat_le (length file) most then fetch.Whole file else fetch.TooLarge
+
+-- what was fetched has at most so many bytes
+abbrev pub FetchedWithin : ℕ → Fetched → Type 0
+FetchedWithin most fetch.Missing = Unit {0}
+FetchedWithin most fetch.TooLarge = Unit {0}
+FetchedWithin most (fetch.Whole bytes) = length bytes ≤ most

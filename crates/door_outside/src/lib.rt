@@ -1,0 +1,20 @@
+//! What stands outside the door: the disk and the voice of a host, and a shelf of named files. Each is a
+//! trait whose clauses say what a call does, leaves and counts.
+#![tactic(auto)]
+
+mod fault;
+mod fetch;
+mod file;
+mod host;
+mod name;
+mod shelf;
+#[cfg(test)]
+mod tests;
+
+pub use byte_lists::{Bytes, Duplicate, Lines, List};
+pub use fault::{DiskFault, ShelfFault, VoiceFault};
+pub use fetch::{FetchError, Fetched, fetch_whole};
+pub use file::FileId;
+pub use host::Host;
+pub use name::ShelfName;
+pub use shelf::{Piece, Shelf};
