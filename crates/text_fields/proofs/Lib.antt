@@ -1,0 +1,4 @@
+pub mod Trimming
+pub mod Numbers
+pub mod Splits
+pub mod LineLists

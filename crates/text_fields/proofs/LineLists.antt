@@ -1,0 +1,49 @@
+-- The lines of a text, one at a time.
+use Rattle.std.proofs.Common.{◌≡◌, ℕ, ◌<◌, Bool, true, false, cond, eqb, List, [], ◌∷◌, ◌++◌, length, refl, sym, ap, ◌∙◌, arith, append_assoc, ne_eqb}
+use Rattle.std.proofs.lemmas.List.{nil_from_length, append-nil}
+use Rattle.std.proofs.lemmas.List.Splits.{slice_split_at, slice_split_none}
+use Rattle.std.proofs.lemmas.Bool.Decides.{nat_tests}
+use Rattle.std.specs.List.{All, slice_split, onto_first}
+use Rattle.text_fields.specs.Split.{Lacks, SplitsAt}
+use Rattle.std.specs.Str.Lines.{lines, lines_of_parts, strip_carriage_return}
+
+onto_some : (x : ℕ) (parts : List (List ℕ)) → (part : List ℕ) × (more : List (List ℕ)) × (onto_first x parts ≡ part ∷ more)
+onto_some x [] = (x ∷ [], [], refl)
+onto_some x (part ∷ parts) = (x ∷ part, parts, refl)
+
+-- a split has a first part
+some_part : (p : ℕ → Bool) (xs : List ℕ) → (part : List ℕ) × (parts : List (List ℕ)) × (slice_split p xs ≡ part ∷ parts)
+some_part p [] = ([], [], refl)
+some_part p (x ∷ xs) = elim (p x) as (λ b. (part : List ℕ) × (parts : List (List ℕ)) × (cond b ([] ∷ slice_split p xs) (onto_first x (slice_split p xs)) ≡ part ∷ parts)) [
+  | true ↦ ([], slice_split p xs, refl)
+  | false ↦ onto_some x (slice_split p xs)
+]
+
+-- the first line, and those of the rest
+first_line : (xs ys : List ℕ) → All (λ b. eqb b 10 ≡ false) xs → lines (xs ++ 10 ∷ ys) ≡ strip_carriage_return xs ∷ lines ys
+first_line xs ys h =
+    let s : (part : List ℕ) × (parts : List (List ℕ)) × (slice_split (λ b. eqb b 10) ys ≡ part ∷ parts) = some_part (λ b. eqb b 10) ys in
+    ap lines_of_parts (slice_split_at (λ b. eqb b 10) xs 10 ys h refl ∙ ap (λ zs. xs ∷ zs) s.2)
+    ∙ ap (λ zs. strip_carriage_return xs ∷ lines_of_parts zs) (sym s.2)
+
+last_line : (xs : List ℕ) → 0 < length xs → All (λ b. eqb b 10 ≡ false) xs → lines xs ≡ xs ∷ []
+last_line xs some h =
+    let e : eqb (length xs) 0 ≡ false = grind (arith, nat_tests) in
+    ap lines_of_parts (slice_split_none (λ b. eqb b 10) xs h) ∙ ap (λ (b : Bool). cond b [] (xs ∷ [])) e
+
+no_feed : (xs : List ℕ) → Lacks 10 xs → All (λ b. eqb b 10 ≡ false) xs
+no_feed xs h i d lt = ne_eqb _ 10 (h i d lt)
+
+-- one line more
+pub goes_on : (text rest line after : List ℕ) (all new : List (List ℕ)) → lines text ≡ all ++ lines rest → SplitsAt 10 rest line after
+    → new ≡ all ++ strip_carriage_return line ∷ [] → lines text ≡ new ++ lines after
+goes_on text rest line after all new so_far split e =
+    so_far ∙ (ap (λ zs. all ++ zs) (ap lines split.whole ∙ first_line line after (no_feed line split.first))
+    ∙ (sym (append_assoc all (strip_carriage_return line ∷ []) (lines after)) ∙ ap (λ zs. zs ++ lines after) (sym e)))
+
+-- the line without a line feed
+pub last_is : (text rest : List ℕ) (all new : List (List ℕ)) → lines text ≡ all ++ lines rest → 0 < length rest → Lacks 10 rest → new ≡ all ++ rest ∷ [] → new ≡ lines text
+last_is text rest all new so_far some clear e = e ∙ sym (so_far ∙ ap (λ zs. all ++ zs) (last_line rest some (no_feed rest clear)))
+
+pub none_is_left : (text rest : List ℕ) (all : List (List ℕ)) → lines text ≡ all ++ lines rest → length rest ≡ 0 → all ≡ lines text
+none_is_left text rest all so_far none = sym (so_far ∙ (ap (λ xs. all ++ lines xs) (nil_from_length rest none) ∙ append-nil all))

@@ -1,0 +1,8 @@
+-- The bytes that are blanks around a text.
+use Rattle.std.specs.Prelude.{◌≡◌, ◌⊎◌, ℕ}
+use Rattle.text_fields.specs.declared.blank.Blank.{Blank}
+use Rattle.text_fields.specs.declared.blank.Blank.TheVariants.{Spaces, SpacesAndNuls}
+
+abbrev pub IsBlank : Blank → ℕ → Type 0
+IsBlank Spaces b = b ≡ 32
+IsBlank SpacesAndNuls b = (b ≡ 32) ⊎ (b ≡ 0)

@@ -1,0 +1,4 @@
+pub mod Blank
+pub mod Trim
+pub mod Number
+pub mod Split

@@ -1,0 +1,20 @@
+//! The rules that the text formats of the door share: blanks around a field, digits, and lines that
+//! end at a line feed.
+#![tactic(auto)]
+
+mod blank;
+mod digits;
+pub mod laws;
+mod lines;
+mod number;
+mod split;
+#[cfg(test)]
+mod tests;
+mod trim;
+
+pub use blank::Blank;
+pub use digits::{add_decimal, digits_of};
+pub use lines::lines_of;
+pub use number::number_of;
+pub use split::split_at_byte;
+pub use trim::{trimmed, trimmed_end};

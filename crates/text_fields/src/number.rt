@@ -1,0 +1,19 @@
+ghost use Rattle.std.specs.Prelude.{◌≤◌, ℕ, length, MatchOption};
+ghost use Rattle.text_fields.specs.Blank.{IsBlank};
+ghost use Rattle.text_fields.specs.Number.{Number};
+
+use crate::blank::Blank;
+use crate::digits::digits_of;
+use crate::trim::trimmed;
+
+/// The number that a field has between its blanks, or None where that isn't one to nineteen digits.
+pub fn number_of(field: &[u8], blank: Blank, most: usize) -> Option<u64>
+    requires { most ≤ 19 }
+    ensures { MatchOption result ((n : ℕ) → ¬ Number (IsBlank blank) most field.now n) (Number (IsBlank blank) most field.now) }
+{
+    let digits = trimmed(field, blank);
+    if digits.len() > most {
+        return None;
+    }
+    digits_of(digits)
+}

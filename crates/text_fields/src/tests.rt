@@ -1,0 +1,81 @@
+//! Fields and texts from worked examples.
+use crate::{
+    Blank, add_decimal, digits_of, lines_of, number_of, split_at_byte, trimmed, trimmed_end,
+};
+use byte_lists::Bytes;
+use std::test::Fail;
+
+#[test]
+fn trims_blanks(rt: HostRuntime) -> Result<(), Fail> {
+    let field = b"  Ann Lee \0 ".as_slice();
+    assert_eq!(rt;
+        trimmed_end(field, Blank::SpacesAndNuls),
+        b"  Ann Lee".as_slice()
+    );
+    assert_eq!(rt;
+        trimmed_end(field, Blank::Spaces),
+        b"  Ann Lee \0".as_slice()
+    );
+    assert_eq!(rt; trimmed(field, Blank::SpacesAndNuls), b"Ann Lee".as_slice());
+    assert_eq!(rt; trimmed(b"   ", Blank::Spaces).len(), 0);
+    Ok(())
+}
+
+#[test]
+fn reads_numbers(rt: HostRuntime) -> Result<(), Fail> {
+    for (digits, value) in [
+        (b"0000000001".as_slice(), Some(1)),
+        (b"4294967295", Some(4_294_967_295)),
+        (b"", None),
+        (b"+1", None),
+        (b"1 ", None),
+    ] {
+        assert!(rt; digits.len() <= 19);
+        assert_eq!(rt; digits_of(digits), value);
+    }
+    for (field, value) in [
+        (b" 65535 ".as_slice(), Some(65_535)),
+        (b"\x0012\0", Some(12)),
+        (b"1 2", None),
+        (b"1234567890", None),
+        (b" ", None),
+    ] {
+        assert_eq!(rt; number_of(field, Blank::SpacesAndNuls, 9), value);
+    }
+    Ok(())
+}
+
+#[test]
+fn splits_at_the_first_byte(rt: HostRuntime) -> Result<(), Fail> {
+    let (front, rest) = split_at_byte(b"12345,TEST,BBS", b',').ok_or("no comma")?;
+    assert_eq!(rt; front, b"12345".as_slice());
+    assert_eq!(rt; rest, b"TEST,BBS".as_slice());
+    assert!(rt; split_at_byte(b"12345", b',').is_none());
+    Ok(())
+}
+
+#[test]
+fn reads_lines(rt: HostRuntime) -> Result<(), Fail> {
+    let lines = lines_of(rt.alloc(), b"one\r\n\ntwo\r\r\nthree\r")?;
+    assert_eq!(rt; lines.len(), 4);
+    for (place, text) in [
+        (0, b"one".as_slice()),
+        (1, b""),
+        (2, b"two\r"),
+        (3, b"three\r"),
+    ] {
+        let line = lines.get(place).ok_or("no line")?;
+        assert_eq!(rt; line.as_slice(), text);
+    }
+    assert_eq!(rt; lines_of(rt.alloc(), b"")?.len(), 0);
+    assert_eq!(rt; lines_of(rt.alloc(), b"one\n")?.len(), 1);
+    Ok(())
+}
+
+#[test]
+fn writes_numbers(rt: HostRuntime) -> Result<(), Fail> {
+    let mut text = Bytes::from_slice(rt.alloc(), b"at ")?;
+    add_decimal(&mut text, 4_294_967_295)?;
+    assert_eq!(rt; text.as_slice(), b"at 4294967295".as_slice());
+    Ok(())
+}
