@@ -1,4 +1,11 @@
 pub mod Cause
+pub mod Contents
 pub mod Disk
+pub mod Events
+pub mod Images
+pub mod Left
+pub mod MemoryHost
+pub mod MemoryShelf
 pub mod Name
+pub mod Plan
 pub mod Shelf

@@ -2,12 +2,26 @@
 //! trait whose clauses say what a call does, leaves and counts.
 #![tactic(auto)]
 
+mod calls;
+mod content;
+mod contents;
+mod draws;
+mod event;
 mod fault;
 mod fetch;
 mod file;
 mod host;
+mod image;
+mod memory_host;
+mod memory_shelf;
+#[cfg(test)]
+mod memory_tests;
 mod name;
+mod order;
+mod pieces;
+mod plan;
 mod shelf;
+mod tears;
 #[cfg(test)]
 mod tests;
 
@@ -16,5 +30,9 @@ pub use fault::{DiskFault, ShelfFault, VoiceFault};
 pub use fetch::{FetchError, Fetched, fetch_whole};
 pub use file::FileId;
 pub use host::Host;
+pub use image::ImageChoice;
+pub use memory_host::MemoryHost;
+pub use memory_shelf::MemoryShelf;
 pub use name::ShelfName;
+pub use plan::{CallNumbers, FaultPlan};
 pub use shelf::{Piece, Shelf};

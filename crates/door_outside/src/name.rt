@@ -93,6 +93,18 @@ impl ShelfName {
         Ok(Some(ShelfName { text }))
     }
 
+    /// The name of a file in this folder.
+    pub fn file(&self, alloc: Global, part: &[u8]) -> Result<ShelfName, AllocError>
+        requires folder { HasParts 3 self.now }
+        requires part { IsPart part.now }
+        ensures { IfOk result (λ name. name ≡ self.now ++ 47 ∷ part.now) }
+    {
+        let mut text = self.text.copy(alloc)?;
+        text.add(b"/")?;
+        text.add(part)?;
+        Ok(ShelfName { text })
+    }
+
     /// Whether the name has at most 3 parts, and so may name a folder.
     pub fn is_folder(&self) -> bool
         ensures { IsTrue result ↔ HasParts 3 self.now }
