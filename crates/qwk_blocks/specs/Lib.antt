@@ -1,0 +1,5 @@
+pub mod Header
+pub mod Text
+pub mod Packet
+pub mod Answer
+pub mod Written

@@ -1,0 +1,19 @@
+//! MESSAGES.DAT, by Patrick Y. Lee's QWK Mail Packet File Layout of 1992: blocks of 128 bytes, read and
+//! written.
+#![tactic(auto)]
+
+mod fault;
+mod header;
+pub mod laws;
+mod message;
+mod packet;
+#[cfg(test)]
+mod tests;
+mod text;
+mod writable;
+mod write;
+
+pub use fault::{QwkError, QwkFault};
+pub use message::{Header, QwkMessage, QwkMessages};
+pub use packet::read_messages;
+pub use write::write_messages;

@@ -1,0 +1,57 @@
+-- The first line of CONTROL.DAT that breaks its rule.
+use Rattle.std.specs.Prelude.{◌≡◌, ◌⊎◌, ℕ, ◌+◌, ◌*◌, ◌<◌, ◌≤◌, List, Option, Some, length, Result, Err}
+use Rattle.std.specs.Str.Lines.{lines}
+use Rattle.qwk_control.specs.Line.{line, PlaceLine, IdLine}
+use Rattle.qwk_control.specs.declared.fault.ControlError.{ControlError}
+use Rattle.qwk_control.specs.declared.fault.ControlError.TheVariants.{TooFewLines, BadNumber, BadBoardId, OutOfMemory}
+
+-- line 11 and each conference's first line are numbers
+abbrev pub IsNumberPlace : ℕ → Type 0
+IsNumberPlace k = (k ≡ 11) ⊎ ((j : ℕ) × (k ≡ 12 + 2 * j))
+
+-- the lines that must be there: eleven, and two for each conference that line 11 counts
+abbrev pub IsWanted : List (List ℕ) → ℕ → Type 0
+IsWanted all k = (k ≤ 11) ⊎ ((text : List ℕ) × (n : ℕ) × (line all 11 ≡ Some text) × PlaceLine text n × (k ≤ 13 + 2 * n))
+
+-- the line is there and keeps its rule
+pub record Keeps (all : List (List ℕ)) (k : ℕ) : Type 0 where
+  pub text : List ℕ
+  pub there : line all k ≡ Some text
+  pub id : k ≡ 5 → (serial id : List ℕ) × IdLine text serial id
+  pub number : IsNumberPlace k → (n : ℕ) × PlaceLine text n
+
+-- the line breaks its rule so
+abbrev pub Breaks : List (List ℕ) → ℕ → ControlError → Type 0
+Breaks all k (TooFewLines at) = (at ≡ k) × (length all < k)
+Breaks all k (BadNumber at) = (at ≡ k) × IsNumberPlace k × ((text : List ℕ) × (line all k ≡ Some text) × ((n : ℕ) → ¬ PlaceLine text n))
+Breaks all k BadBoardId = (k ≡ 5) × ((text : List ℕ) × (line all k ≡ Some text) × ((serial id : List ℕ) → ¬ IdLine text serial id))
+Breaks all k OutOfMemory = ⊥
+
+-- the first line that breaks its rule, among those that must be there
+abbrev pub LineFault : List (List ℕ) → ControlError → Type 0
+LineFault all fault = (k : ℕ) × (1 ≤ k) × IsWanted all k × ((j : ℕ) → 1 ≤ j → j < k → Keeps all j) × Breaks all k fault
+
+abbrev pub ControlFault : List ℕ → ControlError → Type 0
+ControlFault bytes fault = LineFault (lines bytes) fault
+
+-- each of the first lines keeps its rule
+abbrev pub KeepsUpto : List (List ℕ) → ℕ → Type 0
+KeepsUpto all n = (j : ℕ) → 1 ≤ j → j ≤ n → Keeps all j
+
+-- one of the first lines is the first that breaks its rule
+abbrev pub BreaksUpto : List (List ℕ) → ℕ → ControlError → Type 0
+BreaksUpto all n fault = (k : ℕ) × (1 ≤ k) × (k ≤ n) × ((j : ℕ) → 1 ≤ j → j < k → Keeps all j) × Breaks all k fault
+
+-- each line that must be there keeps its rule, and line 11 is n
+pub record LinesKept (all : List (List ℕ)) (n : ℕ) : Type 0 where
+  pub keeps : KeepsUpto all (13 + 2 * n)
+  pub last : (text : List ℕ) → line all 11 ≡ Some text → PlaceLine text n
+  pub within : 11 ≤ length all
+
+-- want of memory, or a fault of which P holds
+abbrev pub MemoryOr : (ControlError → Type 0) → ControlError → Type 0
+MemoryOr P fault = (fault ≡ OutOfMemory) ⊎ P fault
+
+-- the answer, or want of memory, which may come at any time
+abbrev pub UnlessMemory : {T : Type 0} → Result T ControlError → Result T ControlError → Type 0
+UnlessMemory result answer = (result ≡ answer) ⊎ (result ≡ Err OutOfMemory)

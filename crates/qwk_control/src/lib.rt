@@ -1,0 +1,16 @@
+//! CONTROL.DAT, by Patrick Y. Lee's QWK Mail Packet File Layout of 1992: the lines that describe a
+//! packet, read and written.
+#![tactic(auto)]
+
+mod conferences;
+mod control;
+mod fault;
+mod id;
+pub mod laws;
+mod number;
+mod read;
+mod rules;
+
+pub use control::{Control, Listed};
+pub use fault::ControlError;
+pub use read::read_control;
