@@ -1,0 +1,11 @@
+//! Runs over a list of entries, whatever an entry is and does: the classes of entries, how a run ends, and
+//! what it leaves and says where it ends early or a crash cuts it short.
+#![tactic(auto)]
+
+mod class;
+mod status;
+#[cfg(test)]
+mod tests;
+
+pub use class::Class;
+pub use status::Status;

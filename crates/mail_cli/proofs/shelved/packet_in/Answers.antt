@@ -1,0 +1,14 @@
+use Rattle.std.proofs.Common.{◌≡◌, ℕ, List, Err, refl, ap, subst}
+use Rattle.qwk_blocks.specs.Packet.{PacketReads, FirstFault}
+use Rattle.qwk_blocks.specs.declared.fault.QwkFault.{QwkFault}
+use Rattle.mail_cli.specs.declared.answer.Refusal.TheVariants.{Broken}
+use Rattle.mail_cli.specs.Shelved.{PacketOf}
+use Rattle.mail_cli.proofs.Reading.{refused_by}
+use Rattle.mail_cli.proofs.shelved.packet_in.Goals as goal
+
+pub returns-in-Err-Fault-clause-packet : goal.returns-in-Err-Fault-clause-packet
+returns-in-Err-Fault-clause-packet g c tells =
+    let fault = c.in-Err-Fault.fault in
+    let first : FirstFault c.as_slice.result.now fault = c.in-Err-Fault.ensures.fault fault (ap Err c.in-Err-Fault.field-0-is) in
+    refused_by PacketReads FirstFault (λ (f : QwkFault). Broken f) _ c.in-Ok.bytes fault (c.in-Ok.ensures.file tells)
+    (subst (λ (bytes : List ℕ). FirstFault bytes fault) c.as_slice.ensures.same first)

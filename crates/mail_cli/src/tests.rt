@@ -1,0 +1,3 @@
+//! The commands over a host and a shelf in memory, by worked examples.
+mod packets;
+mod runs;

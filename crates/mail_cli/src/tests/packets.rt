@@ -1,0 +1,114 @@
+//! The files that the examples put on the shelf.
+use door_outside::{Bytes, CallNumbers, FaultPlan, MemoryShelf, ShelfName};
+use std::alloc::{AllocError, Global};
+use std::test::Fail;
+
+/// The CONTROL.DAT of the example, in lines that end with CR LF.
+const CONTROL: &[u8] =
+    b"Test Board\r\nSpringfield\r\n555-0100\r\nSam Sysop\r\n12345,TESTBBS\r\n09-09-2001,01:46:40\r\nANN LEE\r\n\r\n0\r\n1\r\n2\r\n0\r\nGENERAL\r\n1\r\nNETMAIL\r\n7\r\nNEWS\r\nWELCOME\r\nNEWS\r\nGOODBYE\r\n";
+
+/// Adds a text, and a byte up to a width.
+fn add_field(file: &mut Bytes, text: &[u8], width: usize, pad: u8) -> Result<(), AllocError> {
+    file.add(text)?;
+    for _ in text.len()..width {
+        file.add(&[pad])?;
+    }
+    Ok(())
+}
+
+/// Adds the header block of the example, with its count of blocks.
+fn add_header(file: &mut Bytes, count: &[u8]) -> Result<(), AllocError> {
+    file.add(b" ")?;
+    add_field(file, b"1", 7, b' ')?;
+    file.add(b"09-09-0101:46")?;
+    add_field(file, b"ALL", 25, b' ')?;
+    add_field(file, b"BOB RAY", 25, b' ')?;
+    add_field(file, b"Hello", 25, b' ')?;
+    add_field(file, b"", 12, b' ')?;
+    add_field(file, b"0", 8, b' ')?;
+    add_field(file, count, 6, b' ')?;
+    file.add(&[0xE1, 0, 0, 1, 0, b' '])
+}
+
+/// A notice, and the header and one block of text of so many messages.
+fn packet(alloc: Global, messages: usize, count: &[u8], pad: u8) -> Result<Bytes, AllocError> {
+    let mut file = Bytes::new(alloc);
+    add_field(&mut file, b"Produced by qwkdoor, packet 1", 128, b' ')?;
+    for _ in 0..messages {
+        add_header(&mut file, count)?;
+        add_field(&mut file, b"First line\xE3", 128, pad)?;
+    }
+    Ok(file)
+}
+
+/// A plan by which no call fails.
+pub fn no_faults(alloc: Global) -> FaultPlan {
+    FaultPlan {
+        fails: CallNumbers::new(alloc),
+        stop: None,
+    }
+}
+
+fn put(shelf: &mut MemoryShelf, alloc: Global, name: &str, file: &[u8]) -> Result<(), Fail> {
+    let name = ShelfName::parse(alloc, name.as_bytes())?.ok_or("no name")?;
+    shelf.put(&name, file)?;
+    Ok(())
+}
+
+/// Puts the first bytes of a file.
+fn put_front(
+    shelf: &mut MemoryShelf,
+    alloc: Global,
+    name: &str,
+    file: &Bytes,
+    len: usize,
+) -> Result<(), Fail> {
+    put(
+        shelf,
+        alloc,
+        name,
+        file.as_slice().get(..len).ok_or("too short")?,
+    )
+}
+
+/// Puts the packets of the examples.
+pub fn put_packets(shelf: &mut MemoryShelf, alloc: Global) -> Result<(), Fail> {
+    let one = packet(alloc, 1, b"2", b' ')?;
+    put(shelf, alloc, "P1", one.as_slice())?;
+    for (name, len) in [("p0", 0), ("p127", 127), ("p128", 128)] {
+        put_front(shelf, alloc, name, &one, len)?;
+    }
+    let two = packet(alloc, 2, b"2", b' ')?;
+    put_front(shelf, alloc, "cut", &two, 639)?;
+    put(
+        shelf,
+        alloc,
+        "zero",
+        packet(alloc, 1, b"0", b' ')?.as_slice(),
+    )?;
+    put(
+        shelf,
+        alloc,
+        "blank",
+        packet(alloc, 1, b"", b' ')?.as_slice(),
+    )?;
+    put_front(shelf, alloc, "header", &packet(alloc, 1, b"1", b' ')?, 256)?;
+    put(shelf, alloc, "nuls", packet(alloc, 1, b"2", 0)?.as_slice())
+}
+
+/// Puts the folders of packets: a whole one, and ones in which each refusal comes first.
+pub fn put_folders(shelf: &mut MemoryShelf, alloc: Global) -> Result<(), Fail> {
+    let one = packet(alloc, 1, b"2", b' ')?;
+    put(shelf, alloc, "out/CONTROL.DAT", CONTROL)?;
+    put(shelf, alloc, "out/MESSAGES.DAT", one.as_slice())?;
+    put(shelf, alloc, "none/MESSAGES.DAT", one.as_slice())?;
+    put(
+        shelf,
+        alloc,
+        "short/CONTROL.DAT",
+        b"one\ntwo\nthree\nfour\n",
+    )?;
+    put(shelf, alloc, "bare/CONTROL.DAT", CONTROL)?;
+    put(shelf, alloc, "broken/CONTROL.DAT", CONTROL)?;
+    put_front(shelf, alloc, "broken/MESSAGES.DAT", &one, 383)
+}

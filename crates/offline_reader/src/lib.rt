@@ -1,0 +1,13 @@
+//! The caller's side of a QWK packet: what it prints of a packet's messages.
+#![tactic(auto)]
+
+mod folder;
+mod letter;
+mod listing;
+mod print;
+#[cfg(test)]
+mod tests;
+
+pub use folder::list_folder;
+pub use letter::{ShowError, show_message};
+pub use listing::list_packet;
