@@ -1,0 +1,172 @@
+#!/bin/sh
+# Shows by strace what a run asks of the system: that each sync reached the file and the folder, and that a
+# fault in any one call ends the run with the stated status and does no other harm. It is no part of the gate.
+# usage: bench/edge.sh [WORDS..]    the command that is run; without words it is `list P1`
+# The folders that DATA_FROM and SHELF_FROM name are copied before each run, and stand for DATA and SHELF.
+# Without them there is no DATA, and SHELF is the sample. MOST is how many calls fail in turn at most.
+
+top=$(dirname -- "$(readlink -f -- "$0")")/..
+program=$top/crates/qwkdoor/out/qwkdoor
+shelf_from=${SHELF_FROM:-$top/crates/qwkdoor/data/shelf}
+data_from=${DATA_FROM:-}
+most=${MOST:-400}
+[ $# -gt 0 ] || set -- list P1
+
+if ! command -v strace >/dev/null; then
+    echo 'edge: strace is missing, so nothing is shown'
+    exit 0
+fi
+# With two words nothing but the build happens.
+"$top/bin/qwkdoor" data shelf </dev/null
+[ -x "$program" ] || exit 1
+
+work=$(mktemp -d) || exit 1
+work=$(readlink -f -- "$work")
+trap 'rm -rf -- "$work"' EXIT
+trap 'exit 1' HUP INT TERM
+place=$work/place
+calls=openat,mkdir,mkdirat,stat,lstat,fstat,statx,newfstatat,read,pread64,write,pwrite64,ftruncate,fsync,flock
+wrong=0
+
+if ! strace -qq -o "$work/probe" true 2>/dev/null; then
+    echo 'edge: strace may not trace here, so nothing is shown'
+    exit 0
+fi
+
+complain() {
+    printf 'WRONG: %s\n' "$1"
+    wrong=$((wrong + 1))
+}
+
+# Lays out the two folders as they are before each run.
+lay_out() {
+    rm -rf -- "$place"
+    mkdir -- "$place"
+    cp -R -- "$shelf_from" "$place/shelf"
+    if [ -n "$data_from" ]; then
+        cp -R -- "$data_from" "$place/data"
+    fi
+}
+
+# Runs a command on no input. Its status is the run's, also under strace.
+run() {
+    "$@" >"$place/said" 2>"$place/faults" </dev/null
+}
+
+# Says what each file under DATA went through, and complains where a name that a sync was to keep wasn't
+# synced with it.
+show_syncs() {
+    awk -v data="$place/data" '
+        { call = $0; sub(/\(.*/, "", call) }
+        / = -1 / { next }
+        {
+            path = ""
+            if (match($0, /\([0-9]+<[^>]*>/)) {
+                path = substr($0, RSTART, RLENGTH - 1)
+                sub(/^\([0-9]+</, "", path)
+            }
+            if (call == "openat" && match($0, /"[^"]*"/))
+                path = substr($0, RSTART + 1, RLENGTH - 2)
+            inside = index(path, data "/") == 1
+        }
+        call == "openat" && inside && /O_EXCL/ && path != data "/LOCK" { fresh[path] = NR }
+        call == "pwrite64" && inside { written[path]++; seen[path] = 1; open[path]++ }
+        call == "ftruncate" && inside { cut[path]++; seen[path] = 1; open[path]++ }
+        call == "fsync" && inside { synced[path]++; seen[path] = 1; open[path] = 0; last = NR }
+        call == "fsync" && path == data { folder++; for (p in fresh) delete fresh[p] }
+        call == "fsync" && !inside && path != data { parent++ }
+        END {
+            for (p in seen)
+                printf "%s: %d writes, %d new lengths, %d syncs, %d of the first two since the last sync\n", \
+                    substr(p, length(data) + 2), written[p], cut[p], synced[p], open[p]
+            printf "folder: %d syncs, its parent: %d\n", folder, parent
+            for (p in fresh)
+                if (fresh[p] < last)
+                    printf "WRONG: the name of %s was not synced\n", substr(p, length(data) + 2)
+        }' "$1"
+}
+
+lay_out
+run strace -qq -y -s 0 -o "$work/whole" -e "trace=$calls" "$program" "$place/data" "$place/shelf" "$@"
+status=$?
+cp -- "$place/said" "$work/said"
+printf 'qwkdoor DATA SHELF %s: status %s, %s bytes said\n' "$*" "$status" "$(wc -c <"$work/said")"
+show_syncs "$work/whole" | tee "$work/syncs"
+grep -q '^WRONG' "$work/syncs" && wrong=$((wrong + 1))
+
+# The run again, with the calls alone that name a path below the folders or the output.
+sed -n 's/^[a-z0-9_]*([0-9]*<\([^>]*\)>.*/\1/p; t; s/^[^"]*"\([^"]*\)".*/\1/p' "$work/whole" |
+    grep -e "^$place" | grep -v -x -e "$place/faults" | sort -u >"$work/paths"
+{
+    printf 'exec strace -qq -y -s 0 -e trace=%s' "$calls"
+    sed "s/.*/ -P '&'/" "$work/paths" | tr -d '\n'
+    # shellcheck disable=SC2016 # The words are those of the script that is written here.
+    echo ' "$@"'
+} >"$work/narrow"
+
+lay_out
+run sh "$work/narrow" -o "$work/calls" "$program" "$place/data" "$place/shelf" "$@"
+awk -v data="$place/data" -v shelf="$place/shelf" -v said="$place/said" '
+    {
+        call = $0
+        sub(/\(.*/, "", call)
+        count[call]++
+        wanted = index($0, shelf) ? 5 : index($0, said) ? 6 : 4
+        print call, count[call], wanted
+    }' "$work/calls" | head -n "$most" >"$work/each"
+
+# What was said is a front of the whole reply.
+is_front() {
+    head -c "$(wc -c <"$place/said")" "$work/said" | cmp -s - "$place/said"
+}
+
+while read -r call number wanted; do
+    lay_out
+    run sh "$work/narrow" -o "$work/one" -e "inject=$call:error=EIO:when=$number" \
+        "$program" "$place/data" "$place/shelf" "$@"
+    got=$?
+    [ "$got" -eq "$wanted" ] || complain "call $number of $call fails: status $got, wanted $wanted"
+    is_front || complain "call $number of $call fails: another reply"
+    [ "$(wc -l <"$place/faults")" -eq 1 ] || complain "call $number of $call fails: not one line of fault"
+    run "$program" "$place/data" "$place/shelf" "$@"
+    got=$?
+    [ "$got" -le 1 ] || complain "after call $number of $call failed: the next run ends with $got"
+    printf '%s %s\n' "$call" "$wanted" >>"$work/tried"
+done <"$work/each"
+sort "$work/tried" | uniq -c | while read -r count call wanted; do
+    printf '%s: %s calls failed in turn, status %s wanted of each\n' "$call" "$count" "$wanted"
+done
+
+# A call that is interrupted goes on.
+while read -r call number wanted; do
+    case $call in
+    read | pread64 | write | pwrite64) ;;
+    *) continue ;;
+    esac
+    lay_out
+    run sh "$work/narrow" -o "$work/one" -e "inject=$call:error=EINTR:when=$number" \
+        "$program" "$place/data" "$place/shelf" "$@"
+    got=$?
+    [ "$got" -eq "$status" ] || complain "call $number of $call is interrupted: status $got"
+    cmp -s "$place/said" "$work/said" || complain "call $number of $call is interrupted: another reply"
+    printf '%s\n' "$call" >>"$work/interrupted"
+done <"$work/each"
+[ ! -f "$work/interrupted" ] || sort "$work/interrupted" | uniq -c | while read -r count call; do
+    printf '%s: %s calls interrupted in turn, the same reply wanted of each\n' "$call" "$count"
+done
+
+# Another holds the folder.
+if command -v flock >/dev/null && grep -q '^flock' "$work/whole"; then
+    lay_out
+    mkdir -p -- "$place/data"
+    run flock "$place/data/LOCK" "$program" "$place/data" "$place/shelf" "$@"
+    got=$?
+    [ "$got" -eq 4 ] || complain "another holds the folder: status $got, wanted 4"
+    echo 'flock: another held the folder, status 4 wanted'
+fi
+
+if [ "$wrong" -gt 0 ]; then
+    printf '%s wrong\n' "$wrong"
+    exit 1
+fi
+echo 'each as stated'

@@ -1,0 +1,4 @@
+mod host;
+mod shelf;
+mod short_calls;
+mod start;
