@@ -1,0 +1,166 @@
+-- The patch at the front of a text.
+use Rattle.std.proofs.Common.{◌≡◌, ◌≢◌, ℕ, zero, suc, ◌+◌, ◌*◌, ◌<◌, ◌≤◌, ◌^◌, List, [], ◌∷◌, ◌++◌, length, take, drop, refl, sym, ◌∙◌, ap, arith, length-append, length-drop, length-take}
+use Rattle.std.proofs.lemmas.List.{take_at, drop_at, drop-drop}
+use Rattle.std.proofs.lemmas.Bool.{and_parts, and_from, eqb-true, eq-eqb, ne_eqb, ltb-true, leb-true, le-leb, lt-ltb, not-true, true≢false, cond-true}
+use Rattle.std.specs.Prelude.{Bool, true, false, not, ◌&&◌, ◌==◌, nat_le, nat_lt, slice_index, if◌then◌else◌, Option, Some, None, option_and_then, option_map}
+use Rattle.byteorder.specs.Numbers.{little_number-reads_back}
+use Rattle.intent_journal.specs.declared.patch.Patch.{Patch}
+use Rattle.intent_journal.specs.declared.patch.Patch.TheVariants.{Whole}
+use Rattle.intent_journal.specs.Patches.{file_of, bytes_of}
+use Rattle.intent_journal.specs.Journal.{patch_text, patches_text, u16_at, u32_at, begins_patch, front, patches_of}
+
+-- a patch that may stand in an intent
+pub record IsFit (patch : Patch) : Type 0 where
+  pub no_journal : file_of patch ≢ 1
+  pub known : file_of patch < 258
+  pub in_range : length (bytes_of patch) < 2 ^ 31
+
+abbrev pub AllFit : List Patch → Type 0
+AllFit [] = Unit {0}
+AllFit (p ∷ patches) = IsFit p × AllFit patches
+
+abbrev pub first_of : List ℕ → Patch × List ℕ
+first_of text = (Whole (u16_at 1 text) (take (u32_at 7 text) (drop 11 text)), drop (11 + u32_at 7 text) text)
+
+of_choice : (b : Bool) (x y : Patch × List ℕ) → (if b then Some x else None) ≡ Some y → (b ≡ true) × (x ≡ y)
+of_choice true x y is = (refl, cc)
+of_choice false x y is = absurd (cc)
+
+pub front_is : (text : List ℕ) (next : Patch × List ℕ) → front text ≡ Some next → (begins_patch text ≡ true) × (first_of text ≡ next)
+unfolding front
+front_is text next is = of_choice (begins_patch text) (first_of text) next is
+
+-- what a text that begins with a patch has
+pub record Begun (text : List ℕ) : Type 0 where
+  pub long : 11 + u32_at 7 text ≤ length text
+  pub kind : slice_index text 0 ≡ 0
+  pub at : u32_at 3 text ≡ 0
+  pub in_range : u32_at 7 text < 2 ^ 31
+  pub known : u16_at 1 text < 258
+  pub no_journal : u16_at 1 text ≢ 1
+
+pub begun : (text : List ℕ) → begins_patch text ≡ true → Begun text
+begun text is =
+    let a = and_parts (nat_le (11 + u32_at 7 text) (length text) && slice_index text 0 == 0 && u32_at 3 text == 0 && nat_lt (u32_at 7 text) (2 ^ 31) && nat_lt (u16_at 1 text) 258) (not (u16_at 1 text == 1)) is in
+    let b = and_parts (nat_le (11 + u32_at 7 text) (length text) && slice_index text 0 == 0 && u32_at 3 text == 0 && nat_lt (u32_at 7 text) (2 ^ 31)) (nat_lt (u16_at 1 text) 258) a.0 in
+    let c = and_parts (nat_le (11 + u32_at 7 text) (length text) && slice_index text 0 == 0 && u32_at 3 text == 0) (nat_lt (u32_at 7 text) (2 ^ 31)) b.0 in
+    let d = and_parts (nat_le (11 + u32_at 7 text) (length text) && slice_index text 0 == 0) (u32_at 3 text == 0) c.0 in
+    let e = and_parts (nat_le (11 + u32_at 7 text) (length text)) (slice_index text 0 == 0) d.0 in
+    record {
+      long = leb-true (11 + u32_at 7 text) (length text) e.0;
+      kind = eqb-true (slice_index text 0) 0 e.1;
+      at = eqb-true (u32_at 3 text) 0 d.1;
+      in_range = ltb-true (u32_at 7 text) (2 ^ 31) c.1;
+      known = ltb-true (u16_at 1 text) 258 b.1;
+      no_journal = λ one. true≢false (sym (eq-eqb (u16_at 1 text) 1 one) ∙ not-true (u16_at 1 text == 1) a.1);
+    }
+
+pub begins_by : (text : List ℕ) → Begun text → begins_patch text ≡ true
+begins_by text b =
+    and_from _ (not (u16_at 1 text == 1))
+    (and_from _ (nat_lt (u16_at 1 text) 258)
+    (and_from _ (nat_lt (u32_at 7 text) (2 ^ 31))
+    (and_from _ (u32_at 3 text == 0)
+    (and_from (nat_le (11 + u32_at 7 text) (length text)) (slice_index text 0 == 0) (le-leb _ _ b.long) (eq-eqb _ 0 b.kind)) (eq-eqb _ 0 b.at)) (lt-ltb _ _ b.in_range)) (lt-ltb _ _ b.known)) (ap not (ne_eqb (u16_at 1 text) 1 b.no_journal))
+
+-- the patch that was read may stand in an intent, and what follows it is shorter
+pub front_fit : (text after : List ℕ) (p : Patch) → front text ≡ Some (p, after) → IsFit p × (11 + length after ≤ length text)
+front_fit text after p is =
+    let parts = front_is text (p, after) is in
+    let b = begun text parts.0 in
+    let p_is : p ≡ Whole (u16_at 1 text) (take (u32_at 7 text) (drop 11 text)) = ap (λ (x : Patch × List ℕ). x.0) (sym parts.1) in
+    let after_is : after ≡ drop (11 + u32_at 7 text) text = ap (λ (x : Patch × List ℕ). x.1) (sym parts.1) in
+    (rw p_is (record { no_journal = b.no_journal; known = b.known; in_range = omega (arith, length-take (u32_at 7 text) (drop 11 text), b.in_range) }), omega (arith, ap length after_is, length-drop (11 + u32_at 7 text) text, b.long))
+
+-- a patch that is spelled reads as it
+module _ (file : ℕ) (bytes rest : List ℕ) (fit : IsFit (Whole file bytes)) where
+  abbrev text : List ℕ
+  text = patch_text (Whole file bytes) ++ rest
+
+  len_is : u32_at 7 text ≡ length bytes
+  len_is = little_number-reads_back 4 (length bytes) (bytes ++ rest) (omega (arith, fit.in_range))
+
+  file_is : u16_at 1 text ≡ file
+  file_is = little_number-reads_back 2 file (drop 3 text) (omega (arith, fit.known))
+
+  at_is : u32_at 3 text ≡ 0
+  at_is = little_number-reads_back 4 0 (drop 7 text) (omega arith)
+
+  spelled_begun : Begun text
+  spelled_begun = record {
+    long = omega (arith, len_is, length-append bytes rest);
+    kind = refl;
+    at = at_is;
+    in_range = omega (arith, len_is, fit.in_range);
+    known = omega (arith, file_is, fit.known);
+    no_journal = λ one. fit.no_journal (sym file_is ∙ one);
+  }
+
+  left_is : drop (11 + u32_at 7 text) text ≡ rest
+  left_is = ap (λ (n : ℕ). drop (11 + n) text) len_is ∙ sym (drop-drop (length bytes) 11 text) ∙ drop_at bytes rest (length bytes) refl
+
+  bytes_is : take (u32_at 7 text) (drop 11 text) ≡ bytes
+  bytes_is = take_at bytes rest (u32_at 7 text) (sym len_is)
+
+  pub front_of_whole : front text ≡ Some (Whole file bytes, rest)
+  unfolding front
+  front_of_whole = cond-true (begins_patch text) _ _ (begins_by text spelled_begun) ∙ (λ i. Some (Whole (file_is i) (bytes_is i), left_is i))
+
+pub front_of : (p : Patch) (rest : List ℕ) → IsFit p → front (patch_text p ++ rest) ≡ Some (p, rest)
+front_of (Whole file bytes) rest fit = front_of_whole file bytes rest fit
+
+-- a text of patches begins with the first of them
+pub record Begins (n : ℕ) (text : List ℕ) (patches : List Patch) : Type 0 where
+  pub first : Patch
+  pub rest : List Patch
+  pub after : List ℕ
+  pub at_front : front text ≡ Some (first, after)
+  pub split : patches ≡ first ∷ rest
+  pub goes_on : patches_of n after ≡ Some rest
+
+some_same : {A : Type 0} {x y : A} → Some x ≡ Some y → x ≡ y
+some_same is = cc
+
+put_some : (first : Patch) (o : Option (List Patch)) (patches : List Patch) → option_map (λ more. first ∷ more) o ≡ Some patches → (rest : List Patch) × (o ≡ Some rest) × (patches ≡ first ∷ rest)
+put_some first None patches is = absurd (cc)
+put_some first (Some rest) patches is = (rest, refl, sym (some_same is))
+
+begins_with : (n : ℕ) (text : List ℕ) (o : Option (Patch × List ℕ)) (patches : List Patch) → front text ≡ o → option_and_then (λ next. option_map (λ more. next.0 ∷ more) (patches_of n next.1)) o ≡ Some patches → Begins n text patches
+begins_with n text None patches is reads = absurd (cc)
+begins_with n text (Some next) patches is reads =
+    let more = put_some next.0 (patches_of n next.1) patches reads in
+    record { first = next.0; rest = more.0; after = next.1; at_front = is; split = more.2; goes_on = more.1 }
+
+pub begins : (n : ℕ) (text : List ℕ) (patches : List Patch) → patches_of (suc n) text ≡ Some patches → Begins n text patches
+unfolding patches_of
+begins n text patches reads = begins_with n text (front text) patches refl reads
+
+pub nothing_left : (text : List ℕ) (patches : List Patch) → patches_of 0 text ≡ Some patches → patches ≡ []
+unfolding patches_of
+nothing_left [] patches reads = sym (some_same reads)
+nothing_left (b ∷ text) patches reads = absurd (cc)
+
+-- the patches of a text may stand in an intent, and there are as many as were counted
+pub reads_fit : (n : ℕ) (text : List ℕ) (patches : List Patch) → patches_of n text ≡ Some patches → AllFit patches × (length patches ≡ n) × (11 * n ≤ length text)
+reads_fit zero text patches reads = rw (nothing_left text patches reads) (tt, refl, omega arith)
+reads_fit (suc n) text patches reads =
+    let b = begins n text patches reads in
+    let fit = front_fit text b.after b.first b.at_front in
+    let more = reads_fit n b.after b.rest b.goes_on in
+    rw b.split ((fit.0, more.0), ap suc more.1, omega (arith, fit.1, more.2))
+
+pub fit_at : (done rest : List Patch) (p : Patch) → AllFit (done ++ p ∷ rest) → IsFit p
+fit_at [] rest p all = all.0
+fit_at (q ∷ done) rest p all = fit_at done rest p all.1
+
+pub fit_more : (done : List Patch) (p : Patch) → AllFit done → IsFit p → AllFit (done ++ p ∷ [])
+fit_more [] p all fit = (fit, tt)
+fit_more (q ∷ done) p all fit = (all.0, fit_more done p all.1 fit)
+
+-- patches that are spelled read as they are
+pub spelled_reads : (patches : List Patch) → AllFit patches → patches_of (length patches) (patches_text patches) ≡ Some patches
+unfolding patches_of
+spelled_reads [] all = refl
+spelled_reads (p ∷ patches) all =
+    ap (option_and_then (λ next. option_map (λ more. next.0 ∷ more) (patches_of (length patches) next.1))) (front_of p (patches_text patches) all.0)
+    ∙ ap (option_map (λ more. p ∷ more)) (spelled_reads patches all.1)

@@ -1,0 +1,13 @@
+mod Body
+mod Carried
+mod Checking
+mod Closing
+mod Front
+pub mod Hosts
+mod JournalRead
+mod Moves
+mod Opening
+mod Replaying
+mod Spelling
+mod Staging
+mod Steps

@@ -1,0 +1,94 @@
+-- The text of a journal. Numbers have their lowest byte first.
+use Rattle.std.specs.Prelude.{◌≡◌, ◌≢◌, ℕ, ◌+◌, ◌<◌, ◌≤◌, ◌^◌, Bool, false, not, ◌&&◌, ◌==◌, nat_eq, nat_le, nat_lt, if◌then◌else◌, List, [], ◌∷◌, ◌++◌, length, take, drop, slice_index, get_or, codes, zero, suc, Option, Some, None, unwrap_or, option_and_then, option_map, IsTrue}
+use Rattle.std.specs.List.{starts_with}
+use Rattle.byteorder.specs.Endian.{little_bytes, little_number}
+use Rattle.intent_journal.specs.declared.patch.Patch.{Patch}
+use Rattle.intent_journal.specs.declared.patch.Patch.TheVariants.{Whole}
+use Rattle.intent_journal.specs.Patches.{file_of, bytes_of, is_touched, is_once}
+
+-- a patch: its kind in one byte, its file in two, its place and its length in four each, and its bytes
+abbrev pub patch_text : Patch → List ℕ
+patch_text (Whole file bytes) = 0 ∷ little_bytes 2 file ++ little_bytes 4 0 ++ little_bytes 4 (length bytes) ++ bytes
+
+abbrev pub patches_text : List Patch → List ℕ
+patches_text [] = []
+patches_text (patch ∷ patches) = patch_text patch ++ patches_text patches
+
+-- the body of so many patches that stand in a text: the letters, the count, the length of the text and the text
+abbrev pub body_text : ℕ → List ℕ → List ℕ
+body_text count text = codes "QDJ1" ++ little_bytes 4 count ++ little_bytes 4 (length text) ++ text
+
+-- the journal of an intent while its gate, the first byte, is open
+abbrev pub journal_text : List Patch → List ℕ
+journal_text patches = 79 ∷ body_text (length patches) (patches_text patches)
+
+abbrev pub u16_at : ℕ → List ℕ → ℕ
+u16_at place bytes = little_number 2 (drop place bytes)
+
+abbrev pub u32_at : ℕ → List ℕ → ℕ
+u32_at place bytes = little_number 4 (drop place bytes)
+
+-- whether a text begins with a whole new content of one of the 258 files, but not of the journal
+abbrev pub begins_patch : List ℕ → Bool
+begins_patch text =
+    nat_le (11 + u32_at 7 text) (length text) && slice_index text 0 == 0 && u32_at 3 text == 0 && nat_lt (u32_at 7 text) (2 ^ 31) && nat_lt (u16_at 1 text) 258 && not (u16_at 1 text == 1)
+
+-- the patch at the front of a text, and what follows it
+unfoldable pub front : List ℕ → Option (Patch × List ℕ)
+front text =
+    if begins_patch text then Some (Whole (u16_at 1 text) (take (u32_at 7 text) (drop 11 text)), drop (11 + u32_at 7 text) text) else None
+
+-- so many patches, and nothing behind them
+unfoldable pub patches_of : ℕ → List ℕ → Option (List Patch)
+patches_of zero [] = Some []
+patches_of zero (b ∷ bytes) = None
+patches_of (suc n) bytes = option_and_then (λ next. option_map (λ patches. next.0 ∷ patches) (patches_of n next.1)) (front bytes)
+
+-- the patches that a text spells
+abbrev pub spelled : ℕ → List ℕ → List Patch
+spelled count text = unwrap_or (patches_of count text) []
+
+-- where no file has two
+abbrev pub are_once : Option (List Patch) → Bool
+are_once None = false
+are_once (Some patches) = is_once patches
+
+-- whether a journal has the letters, and all the bytes that its length speaks of
+abbrev pub begins_body : List ℕ → Bool
+begins_body journal = starts_with nat_eq (drop 1 journal) (codes "QDJ1") && nat_le (13 + u32_at 9 journal) (length journal)
+
+-- the text of the patches
+abbrev pub text_of : List ℕ → List ℕ
+text_of journal = take (u32_at 9 journal) (drop 13 journal)
+
+-- the patches that the body reads as, where it does, behind any gate
+unfoldable pub body_patches : List ℕ → Option (List Patch)
+body_patches journal =
+    if begins_body journal && are_once (patches_of (u32_at 5 journal) (text_of journal)) then patches_of (u32_at 5 journal) (text_of journal) else None
+
+-- the intent that a journal holds, or no patches: its gate is open and its body reads
+abbrev pub intent_of : List ℕ → List Patch
+intent_of [] = []
+intent_of (gate ∷ body) = if gate == 79 then unwrap_or (body_patches (gate ∷ body)) [] else []
+
+-- the gate isn't open
+abbrev pub IsClosed : List ℕ → Type 0
+IsClosed journal = take 1 journal ≢ 79 ∷ []
+
+-- a text of patches that an intent may hold, at most 41,943,040 bytes with what stands before it
+pub record IsSpelled (count : ℕ) (text : List ℕ) : Type 0 where
+  pub reads : patches_of count text ≡ Some (spelled count text)
+  pub spells : text ≡ patches_text (spelled count text)
+  pub once : IsTrue (is_once (spelled count text))
+  pub short : 13 + length text ≤ 41943040
+
+-- a table of the files that have a patch
+abbrev pub Marks : List Bool → List Patch → Type 0
+Marks table patches = (file : ℕ) → file < 258 → get_or table file false ≡ is_touched file patches
+
+-- the patches may have this one more
+pub record Takes (patches : List Patch) (patch : Patch) : Type 0 where
+  pub no_journal : file_of patch ≢ 1
+  pub once : is_touched (file_of patch) patches ≡ false
+  pub in_range : length (bytes_of patch) < 2 ^ 31
+  pub fits : length (journal_text (patches ++ patch ∷ [])) ≤ 41943040

@@ -1,0 +1,5 @@
+pub mod Hosts
+pub mod Journal
+pub mod Patches
+pub mod Recovered
+pub mod Steps
