@@ -1,0 +1,4 @@
+pub mod NumberLemmas
+pub mod HeaderLemmas
+pub mod SubfieldLemmas
+pub mod AddressLemmas

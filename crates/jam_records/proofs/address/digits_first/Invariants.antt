@@ -1,0 +1,13 @@
+use Rattle.std.proofs.Common.{◌≡◌, ℕ, ◌-◌, ◌<◌, ◌≤◌, length, get_or, true}
+use Rattle.std.specs.Char.{is_ascii_digit}
+use Rattle.jam_records.proofs.address.digits_first.Given as goal
+
+-- what was passed is digits
+abbrev pub invariant-loop-len : goal.invariant-loop-len
+invariant-loop-len l = record {
+  within : l.len ≤ length l.text;
+  digits : (k : ℕ) → k < l.len → is_ascii_digit (get_or l.text k 0) ≡ true;
+}
+
+abbrev pub decreases-loop-len : goal.decreases-loop-len
+decreases-loop-len l = length l.text - l.len

@@ -1,0 +1,7 @@
+pub mod Addresses
+pub mod BaseHeaders
+pub mod IndexRecords
+pub mod LastReads
+pub mod MessageHeaders
+pub mod Numbers
+pub mod Subfields

@@ -1,0 +1,56 @@
+ghost use Rattle.std.specs.Prelude.{◌≡◌, ◌++◌, ◌<◌, ◌^◌, length, IfOk, OnOk};
+ghost use Rattle.jam_records.specs.Subfields.{subfield_text, subfields_text};
+
+use byte_lists::{Bytes, Duplicate, List};
+use byteorder::{ByteOrder, LittleEndian};
+use std::alloc::{AllocError, Global};
+
+/// A subfield of a message header.
+#[derive(Debug, Drop)]
+pub struct Subfield {
+    /// LoID: what the value is, as 0 for the sender's address.
+    pub lo: u16,
+    /// HiID, which revision 1 reserves.
+    pub hi: u16,
+    /// The value.
+    pub value: Bytes,
+}
+
+/// Subfields in order.
+pub type Subfields = List<Subfield>;
+
+impl Duplicate for Subfield {
+    fn duplicate(&self, alloc: Global) -> Result<Subfield, AllocError> {
+        Ok(Subfield {
+            lo: self.lo,
+            hi: self.hi,
+            value: self.value.copy(alloc)?,
+        })
+    }
+}
+
+/// Adds a subfield.
+#[tactic(auto, unfolding(crate::specs::Subfields::subfield_text))]
+fn add_subfield(bytes: &mut Bytes, subfield: &Subfield) -> Result<(), AllocError>
+    requires { length subfield.now.value < 2 ^ 31 }
+    ensures { OnOk result (bytes.new ≡ bytes.old ++ subfield_text subfield.now) }
+{
+    let value = subfield.value.as_slice();
+    let mut head = [0; 8];
+    LittleEndian::write_u16_into(&[subfield.lo, subfield.hi], &mut head[..4]);
+    LittleEndian::write_u32(&mut head[4..], value.len() as u32);
+    bytes.add(&head)?;
+    bytes.add(value)
+}
+
+/// The bytes of the subfields, one after the other.
+pub fn write_subfields(alloc: Global, value: &Subfields) -> Result<Bytes, AllocError>
+    requires { length (subfields_text value.now) < 2 ^ 31 }
+    ensures { IfOk result (λ bytes. bytes ≡ subfields_text value.now) }
+{
+    let mut bytes = Bytes::new(alloc);
+    for subfield in value.as_slice() {
+        add_subfield(&mut bytes, subfield)?;
+    }
+    Ok(bytes)
+}

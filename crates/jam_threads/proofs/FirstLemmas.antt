@@ -1,0 +1,115 @@
+-- The first message of each id, once a message is added.
+use Rattle.std.proofs.Common.{◌≡◌, ℕ, zero, suc, ◌+◌, ◌<◌, ◌≤◌, ◌==◌, ◌&&◌, not, List, [], ◌∷◌, ◌++◌, length, Bool, true, false, cond, Option, Some, None, refl, sym, ap, ◌∙◌, arith, subst, ◌⊎◌, inl, inr, nat_lt}
+use Rattle.std.specs.Prelude.{unwrap_or}
+use Rattle.std.specs.List.{position_or_len}
+use Rattle.std.specs.Str.{bytes_eq}
+use Rattle.std.specs.Ordering.{nat_cmp, is_eq, eq_by_cmp}
+use Rattle.std.specs.Cmp.{eq_by_cmp_equiv}
+use Rattle.std.specs.Cmp.Lexicographic.{slice_cmp, bytes_decides, nat_list_cmp_total, nat_list_eq_equiv}
+use Rattle.std.specs.BTreeMap as tree
+use Rattle.std.specs.BTreeMap.{BTreeMap}
+use Rattle.std.specs.Map.{lookup, IsKeyTest, AreApart, KeepsOthers}
+use Rattle.std.proofs.lemmas.Bool.{cases_Bool, cases_lt, cond-true, cond-false, ltb-true, eq-eqb}
+use Rattle.std.proofs.lemmas.Bool.Decides.{nat_tests}
+use Rattle.std.proofs.lemmas.Map.Text.{is_eq-slice_cmp}
+use Rattle.std.proofs.lemmas.List.{length-take}
+use Rattle.std.proofs.lemmas.List.Folds.{position_or_len_push, length-prefix_len}
+use Rattle.jam_records.specs.declared.message.Slot.{Slot}
+use Rattle.jam_records.specs.declared.message.Slot.TheVariants.{Gone, Held}
+use Rattle.jam_threads.specs.Children.{has_msgid, number_at, first_of_id, original_behind, slot_original}
+use Rattle.jam_threads.specs.Chains.{AreFirsts}
+use Rattle.jam_threads.proofs.ChildrenLemmas.{other_number, length-push}
+
+apart : (bs cs ks : List ℕ) → bytes_eq bs cs ≡ false → bytes_eq bs ks ≡ true → bytes_eq cs ks ≡ false
+apart bs cs ks differs same = nat_list_eq_equiv.symm cs ks ∙ sym (nat_list_eq_equiv.congr bs ks cs same) ∙ differs
+
+other_entries : {K X : Type 0} (eq : K → K → Bool) (test : K → Bool) (old new : List (K × X)) → KeepsOthers eq test old new → (other : K → Bool) → IsKeyTest eq other → AreApart test other → lookup other new ≡ lookup other old
+unfolding KeepsOthers
+other_entries eq test old new kept = kept
+
+-- a look-up by bytes, after a change at other bytes or the same
+key_updates : {K X : Type 0} (bytes : K → List ℕ) (bs : List ℕ) (m n : BTreeMap K X) (w : Option X) → tree.UpdatesBy (λ x y. slice_cmp nat_cmp (bytes x) (bytes y)) (λ k. slice_cmp nat_cmp bs (bytes k)) m n w → (cs : List ℕ) → tree.get_by (λ k. slice_cmp nat_cmp cs (bytes k)) n ≡ cond (bytes_eq bs cs) w (tree.get_by (λ k. slice_cmp nat_cmp cs (bytes k)) m)
+key_updates bytes bs m n w updates cs =
+    elim (cases_Bool (bytes_eq bs cs)) [
+      | inl same ↦ subst (λ key. tree.get_by (λ k. slice_cmp nat_cmp key (bytes k)) n ≡ w) ((bytes_decides bs cs).0 same) updates.1 ∙ sym (cond-true (bytes_eq bs cs) w _ same)
+      | inr differs ↦
+          other_entries _ _ _ _ updates.3 _ (λ x y. (eq_by_cmp_equiv nat_list_cmp_total).congr cs (bytes x) (bytes y)) (λ k at. is_eq-slice_cmp cs (bytes k) ∙ apart bs cs (bytes k) differs (sym (is_eq-slice_cmp bs (bytes k)) ∙ at))
+          ∙ sym (cond-false (bytes_eq bs cs) w _ differs)
+    ]
+
+and_false : (b : Bool) → (b && false) ≡ false
+and_false true = refl
+and_false false = refl
+
+or_zero : (b : Bool) (n : ℕ) (found : Option ℕ) → unwrap_or (cond b (Some n) found) 0 ≡ cond b n (unwrap_or found 0)
+or_zero true n found = refl
+or_zero false n found = refl
+
+-- a number that is kept where there was none
+pub kept_more : (old new : List ℕ → ℕ) (id : List ℕ) (number : ℕ) → old id ≡ 0 → ((other : List ℕ) → new other ≡ cond (bytes_eq id other) number (old other)) → (other : List ℕ) → new other ≡ cond (old other == 0 && bytes_eq id other) number (old other)
+kept_more old new id number none updates other =
+    elim (cases_Bool (bytes_eq id other)) [
+      | inl same ↦
+          let here : old other ≡ 0 = subst (λ key. old key ≡ 0) ((bytes_decides id other).0 same) none in
+          updates other ∙ cond-true (bytes_eq id other) number (old other) same
+          ∙ sym (ap (λ test. cond (test && bytes_eq id other) number (old other)) (eq-eqb (old other) 0 here) ∙ cond-true (bytes_eq id other) number (old other) same)
+      | inr differs ↦
+          updates other ∙ cond-false (bytes_eq id other) number (old other) differs
+          ∙ sym (ap (λ test. cond (old other == 0 && test) number (old other)) differs ∙ ap (λ test. cond test number (old other)) (and_false (old other == 0)))
+    ]
+
+-- ---- the first message of an id
+first_found : (slots : List Slot) (id : List ℕ) → position_or_len (has_msgid id) slots < length slots → first_of_id slots id ≡ position_or_len (has_msgid id) slots + 1
+first_found slots id within = ap number_at (cond-true (nat_lt (position_or_len (has_msgid id) slots) (length slots)) _ _ (grind (arith, nat_tests)))
+
+first_missing : (slots : List Slot) (id : List ℕ) → length slots ≤ position_or_len (has_msgid id) slots → first_of_id slots id ≡ 0
+first_missing slots id past = ap number_at (cond-false (nat_lt (position_or_len (has_msgid id) slots) (length slots)) _ _ (grind (arith, nat_tests)))
+
+first_push : (slots : List Slot) (s : Slot) (id : List ℕ) → first_of_id (slots ++ s ∷ []) id ≡ cond (first_of_id slots id == 0 && has_msgid id s) (suc (length slots)) (first_of_id slots id)
+first_push slots s id =
+    let p = has_msgid id in
+    let place = position_or_len p slots in
+    let len = length slots in
+    let within : place ≤ len = omega (arith, length-prefix_len (λ x. not (p x)) slots, length-take place slots) in
+    let more = position_or_len_push p slots s in
+    let longer = length-push slots s in
+    elim (cases_lt place len) [
+      | inl before ↦
+          let stays : position_or_len p (slots ++ s ∷ []) ≡ place = more ∙ cond-false (place == len) _ _ (other_number place len (λ same. omega arith)) in
+          let found = first_found slots id before in
+          first_found (slots ++ s ∷ []) id (omega arith) ∙ ap (λ n. n + 1) stays ∙ sym found
+          ∙ sym (ap (λ test. cond (test && p s) (suc len) (first_of_id slots id)) (other_number (first_of_id slots id) 0 (λ same. omega arith)))
+      | inr behind ↦
+          let at_end : place ≡ len = omega arith in
+          let none = first_missing slots id (omega arith) in
+          let moves : position_or_len p (slots ++ s ∷ []) ≡ len + cond (p s) 0 1 = more ∙ cond-true (place == len) _ _ (eq-eqb place len at_end) in
+          elim (cases_Bool (p s)) [
+            | inl has ↦
+                let here : position_or_len p (slots ++ s ∷ []) ≡ len = moves ∙ ap (λ test. len + cond test 0 1) has ∙ omega arith in
+                first_found (slots ++ s ∷ []) id (omega arith) ∙ ap (λ n. n + 1) here ∙ omega arith
+                ∙ sym (ap (λ test. cond (test && p s) (suc len) (first_of_id slots id)) (eq-eqb (first_of_id slots id) 0 none) ∙ cond-true (p s) _ _ has)
+            | inr lacks ↦
+                let past : position_or_len p (slots ++ s ∷ []) ≡ len + 1 = moves ∙ ap (λ test. len + cond test 0 1) lacks in
+                first_missing (slots ++ s ∷ []) id (omega arith) ∙ sym none
+                ∙ sym (ap (λ test. cond (first_of_id slots id == 0 && test) (suc len) (first_of_id slots id)) lacks ∙ ap (λ test. cond test (suc len) (first_of_id slots id)) (and_false (first_of_id slots id == 0)))
+          ]
+    ]
+
+-- the first messages, with one message more
+pub firsts_more : (slots : List Slot) (s : Slot) (old new : List ℕ → ℕ) (number : ℕ) → AreFirsts slots old → number ≡ suc (length slots) → ((id : List ℕ) → new id ≡ cond (old id == 0 && has_msgid id s) number (old id)) → AreFirsts (slots ++ s ∷ []) new
+firsts_more slots s old new number firsts is updates id =
+    updates id
+    ∙ ap (λ n. cond (n == 0 && has_msgid id s) number n) (firsts id)
+    ∙ ap (λ n. cond (first_of_id slots id == 0 && has_msgid id s) n (first_of_id slots id)) is
+    ∙ sym (first_push slots s id)
+
+-- what answers an id
+pub original_kept : (slots : List Slot) (firsts : List ℕ → ℕ) (replyid : List ℕ) → AreFirsts slots firsts → cond (length replyid == 0) 0 (firsts replyid) ≡ original_behind slots replyid
+original_kept slots firsts [] are = refl
+original_kept slots firsts (b ∷ id) are = cond-false (suc (length id) == 0) 0 (firsts (b ∷ id)) (other_number (suc (length id)) 0 (λ same. omega arith)) ∙ are (b ∷ id)
+
+-- the same of numbers, 0 where none is kept
+pub number_updates : {K : Type 0} (bytes : K → List ℕ) (bs : List ℕ) (m n : BTreeMap K ℕ) (number : ℕ) → tree.UpdatesBy (λ x y. slice_cmp nat_cmp (bytes x) (bytes y)) (λ k. slice_cmp nat_cmp bs (bytes k)) m n (Some number) → (cs : List ℕ) → unwrap_or (tree.get_by (λ k. slice_cmp nat_cmp cs (bytes k)) n) 0 ≡ cond (bytes_eq bs cs) number (unwrap_or (tree.get_by (λ k. slice_cmp nat_cmp cs (bytes k)) m) 0)
+number_updates bytes bs m n number updates cs =
+    ap (λ found. unwrap_or found 0) (key_updates bytes bs m n (Some number) updates cs)
+    ∙ or_zero (bytes_eq bs cs) number (tree.get_by (λ k. slice_cmp nat_cmp cs (bytes k)) m)

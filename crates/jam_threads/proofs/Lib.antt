@@ -1,0 +1,3 @@
+pub mod ChildrenLemmas
+pub mod ChainLemmas
+pub mod FirstLemmas

@@ -1,0 +1,4 @@
+pub mod Chains
+pub mod Children
+pub mod FirstNumbers
+pub mod Links

@@ -1,0 +1,15 @@
+//! The links of a JAM message base between a message and its answers: ReplyTo, Reply1st and ReplyNext of
+//! the JAM message base proposal, revision 1.
+#![tactic(auto)]
+
+mod first_numbers;
+mod link;
+mod linking;
+mod original;
+#[cfg(test)]
+mod tests;
+mod threads;
+
+pub use link::{Link, Links};
+pub use linking::links;
+pub use original::original_of;

@@ -1,0 +1,9 @@
+//! The CRC by which a JAM message base knows a name or a message id.
+#![tactic(auto)]
+
+mod crc;
+mod table;
+#[cfg(test)]
+mod tests;
+
+pub use crc::name_crc;
