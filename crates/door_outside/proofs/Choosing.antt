@@ -1,12 +1,12 @@
 -- A host that is made on an image of another.
-use Rattle.std.proofs.Common.{◌≡◌, ℕ, ◌<◌, ◌^◌, List, length, sym, ◌∙◌, subst}
-use Rattle.std.specs.Prelude.{Result, Ok, Err, IfOk}
+use Rattle.std.proofs.Common.{◌≡◌, ℕ, ◌<◌, ◌^◌, List, [], length, sym, ◌∙◌, subst}
+use Rattle.std.specs.Prelude.{Result, Ok, Err, IfOk, reverse}
 use Rattle.door_outside.specs.Contents.{content}
-use Rattle.door_outside.specs.Disk.{AllNow, Now, as_read}
+use Rattle.door_outside.specs.Disk.{NothingPending, Now, as_read}
 use Rattle.door_outside.specs.declared.event.Event.{Event}
 use Rattle.door_outside.specs.Events.{read, spoken, Left}
 use Rattle.door_outside.specs.Left.{left_reads, only_now, since_now}
-use Rattle.door_outside.specs.MemoryHost.{Hosted, IsSettled, disk_of, Keeps}
+use Rattle.door_outside.specs.MemoryHost.{Hosted, OnlyReads, disk_of, Keeps, told}
 use Rattle.door_outside.proofs.Short.{read_short}
 
 -- what a result has from both
@@ -14,8 +14,8 @@ pub from_both : {T E : Type 0} (r : Result T E) (P Q R : T → Type 0) → IfOk 
 from_both (Ok x) P Q R p q both = both x p q
 from_both (Err e) P Q R p q both = tt
 
-pub settled_now : (host : Hosted) → IsSettled host.events → AllNow (disk_of host) (λ image. image ≡ as_read (disk_of host))
-settled_now host settled image left = settled image (only_now host.events image left)
+pub nothing_pending : (host : Hosted) → OnlyReads host.events → NothingPending (disk_of host)
+nothing_pending host only image left = only image (only_now host.events image left)
 
 -- the host reads as an image of the other
 pub on_image_now : (other host : Hosted) (events : List Event) (files : ℕ → List ℕ) (words : List ℕ) → other.events ≡ events → words ≡ spoken events
@@ -33,3 +33,7 @@ on_reads_now other host contents words spoke events named keeps same reads speak
 
 pub contents_short : (contents : List (List ℕ)) (words : List ℕ) (events : List Event) → Keeps contents words events → (file : ℕ) → length (content contents file) < 2 ^ 31
 contents_short contents words events keeps file = subst (λ (l : List ℕ). length l < 2 ^ 31) (sym (keeps.files file)) (read_short events keeps.short file)
+
+-- before the first event
+pub none_pending : (events : List Event) (wrote : ℕ) → events ≡ [] → NothingPending (told (reverse events) wrote)
+none_pending events wrote none = subst (λ (es : List Event). NothingPending (told (reverse es) wrote)) (sym none) (λ image left i. record { files = left.0 i; said = left.1 i })

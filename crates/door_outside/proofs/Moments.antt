@@ -1,4 +1,4 @@
--- How what a crash may leave goes on from call to call.
+-- What a crash may leave from call to call: lemmas on disks, for the crates that make several calls.
 use Rattle.std.proofs.Common.{◌≡◌, inl, inr, ⊎_elim, ℕ, List, arith, sym, ◌∙◌, subst}
 use Rattle.door_outside.specs.Disk.{Disk, Image, as_read, Reached, Passes, Between, AllNow, InFile, Same, Unchanged}
 

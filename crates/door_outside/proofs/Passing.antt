@@ -6,10 +6,10 @@ use Rattle.std.specs.declared.alloc.AllocError.{AllocError}
 use Rattle.std.proofs.lemmas.List.{take_min, append-nil}
 use Rattle.door_outside.specs.Disk.{Image, Passes, Reached, InFile, Torn, Cut, Says, Same}
 use Rattle.door_outside.specs.declared.event.Event.{Event}
-use Rattle.door_outside.specs.declared.event.Event.TheVariants.{Write, Shorten, Sync, Say}
+use Rattle.door_outside.specs.declared.event.Event.TheVariants.{Write, Shorten, Sync, Put, Say}
 use Rattle.door_outside.specs.Events.{read, spoken, Left, Within}
 use Rattle.door_outside.specs.Left.{since_now, only_now, here, there, torn_written}
-use Rattle.door_outside.specs.MemoryHost.{told, Recorded}
+use Rattle.door_outside.specs.MemoryHost.{Hosted, Recorded, disk_of, told}
 
 -- a call that adds an event
 passes : (during after : Image → Image → Type 0) (event : Event) (past : List Event) (w w' : ℕ)
@@ -80,6 +80,16 @@ say_passes result bytes past now w w' is = passes_result result (Says bytes) (Sa
   where
     ended : (image : Image) → Left (Say bytes ∷ past) image → (before : Image) × Left past before × Says bytes before image
     ended image left = (left.0, left.1, record { files = left.2; said = (length bytes, left.3 ∙ ap (λ (l : List ℕ). left.0.said ++ l) (sym (take-length bytes))) })
+
+-- and of giving a file a content
+put_passes : (to : ℕ) (bytes : List ℕ) (past : List Event) (w w' : ℕ) → Passes (InFile to (λ old new. new ≡ bytes)) (InFile to (λ old new. new ≡ bytes)) (told past w) (told (Put to bytes ∷ past) w')
+put_passes to bytes past w w' = passes _ _ (Put to bytes) past w w' (λ image left. left) (λ image left. ⊎_elim (λ now. now) (λ none. absurd none) left)
+
+pub put_crash : {E : Type 0} (result : Result (Unit {0}) E) (to : ℕ) (made bytes : List ℕ) (old new : Hosted) → made ≡ bytes → OnOk result (new ≡ record old { events = Put to made ∷ old.events })
+    → OnOk result (Passes (InFile to (λ old new. new ≡ bytes)) (InFile to (λ old new. new ≡ bytes)) (disk_of old) (disk_of new))
+put_crash (Ok x) to made bytes old new same is = subst (λ (h : Hosted). Passes (InFile to (λ old new. new ≡ bytes)) (InFile to (λ old new. new ≡ bytes)) (disk_of old) (disk_of h))
+    (sym (is ∙ (λ i. record old { events = Put to (same i) ∷ old.events }))) (put_passes to bytes old.events old.wrote old.wrote)
+put_crash (Err e) to made bytes old new same is = tt
 
 -- and what the disk reads as then
 abbrev shown : List Event → Image

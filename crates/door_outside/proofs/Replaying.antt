@@ -9,7 +9,7 @@ use Rattle.door_outside.specs.Disk.{Image, InFile, Torn, Cut, written}
 use Rattle.door_outside.specs.Images.{Takes}
 use Rattle.door_outside.specs.declared.event.Event.{Event}
 use Rattle.door_outside.specs.declared.event.Event.TheVariants.{Write, Shorten, Sync, Put, Say}
-use Rattle.door_outside.specs.Events.{changed, read, settled, synced, spoken, Left, AreShort, IsShort}
+use Rattle.door_outside.specs.Events.{changed, read, synced, synced_after, spoken, Left, AreShort, IsShort}
 use Rattle.door_outside.specs.Left.{torn_written, cut_taken}
 
 -- the files with other bytes in one of them
@@ -120,10 +120,10 @@ pub all_short : (events : List Event) → AreShort (reverse events) → All IsSh
 all_short events short = subst (All IsShort) (reverse-reverse events) (short_reversed (reverse events) short)
 
 -- a file as of its last sync, likewise
-pub settled_more : (event : Event) (past now : List Event) (reads : List (List ℕ)) (old new : List ℕ) (file : ℕ) → now ≡ event ∷ past → ((file : ℕ) → content reads file ≡ read past file)
-    → old ≡ synced past file → new ≡ settled event (content reads) file old → new ≡ synced now file
-settled_more event past now reads old new file more same was is =
-    is ∙ (λ i. settled event (λ (f : ℕ). same f i) file (was i)) ∙ sym (ap (λ (es : List Event). synced es file) more)
+pub synced_more : (event : Event) (past now : List Event) (reads : List (List ℕ)) (old new : List ℕ) (file : ℕ) → now ≡ event ∷ past → ((file : ℕ) → content reads file ≡ read past file)
+    → old ≡ synced past file → new ≡ synced_after event (content reads) file old → new ≡ synced now file
+synced_more event past now reads old new file more same was is =
+    is ∙ (λ i. synced_after event (λ (f : ℕ). same f i) file (was i)) ∙ sym (ap (λ (es : List Event). synced es file) more)
 
 -- and as it reads
 pub reads_more : (event : Event) (past now : List Event) (old new : List ℕ) (file : ℕ) → now ≡ event ∷ past → old ≡ read past file → new ≡ changed event file old → new ≡ read now file

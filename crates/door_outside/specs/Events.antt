@@ -18,17 +18,17 @@ read [] file = []
 read (event ∷ past) file = changed event file (read past file)
 
 -- a file as of its last sync, after an event, where the files read so before it
-abbrev pub settled : Event → (ℕ → List ℕ) → ℕ → List ℕ → List ℕ
-settled (Write to at bytes) reads file old = old
-settled (Shorten to len) reads file old = old
-settled (Sync to) reads file old = if file == to then reads to else old
-settled (Put to bytes) reads file old = if file == to then bytes else old
-settled (Say bytes) reads file old = old
+abbrev pub synced_after : Event → (ℕ → List ℕ) → ℕ → List ℕ → List ℕ
+synced_after (Write to at bytes) reads file old = old
+synced_after (Shorten to len) reads file old = old
+synced_after (Sync to) reads file old = if file == to then reads to else old
+synced_after (Put to bytes) reads file old = if file == to then bytes else old
+synced_after (Say bytes) reads file old = old
 
 -- the files as of their last syncs
 abbrev pub synced : List Event → ℕ → List ℕ
 synced [] file = []
-synced (event ∷ past) file = settled event (read past) file (synced past file)
+synced (event ∷ past) file = synced_after event (read past) file (synced past file)
 
 -- what was said after an event
 abbrev pub said_after : Event → List ℕ → List ℕ

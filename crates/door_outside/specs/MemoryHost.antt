@@ -33,8 +33,8 @@ abbrev pub disk_of : Hosted → Disk
 disk_of host = told host.events host.wrote
 
 -- nothing is pending: every image that a crash may leave is what reads give
-abbrev pub IsSettled : List Event → Type 0
-IsSettled events = (image : Image) → Left events image → image ≡ record { files = read events; said = spoken events }
+abbrev pub OnlyReads : List Event → Type 0
+OnlyReads events = (image : Image) → Left events image → image ≡ record { files = read events; said = spoken events }
 
 -- what a host keeps is what its events left
 pub record Keeps (contents : List (List ℕ)) (words : List ℕ) (events : List Event) : Type 0 where

@@ -1,7 +1,7 @@
 ghost use Rattle.std.specs.Prelude.{◌≡◌, ℕ, ◌≤◌, ◌<◌, ◌^◌, ◌∷◌, [], length, IfOk, OnOk, OnErr, IsTrue, ◌↔◌};
 ghost use Rattle.door_outside.specs.Contents.{content, SameContents};
 ghost use Rattle.door_outside.specs.Events.{changed, said_after};
-ghost use Rattle.door_outside.specs.Disk.{AllNow, Holds, as_read};
+ghost use Rattle.door_outside.specs.Disk.{AllNow, Holds, InFile, NothingPending, Passes};
 ghost use Rattle.door_outside.specs.Plan.{FailsNext, one_more};
 
 mod crash;
@@ -62,7 +62,7 @@ impl MemoryHost {
     /// plan says.
     pub fn new(alloc: Global, plan: FaultPlan) -> MemoryHost
         ensures value { result ≡ record { events = []; wrote = 0; disk_faults = 0; voice_faults = 0; counts = record { plan = plan; calls = 0; starved = 0 } } }
-        ensures firm { AllNow (disk_of result) (λ image. image ≡ as_read (disk_of result)) }
+        ensures pending { NothingPending (disk_of result) }
     {
         MemoryHost {
             alloc,
@@ -96,6 +96,7 @@ impl MemoryHost {
         ensures err { OnErr result (self.new ≡ self.old) }
         ensures holds { OnOk result (Holds file bytes.now (disk_of self.old).files (disk_of self.new).files) }
         ensures durable { OnOk result (AllNow (disk_of self.new) (λ image. image.files file ≡ bytes.now)) }
+        ensures crash { OnOk result (let step = InFile file (λ old new. new ≡ bytes.now) in Passes step step (disk_of self.old) (disk_of self.new)) }
     {
         let bytes = Bytes::from_slice(self.alloc, bytes)?;
         self.note(Event::Put { file, bytes })

@@ -2,7 +2,7 @@
 ghost use Rattle.std.specs.Prelude.{◌≡◌, ℕ, ◌+◌, ◌-◌, ◌≤◌, ◌<◌, ◌^◌, None, length, IfOk, OnOk, OnErr};
 ghost use Rattle.door_outside.specs.Contents.{content};
 ghost use Rattle.door_outside.specs.Disk.{Torn, Cut};
-ghost use Rattle.door_outside.specs.Events.{IsShort, settled};
+ghost use Rattle.door_outside.specs.Events.{IsShort, synced_after};
 ghost use Rattle.door_outside.specs.Images.{OneFile, Takes};
 
 use crate::contents::Contents;
@@ -59,7 +59,7 @@ pub(crate) fn take_in_image(
 ) -> Result<(), AllocError>
     requires { IsShort event.now }
     ensures taken { OnOk result (Takes event.now (content read.now) (content image.old) (content image.new)) }
-    ensures settled { draws.old ≡ None → OnOk result ((file : ℕ) → content image.new file ≡ settled event.now (content read.now) file (content image.old file)) }
+    ensures synced { draws.old ≡ None → OnOk result ((file : ℕ) → content image.new file ≡ synced_after event.now (content read.now) file (content image.old file)) }
     ensures none { draws.old ≡ None → draws.new ≡ None }
 {
     match event {

@@ -1,5 +1,5 @@
 -- What a run over a list of entries promises, whatever an entry does.
-use Rattle.std.specs.Prelude.{◌≡◌, ◌⊎◌, ℕ, List, [], ◌∷◌, ◌++◌}
+use Rattle.std.specs.Prelude.{◌≡◌, ◌⊎◌, ℕ, List, ◌∷◌, ◌++◌}
 use Rattle.door_outside.specs.Disk.{Disk, Image, Now}
 use Rattle.door_outside.specs.Shelf.{Files}
 use Rattle.entry_runs.specs.Runs.{Stepped, Outcome, Runs, GoesOn, AreTaken, status_of}

@@ -72,3 +72,7 @@ since_calm patches old new calm run image left = ⊎_elim
 -- every image since the entry of a recovery of a firm host recovers to one outcome
 pub since_firm : (old new : Disk) → IsFirm old → Between old new (Back old) → (image : Image) → new.leaves old.clock image → Back old image
 since_firm old new firm run image left = ⊎_elim (λ before. record { said = old.stays image before; files = firm image before }) (λ in_it. in_it) (run.each old.clock image (omega arith) left)
+
+-- a host on one image, with nothing pending
+pub at_rest_is_settled : (disk : Disk) → AllNow disk (λ image. image ≡ as_read disk) → IsSettled disk
+at_rest_is_settled disk rest image left journal = ap (λ (i : Image). recovered i.files) (rest image left)

@@ -15,6 +15,8 @@ mod patch;
 mod reading;
 mod recovery;
 #[cfg(test)]
+mod stop_tests;
+#[cfg(test)]
 mod tests;
 
 pub use committing::commit;

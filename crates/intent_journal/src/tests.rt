@@ -191,24 +191,3 @@ fn only_an_open_intent_is_carried_out(rt: HostRuntime) -> Result<(), Fail> {
     }
     Ok(())
 }
-
-#[test]
-fn a_stopped_commit_is_all_or_nothing(rt: HostRuntime) -> Result<(), Fail> {
-    let intent = whole_intent(rt.alloc())?;
-    for calls in 0..20 {
-        for more in 0..12 {
-            let mut host = SmallHost::new();
-            host.left = calls;
-            let done = commit(&mut host, &intent).is_ok();
-            host.left = more;
-            let _ = recover(rt.alloc(), &mut host);
-            host.left = 1000;
-            recover(rt.alloc(), &mut host)?;
-            let patched = host.lens[2] == 4 && host.files[2][0] == 1;
-            let old = host.lens[2] == 0;
-            assert!(rt; patched || old && !done, "{calls} {more}");
-            assert_ne!(rt; host.files[1][0], b'O', "{calls} {more}");
-        }
-    }
-    Ok(())
-}

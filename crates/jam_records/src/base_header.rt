@@ -1,6 +1,6 @@
-ghost use Rattle.std.specs.Prelude.{◌≡◌, ◌≢◌, ◌↔◌, ◌<◌, ◌≤◌, ℕ, List, ◌++◌, length, take};
+ghost use Rattle.std.specs.Prelude.{◌≡◌, ◌≢◌, ◌↔◌, ◌<◌, ◌≤◌, length, take};
 ghost use Rattle.jam_records.specs.Numbers.{signature};
-ghost use Rattle.jam_records.specs.BaseHeaders.{base_header_at, base_text, BaseHeaderStands, IsBaseHeader};
+ghost use Rattle.jam_records.specs.BaseHeaders.{base_text, BaseHeaderStands};
 
 use crate::error::RecordError;
 use crate::numbers::{SIGNATURE, u32_at};

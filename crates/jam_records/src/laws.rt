@@ -1,4 +1,4 @@
-//! Laws of the records, each a function that does nothing and promises the law.
+//! Laws of the records, each the contract of a function that does nothing.
 ghost use Rattle.std.specs.Prelude.{◌≡◌, ◌≤◌, ◌++◌, ℕ, List, length, take, All};
 ghost use Rattle.byteorder.specs.Endian.{little_number, little_bytes};
 ghost use Rattle.byte_lists.specs.Byte.{IsByte};

@@ -1,5 +1,3 @@
-ghost use Rattle.std.specs.Prelude.{◌≡◌};
-
 use byte_lists::{Bytes, Duplicate, List};
 use std::alloc::{AllocError, Global};
 

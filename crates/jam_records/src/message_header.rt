@@ -1,4 +1,4 @@
-ghost use Rattle.std.specs.Prelude.{◌≡◌, ◌≢◌, ◌↔◌, ◌<◌, ◌≤◌, List, length, take};
+ghost use Rattle.std.specs.Prelude.{◌≡◌, ◌≢◌, ◌↔◌, ◌<◌, ◌≤◌, length, take};
 ghost use Rattle.jam_records.specs.Numbers.{signature, u16_at as u16_of};
 ghost use Rattle.jam_records.specs.MessageHeaders.{message_header_at, message_fields, header_text, MessageHeaderStands};
 

@@ -1,4 +1,4 @@
-ghost use Rattle.std.specs.Prelude.{◌≡◌, ◌⊎◌, ◌≤◌, ◌<◌, ◌+◌, ◌^◌, ◌++◌, ℕ, List, length, drop, IfOk, MatchOption};
+ghost use Rattle.std.specs.Prelude.{◌≡◌, ◌⊎◌, ◌≤◌, ◌<◌, ◌+◌, ◌^◌, ℕ, List, length, IfOk, MatchOption};
 ghost use Rattle.jam_records.specs.Numbers.{u32_at as u32_of};
 ghost use Rattle.jam_records.specs.Subfields.{subfield_text, IsSubfield, IsCutShort, SubfieldsRead, PassesEnd};
 

@@ -1,5 +1,5 @@
 -- What is kept of a list of slots to which one is added.
-use Rattle.std.specs.Prelude.{◌≡◌, ℕ, zero, suc, ◌+◌, ◌<◌, List, [], ◌∷◌, length, slice_index, slice_index_or, ◌==◌, if◌then◌else◌}
+use Rattle.std.specs.Prelude.{◌≡◌, ℕ, suc, ◌<◌, List, [], ◌∷◌, length, slice_index, slice_index_or, ◌==◌, if◌then◌else◌}
 use Rattle.jam_records.specs.declared.message.Slot.{Slot}
 use Rattle.jam_threads.specs.Children.{first_of_id, children}
 use Rattle.jam_threads.specs.Links.{link_of}

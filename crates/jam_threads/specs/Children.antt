@@ -1,8 +1,7 @@
 -- The originals and the children of messages, over whole lists of slots.
 -- The slot in place i, from 0, has the message number i + 1. The number 0 stands for no message.
-use Rattle.std.specs.Prelude.{ℕ, zero, suc, ◌+◌, List, [], ◌∷◌, ◌++◌, length, take, slice_get, filter, position, Option, Some, None, Bool, false, ◌==◌, if◌then◌else◌}
+use Rattle.std.specs.Prelude.{ℕ, zero, suc, ◌+◌, List, [], ◌∷◌, ◌++◌, length, take, slice_get, filter, position, Option, Some, None, Bool, false, ◌==◌}
 use Rattle.std.specs.Str.{bytes_eq}
-use Rattle.jam_records.specs.declared.message.Message.{Message}
 use Rattle.jam_records.specs.declared.message.Slot.{Slot}
 use Rattle.jam_records.specs.declared.message.Slot.TheVariants.{Gone, Held}
 

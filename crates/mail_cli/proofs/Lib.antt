@@ -1,2 +1,4 @@
+mod OneCommand
+mod OneOutcome
 mod Reading
 mod Saying

@@ -1,11 +1,11 @@
 -- One entry's reply, said or cut short.
-use Rattle.std.proofs.Common.{◌≡◌, ℕ, List, [], ◌∷◌, ◌++◌, length, take, drop, inl, inr, refl, sym, ◌∙◌, ap, subst, arith}
+use Rattle.std.proofs.Common.{◌≡◌, ℕ, List, [], ◌∷◌, ◌++◌, take, drop, inl, inr, refl, sym, ◌∙◌, ap, subst, arith}
 use Rattle.std.proofs.lemmas.List.{append-nil, take-append-drop}
 use Rattle.door_outside.specs.Disk.{Disk, Image, Passes, Says, Reached, Between}
 use Rattle.door_outside.proofs.Moments.{by_call}
 use Rattle.door_outside.specs.Shelf.{Files}
-use Rattle.entry_runs.specs.Runs.{Stepped, Outcome, Runs, AreTaken, with_class}
-use Rattle.entry_runs.specs.Promise.{Seen, IsFront, IsHeld, IsCarried, IsWhole, IsCutShort, Stopped}
+use Rattle.entry_runs.specs.Runs.{Stepped, Runs, AreTaken, with_class}
+use Rattle.entry_runs.specs.Promise.{Seen, IsHeld, IsCarried, IsWhole, IsCutShort, Stopped}
 use Rattle.entry_runs.specs.declared.class.Class.{Class}
 use Rattle.entry_runs.specs.declared.class.Class.TheVariants.{Done, Refused, Usage, Damaged}
 use Rattle.entry_runs.specs.declared.status.Status.{Status}

@@ -12,7 +12,7 @@ use Rattle.mail_cli.specs.declared.entry.Entry.{Entry}
 use Rattle.mail_cli.specs.declared.entry.Entry.TheVariants.{Run, Wrong}
 use Rattle.mail_cli.specs.declared.halt.Stop.{Stop}
 use Rattle.mail_cli.specs.declared.halt.Stop.TheVariants as stop
-use Rattle.mail_cli.specs.Step.{Step, World, shelf_of, here}
+use Rattle.mail_cli.specs.Step.{Step, shelf_of, here}
 use Rattle.mail_cli.specs.Words.{CommandReads, IsNoCommand}
 
 abbrev pub status_of_stop : Stop → Status

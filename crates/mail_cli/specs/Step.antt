@@ -1,5 +1,5 @@
 -- What an entry does.
-use Rattle.std.specs.Prelude.{◌≡◌, ℕ, List}
+use Rattle.std.specs.Prelude.{◌≡◌, ℕ}
 use Rattle.door_outside.specs.Shelf.{Files}
 use Rattle.entry_runs.specs.Runs.{Stepped}
 use Rattle.mail_cli.specs.declared.answer.Answer.{Answer}

@@ -7,6 +7,7 @@ mod command;
 mod entry;
 mod folder;
 mod halt;
+pub mod laws;
 mod list;
 mod perform;
 mod read;

@@ -1,5 +1,5 @@
 -- The listing of a packet's messages.
-use Rattle.std.specs.Prelude.{ℕ, Bool, ◌==◌, ◌||◌, if◌then◌else◌, List, [], ◌∷◌, ◌++◌, length, codes, decimal}
+use Rattle.std.specs.Prelude.{ℕ, Bool, ◌==◌, ◌||◌, if◌then◌else◌, List, ◌++◌, length, codes, decimal}
 use Rattle.std.specs.List.{flat_map, enumerate_from}
 use Rattle.offline_reader.specs.Printed.{printed, printed_number, printed_line}
 use Rattle.qwk_blocks.specs.declared.message.Header.{Header}

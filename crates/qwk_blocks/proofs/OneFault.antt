@@ -1,5 +1,5 @@
 -- Bytes have one first fault at most, and none where they read as messages.
-use Rattle.std.proofs.Common.{◌≡◌, ◌⊎◌, inl, inr, ⊎_elim, ℕ, ◌<◌, ◌≤◌, List, length, take, drop, sym, ◌∙◌, ap, subst, arith}
+use Rattle.std.proofs.Common.{◌≡◌, inl, inr, ⊎_elim, ℕ, List, length, drop, sym, ◌∙◌, ap, subst, arith}
 use Rattle.std.proofs.Math.Seq.{take-length}
 use Rattle.qwk_blocks.specs.Packet.{PacketReads, PacketAt, StopsWith, FirstFault}
 use Rattle.qwk_blocks.specs.declared.fault.QwkFault.{QwkFault}

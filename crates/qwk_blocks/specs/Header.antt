@@ -25,7 +25,7 @@ number_in place block = byte place block + 256 * byte (place + 1) block
 abbrev pub HasText : ℕ → ℕ → List ℕ → List ℕ → Type 0
 HasText place width block text = TrimmedEnd IsPad (field place width block) text
 
--- a number field: spaces and NULs, one or more digits, then spaces and NULs
+-- a number field: spaces and NULs, one or more digits, then spaces and NULs; it has room for no more digits than its width
 abbrev pub IsNumber : ℕ → ℕ → List ℕ → ℕ → Type 0
 IsNumber place width block n = Number IsPad width (field place width block) n
 

@@ -1,5 +1,5 @@
 -- A line says one number, or one serial and board id, at most.
-use Rattle.std.proofs.Common.{◌≡◌, ℕ, ◌≤◌, List, ◌∷◌, ◌++◌, Option, Some, None, sym, ◌∙◌, subst, inl, inr}
+use Rattle.std.proofs.Common.{◌≡◌, ℕ, List, sym, ◌∙◌, subst, inl, inr}
 use Rattle.text_fields.specs.Split.{Lacks, SplitsAt}
 use Rattle.text_fields.specs.Trim.{Trimmed}
 use Rattle.text_fields.proofs.Numbers.{number_unique}

@@ -1,10 +1,9 @@
 -- Lines read as one value at most, and then have no fault; and they have one fault at most.
-use Rattle.std.proofs.Common.{◌≡◌, ℕ, zero, suc, ◌+◌, ◌-◌, ◌*◌, ◌<◌, ◌≤◌, List, [], ◌∷◌, ◌++◌, Option, Some, None, Result, Ok, Err, length, get_or, refl, sym, ap, ◌∙◌, subst, inl, inr, arith}
+use Rattle.std.proofs.Common.{◌≡◌, ℕ, zero, suc, ◌+◌, ◌-◌, ◌*◌, ◌<◌, ◌≤◌, List, [], ◌∷◌, Some, Result, Ok, Err, length, get_or, refl, sym, ap, ◌∙◌, subst, inl, inr, arith}
 use Rattle.std.proofs.lemmas.Bool.{cases_lt}
 use Rattle.std.proofs.lemmas.List.{get_or-append-add}
 use Rattle.std.proofs.lemmas.Option.{slice_get-get_or, slice_get_within}
-use Rattle.std.specs.List.{slice_get}
-use Rattle.std.specs.Result.{IfOk, MatchResult}
+use Rattle.std.specs.Result.{MatchResult}
 use Rattle.qwk_control.specs.Line.{line, or_empty, PlaceLine, IdLine}
 use Rattle.qwk_control.specs.Control.{CountReads, ConferencesRead, LinesRead}
 use Rattle.qwk_control.specs.Fault.{IsNumberPlace, IsWanted, Keeps, Breaks, LineFault, MemoryOr, UnlessMemory}

@@ -1,5 +1,5 @@
 -- The first line of CONTROL.DAT that breaks its rule.
-use Rattle.std.specs.Prelude.{◌≡◌, ◌⊎◌, ℕ, ◌+◌, ◌*◌, ◌<◌, ◌≤◌, List, Option, Some, length, Result, Err}
+use Rattle.std.specs.Prelude.{◌≡◌, ◌⊎◌, ℕ, ◌+◌, ◌*◌, ◌<◌, ◌≤◌, List, Some, length, Result, Err}
 use Rattle.std.specs.Str.Lines.{lines}
 use Rattle.qwk_control.specs.Line.{line, PlaceLine, IdLine}
 use Rattle.qwk_control.specs.declared.fault.ControlError.{ControlError}

@@ -1,3 +1,4 @@
 pub mod Line
 pub mod Control
 pub mod Fault
+pub mod Written

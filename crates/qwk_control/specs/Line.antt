@@ -1,5 +1,5 @@
 -- What single lines of CONTROL.DAT say. Lines count from 1.
-use Rattle.std.specs.Prelude.{◌≡◌, ℕ, ◌-◌, ◌≤◌, List, [], Option, length, slice_get, unwrap_or, All}
+use Rattle.std.specs.Prelude.{ℕ, ◌-◌, ◌≤◌, List, [], Option, length, slice_get, unwrap_or, All}
 use Rattle.text_fields.specs.Blank.{IsBlank}
 use Rattle.text_fields.specs.Number.{Number}
 use Rattle.text_fields.specs.Split.{SplitsAt}

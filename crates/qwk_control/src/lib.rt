@@ -10,7 +10,12 @@ pub mod laws;
 mod number;
 mod read;
 mod rules;
+#[cfg(test)]
+mod tests;
+mod writable;
+mod write;
 
 pub use control::{Control, Listed};
 pub use fault::ControlError;
 pub use read::read_control;
+pub use write::write_control;

@@ -1,9 +1,11 @@
 -- The lines of a text, one at a time.
-use Rattle.std.proofs.Common.{◌≡◌, ℕ, ◌<◌, Bool, true, false, cond, eqb, List, [], ◌∷◌, ◌++◌, length, refl, sym, ap, ◌∙◌, arith, append_assoc, ne_eqb}
-use Rattle.std.proofs.lemmas.List.{nil_from_length, append-nil}
+use Rattle.std.proofs.Common.{◌≡◌, ◌≢◌, ℕ, ◌-◌, ◌<◌, Bool, true, false, cond, eqb, List, [], ◌∷◌, ◌++◌, length, length-append, get_or, take, refl, sym, ap, ◌∙◌, arith, append_assoc, eq-eqb, ne_eqb}
+use Rattle.std.proofs.lemmas.List.{nil_from_length, append-nil, get_or_push, take_at}
+use Rattle.std.proofs.lemmas.List.Elements.{All-head, All-tail, All-push}
 use Rattle.std.proofs.lemmas.List.Splits.{slice_split_at, slice_split_none}
 use Rattle.std.proofs.lemmas.Bool.Decides.{nat_tests}
 use Rattle.std.specs.List.{All, slice_split, onto_first}
+use Rattle.text_fields.specs.Lines.{text_of_lines}
 use Rattle.text_fields.specs.Split.{Lacks, SplitsAt}
 use Rattle.std.specs.Str.Lines.{lines, lines_of_parts, strip_carriage_return}
 
@@ -47,3 +49,24 @@ last_is text rest all new so_far some clear e = e ∙ sym (so_far ∙ ap (λ zs.
 
 pub none_is_left : (text rest : List ℕ) (all : List (List ℕ)) → lines text ≡ all ++ lines rest → length rest ≡ 0 → all ≡ lines text
 none_is_left text rest all so_far none = sym (so_far ∙ (ap (λ xs. all ++ lines xs) (nil_from_length rest none) ∙ append-nil all))
+
+-- a carriage return at the end is dropped
+strip_push : (xs : List ℕ) → strip_carriage_return (xs ++ 13 ∷ []) ≡ xs
+strip_push xs =
+    let l : List ℕ = xs ++ 13 ∷ [] in
+    let n : length l - 1 ≡ length xs = omega (arith, length-append xs (13 ∷ [])) in
+    let last : get_or l (length l - 1) 0 ≡ 13 = ap (λ k. get_or l k 0) n ∙ get_or_push xs 13 0 (length xs) refl in
+    ap (λ (b : Bool). cond b (take (length l - 1) l) l) (eq-eqb (get_or l (length l - 1) 0) 13 last) ∙ (ap (λ k. take k l) n ∙ take_at xs (13 ∷ []) (length xs) refl)
+
+push_no_feed : (xs : List ℕ) → Lacks 10 xs → Lacks 10 (xs ++ 13 ∷ [])
+push_no_feed xs h = All-push (λ b. b ≢ 10) xs 13 h (λ e. omega arith)
+
+-- lines that are written read back
+pub lines_back : (all : List (List ℕ)) → All (Lacks 10) all → lines (text_of_lines all) ≡ all
+lines_back [] h = refl
+lines_back (x ∷ xs) h =
+    let e : text_of_lines (x ∷ xs) ≡ (x ++ 13 ∷ []) ++ 10 ∷ text_of_lines xs = append_assoc x (13 ∷ 10 ∷ []) (text_of_lines xs) ∙ sym (append_assoc x (13 ∷ []) (10 ∷ text_of_lines xs)) in
+    let clear : Lacks 10 (x ++ 13 ∷ []) = push_no_feed x (All-head (Lacks 10) x xs h) in
+    let s : strip_carriage_return (x ++ 13 ∷ []) ≡ x = strip_push x in
+    let r : lines (text_of_lines xs) ≡ xs = lines_back xs (All-tail (Lacks 10) x xs h) in
+    ap lines e ∙ (first_line (x ++ 13 ∷ []) (text_of_lines xs) (no_feed (x ++ 13 ∷ []) clear) ∙ (ap (λ l. l ∷ lines (text_of_lines xs)) s ∙ ap (λ ls. x ∷ ls) r))

@@ -2,3 +2,4 @@ pub mod Blank
 pub mod Trim
 pub mod Number
 pub mod Split
+pub mod Lines

@@ -1,5 +1,6 @@
-ghost use Rattle.std.specs.Prelude.{◌≡◌, IfOk};
+ghost use Rattle.std.specs.Prelude.{◌≡◌, ◌++◌, IfOk, OnOk};
 ghost use Rattle.std.specs.Str.Lines.{lines, strip_carriage_return};
+ghost use Rattle.text_fields.specs.Lines.{ended};
 
 use crate::split::split_at_byte;
 use byte_lists::{Bytes, Lines};
@@ -31,4 +32,12 @@ pub fn lines_of(alloc: Global, text: &[u8]) -> Result<Lines, AllocError>
     }
     all.add(Bytes::from_slice(alloc, rest)?)?;
     Ok(all)
+}
+
+/// Adds a line, and CR LF behind it.
+pub fn add_line(out: &mut Bytes, line: &[u8]) -> Result<(), AllocError>
+    ensures { OnOk result (out.new ≡ out.old ++ ended line.now) }
+{
+    out.add(line)?;
+    out.add(b"\r\n")
 }

@@ -6,7 +6,8 @@ use crate::blank::Blank;
 use crate::digits::digits_of;
 use crate::trim::trimmed;
 
-/// The number that a field has between its blanks, or None where that isn't one to nineteen digits.
+/// The number that a field has between its blanks, or None where what stands there isn't digits, one at
+/// least and `most` at most.
 pub fn number_of(field: &[u8], blank: Blank, most: usize) -> Option<u64>
     requires { most ≤ 19 }
     ensures { MatchOption result ((n : ℕ) → ¬ Number (IsBlank blank) most field.now n) (Number (IsBlank blank) most field.now) }

@@ -1,8 +1,10 @@
 //! Fields and texts from worked examples.
 use crate::{
-    Blank, add_decimal, digits_of, lines_of, number_of, split_at_byte, trimmed, trimmed_end,
+    Blank, add_decimal, add_line, digits_of, lines_of, number_of, split_at_byte, trimmed,
+    trimmed_end,
 };
 use byte_lists::Bytes;
+use std::process::Abort;
 use std::test::Fail;
 
 #[test]
@@ -69,6 +71,16 @@ fn reads_lines(rt: HostRuntime) -> Result<(), Fail> {
     }
     assert_eq!(rt; lines_of(rt.alloc(), b"")?.len(), 0);
     assert_eq!(rt; lines_of(rt.alloc(), b"one\n")?.len(), 1);
+    Ok(())
+}
+
+#[test]
+fn writes_lines(rt: HostRuntime) -> Result<(), Fail> {
+    let mut text = Bytes::new(rt.alloc());
+    add_line(&mut text, b"one")?;
+    add_line(&mut text, b"")?;
+    assert_eq!(rt; text.as_slice(), b"one\r\n\r\n".as_slice());
+    assert_eq!(rt; lines_of(rt.alloc(), text.as_slice())?.len(), 2);
     Ok(())
 }
 

@@ -1,9 +1,9 @@
 ghost use Rattle.std.specs.Prelude.{◌≡◌, ◌≢◌, ℕ, ◌<◌, ◌≤◌, ◌^◌, None, [], length, reverse, All, IfOk, OnOk};
 ghost use Rattle.door_outside.specs.Contents.{content};
-ghost use Rattle.door_outside.specs.Disk.{AllNow, Now, as_read};
+ghost use Rattle.door_outside.specs.Disk.{NothingPending, Now, as_read};
 ghost use Rattle.door_outside.specs.Events.{IsShort, Left, read, spoken, synced};
 ghost use Rattle.door_outside.specs.Images.{Chosen, IsFresh};
-ghost use Rattle.door_outside.specs.MemoryHost.{IsSettled, disk_of};
+ghost use Rattle.door_outside.specs.MemoryHost.{OnlyReads, disk_of};
 
 use super::MemoryHost;
 use crate::contents::Contents;
@@ -21,7 +21,7 @@ use std::alloc::{AllocError, Global};
 fn image_of(alloc: Global, events: &[Event], draws: Option<Draws>) -> Result<Contents, AllocError>
     requires { All IsShort events.now }
     ensures left { IfOk result (λ files. Left (reverse events.now) (record { files = content files; said = spoken (reverse events.now) })) }
-    ensures settled { draws ≡ None → IfOk result (λ files. (file : ℕ) → content files file ≡ synced (reverse events.now) file) }
+    ensures synced { draws ≡ None → IfOk result (λ files. (file : ℕ) → content files file ≡ synced (reverse events.now) file) }
 {
     let mut draws = draws;
     let mut read = Contents::new(alloc);
@@ -40,7 +40,7 @@ impl MemoryHost {
         ensures rest { OnOk result (self.new ≡ record self.old { events = self.new.events }) }
         ensures said { OnOk result (spoken self.new.events ≡ said.now) }
         ensures files { OnOk result ((file : ℕ) → read self.new.events file ≡ []) }
-        ensures settled { OnOk result (IsSettled self.new.events) }
+        ensures pending { OnOk result (OnlyReads self.new.events) }
     {
         if said.is_empty() {
             return Ok(());
@@ -58,7 +58,7 @@ impl MemoryHost {
         ensures here { OnOk result (read self.new.events number ≡ content files.now number) }
         ensures others { OnOk result ((file : ℕ) → file ≢ number → read self.new.events file ≡ read self.old.events file) }
         ensures said { OnOk result (spoken self.new.events ≡ spoken self.old.events) }
-        ensures settled { IsSettled self.old.events → OnOk result (IsSettled self.new.events) }
+        ensures pending { OnlyReads self.old.events → OnOk result (OnlyReads self.new.events) }
     {
         let Some(file) = FileId::new(number) else {
             return Ok(());
@@ -80,7 +80,7 @@ impl MemoryHost {
         requires { (file : ℕ) → length (content files.now file) < 2 ^ 31 }
         ensures files { IfOk result (λ host. (file : ℕ) → read host.events file ≡ content files.now file) }
         ensures said { IfOk result (λ host. spoken host.events ≡ said.now) }
-        ensures settled { IfOk result (λ host. IsSettled host.events) }
+        ensures pending { IfOk result (λ host. OnlyReads host.events) }
         ensures fresh { IfOk result (λ host. IsFresh plan host) }
     {
         let mut host = MemoryHost::new(alloc, plan);
@@ -101,7 +101,7 @@ impl MemoryHost {
     ) -> Result<MemoryHost, AllocError>
         ensures image { IfOk result (λ host. Now (disk_of self.now) (as_read (disk_of host))) }
         ensures chosen { IfOk result (λ host. Chosen choice self.now.events (disk_of host).files) }
-        ensures settled { IfOk result (λ host. AllNow (disk_of host) (λ image. image ≡ as_read (disk_of host))) }
+        ensures pending { IfOk result (λ host. NothingPending (disk_of host)) }
         ensures fresh { IfOk result (λ host. IsFresh plan host) }
     {
         let said = self.said.as_slice();

@@ -26,6 +26,39 @@ fn words_of(alloc: Global, line: &str) -> Result<Words, AllocError> {
     Ok(words)
 }
 
+/// The host of a run, and how the run ends.
+#[derive(Drop)]
+struct Ended {
+    host: MemoryHost,
+    status: Status,
+}
+
+/// Runs a line on a host whose calls fail by a plan.
+fn run_line(
+    alloc: Global,
+    line: &str,
+    plan: FaultPlan,
+    shelf: &mut MemoryShelf,
+) -> Result<Ended, AllocError> {
+    let mut host = MemoryHost::new(alloc, plan);
+    let words = words_of(alloc, line)?;
+    let status = run(alloc, &words, &mut host, shelf, NOW);
+    Ok(Ended { host, status })
+}
+
+/// Whether a host was told this, and never wanted memory.
+fn has_said(host: &MemoryHost, reply: &[u8]) -> bool {
+    host.said() == reply && host.starved() == 0
+}
+
+fn has_memory(shelf: &MemoryShelf) -> bool {
+    shelf.starved() == 0
+}
+
+fn empty_shelf(alloc: Global, plan: FaultPlan) -> MemoryShelf {
+    MemoryShelf::new(alloc, plan)
+}
+
 /// Runs each line on a host of its own, and looks at what it says and how it ends.
 fn assert_runs(
     rt: &impl Abort,
@@ -34,12 +67,10 @@ fn assert_runs(
     runs: &[(&str, &str, Status)],
 ) -> Result<(), Fail> {
     for (line, reply, status) in runs {
-        let mut host = MemoryHost::new(alloc, no_faults(alloc));
-        let words = words_of(alloc, line)?;
-        let ended = run(alloc, &words, &mut host, shelf, NOW);
-        assert_eq!(rt; host.said(), reply.as_bytes(), "{line}");
-        assert_eq!(rt; ended, *status, "{line}");
-        assert_eq!(rt; host.starved(), 0);
+        let ended = run_line(alloc, line, no_faults(alloc), shelf)?;
+        assert!(rt; has_said(&ended.host, reply.as_bytes()), "{line}");
+        assert_eq!(rt; ended.status, *status, "{line}");
+        assert!(rt; has_memory(shelf), "{line}");
     }
     Ok(())
 }
@@ -47,7 +78,7 @@ fn assert_runs(
 #[test]
 fn packets_are_listed(rt: HostRuntime) -> Result<(), Fail> {
     let alloc = rt.alloc();
-    let mut shelf = MemoryShelf::new(alloc, no_faults(alloc));
+    let mut shelf = empty_shelf(alloc, no_faults(alloc));
     put_packets(&mut shelf, alloc)?;
     let runs = [
         ("list P1", LISTED, Status::Done),
@@ -68,20 +99,14 @@ fn packets_are_listed(rt: HostRuntime) -> Result<(), Fail> {
         ),
         ("list zero", "refused broken blocks 128\n", Status::Refused),
         ("list blank", "refused broken blocks 128\n", Status::Refused),
-        ("fly", "usage\n", Status::Usage),
-        ("list", "usage\n", Status::Usage),
-        ("list P1 P1", "usage\n", Status::Usage),
-        ("list ../P1", "usage\n", Status::Usage),
     ];
-    assert_runs(&rt, alloc, &mut shelf, &runs)?;
-    assert_eq!(rt; shelf.starved(), 0);
-    Ok(())
+    assert_runs(&rt, alloc, &mut shelf, &runs)
 }
 
 #[test]
 fn folders_are_read(rt: HostRuntime) -> Result<(), Fail> {
     let alloc = rt.alloc();
-    let mut shelf = MemoryShelf::new(alloc, no_faults(alloc));
+    let mut shelf = empty_shelf(alloc, no_faults(alloc));
     put_folders(&mut shelf, alloc)?;
     let runs = [
         (
@@ -94,64 +119,61 @@ fn folders_are_read(rt: HostRuntime) -> Result<(), Fail> {
             "From: BOB RAY\nTo: ALL\nSubject: Hello\nDate: 09-09-01 01:46\nConference: 0\nNumber: 1\nReference: 0\n\nFirst line\n",
             Status::Done,
         ),
-        ("read out 2", "refused nomessage\n", Status::Refused),
-        (
-            "read out 0000000000",
-            "refused nomessage\n",
-            Status::Refused,
-        ),
-        (
-            "read none",
-            "refused nofile none/CONTROL.DAT\n",
-            Status::Refused,
-        ),
-        (
-            "read none 1",
-            "refused nofile none/CONTROL.DAT\n",
-            Status::Refused,
-        ),
-        ("read short", "refused control short 5\n", Status::Refused),
-        (
-            "read bare",
-            "refused nofile bare/MESSAGES.DAT\n",
-            Status::Refused,
-        ),
-        (
-            "read broken 9",
-            "refused broken truncated 128\n",
-            Status::Refused,
-        ),
-        ("read a/b/c/d", "usage\n", Status::Usage),
-        ("read out 00000000001", "usage\n", Status::Usage),
-        ("read out 4294967296", "usage\n", Status::Usage),
-        ("read out -1", "usage\n", Status::Usage),
-        ("read out 1 1", "usage\n", Status::Usage),
-        ("read", "usage\n", Status::Usage),
     ];
-    assert_runs(&rt, alloc, &mut shelf, &runs)?;
-    assert_eq!(rt; shelf.starved(), 0);
+    assert_runs(&rt, alloc, &mut shelf, &runs)
+}
+
+#[test]
+fn each_refusal_of_a_folder_comes_first(rt: HostRuntime) -> Result<(), Fail> {
+    let alloc = rt.alloc();
+    let mut shelf = empty_shelf(alloc, no_faults(alloc));
+    put_folders(&mut shelf, alloc)?;
+    let refused = [
+        ("read none", "refused nofile none/CONTROL.DAT\n"),
+        ("read none 1", "refused nofile none/CONTROL.DAT\n"),
+        ("read short", "refused control short 5\n"),
+        ("read bare", "refused nofile bare/MESSAGES.DAT\n"),
+        ("read broken 9", "refused broken truncated 128\n"),
+        ("read out 2", "refused nomessage\n"),
+        ("read out 0000000000", "refused nomessage\n"),
+    ];
+    for (line, reply) in refused {
+        assert_runs(&rt, alloc, &mut shelf, &[(line, reply, Status::Refused)])?;
+    }
+    Ok(())
+}
+
+#[test]
+fn other_words_are_no_command(rt: HostRuntime) -> Result<(), Fail> {
+    let alloc = rt.alloc();
+    let mut shelf = empty_shelf(alloc, no_faults(alloc));
+    for line in [
+        "fly",
+        "list",
+        "list P1 P1",
+        "list ../P1",
+        "read",
+        "read a/b/c/d",
+        "read out 00000000001",
+        "read out 4294967296",
+        "read out -1",
+        "read out 1 1",
+    ] {
+        assert_runs(&rt, alloc, &mut shelf, &[(line, "usage\n", Status::Usage)])?;
+    }
     Ok(())
 }
 
 #[test]
 fn faults_of_the_first_call_end_the_run(rt: HostRuntime) -> Result<(), Fail> {
     let alloc = rt.alloc();
-    let words = words_of(alloc, "list P1")?;
-    let mut host = MemoryHost::new(alloc, no_faults(alloc));
-    let mut shelf = MemoryShelf::new(alloc, fails_at(alloc, 1)?);
+    let mut shelf = empty_shelf(alloc, fails_at(alloc, 1)?);
     put_packets(&mut shelf, alloc)?;
-    assert_eq!(rt;
-        run(alloc, &words, &mut host, &mut shelf, NOW),
-        Status::ShelfFault
-    );
-    assert_eq!(rt; host.said().len(), 0);
-    let mut host = MemoryHost::new(alloc, fails_at(alloc, 1)?);
-    let mut shelf = MemoryShelf::new(alloc, no_faults(alloc));
-    put_packets(&mut shelf, alloc)?;
-    assert_eq!(rt;
-        run(alloc, &words, &mut host, &mut shelf, NOW),
-        Status::VoiceFault
-    );
-    assert_eq!(rt; host.said().len(), 0);
+    let ended = run_line(alloc, "list P1", no_faults(alloc), &mut shelf)?;
+    assert_eq!(rt; ended.status, Status::ShelfFault);
+    assert!(rt; has_said(&ended.host, b""));
+    let ended = run_line(alloc, "list P1", fails_at(alloc, 1)?, &mut shelf)?;
+    assert_eq!(rt; ended.status, Status::VoiceFault);
+    assert!(rt; has_said(&ended.host, b""));
     Ok(())
 }

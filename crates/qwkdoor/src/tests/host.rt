@@ -1,11 +1,11 @@
 use crate::folder_host::FolderHost;
-use door_outside::{FileId, Host};
+use door_outside::{CallNumbers, FaultPlan, FileId, Host, MemoryHost};
 use std::fs;
 use std::os::unix::fs::PermissionsExt;
 use std::process::Abort;
 use std::test::Fail;
 
-/// The calls of a host on an empty disk, and what each answers.
+/// The calls of a host on an empty disk, and what each answers: the same on a real disk and in memory.
 fn use_disk<H: Host>(rt: &impl Abort, host: &mut H) -> Result<(), Fail> {
     let file = FileId::new(5).ok_or("a file")?;
     let mut buf = [b'-'; 8];
@@ -27,6 +27,11 @@ fn use_disk<H: Host>(rt: &impl Abort, host: &mut H) -> Result<(), Fail> {
 fn a_conference_has_four_private_files(rt: HostRuntime) -> Result<(), Fail> {
     let folder = "qwkdoor_test_files";
     let _ = fs::remove_dir_all(&rt, folder);
+    let plan = FaultPlan {
+        fails: CallNumbers::new(rt.alloc()),
+        stop: None,
+    };
+    use_disk(&rt, &mut MemoryHost::new(rt.alloc(), plan))?;
     let mut host = FolderHost::new(rt, folder)?;
     use_disk(&rt, &mut host)?;
     assert_eq!(rt;

@@ -1,11 +1,11 @@
 use crate::folder_shelf::FolderShelf;
-use door_outside::{Piece, Shelf, ShelfName};
+use door_outside::{CallNumbers, FaultPlan, MemoryShelf, Piece, Shelf, ShelfName};
 use std::alloc::Global;
 use std::fs;
 use std::process::Abort;
 use std::test::Fail;
 
-/// The calls of a shelf that is empty, and what each answers.
+/// The calls of a shelf that is empty, and what each answers: the same in a real folder and in memory.
 fn use_shelf<S: Shelf>(rt: &impl Abort, alloc: Global, shelf: &mut S) -> Result<(), Fail> {
     let name = ShelfName::parse(alloc, b"out/a/CONTROL.DAT")?.ok_or("a name")?;
     let other = ShelfName::parse(alloc, b"out/text")?.ok_or("a name")?;
@@ -32,6 +32,11 @@ fn use_shelf<S: Shelf>(rt: &impl Abort, alloc: Global, shelf: &mut S) -> Result<
 fn shelf_files_lie_at_their_names(rt: HostRuntime) -> Result<(), Fail> {
     let folder = "qwkdoor_test_shelf";
     let _ = fs::remove_dir_all(&rt, folder);
+    let plan = FaultPlan {
+        fails: CallNumbers::new(rt.alloc()),
+        stop: None,
+    };
+    use_shelf(&rt, rt.alloc(), &mut MemoryShelf::new(rt.alloc(), plan))?;
     let mut shelf = FolderShelf::new(rt, folder)?;
     use_shelf(&rt, rt.alloc(), &mut shelf)?;
     assert_eq!(rt;

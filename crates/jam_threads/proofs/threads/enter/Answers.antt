@@ -1,4 +1,4 @@
-use Rattle.std.proofs.Common.{◌≡◌, ◌==◌, ◌&&◌, cond, length, sym, ap, ◌∙◌, Some}
+use Rattle.std.proofs.Common.{◌==◌, ◌&&◌, cond, length, sym, ap, ◌∙◌, Some}
 use Rattle.std.specs.Str.{bytes_eq}
 use Rattle.jam_threads.specs.Children.{slot_original, has_msgid}
 use Rattle.jam_threads.specs.FirstNumbers.{kept_number}

@@ -1,4 +1,4 @@
-use Rattle.std.proofs.Common.{◌≡◌, ℕ, List, ◌++◌, take, drop, refl, sym, ◌∙◌, ap, subst}
+use Rattle.std.proofs.Common.{ℕ, List, ◌++◌, take, drop, refl, sym, ◌∙◌, ap, subst}
 use Rattle.std.proofs.lemmas.List.{take-append-drop}
 use Rattle.door_outside.specs.Disk.{Passes, Says, as_read}
 use Rattle.mail_cli.specs.Answer.{reply_of}

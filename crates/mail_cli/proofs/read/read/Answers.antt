@@ -1,4 +1,4 @@
-use Rattle.std.proofs.Common.{◌≡◌, Ok, ap}
+use Rattle.std.proofs.Common.{Ok, ap}
 use Rattle.mail_cli.specs.declared.answer.Answer.TheVariants.{Done}
 use Rattle.mail_cli.specs.Shelved.{FolderOf}
 use Rattle.mail_cli.specs.declared.folder.Packet.{Packet}

@@ -1,4 +1,4 @@
-use Rattle.std.proofs.Common.{◌≡◌, Ok, Err, ap}
+use Rattle.std.proofs.Common.{Ok, Err, ap}
 use Rattle.offline_reader.specs.Letter.{message_in}
 use Rattle.mail_cli.specs.Shelved.{FolderOf}
 use Rattle.mail_cli.proofs.Reading.{show_refused, shown_text, shown_none}

@@ -1,5 +1,4 @@
 use Rattle.std.proofs.Common.{◌≡◌, ◌⊎◌, ℕ, List, Err, refl, sym, subst}
-use Rattle.qwk_control.specs.Control.{ControlReads}
 use Rattle.qwk_control.specs.Fault.{ControlFault}
 use Rattle.qwk_control.specs.declared.control.Control.{Control}
 use Rattle.qwk_control.specs.declared.fault.ControlError.TheVariants.{OutOfMemory}

@@ -1,8 +1,7 @@
-use Rattle.std.proofs.Common.{◌≡◌, ℕ, List, Err, refl, ap, subst}
+use Rattle.std.proofs.Common.{ℕ, List, Err, ap, subst}
 use Rattle.qwk_blocks.specs.Packet.{PacketReads, FirstFault}
 use Rattle.qwk_blocks.specs.declared.fault.QwkFault.{QwkFault}
 use Rattle.mail_cli.specs.declared.answer.Refusal.TheVariants.{Broken}
-use Rattle.mail_cli.specs.Shelved.{PacketOf}
 use Rattle.mail_cli.proofs.Reading.{refused_by}
 use Rattle.mail_cli.proofs.shelved.packet_in.Goals as goal
 

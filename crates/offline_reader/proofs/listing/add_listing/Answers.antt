@@ -1,5 +1,4 @@
-use Rattle.std.proofs.Common.{◌≡◌, ℕ, ◌+◌, ◌++◌, List, take, ◌∙◌, ap, sym, arith, append_assoc}
-use Rattle.std.specs.List.{flat_map, enumerate_from}
+use Rattle.std.proofs.Common.{ℕ, ◌++◌, List, ◌∙◌, ap, sym, arith, append_assoc}
 use Rattle.offline_reader.specs.Listing.{listing_line}
 use Rattle.offline_reader.proofs.Places.{flat_map-place_more}
 use Rattle.offline_reader.proofs.listing.add_listing.Goals as goal

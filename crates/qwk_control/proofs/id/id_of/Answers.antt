@@ -1,4 +1,3 @@
-use Rattle.std.proofs.Common.{◌≡◌, true, sym, ◌∙◌}
 use Rattle.qwk_control.proofs.Once.{no_comma, no_id}
 use Rattle.qwk_control.proofs.id.id_of.Goals as goal
 

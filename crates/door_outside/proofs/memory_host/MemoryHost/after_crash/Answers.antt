@@ -2,11 +2,11 @@ use Rattle.std.proofs.Common.{List, ◌≡◌, ◌∙◌, ℕ, ap, sym, subst}
 use Rattle.std.specs.Prelude.{All, reverse}
 use Rattle.std.proofs.lemmas.Result.{IfOk-weaker}
 use Rattle.door_outside.specs.Contents.{content}
-use Rattle.door_outside.specs.Disk.{AllNow, Now, as_read}
+use Rattle.door_outside.specs.Disk.{NothingPending, Now, as_read}
 use Rattle.door_outside.specs.Events.{IsShort, Left, read, spoken}
-use Rattle.door_outside.specs.MemoryHost.{Hosted, IsSettled, disk_of}
+use Rattle.door_outside.specs.MemoryHost.{Hosted, OnlyReads, disk_of}
 use Rattle.door_outside.specs.declared.event.Event.{Event}
-use Rattle.door_outside.proofs.Choosing.{contents_short, from_both, on_image_now, on_reads_now, settled_now}
+use Rattle.door_outside.proofs.Choosing.{contents_short, from_both, on_image_now, on_reads_now, nothing_pending}
 use Rattle.door_outside.proofs.Replaying.{all_short}
 use Rattle.door_outside.proofs.Short.{left_short}
 use Rattle.door_outside.proofs.memory_host.MemoryHost.after_crash.Goals as goal
@@ -19,8 +19,8 @@ returns-in-Written-clause-image c = from_both c.on_image.result (λ host. (file 
     c.on_image.ensures.files c.on_image.ensures.said (λ host reads speaks. on_reads_now c.args.self.now host c.self.inside.contents c.as_slice-said.result.now c.self.inside.said (reverse c.self.inside.events.items)
     (ap (λ (h : Hosted). h.events) (sym c.self.view_is)) c.self.invariant c.as_slice-said.ensures.same reads speaks)
 
-pub returns-in-Written-clause-settled : goal.returns-in-Written-clause-settled
-returns-in-Written-clause-settled c = IfOk-weaker c.on_image.result (λ host. IsSettled host.events) (λ host. AllNow (disk_of host) (λ image. image ≡ as_read (disk_of host))) settled_now c.on_image.ensures.settled
+pub returns-in-Written-clause-pending : goal.returns-in-Written-clause-pending
+returns-in-Written-clause-pending c = IfOk-weaker c.on_image.result (λ host. OnlyReads host.events) (λ host. NothingPending (disk_of host)) nothing_pending c.on_image.ensures.pending
 
 pub image_of-requires : goal.image_of-requires
 image_of-requires c = subst (All IsShort) (sym c.as_slice.ensures.value) (all_short c.self.inside.events.items c.self.invariant.short)
@@ -33,5 +33,5 @@ returns-clause-image c = from_both c.on_image-2.result (λ host. (file : ℕ) �
     c.on_image-2.ensures.files c.on_image-2.ensures.said (λ host reads speaks. on_image_now c.args.self.now host (reverse c.self.inside.events.items) (content c.in_ok-image.image) c.as_slice-said.result.now
     (ap (λ (h : Hosted). h.events) (sym c.self.view_is)) (c.as_slice-said.ensures.same ∙ c.self.invariant.said) (subst (λ (es : List Event). Left (reverse es) (record { files = content c.in_ok-image.image; said = spoken (reverse es) })) c.as_slice.ensures.value (c.in_ok-image.ensures {u = tt {0}}).left) reads speaks)
 
-pub returns-clause-settled : goal.returns-clause-settled
-returns-clause-settled c = IfOk-weaker c.on_image-2.result (λ host. IsSettled host.events) (λ host. AllNow (disk_of host) (λ image. image ≡ as_read (disk_of host))) settled_now c.on_image-2.ensures.settled
+pub returns-clause-pending : goal.returns-clause-pending
+returns-clause-pending c = IfOk-weaker c.on_image-2.result (λ host. OnlyReads host.events) (λ host. NothingPending (disk_of host)) nothing_pending c.on_image-2.ensures.pending

@@ -2,7 +2,7 @@ use Rattle.std.proofs.Common.{◌≡◌, ℕ, ◌<◌, ◌≤◌, []}
 use Rattle.door_outside.specs.Contents.{content}
 use Rattle.door_outside.specs.Events.{read, spoken}
 use Rattle.door_outside.specs.Images.{IsFresh}
-use Rattle.door_outside.specs.MemoryHost.{IsSettled}
+use Rattle.door_outside.specs.MemoryHost.{OnlyReads}
 use Rattle.door_outside.proofs.memory_host.MemoryHost.on_image.Given as goal
 
 abbrev pub invariant-loop-number : goal.invariant-loop-number
@@ -10,6 +10,6 @@ invariant-loop-number l = record {
   put : (file : ℕ) → file < l.number → read l.host.events file ≡ content l.files file;
   empty : (file : ℕ) → l.number ≤ file → read l.host.events file ≡ [];
   words : spoken l.host.events ≡ l.fn.said;
-  settled : IsSettled l.host.events;
+  pending : OnlyReads l.host.events;
   fresh : IsFresh l.fn.plan l.host;
 }

@@ -2,7 +2,7 @@ use Rattle.std.proofs.Common.{◌≡◌, ◌+◌, ◌∙◌, List, ◌∷◌, ta
 use Rattle.std.specs.Prelude.{reverse}
 use Rattle.door_outside.specs.Contents.{content}
 use Rattle.door_outside.specs.declared.event.Event.{Event}
-use Rattle.door_outside.proofs.Replaying.{one_more_event, reads_more, settled_more, took}
+use Rattle.door_outside.proofs.Replaying.{one_more_event, reads_more, synced_more, took}
 use Rattle.door_outside.proofs.memory_host.crash.image_of.Goals as goal
 
 pub loop-event-preserved : goal.loop-event-preserved
@@ -15,6 +15,6 @@ loop-event-preserved c =
       reads = λ file. reads_more c.event-item.result past now (content c.loop-event.read file) (content c.change.new.self file) file more (c.loop-event.invariant.reads file) (c.in_ok-change.ensures.ok file);
       left = took c.event-item.result past now c.loop-event.read c.loop-event.image c.take_in_image.new.image more c.loop-event.invariant.reads c.in_ok-take_in_image.ensures.taken c.loop-event.invariant.left;
       none = λ is. c.take_in_image.ensures.none (c.loop-event.invariant.none is);
-      settled = λ is file. settled_more c.event-item.result past now c.loop-event.read (content c.loop-event.image file) (content c.take_in_image.new.image file) file more c.loop-event.invariant.reads
-          (c.loop-event.invariant.settled is file) (c.in_ok-take_in_image.ensures.settled (c.loop-event.invariant.none is) file);
+      synced_so = λ is file. synced_more c.event-item.result past now c.loop-event.read (content c.loop-event.image file) (content c.take_in_image.new.image file) file more c.loop-event.invariant.reads
+          (c.loop-event.invariant.synced_so is file) (c.in_ok-take_in_image.ensures.synced (c.loop-event.invariant.none is) file);
     }

@@ -11,5 +11,5 @@ invariant-loop-event l =
       reads : (file : ℕ) → content l.read file ≡ read past file;
       left : Left past (record { files = content l.image; said = spoken past });
       none : l.fn.draws ≡ None → l.draws ≡ None;
-      settled : l.fn.draws ≡ None → (file : ℕ) → content l.image file ≡ synced past file;
+      synced_so : l.fn.draws ≡ None → (file : ℕ) → content l.image file ≡ synced past file;
     }

@@ -1,4 +1,4 @@
-use Rattle.std.proofs.Common.{◌≡◌, ℕ, List, ◌∷◌, [], ◌++◌, sym, ◌∙◌, ap, subst, append_assoc}
+use Rattle.std.proofs.Common.{◌≡◌, ◌∷◌, [], ◌++◌, sym, ◌∙◌, subst, append_assoc}
 use Rattle.door_outside.specs.Name.{HasParts}
 use Rattle.door_outside.proofs.Names.{file_named}
 use Rattle.door_outside.proofs.name.ShelfName.file.Goals as goal

@@ -1,4 +1,4 @@
-use Rattle.std.proofs.Common.{◌≡◌, sym, ap, ◌∙◌, cond}
+use Rattle.std.proofs.Common.{sym, ap, ◌∙◌, cond}
 use Rattle.std.specs.Str.{bytes_eq}
 use Rattle.jam_threads.specs.FirstNumbers.{kept_number}
 use Rattle.jam_threads.proofs.FirstLemmas.{number_updates, kept_more}

@@ -1,6 +1,5 @@
-use Rattle.std.proofs.Common.{◌≡◌, suc, ◌+◌, ◌∷◌, [], ◌++◌, length, take, length-take, sym, ap, ◌∙◌, arith, Some}
+use Rattle.std.proofs.Common.{◌≡◌, ◌+◌, ◌∷◌, [], ◌++◌, length, take, length-take, sym, ap, ◌∙◌, arith}
 use Rattle.std.proofs.lemmas.List.{take_more}
-use Rattle.jam_threads.specs.Children.{slot_original}
 use Rattle.jam_threads.proofs.ChildrenLemmas.{length-push}
 use Rattle.jam_threads.proofs.ChainLemmas.{added_plain, added_hung, last_child_so_far}
 use Rattle.jam_threads.proofs.threads.Threads.add.Goals as goal
