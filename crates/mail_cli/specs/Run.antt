@@ -40,12 +40,24 @@ CanRun Wrong = Unit {0}
 abbrev pub EntriesRead : List (List ℕ) → List Entry → Type 0
 EntriesRead words entries = (entry : Entry) × EntryReads words entry × (entries ≡ entry ∷ [])
 
--- What a run of these words leaves: all of its entries, or a part of them by its status; or nothing, where
--- there was no memory to read the words.
+-- all entries of the words were carried out, refused or answered, and that is the status
+abbrev pub RunIsWhole : ℕ → List (List ℕ) → Files → List ℕ → Status → Seen → Type 0
+RunIsWhole now words shelf so_far result seen =
+    (entries : List Entry) × EntriesRead words entries × Promise.IsWhole (Step now) shelf_of result (here shelf) entries so_far seen
+
+-- an entry of the words wasn't finished, and the status says why
+abbrev pub RunIsCutShort : ℕ → List (List ℕ) → Files → List ℕ → Status → Seen → Type 0
+RunIsCutShort now words shelf so_far result seen =
+    (entries : List Entry) × EntriesRead words entries × Promise.IsCutShort (Step now) shelf_of result (here shelf) entries so_far seen
+
+-- there was no memory to read the words, and nothing was done
+abbrev pub RunIsUnread : ℕ → Files → List ℕ → Status → Seen → Type 0
+RunIsUnread now shelf so_far result seen = (result ≡ status.OutOfMemory) × Promise.IsUndone (Step now) shelf_of (here shelf) so_far seen
+
+-- what a run of these words leaves
 abbrev pub RunLeaves : ℕ → List (List ℕ) → Files → List ℕ → Status → Seen → Type 0
 RunLeaves now words shelf so_far result seen =
-    ((entries : List Entry) × EntriesRead words entries × Promise.Leaves (Step now) shelf_of result (here shelf) entries so_far seen)
-    ⊎ ((result ≡ status.OutOfMemory) × Promise.IsUndone (Step now) shelf_of (here shelf) so_far seen)
+    RunIsWhole now words shelf so_far result seen ⊎ (RunIsCutShort now words shelf so_far result seen ⊎ RunIsUnread now shelf so_far result seen)
 
 -- What a crash leaves in a run of these words: the files as they were, and a front of the replies was said.
 abbrev pub RunHolds : ℕ → List (List ℕ) → Files → Disk → Image → Type 0

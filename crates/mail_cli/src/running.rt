@@ -2,7 +2,7 @@
 ghost use Rattle.std.specs.Prelude.{◌≡◌, ◌≢◌, ◌⊎◌, ℕ, ◌≤◌, IsTrue, IfOk};
 ghost use Rattle.door_outside.specs.Cause.{Rose};
 ghost use Rattle.door_outside.specs.Disk.{Between};
-ghost use Rattle.mail_cli.specs.Run.{seen, CanRun, EntryReads, RunLeaves, RunHolds};
+ghost use Rattle.mail_cli.specs.Run.{seen, CanRun, EntryReads, RunIsWhole, RunLeaves, RunHolds};
 ghost use Rattle.mail_cli.specs.Words.{IsNoCommand};
 
 use crate::command::Command;
@@ -39,7 +39,9 @@ pub fn run<H: Host, S: Shelf>(
     ensures held { IsTrue H.tells → IsTrue S.tells → Between (H.disk host.old) (H.disk host.new) (RunHolds now words.now (S.files shelf.old) (H.disk host.old)) }
     ensures files { IsTrue H.tells → (H.disk host.new).files ≡ (H.disk host.old).files }
 
-    // Each fault has its cause, and where no count rose there is no fault.
+    // Each fault has its cause. Where no count rose, the whole was done, or memory ran out.
+    ensures complete { IsTrue H.tells → IsTrue S.tells → ¬ Rose (S.faults shelf.old) (S.faults shelf.new) → ¬ Rose (H.voice_faults host.old) (H.voice_faults host.new)
+        → (result ≡ Status.OutOfMemory) ⊎ RunIsWhole now words.now (S.files shelf.old) (H.disk host.old).said result (seen (H.disk host.new) (S.files shelf.new)) }
     ensures shelf_fault { result ≡ Status.ShelfFault → Rose (S.faults shelf.old) (S.faults shelf.new) }
     ensures voice_fault { result ≡ Status.VoiceFault → Rose (H.voice_faults host.old) (H.voice_faults host.new) }
     ensures no_disk_fault { result ≢ Status.DiskFault }
