@@ -1,0 +1,16 @@
+pub mod Address
+pub mod Base
+pub mod Bodies
+pub mod Conference
+pub mod Fields
+pub mod Headers
+pub mod Index
+pub mod Marks
+pub mod Messages
+pub mod Places
+pub mod Reader
+pub mod Readers
+pub mod Rules
+pub mod SecondPass
+pub mod Valid
+pub mod Walk

@@ -1,0 +1,35 @@
+-- .JLR: one record for each reader, in rising id.
+use Rattle.std.specs.Prelude.{ℕ, ◌+◌, List, [], ◌∷◌, ◌++◌, length, drop, Result, Ok, not, ◌||◌, ◌==◌, nat_lt}
+use Rattle.name_crc.specs.JamCrc.{jam_crc}
+use Rattle.jam_records.specs.Numbers.{u32_at}
+use Rattle.jam_records.specs.LastReads.{last_text}
+use Rattle.jam_records.specs.declared.last_read.LastRead.{LastRead}
+use Rattle.jam_records.specs.declared.damage.Damage.{Damage}
+use Rattle.jam_records.specs.declared.damage.DamageRule.TheVariants.{Short, Reader, Pointer, Rest}
+use Rattle.jam_base.specs.Rules.{Rules, by_rules, ◌>>=◌}
+use Rattle.jam_base.specs.Places.{jlr_file}
+
+-- a reader's id and name, and his pointer
+abbrev pub last_read : ℕ × List ℕ → ℕ → LastRead
+last_read reader pointer = record { user_crc = jam_crc reader.1; user_id = reader.0; last = pointer; high = pointer }
+
+abbrev pub last_reads : List (ℕ × List ℕ) → List ℕ → List ℕ
+last_reads [] pointers = []
+last_reads (r ∷ readers) [] = []
+last_reads (r ∷ readers) (p ∷ pointers) = last_text (last_read r p) ++ last_reads readers pointers
+
+-- the rules of a reader's record, at the front of what is left, where there are `count` slots
+abbrev pub reader_rules : ℕ → ℕ × List ℕ → List ℕ → Rules
+reader_rules count reader bytes =
+    (Short, nat_lt (length bytes) 16)
+    ∷ (Reader, not (u32_at 0 bytes == jam_crc reader.1) || not (u32_at 4 bytes == reader.0))
+    ∷ (Pointer, not (u32_at 8 bytes == u32_at 12 bytes) || nat_lt count (u32_at 8 bytes))
+    ∷ []
+
+-- the pointers of the readers from the one of record j on, whose records are all that is left
+abbrev pub pointers_at : ℕ → ℕ → ℕ → List (ℕ × List ℕ) → List ℕ → Result (List ℕ) Damage
+pointers_at place count j [] bytes = by_rules (jlr_file place) j ((Rest, not (length bytes == 0)) ∷ []) []
+pointers_at place count j (r ∷ readers) bytes = do
+  pointer ← by_rules (jlr_file place) j (reader_rules count r bytes) (u32_at 8 bytes)
+  others ← pointers_at place count (j + 1) readers (drop 16 bytes)
+  Ok (pointer ∷ others)

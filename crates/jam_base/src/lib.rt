@@ -1,0 +1,31 @@
+//! One conference over its four JAM files: exactly their layout, and the first damage named.
+#![tactic(auto)]
+
+mod base;
+mod bodies;
+mod conference;
+mod entry;
+mod error;
+mod fields;
+mod files;
+mod header_size;
+mod headers;
+mod index;
+pub mod laws;
+mod marks;
+mod numbers;
+mod places;
+mod pointers;
+mod read;
+mod reader_list;
+mod second_pass;
+mod shape;
+#[cfg(test)]
+mod tests;
+
+pub use base::Base;
+pub use error::BaseError;
+pub use files::BaseFiles;
+pub use read::read_base;
+pub use reader_list::Readers;
+pub use shape::Shape;
