@@ -3,11 +3,11 @@ use Rattle.std.proofs.Common.{◌≡◌, ℕ, ◌+◌, ◌-◌, ◌<◌, ◌≤�
 use Rattle.std.proofs.lemmas.List.{take_at, drop_at, drop-drop, append-nil, take-take}
 use Rattle.std.proofs.lemmas.Bool.{le-leb, cond-true, and_from}
 use Rattle.std.specs.Prelude.{Some, true, ◌&&◌, min, replicate, codes}
-use Rattle.byteorder.specs.Endian.{little_bytes}
-use Rattle.byteorder.specs.Numbers.{little_number-reads_back}
+use Rattle.record_numbers.specs.Numbers.{u32_at, u32_text}
+use Rattle.record_numbers.proofs.NumberLemmas.{number_of_bytes}
 use Rattle.door_outside.specs.Disk.{Image, InFile, Torn, Holds, written}
 use Rattle.intent_journal.specs.Patches.{Files}
-use Rattle.intent_journal.specs.Journal.{u32_at, begins_body, are_once, text_of, body_text, patches_of, spelled, body_patches, IsSpelled}
+use Rattle.intent_journal.specs.Journal.{begins_body, are_once, text_of, body_text, patches_of, spelled, body_patches, IsSpelled}
 use Rattle.intent_journal.specs.Steps.{BehindGate, HasBody}
 use Rattle.intent_journal.proofs.Spelling.{count_fits}
 
@@ -38,17 +38,19 @@ written_at front old bytes n is =
 
 module _ (count : ℕ) (text : List ℕ) (spelt : IsSpelled count text) where
   abbrev header : List ℕ
-  header = codes "QDJ1" ++ little_bytes 4 count ++ little_bytes 4 (length text)
+  header = codes "QDJ1" ++ u32_text count ++ u32_text (length text)
 
   abbrev journal : ℕ → List ℕ → List ℕ
   journal gate tail = ((gate ∷ header) ++ text) ++ tail
 
   module _ (gate : ℕ) (tail : List ℕ) where
     len_is : u32_at 9 (journal gate tail) ≡ length text
-    len_is = little_number-reads_back 4 (length text) (text ++ tail) (omega (arith, spelt.short))
+    unfolding u32_at
+    len_is = number_of_bytes 4 (length text) (text ++ tail) (omega (arith, spelt.short))
 
     count_is : u32_at 5 (journal gate tail) ≡ count
-    count_is = little_number-reads_back 4 count (drop 9 (journal gate tail)) (omega (arith, spelt.short, count_fits count text spelt))
+    unfolding u32_at
+    count_is = number_of_bytes 4 count (drop 9 (journal gate tail)) (omega (arith, spelt.short, count_fits count text spelt))
 
     text_is : text_of (journal gate tail) ≡ text
     text_is = take_at text tail (u32_at 9 (journal gate tail)) (sym len_is)

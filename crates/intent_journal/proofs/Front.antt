@@ -3,11 +3,12 @@ use Rattle.std.proofs.Common.{◌≡◌, ◌≢◌, ℕ, zero, suc, ◌+◌, ◌
 use Rattle.std.proofs.lemmas.List.{take_at, drop_at, drop-drop}
 use Rattle.std.proofs.lemmas.Bool.{and_parts, and_from, eqb-true, eq-eqb, ne_eqb, ltb-true, leb-true, le-leb, lt-ltb, not-true, true≢false, cond-true}
 use Rattle.std.specs.Prelude.{Bool, true, false, not, ◌&&◌, ◌==◌, nat_le, nat_lt, slice_index, if◌then◌else◌, Option, Some, None, option_and_then, option_map}
-use Rattle.byteorder.specs.Numbers.{little_number-reads_back}
+use Rattle.record_numbers.specs.Numbers.{u16_at, u32_at}
+use Rattle.record_numbers.proofs.NumberLemmas.{number_of_bytes}
 use Rattle.intent_journal.specs.declared.patch.Patch.{Patch}
 use Rattle.intent_journal.specs.declared.patch.Patch.TheVariants.{Whole}
 use Rattle.intent_journal.specs.Patches.{file_of, bytes_of}
-use Rattle.intent_journal.specs.Journal.{patch_text, patches_text, u16_at, u32_at, begins_patch, front, patches_of}
+use Rattle.intent_journal.specs.Journal.{patch_text, patches_text, begins_patch, front, patches_of}
 
 -- a patch that may stand in an intent
 pub record IsFit (patch : Patch) : Type 0 where
@@ -78,13 +79,16 @@ module _ (file : ℕ) (bytes rest : List ℕ) (fit : IsFit (Whole file bytes)) w
   text = patch_text (Whole file bytes) ++ rest
 
   len_is : u32_at 7 text ≡ length bytes
-  len_is = little_number-reads_back 4 (length bytes) (bytes ++ rest) (omega (arith, fit.in_range))
+  unfolding u32_at
+  len_is = number_of_bytes 4 (length bytes) (bytes ++ rest) (omega (arith, fit.in_range))
 
   file_is : u16_at 1 text ≡ file
-  file_is = little_number-reads_back 2 file (drop 3 text) (omega (arith, fit.known))
+  unfolding u16_at
+  file_is = number_of_bytes 2 file (drop 3 text) (omega (arith, fit.known))
 
   at_is : u32_at 3 text ≡ 0
-  at_is = little_number-reads_back 4 0 (drop 7 text) (omega arith)
+  unfolding u32_at
+  at_is = number_of_bytes 4 0 (drop 7 text) (omega arith)
 
   spelled_begun : Begun text
   spelled_begun = record {

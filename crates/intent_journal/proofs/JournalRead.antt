@@ -2,8 +2,9 @@
 use Rattle.std.proofs.Common.{◌≡◌, inl, inr, ℕ, ◌+◌, ◌<◌, ◌≤◌, List, [], ◌∷◌, length, refl, sym, ◌∙◌, ap, arith}
 use Rattle.std.proofs.lemmas.Bool.{and_parts, and_cases, and_from, leb-true, true≢false, cond-true, cond-false, and_left, and_right}
 use Rattle.std.specs.Prelude.{Bool, true, false, ◌&&◌, ◌==◌, nat_le, slice_index, Option, Some, None, unwrap_or, if◌then◌else◌}
+use Rattle.record_numbers.specs.Numbers.{u32_at}
 use Rattle.intent_journal.specs.declared.patch.Patch.{Patch}
-use Rattle.intent_journal.specs.Journal.{u32_at, begins_body, text_of, are_once, patches_of, spelled, body_patches, intent_of}
+use Rattle.intent_journal.specs.Journal.{begins_body, text_of, are_once, patches_of, spelled, body_patches, intent_of}
 use Rattle.intent_journal.specs.Steps.{IsRead}
 
 either_way : {A : Type 0} (b : Bool) (x : A) → (if b then x else x) ≡ x

@@ -5,6 +5,7 @@ use Rattle.std.proofs.lemmas.Bool.{cases_eq, eq-eqb, ne_eqb, cond-true, cond-fal
 use Rattle.std.specs.Prelude.{replicate, Option, Some, unwrap_or, ◌==◌}
 use Rattle.door_outside.specs.Disk.{Disk, Image, AllNow, InFile, Torn, written}
 use Rattle.door_outside.proofs.Moments.{reads_have}
+use Rattle.record_numbers.specs.Numbers.{u32_at}
 use Rattle.intent_journal.proofs.Steps.{Agree, same_files, apply_keeps}
 use Rattle.intent_journal.specs.Hosts.{IsSettled}
 use Rattle.intent_journal.specs.Journal.{body_patches, intent_of, IsClosed}
@@ -59,7 +60,7 @@ gate_torn old new some torn = (get_or new 0 0, drop_more new 0 0 (omega (arith, 
 
 -- the gate is no part of the body
 pub body_behind : (gate : ℕ) (journal : List ℕ) → 0 < length journal → body_patches (gate ∷ drop 1 journal) ≡ body_patches journal
-unfolding body_patches
+unfolding body_patches u32_at
 body_behind gate [] some = absurd (omega arith)
 body_behind gate (g ∷ body) some = refl
 

@@ -4,7 +4,7 @@ use Rattle.std.proofs.lemmas.List.{get_or-set_same, get_or-set_other, get_or-rep
 use Rattle.std.proofs.lemmas.List.Folds.{list_any-append}
 use Rattle.std.proofs.lemmas.Bool.{cases_eq, eq-eqb, ne_eqb, and_parts, and_from}
 use Rattle.std.specs.Prelude.{Bool, true, false, not, ◌||◌, ◌==◌, Option, Some, unwrap_or, replicate}
-use Rattle.byteorder.specs.Endian.{little_bytes}
+use Rattle.record_numbers.specs.Numbers.{u16_text, u32_text}
 use Rattle.intent_journal.specs.declared.patch.Patch.{Patch}
 use Rattle.intent_journal.specs.declared.patch.Patch.TheVariants.{Whole}
 use Rattle.intent_journal.specs.Patches.{file_of, bytes_of, is_touched, is_once}
@@ -31,9 +31,9 @@ patch_long : (p : Patch) → length (patch_text p) ≡ 11 + length (bytes_of p)
 patch_long (Whole file bytes) = omega arith
 
 pub header_and_bytes : (p : Patch) (file len : ℕ) (bytes : List ℕ) → file ≡ file_of p → bytes ≡ bytes_of p → len ≡ length bytes
-    → (0 ∷ little_bytes 2 file ++ little_bytes 4 0 ++ little_bytes 4 len) ++ bytes ≡ patch_text p
+    → (0 ∷ u16_text file ++ u32_text 0 ++ u32_text len) ++ bytes ≡ patch_text p
 header_and_bytes (Whole f bs) file len bytes file_is bytes_is len_is =
-    (λ i. (0 ∷ little_bytes 2 (file_is i) ++ little_bytes 4 0 ++ little_bytes 4 ((len_is ∙ ap length bytes_is) i)) ++ bytes_is i)
+    (λ i. (0 ∷ u16_text (file_is i) ++ u32_text 0 ++ u32_text ((len_is ∙ ap length bytes_is) i)) ++ bytes_is i)
 
 pub size_is : (patches : List Patch) → length (journal_text patches) ≡ 13 + length (patches_text patches)
 size_is patches = omega arith

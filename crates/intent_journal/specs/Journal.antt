@@ -1,14 +1,14 @@
 -- The text of a journal. Numbers have their lowest byte first.
 use Rattle.std.specs.Prelude.{◌≡◌, ◌≢◌, ℕ, ◌+◌, ◌<◌, ◌≤◌, ◌^◌, Bool, false, not, ◌&&◌, ◌==◌, nat_eq, nat_le, nat_lt, if◌then◌else◌, List, [], ◌∷◌, ◌++◌, length, take, drop, slice_index, get_or, codes, zero, suc, Option, Some, None, unwrap_or, option_and_then, option_map, IsTrue}
 use Rattle.std.specs.List.{starts_with}
-use Rattle.byteorder.specs.Endian.{little_bytes, little_number}
+use Rattle.record_numbers.specs.Numbers.{u16_at, u32_at, u16_text, u32_text}
 use Rattle.intent_journal.specs.declared.patch.Patch.{Patch}
 use Rattle.intent_journal.specs.declared.patch.Patch.TheVariants.{Whole}
 use Rattle.intent_journal.specs.Patches.{file_of, bytes_of, is_touched, is_once}
 
 -- a patch: its kind in one byte, its file in two, its place and its length in four each, and its bytes
 abbrev pub patch_text : Patch → List ℕ
-patch_text (Whole file bytes) = 0 ∷ little_bytes 2 file ++ little_bytes 4 0 ++ little_bytes 4 (length bytes) ++ bytes
+patch_text (Whole file bytes) = 0 ∷ u16_text file ++ u32_text 0 ++ u32_text (length bytes) ++ bytes
 
 abbrev pub patches_text : List Patch → List ℕ
 patches_text [] = []
@@ -16,17 +16,11 @@ patches_text (patch ∷ patches) = patch_text patch ++ patches_text patches
 
 -- the body of so many patches that stand in a text: the letters, the count, the length of the text and the text
 abbrev pub body_text : ℕ → List ℕ → List ℕ
-body_text count text = codes "QDJ1" ++ little_bytes 4 count ++ little_bytes 4 (length text) ++ text
+body_text count text = codes "QDJ1" ++ u32_text count ++ u32_text (length text) ++ text
 
 -- the journal of an intent while its gate, the first byte, is open
 abbrev pub journal_text : List Patch → List ℕ
 journal_text patches = 79 ∷ body_text (length patches) (patches_text patches)
-
-abbrev pub u16_at : ℕ → List ℕ → ℕ
-u16_at place bytes = little_number 2 (drop place bytes)
-
-abbrev pub u32_at : ℕ → List ℕ → ℕ
-u32_at place bytes = little_number 4 (drop place bytes)
 
 -- whether a text begins with a whole new content of one of the 258 files, but not of the journal
 abbrev pub begins_patch : List ℕ → Bool

@@ -11,8 +11,8 @@ ghost use Rattle.intent_journal.specs.Steps.{BehindGate, HasBody, JournalKept, Q
 use crate::carrying::replay;
 use crate::files::journal;
 use crate::gate::{CLOSED, OPEN, set_gate};
+use crate::headers::body_header;
 use crate::intent::Intent;
-use crate::numbers::body_header;
 use door_outside::{DiskFault, Host};
 
 /// Puts a closed gate into an empty journal.

@@ -3,7 +3,7 @@ ghost use Rattle.std.specs.Prelude.{◌≡◌, ℕ, ◌≤◌, [], ◌∷◌, �
 ghost use Rattle.intent_journal.specs.Journal.{journal_text, spelled, IsSpelled, Takes};
 
 use crate::files::{FILES, JOURNAL, no_files};
-use crate::numbers::whole_header;
+use crate::headers::whole_header;
 use crate::patch::Patch;
 use std::alloc::{AllocError, Global};
 use std::marker::Model;

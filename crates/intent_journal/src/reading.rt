@@ -6,7 +6,7 @@ ghost use Rattle.intent_journal.specs.declared.patch.Patch.TheVariants.{Whole};
 
 use crate::files::{FILES, JOURNAL, no_files};
 use crate::gate::OPEN;
-use crate::numbers::{read_u16, read_u32};
+use record_numbers::{u16_at, u32_at};
 
 /// How many bytes stand before those of a patch.
 const PATCH_HEADER: usize = 11;
@@ -22,9 +22,9 @@ fn is_patch(text: &[u8]) -> bool
     requires { 11 ≤ length text.now }
     ensures { result ≡ begins_patch text.now }
 {
-    let file = read_u16(text, 1);
-    let len = read_u32(text, 7) as usize;
-    let whole = text[0] == WHOLE && read_u32(text, 3) == 0;
+    let file = u16_at(text, 1);
+    let len = u32_at(text, 7) as usize;
+    let whole = text[0] == WHOLE && u32_at(text, 3) == 0;
     let known = (file as usize) < FILES && file != JOURNAL;
     PATCH_HEADER + len <= text.len() && whole && len < 0x8000_0000 && known
 }
@@ -38,8 +38,8 @@ pub(crate) fn front_patch(text: &[u8]) -> Option<(u16, &[u8], &[u8])>
     if text.len() < PATCH_HEADER || !is_patch(text) {
         return None;
     }
-    let end = PATCH_HEADER + read_u32(text, 7) as usize;
-    Some((read_u16(text, 1), &text[PATCH_HEADER..end], &text[end..]))
+    let end = PATCH_HEADER + u32_at(text, 7) as usize;
+    Some((u16_at(text, 1), &text[PATCH_HEADER..end], &text[end..]))
 }
 
 /// Whether a text spells so many patches, no two of one file.
@@ -69,7 +69,7 @@ fn is_open_body(journal: &[u8]) -> bool
     journal.len() >= JOURNAL_HEADER
         && journal[0] == OPEN
         && journal[1..].starts_with(b"QDJ1")
-        && JOURNAL_HEADER + read_u32(journal, 9) as usize <= journal.len()
+        && JOURNAL_HEADER + u32_at(journal, 9) as usize <= journal.len()
 }
 
 /// The intent that a journal holds: the count of its patches and their text.
@@ -79,8 +79,8 @@ pub(crate) fn read_intent(journal: &[u8]) -> Option<(u32, &[u8])>
     if !is_open_body(journal) {
         return None;
     }
-    let count = read_u32(journal, 5);
-    let end = JOURNAL_HEADER + read_u32(journal, 9) as usize;
+    let count = u32_at(journal, 5);
+    let end = JOURNAL_HEADER + u32_at(journal, 9) as usize;
     let text = &journal[JOURNAL_HEADER..end];
     if is_intent(count, text) {
         Some((count, text))

@@ -8,14 +8,15 @@ use Rattle.std.proofs.lemmas.Slice.Eq.{bytes_eq-Decides}
 use Rattle.std.proofs.lemmas.List.{take_at, drop_at, take-append-drop, drop-drop, length-take, length-drop}
 use Rattle.std.proofs.lemmas.List.Elements.{All-cons}
 use Rattle.byte_lists.specs.Byte.{IsByte}
-use Rattle.jam_records.specs.Numbers.{u32_at, u32s_text, signature, IsU32}
+use Rattle.record_numbers.specs.Numbers.{u32_at, u32s_text, IsU32}
+use Rattle.jam_records.specs.Signature.{signature}
 use Rattle.jam_records.specs.BaseHeaders.{base_header_at, base_fields, base_text, IsBaseHeader, BaseHeaderStands}
 use Rattle.jam_records.specs.declared.base_header.BaseHeader.{BaseHeader}
 use Rattle.jam_records.proofs.HeaderLemmas.{base_stands}
 use Rattle.jam_base.specs.Base.{wrong_base, base_rules}
 use Rattle.jam_base.specs.declared.shape.Shape.{Shape}
 use Rattle.jam_base.proofs.Kept.{Kept}
-use Rattle.jam_base.proofs.Fronts.{numbers_front}
+use Rattle.record_numbers.proofs.NumberFronts.{numbers_front}
 use Rattle.jam_base.proofs.MarkLaws.{or_false, not_not, both_false}
 use Rattle.jam_base.proofs.ValueLaws.{and_true}
 

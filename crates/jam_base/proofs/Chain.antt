@@ -8,7 +8,7 @@ use Rattle.std.proofs.lemmas.List.Elements.{All-drop}
 use Rattle.std.proofs.lemmas.List.Sums.{count_by-le-length}
 use Rattle.byte_lists.specs.Byte.{IsByte}
 use Rattle.jam_records.specs.BaseHeaders.{base_text}
-use Rattle.jam_records.specs.Numbers.{u32_at}
+use Rattle.record_numbers.specs.Numbers.{u32_at}
 use Rattle.jam_records.specs.declared.damage.Damage.{Damage}
 use Rattle.jam_records.specs.declared.damage.DamageRule.TheVariants.{Active, Count, Missing}
 use Rattle.jam_records.specs.declared.message.Kind.{Kind}
@@ -31,7 +31,7 @@ use Rattle.jam_base.specs.declared.entry.Entry.{Entry}
 use Rattle.jam_base.specs.declared.files.BaseFiles.{BaseFiles}
 use Rattle.jam_base.specs.declared.shape.Shape.{Shape}
 use Rattle.jam_base.proofs.Kept.{rules_kept, kept_rules, bind_ok, ok_is}
-use Rattle.jam_base.proofs.Fronts.{u32_small}
+use Rattle.record_numbers.proofs.NumberFronts.{u32_small}
 use Rattle.jam_base.proofs.EntryLaws.{HeadersFit, headers_take, headers_again}
 use Rattle.jam_base.proofs.BodyLaws.{bare, BodiesFit, bodies_take, bodies_again}
 use Rattle.jam_base.proofs.PointerLaws.{pointers_take, pointers_again}

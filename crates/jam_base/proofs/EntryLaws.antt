@@ -5,7 +5,7 @@ use Rattle.std.proofs.lemmas.List.{take_at, drop_at, take-append-drop, drop-drop
 use Rattle.std.proofs.lemmas.List.Elements.{All-drop, All-take, All-cons}
 use Rattle.byte_lists.specs.Byte.{IsByte}
 use Rattle.name_crc.specs.JamCrc.{jam_crc}
-use Rattle.jam_records.specs.Numbers.{u16_at, IsU32}
+use Rattle.record_numbers.specs.Numbers.{u16_at, IsU32}
 use Rattle.jam_records.specs.MessageHeaders.{message_header_at, header_text, IsMessageHeader, MessageHeaderStands}
 use Rattle.jam_records.specs.Subfields.{subfields_text}
 use Rattle.jam_records.specs.declared.message.Kind.{Kind}
@@ -25,7 +25,8 @@ use Rattle.jam_base.specs.declared.entry.Front.{Front}
 use Rattle.jam_base.specs.declared.fields.Values.{Values}
 use Rattle.jam_base.proofs.Kept.{Kept, rules_kept, kept_rules, bind_ok, ok_is}
 use Rattle.jam_base.proofs.Walks.{walk_more, walk_done, behind_first, drop_one}
-use Rattle.jam_base.proofs.Fronts.{header_front, u32_small}
+use Rattle.record_numbers.proofs.NumberFronts.{u32_small}
+use Rattle.jam_base.proofs.Fronts.{header_front}
 use Rattle.jam_base.proofs.ValueLaws.{HasValues, RightTexts, right_texts, values_take, values_again, values_in, maybe_back, texts, right_by_texts, Short}
 use Rattle.jam_base.proofs.HeaderLaws.{HeaderKept, keep, keeps}
 use Rattle.jam_base.proofs.MarkLaws.{marks_again, right_attribute, attribute_right}

@@ -5,12 +5,12 @@ use Rattle.std.proofs.lemmas.Bool.Decides.{nat_tests}
 use Rattle.std.proofs.lemmas.List.{take_at, drop_at, take-append-drop, drop-drop, length-take, length-drop}
 use Rattle.std.proofs.lemmas.List.Elements.{All-drop}
 use Rattle.byte_lists.specs.Byte.{IsByte}
-use Rattle.jam_records.specs.Numbers.{u16_at, u32_at, u16_text, u32_text}
+use Rattle.record_numbers.specs.Numbers.{u16_at, u32_at, u16_text, u32_text}
 use Rattle.jam_records.specs.Subfields.{subfield_text, subfields_text}
 use Rattle.jam_records.specs.declared.subfield.Subfield.{Subfield}
-use Rattle.jam_records.proofs.NumberLemmas.{number_of_bytes}
+use Rattle.record_numbers.proofs.NumberLemmas.{number_of_bytes}
 use Rattle.jam_base.specs.Fields.{field, has_field, field_at}
-use Rattle.jam_base.proofs.Fronts.{u16_front, u32_front}
+use Rattle.record_numbers.proofs.NumberFronts.{u16_front, u32_front}
 
 abbrev pub subfield : ℕ → List ℕ → Subfield
 subfield id value = record { lo = id; hi = 0; value = value }

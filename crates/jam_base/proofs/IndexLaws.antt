@@ -6,7 +6,7 @@ use Rattle.std.proofs.lemmas.Bool.Decides.{nat_tests}
 use Rattle.std.proofs.lemmas.List.Elements.{All-drop, All-cons}
 use Rattle.byte_lists.specs.Byte.{IsByte}
 use Rattle.name_crc.specs.JamCrc.{jam_crc}
-use Rattle.jam_records.specs.Numbers.{u32_at, IsU32}
+use Rattle.record_numbers.specs.Numbers.{u32_at, IsU32}
 use Rattle.jam_records.specs.IndexRecords.{index_at, index_text}
 use Rattle.jam_records.specs.declared.index_record.IndexRecord.{IndexRecord}
 use Rattle.jam_records.specs.declared.message.Message.{Message}

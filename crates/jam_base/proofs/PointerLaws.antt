@@ -7,7 +7,7 @@ use Rattle.std.proofs.lemmas.List.{nil_from_length}
 use Rattle.std.proofs.lemmas.List.Elements.{All-drop, All-cons}
 use Rattle.byte_lists.specs.Byte.{IsByte}
 use Rattle.name_crc.specs.JamCrc.{jam_crc}
-use Rattle.jam_records.specs.Numbers.{u32_at, IsU32}
+use Rattle.record_numbers.specs.Numbers.{u32_at, IsU32}
 use Rattle.jam_records.specs.LastReads.{last_read_at, last_text, IsLastRead}
 use Rattle.jam_records.specs.declared.damage.DamageRule.TheVariants.{Rest}
 use Rattle.jam_records.specs.declared.last_read.LastRead.{LastRead}

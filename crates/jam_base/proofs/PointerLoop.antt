@@ -5,7 +5,7 @@ use Rattle.jam_records.specs.declared.damage.Damage.{Damage}
 use Rattle.jam_records.specs.declared.damage.DamageRule.TheVariants.{Rest}
 use Rattle.jam_base.specs.declared.error.BaseError.{BaseError}
 use Rattle.jam_base.specs.Rules.{by_rules, ◌>>=◌, Fails}
-use Rattle.jam_records.specs.Numbers.{u32_at}
+use Rattle.record_numbers.specs.Numbers.{u32_at}
 use Rattle.jam_base.specs.Places.{jlr_file}
 use Rattle.jam_base.specs.Readers.{reader_rules, pointers_at}
 use Rattle.jam_base.proofs.Kept.{with_front, regroup, step_fails}

@@ -1,6 +1,6 @@
 -- What a message may hold.
 use Rattle.std.specs.Prelude.{◌≡◌, ◌⊎◌, ℕ, ◌-◌, ◌≤◌, List, length, slice_index, Bool, IsTrue}
-use Rattle.jam_records.specs.Numbers.{IsU32}
+use Rattle.record_numbers.specs.Numbers.{IsU32}
 use Rattle.jam_records.specs.declared.message.Kind.{Kind}
 use Rattle.jam_records.specs.declared.message.Message.{Message}
 use Rattle.jam_records.specs.declared.message.Slot.{Slot}

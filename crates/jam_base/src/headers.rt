@@ -9,12 +9,12 @@ use crate::entry::{Entry, Front};
 use crate::error::BaseError;
 use crate::fields::{Values, read_values, right_values};
 use crate::marks::{Marks, wrong_attribute};
-use crate::numbers::u16_at;
 use crate::places::{damaged, jhr};
 use byte_lists::{Bytes, List};
 use jam_records::{DamageRule, Kind, Message, MessageHeader, RecordError, read_message_header};
 use jam_threads::Link;
 use name_crc::name_crc;
+use record_numbers::u16_at;
 use std::alloc::Global;
 
 /// The length of the fixed part of a header in bytes.

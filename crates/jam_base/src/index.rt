@@ -7,11 +7,11 @@ ghost use Rattle.jam_base.specs.Index.{index_rules, slot_at, slots_at};
 use crate::entry::Entry;
 use crate::error::BaseError;
 use crate::header_size::header_size;
-use crate::numbers::u32_at;
 use crate::places::{damaged, jdx};
 use byte_lists::Duplicate;
 use jam_records::{DamageRule, IndexRecord, Slot, Slots};
 use name_crc::name_crc;
+use record_numbers::u32_at;
 use std::alloc::Global;
 
 /// Both fields of the record of a number that no message has.

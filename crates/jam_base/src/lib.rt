@@ -13,7 +13,6 @@ mod headers;
 mod index;
 pub mod laws;
 mod marks;
-mod numbers;
 mod places;
 mod pointers;
 mod read;

@@ -1,15 +1,15 @@
 ghost use Rattle.std.specs.Prelude.{◌≡◌, ◌+◌, ◌≤◌, ◌<◌, ◌^◌, length, IfOk};
-ghost use Rattle.jam_records.specs.Numbers.{u32_at as u32_of};
+ghost use Rattle.record_numbers.specs.Numbers.{u32_at as u32_of};
 ghost use Rattle.jam_base.specs.Rules.{Gives, by_rules};
 ghost use Rattle.jam_base.specs.Places.{jlr_file};
 ghost use Rattle.jam_base.specs.Readers.{reader_rules, pointers_at};
 
 use crate::error::BaseError;
-use crate::numbers::u32_at;
 use crate::places::{damaged, jlr};
 use byte_lists::{Bytes, List};
 use jam_records::DamageRule;
 use name_crc::name_crc;
+use record_numbers::u32_at;
 use std::alloc::Global;
 
 /// The pointer of a reader, whose record is at the front.

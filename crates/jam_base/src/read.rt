@@ -1,6 +1,6 @@
 ghost use Rattle.std.specs.Prelude.{◌≡◌, ◌+◌, ◌≤◌, ◌<◌, ◌^◌, ◌==◌, length, IfOk, Some, Err, Ok};
 ghost use Rattle.std.specs.List.{list_all};
-ghost use Rattle.jam_records.specs.Numbers.{u32_at as u32_of};
+ghost use Rattle.record_numbers.specs.Numbers.{u32_at as u32_of};
 ghost use Rattle.jam_records.specs.declared.damage.Damage.{Damage};
 ghost use Rattle.jam_base.specs.Rules.{Gives, UnlessMemory, by_rules};
 ghost use Rattle.jam_base.specs.Places.{jhr_file};
@@ -15,13 +15,13 @@ use crate::error::BaseError;
 use crate::files::BaseFiles;
 use crate::headers::entries_of;
 use crate::index::slots_in;
-use crate::numbers::u32_at;
 use crate::places::{damaged, jhr};
 use crate::pointers::pointers_of;
 use crate::second_pass::check;
 use crate::shape::Shape;
 use byte_lists::Duplicate;
 use jam_records::DamageRule;
+use record_numbers::u32_at;
 use std::alloc::Global;
 
 /// The length of the base header in bytes.

@@ -1,6 +1,6 @@
 -- What is written of a record stands in it.
 use Rattle.std.proofs.Common.{◌≡◌, ℕ, ◌^◌, ◌<◌, ◌≤◌, List, [], ◌++◌, length, length-append, refl, sym, arith}
-use Rattle.jam_records.specs.Numbers.{u16_at, u32_at}
+use Rattle.record_numbers.specs.Numbers.{u16_at, u32_at}
 use Rattle.jam_records.specs.BaseHeaders.{base_text, IsBaseHeader, BaseHeaderStands}
 use Rattle.jam_records.specs.MessageHeaders.{header_text, IsMessageHeader, MessageHeaderStands}
 use Rattle.jam_records.specs.IndexRecords.{index_text, IsIndex, IndexStands}
@@ -10,7 +10,7 @@ use Rattle.jam_records.specs.declared.message_header.MessageHeader.{MessageHeade
 use Rattle.jam_records.specs.declared.index_record.IndexRecord.{IndexRecord}
 use Rattle.jam_records.specs.declared.last_read.LastRead.{LastRead}
 use Rattle.byteorder.specs.Endian.{little_number, little_bytes}
-use Rattle.jam_records.proofs.NumberLemmas.{number_of_bytes}
+use Rattle.record_numbers.proofs.NumberLemmas.{number_of_bytes}
 
 -- the four bytes of a number read as the number
 back : (n : ℕ) → n < 2 ^ 32 → n ≡ little_number 4 (little_bytes 4 n)

@@ -1,4 +1,3 @@
-pub mod NumberLemmas
 pub mod HeaderLemmas
 pub mod SubfieldLemmas
 pub mod AddressLemmas

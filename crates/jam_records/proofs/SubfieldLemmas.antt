@@ -1,28 +1,19 @@
 -- Subfields and their bytes.
 use Rattle.std.proofs.Common.{◌≡◌, ℕ, suc, ◌+◌, ◌-◌, ◌^◌, ◌<◌, ◌≤◌, List, [], ◌∷◌, ◌++◌, length, length-append, get_or, take, drop, refl, sym, ap, ◌∙◌, arith, append_assoc, append-nil, Result, Ok, Err, subst, ◌⊎◌, inl, inr}
 use Rattle.std.specs.Prelude.{All, IfOk}
-use Rattle.std.proofs.lemmas.List.{length-drop, length-take, drop-take, take-append-drop, drop-drop, take_at, drop_at}
+use Rattle.std.proofs.lemmas.List.{length-drop, length-take, take-append-drop, drop-drop, take_at, drop_at}
 use Rattle.std.proofs.lemmas.List.Elements.{All-drop}
 use Rattle.std.proofs.lemmas.List.Folds.{length-flat_map-take}
 use Rattle.std.proofs.lemmas.Grind.{flat_map-append, common_steps}
 use Rattle.byteorder.specs.Endian.{little_number, little_bytes}
-use Rattle.byteorder.specs.Numbers.{little_from-take}
 use Rattle.byte_lists.specs.Byte.{IsByte}
-use Rattle.jam_records.specs.Numbers.{u16_at, u32_at, u16_text}
+use Rattle.record_numbers.specs.Numbers.{u16_at, u32_at, u16_text}
 use Rattle.jam_records.specs.Subfields.{subfield_text, subfields_text, IsSubfield, SubfieldsRead, PassesEnd}
 use Rattle.jam_records.specs.declared.subfield.Subfield.{Subfield}
 use Rattle.jam_records.specs.declared.error.SubfieldError.{SubfieldError}
 use Rattle.jam_records.specs.declared.error.SubfieldError.TheVariants.{SubfieldEnd, OutOfMemory}
-use Rattle.jam_records.proofs.NumberLemmas.{bytes_of_number, number_of_bytes}
-
--- a field is that of any front that has it
-pub u32_at-take : (place n : ℕ) (bytes : List ℕ) → place + 4 ≤ n → u32_at place (take n bytes) ≡ u32_at place bytes
-unfolding u32_at
-u32_at-take place n bytes within =
-    let split : n ≡ place + (n - place) = omega arith in
-    ap (λ k. little_number 4 (drop place (take k bytes))) split
-    ∙ ap (little_number 4) (drop-take place (n - place) bytes)
-    ∙ little_from-take 0 4 (n - place) (drop place bytes) (omega arith)
+use Rattle.record_numbers.proofs.NumberLemmas.{bytes_of_number, number_of_bytes}
+use Rattle.record_numbers.proofs.NumberFronts.{u32_at-take}
 
 -- bytes that hold one subfield are its text
 pub subfield_of_bytes : (bytes : List ℕ) (lo hi : ℕ) (value : List ℕ) → All IsByte bytes → 8 ≤ length bytes → length bytes ≡ 8 + u32_at 4 bytes → lo ≡ u16_at 0 bytes → hi ≡ u16_at 2 bytes → value ≡ drop 8 bytes → bytes ≡ subfield_text (record { lo = lo; hi = hi; value = value })

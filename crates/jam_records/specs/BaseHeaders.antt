@@ -1,6 +1,7 @@
 -- The header of a base (JAM message base proposal, revision 1, the fixed header of .JHR).
 use Rattle.std.specs.Prelude.{◌≡◌, ◌≤◌, ℕ, List, [], ◌∷◌, ◌++◌, length, take, All, replicate}
-use Rattle.jam_records.specs.Numbers.{u32_at, u32s_text, IsU32, signature}
+use Rattle.record_numbers.specs.Numbers.{u32_at, u32s_text, IsU32}
+use Rattle.jam_records.specs.Signature.{signature}
 use Rattle.jam_records.specs.declared.base_header.BaseHeader.{BaseHeader}
 
 -- each field by its offset: DateCreated, ModCounter, ActiveMsgs, PasswordCRC, BaseMsgNum

@@ -1,6 +1,6 @@
 -- The records of .JDX (JAM message base proposal, revision 1).
 use Rattle.std.specs.Prelude.{◌≡◌, ◌≤◌, ℕ, List, [], ◌∷◌, length, All}
-use Rattle.jam_records.specs.Numbers.{u32_at, u32s_text, IsU32}
+use Rattle.record_numbers.specs.Numbers.{u32_at, u32s_text, IsU32}
 use Rattle.jam_records.specs.declared.index_record.IndexRecord.{IndexRecord}
 
 -- each field by its offset: UserCRC, HdrOffset

@@ -3,5 +3,5 @@ pub mod BaseHeaders
 pub mod IndexRecords
 pub mod LastReads
 pub mod MessageHeaders
-pub mod Numbers
+pub mod Signature
 pub mod Subfields

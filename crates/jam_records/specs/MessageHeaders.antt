@@ -1,6 +1,7 @@
 -- The fixed part of a message header (JAM message base proposal, revision 1, the message headers of .JHR).
 use Rattle.std.specs.Prelude.{◌≡◌, ◌≤◌, ℕ, List, [], ◌∷◌, ◌++◌, length, take, All}
-use Rattle.jam_records.specs.Numbers.{u16_at, u32_at, u16_text, u32s_text, IsU32, signature}
+use Rattle.record_numbers.specs.Numbers.{u16_at, u32_at, u16_text, u32s_text, IsU32}
+use Rattle.jam_records.specs.Signature.{signature}
 use Rattle.jam_records.specs.declared.message_header.MessageHeader.{MessageHeader}
 
 -- Each field by its offset: SubfieldLen, TimesRead, MSGIDcrc, REPLYcrc, ReplyTo, Reply1st, ReplyNext,

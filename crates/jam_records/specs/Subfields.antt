@@ -1,7 +1,7 @@
 -- Subfields (JAM message base proposal, revision 1, the subfields that follow a message header).
 use Rattle.std.specs.Prelude.{◌≡◌, ◌≤◌, ◌<◌, ℕ, ◌+◌, List, ◌++◌, length, All}
 use Rattle.std.specs.List.{flat_map}
-use Rattle.jam_records.specs.Numbers.{u32_at, u16_text, u32_text, IsU16}
+use Rattle.record_numbers.specs.Numbers.{u32_at, u16_text, u32_text, IsU16}
 use Rattle.jam_records.specs.declared.subfield.Subfield.{Subfield}
 
 -- LoID, HiID, datlen, and the value

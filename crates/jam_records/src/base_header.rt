@@ -1,10 +1,11 @@
 ghost use Rattle.std.specs.Prelude.{◌≡◌, ◌≢◌, ◌↔◌, ◌<◌, ◌≤◌, length, take};
-ghost use Rattle.jam_records.specs.Numbers.{signature};
+ghost use Rattle.jam_records.specs.Signature.{signature};
 ghost use Rattle.jam_records.specs.BaseHeaders.{base_text, BaseHeaderStands};
 
 use crate::error::RecordError;
-use crate::numbers::{SIGNATURE, u32_at};
+use crate::signature::SIGNATURE;
 use byteorder::{ByteOrder, LittleEndian};
+use record_numbers::u32_at;
 
 /// The header of a message base, at the front of .JHR: 1024 bytes, of which 1000 are reserved.
 #[derive(Debug, Clone, Copy, PartialEq, Eq)]

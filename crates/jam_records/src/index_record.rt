@@ -2,8 +2,8 @@ ghost use Rattle.std.specs.Prelude.{◌≡◌, ◌≢◌, ◌↔◌, ◌<◌, le
 ghost use Rattle.jam_records.specs.IndexRecords.{index_text, IndexStands};
 
 use crate::error::RecordError;
-use crate::numbers::u32_at;
 use byteorder::{ByteOrder, LittleEndian};
+use record_numbers::u32_at;
 
 /// A record of .JDX: 8 bytes for each message number. Both fields are FFFFFFFFh where no message has it.
 #[derive(Debug, Clone, Copy, PartialEq, Eq)]

@@ -2,8 +2,8 @@ ghost use Rattle.std.specs.Prelude.{◌≡◌, ◌≢◌, ◌↔◌, ◌<◌, le
 ghost use Rattle.jam_records.specs.LastReads.{last_text, LastReadStands};
 
 use crate::error::RecordError;
-use crate::numbers::u32_at;
 use byteorder::{ByteOrder, LittleEndian};
+use record_numbers::u32_at;
 
 /// A record of .JLR: 16 bytes that say how far a user has read.
 #[derive(Debug, Clone, Copy, PartialEq, Eq)]

@@ -11,7 +11,7 @@ mod last_read;
 pub mod laws;
 mod message;
 mod message_header;
-mod numbers;
+mod signature;
 mod subfield;
 mod subfield_reader;
 #[cfg(test)]

@@ -1,10 +1,12 @@
 ghost use Rattle.std.specs.Prelude.{◌≡◌, ◌≢◌, ◌↔◌, ◌<◌, ◌≤◌, length, take};
-ghost use Rattle.jam_records.specs.Numbers.{signature, u16_at as u16_of};
+ghost use Rattle.record_numbers.specs.Numbers.{u16_at as u16_of};
+ghost use Rattle.jam_records.specs.Signature.{signature};
 ghost use Rattle.jam_records.specs.MessageHeaders.{message_header_at, message_fields, header_text, MessageHeaderStands};
 
 use crate::error::RecordError;
-use crate::numbers::{SIGNATURE, u16_at, u32_at};
+use crate::signature::SIGNATURE;
 use byteorder::{ByteOrder, LittleEndian};
+use record_numbers::{u16_at, u32_at};
 
 /// The fixed part of a message header, in .JHR: 76 bytes, which the subfields follow.
 #[derive(Debug, Clone, Copy, PartialEq, Eq)]

@@ -1,11 +1,11 @@
 ghost use Rattle.std.specs.Prelude.{◌≡◌, ◌⊎◌, ◌≤◌, ◌<◌, ◌+◌, ◌^◌, ℕ, List, length, IfOk, MatchOption};
-ghost use Rattle.jam_records.specs.Numbers.{u32_at as u32_of};
+ghost use Rattle.record_numbers.specs.Numbers.{u32_at as u32_of};
 ghost use Rattle.jam_records.specs.Subfields.{subfield_text, IsSubfield, IsCutShort, SubfieldsRead, PassesEnd};
 
 use crate::error::SubfieldError;
-use crate::numbers::{u16_at, u32_at};
 use crate::subfield::{Subfield, Subfields};
 use byte_lists::Bytes;
+use record_numbers::{u16_at, u32_at};
 use std::alloc::{AllocError, Global};
 
 /// The length of the subfield at the front, or None where it passes the end.

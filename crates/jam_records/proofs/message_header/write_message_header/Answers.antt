@@ -1,5 +1,5 @@
 use Rattle.std.proofs.Common.{refl, ap, ◌∙◌}
-use Rattle.jam_records.specs.Numbers.{u32s_text}
+use Rattle.record_numbers.specs.Numbers.{u32s_text}
 use Rattle.jam_records.specs.MessageHeaders.{header_text}
 use Rattle.jam_records.proofs.message_header.write_message_header.Goals as goal
 

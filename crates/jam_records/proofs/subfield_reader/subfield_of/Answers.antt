@@ -1,6 +1,6 @@
 use Rattle.std.proofs.Common.{◌≡◌, drop, arith}
 use Rattle.std.proofs.lemmas.Grind.{common_steps}
-use Rattle.jam_records.proofs.NumberLemmas.{all_bytes}
+use Rattle.record_numbers.proofs.NumberLemmas.{all_bytes}
 use Rattle.jam_records.proofs.SubfieldLemmas.{subfield_of_bytes}
 use Rattle.jam_records.proofs.subfield_reader.subfield_of.Goals as goal
 

@@ -1,23 +1,21 @@
 ghost use Rattle.std.specs.Prelude.{◌≡◌, ◌+◌, ◌≤◌, length};
-ghost use Rattle.jam_records.specs.Numbers.{u16_at as u16_of, u32_at as u32_of};
+ghost use Rattle.record_numbers.specs.Numbers.{u16_at as u16_of, u32_at as u32_of};
 
 use byteorder::{ByteOrder, LittleEndian};
 
-/// What each header begins with.
-pub(crate) const SIGNATURE: [u8; 4] = *b"JAM\0";
-
-/// The number in the two bytes at a place.
+/// The number, 0 to 65,535, in the two bytes at a place. Places count from 0, and both bytes must be there.
 #[tactic(auto, unfolding(crate::specs::Numbers::u16_at))]
-pub(crate) fn u16_at(bytes: &[u8], place: usize) -> u16
+pub fn u16_at(bytes: &[u8], place: usize) -> u16
     requires { place + 2 ≤ length bytes.now }
     ensures { result ≡ u16_of place bytes.now }
 {
     LittleEndian::read_u16(&bytes[place..])
 }
 
-/// The number in the four bytes at a place.
+/// The number, 0 to 4,294,967,295, in the four bytes at a place. Places count from 0, and all four bytes
+/// must be there.
 #[tactic(auto, unfolding(crate::specs::Numbers::u32_at))]
-pub(crate) fn u32_at(bytes: &[u8], place: usize) -> u32
+pub fn u32_at(bytes: &[u8], place: usize) -> u32
     requires { place + 4 ≤ length bytes.now }
     ensures { result ≡ u32_of place bytes.now }
 {

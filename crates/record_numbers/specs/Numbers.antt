@@ -1,5 +1,5 @@
 -- Numbers in records: unsigned, the low byte first. Places in bytes count from 0.
-use Rattle.std.specs.Prelude.{ℕ, ◌<◌, ◌^◌, List, [], ◌∷◌, drop}
+use Rattle.std.specs.Prelude.{ℕ, ◌<◌, ◌^◌, List, drop}
 use Rattle.std.specs.List.{flat_map}
 use Rattle.byteorder.specs.Endian.{little_number, little_bytes}
 
@@ -21,12 +21,10 @@ u32_text n = little_bytes 4 n
 abbrev pub u32s_text : List ℕ → List ℕ
 u32s_text numbers = flat_map (little_bytes 4) numbers
 
+-- two bytes hold the number
 abbrev pub IsU16 : ℕ → Type 0
 IsU16 n = n < 2 ^ 16
 
+-- four bytes hold the number
 abbrev pub IsU32 : ℕ → Type 0
 IsU32 n = n < 2 ^ 32
-
--- `JAM` and a zero byte
-abbrev pub signature : List ℕ
-signature = 0x4A ∷ 0x41 ∷ 0x4D ∷ 0 ∷ []

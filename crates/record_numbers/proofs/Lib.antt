@@ -1,0 +1,2 @@
+pub mod NumberFronts
+pub mod NumberLemmas

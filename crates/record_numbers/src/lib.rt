@@ -1,0 +1,9 @@
+//! Numbers in records: unsigned, the low byte first.
+#![tactic(auto)]
+
+pub mod laws;
+mod numbers;
+#[cfg(test)]
+mod tests;
+
+pub use numbers::{u16_at, u32_at};
