@@ -1,14 +1,15 @@
 -- The patches are being carried out, one after the other.
 use Rattle.std.proofs.Common.{◌≡◌, ◌≢◌, ℕ, suc, List, [], ◌∷◌, ◌++◌, refl, sym, ◌∙◌, ap, subst, append_assoc}
-use Rattle.std.specs.Prelude.{Bool, IsTrue, Some, None}
+use Rattle.std.specs.Prelude.{All, Bool, IsTrue, Some, None}
 use Rattle.door_outside.specs.Disk.{Disk, Image, AllNow, Between, Passes, InFile, Reached, as_read}
 use Rattle.door_outside.proofs.Moments.{still, joined, by_call, now_by}
 use Rattle.intent_journal.proofs.Steps.{patched_agree, apply_done}
 use Rattle.intent_journal.specs.Journal.{front, patches_of}
 use Rattle.intent_journal.specs.Patches.{file_of, bytes_of, apply, patched}
+use Rattle.intent_journal.specs.Spells.{IsFit}
 use Rattle.intent_journal.specs.Steps.{Stands, Anyhow}
 use Rattle.intent_journal.specs.declared.patch.Patch.{Patch}
-use Rattle.intent_journal.proofs.Front.{IsFit, AllFit, begins, nothing_left, fit_at}
+use Rattle.intent_journal.proofs.Front.{begins, nothing_left, fit_at}
 
 -- every image stands for the outcome, and the patches that are left make it too
 pub record Ready (patches todo : List Patch) (goal image : Image) : Type 0 where
@@ -46,7 +47,7 @@ stands_on done p rest goal before image no_journal stands step = record {
 
 module _ (tells : Bool) (n : ℕ) (text : List ℕ) (old mid new : Disk) where
   -- in the middle of a patch, or where it failed
-  pub carry_stops : (done rest : List Patch) (p : Patch) → AllFit (done ++ p ∷ rest) → Reach (done ++ p ∷ rest) (p ∷ rest) old mid → Passes (InFile (file_of p) Anyhow) (InFile (file_of p) Anyhow) mid new
+  pub carry_stops : (done rest : List Patch) (p : Patch) → All IsFit (done ++ p ∷ rest) → Reach (done ++ p ∷ rest) (p ∷ rest) old mid → Passes (InFile (file_of p) Anyhow) (InFile (file_of p) Anyhow) mid new
       → Between old new (Stands (done ++ p ∷ rest) (as_read old)) × AllNow new (Stands (done ++ p ∷ rest) (as_read old))
   carry_stops done rest p all_fit reach call =
       let fit = fit_at done rest p all_fit in
@@ -54,7 +55,7 @@ module _ (tells : Bool) (n : ℕ) (text : List ℕ) (old mid new : Disk) where
       λ image from. stands_on done p rest (as_read old) from.0 image fit.no_journal (reach.ready from.0 from.1).stands from.2 in
       (joined reach.since (by_call call after), now_by call after)
 
-  pub carry_goes_on : (done rest : List Patch) (p : Patch) → AllFit (done ++ p ∷ rest) → Reach (done ++ p ∷ rest) (p ∷ rest) old mid → Passes (InFile (file_of p) Anyhow) (InFile (file_of p) Anyhow) mid new
+  pub carry_goes_on : (done rest : List Patch) (p : Patch) → All IsFit (done ++ p ∷ rest) → Reach (done ++ p ∷ rest) (p ∷ rest) old mid → Passes (InFile (file_of p) Anyhow) (InFile (file_of p) Anyhow) mid new
       → AllNow new (λ image. image.files (file_of p) ≡ bytes_of p) → Reach (done ++ p ∷ rest) rest old new
   carry_goes_on done rest p all_fit reach call holds =
       let both = carry_stops done rest p all_fit reach call in
@@ -80,7 +81,7 @@ some_pair : (a c : Patch × List ℕ) → Some a ≡ Some c → (a.0 ≡ c.0) ×
 some_pair a c is = let same : a ≡ c = cc in (ap (λ (x : Patch × List ℕ). x.0) same, ap (λ (x : Patch × List ℕ). x.1) same)
 
 module _ (tells : Bool) (patches : List Patch) (n : ℕ) (text : List ℕ) (old mid : Disk) where
-  next_of : (p : Patch) (after : List ℕ) (done rest : List Patch) → patches ≡ done ++ p ∷ rest → AllFit (done ++ p ∷ rest) → patches_of n after ≡ Some rest
+  next_of : (p : Patch) (after : List ℕ) (done rest : List Patch) → patches ≡ done ++ p ∷ rest → All IsFit (done ++ p ∷ rest) → patches_of n after ≡ Some rest
       → (IsTrue tells → Reach (done ++ p ∷ rest) (p ∷ rest) old mid) → Next tells (done ++ p ∷ rest) n old mid p after
   next_of p after done rest split all_fit reads reach = record {
     fit = fit_at done rest p all_fit;
@@ -94,7 +95,7 @@ module _ (tells : Bool) (patches : List Patch) (n : ℕ) (text : List ℕ) (old 
     };
   }
 
-  pub next : Carrying tells patches (suc n) text old mid → AllFit patches → (p : Patch) (after : List ℕ) → front text ≡ Some (p, after) → Next tells patches n old mid p after
+  pub next : Carrying tells patches (suc n) text old mid → All IsFit patches → (p : Patch) (after : List ℕ) → front text ≡ Some (p, after) → Next tells patches n old mid p after
   next carrying all_fit p after at_front =
       let b = begins n text carrying.todo carrying.reads in
       let parts = some_pair (b.first, b.after) (p, after) (sym b.at_front ∙ at_front) in
@@ -103,7 +104,7 @@ module _ (tells : Bool) (patches : List Patch) (n : ℕ) (text : List ℕ) (old 
       let reads : patches_of n after ≡ Some b.rest = ap (patches_of n) (sym parts.1) ∙ b.goes_on in
       let reach : IsTrue tells → Reach (carrying.done ++ p ∷ b.rest) (p ∷ b.rest) old mid =
       λ t. subst (λ all. Reach all (p ∷ b.rest) old mid) split (subst (λ todo. Reach patches todo old mid) todo_is (carrying.reach t)) in
-      subst (λ all. Next tells all n old mid p after) (sym split) (next_of p after carrying.done b.rest split (subst AllFit split all_fit) reads reach)
+      subst (λ all. Next tells all n old mid p after) (sym split) (next_of p after carrying.done b.rest split (subst (All IsFit) split all_fit) reads reach)
 
   -- a text of patches has one at its front
   pub next_there : Carrying tells patches (suc n) text old mid → front text ≡ None → ⊥
@@ -116,7 +117,7 @@ carried tells patches text old now carrying t image left =
     subst (λ todo. patched todo image.files ≡ patched patches old.files) none ((carrying.reach t).ready image left).left
 
 module _ (tells : Bool) (patches : List Patch) (m n : ℕ) (text : List ℕ) (old mid : Disk) (one_more : m ≡ suc n) (carrying : Carrying tells patches m text old mid) where
-  pub next_at : AllFit patches → (p : Patch) (after : List ℕ) → front text ≡ Some (p, after) → Next tells patches n old mid p after
+  pub next_at : All IsFit patches → (p : Patch) (after : List ℕ) → front text ≡ Some (p, after) → Next tells patches n old mid p after
   next_at all_fit p after at_front = next tells patches n text old mid (subst (λ k. Carrying tells patches k text old mid) one_more carrying) all_fit p after at_front
 
   pub there_at : front text ≡ None → ⊥

@@ -1,35 +1,29 @@
 -- The patch at the front of a text.
 use Rattle.std.proofs.Common.{◌≡◌, ◌≢◌, ℕ, zero, suc, ◌+◌, ◌*◌, ◌<◌, ◌≤◌, ◌^◌, List, [], ◌∷◌, ◌++◌, length, take, drop, refl, sym, ◌∙◌, ap, arith, length-append, length-drop, length-take}
 use Rattle.std.proofs.lemmas.List.{take_at, drop_at, drop-drop}
+use Rattle.std.proofs.lemmas.List.Elements.{All-cons, All-head, All-tail}
 use Rattle.std.proofs.lemmas.Bool.{and_parts, and_from, eqb-true, eq-eqb, ne_eqb, ltb-true, leb-true, le-leb, lt-ltb, not-true, true≢false, cond-true}
-use Rattle.std.specs.Prelude.{Bool, true, false, not, ◌&&◌, ◌==◌, nat_le, nat_lt, slice_index, if◌then◌else◌, Option, Some, None, option_and_then, option_map}
+use Rattle.std.specs.Prelude.{All, Bool, true, false, not, ◌&&◌, ◌==◌, nat_le, nat_lt, slice_index, if◌then◌else◌, Option, Some, None, option_and_then, option_map}
 use Rattle.record_numbers.specs.Numbers.{u16_at, u32_at}
 use Rattle.record_numbers.proofs.NumberLemmas.{number_of_bytes}
 use Rattle.intent_journal.specs.declared.patch.Patch.{Patch}
 use Rattle.intent_journal.specs.declared.patch.Patch.TheVariants.{Whole}
-use Rattle.intent_journal.specs.Patches.{file_of, bytes_of}
+use Rattle.intent_journal.specs.Spells.{IsFit}
 use Rattle.intent_journal.specs.Journal.{patch_text, patches_text, begins_patch, front, patches_of}
-
--- a patch that may stand in an intent
-pub record IsFit (patch : Patch) : Type 0 where
-  pub no_journal : file_of patch ≢ 1
-  pub known : file_of patch < 258
-  pub in_range : length (bytes_of patch) < 2 ^ 31
-
-abbrev pub AllFit : List Patch → Type 0
-AllFit [] = Unit {0}
-AllFit (p ∷ patches) = IsFit p × AllFit patches
 
 abbrev pub first_of : List ℕ → Patch × List ℕ
 first_of text = (Whole (u16_at 1 text) (take (u32_at 7 text) (drop 11 text)), drop (11 + u32_at 7 text) text)
 
-of_choice : (b : Bool) (x y : Patch × List ℕ) → (if b then Some x else None) ≡ Some y → (b ≡ true) × (x ≡ y)
-of_choice true x y is = (refl, cc)
-of_choice false x y is = absurd (cc)
+some_same : {A : Type 0} {x y : A} → Some x ≡ Some y → x ≡ y
+some_same is = cc
+
+pub of_choice : {A : Type 0} (b : Bool) (o : Option A) (x : A) → (if b then o else None) ≡ Some x → (b ≡ true) × (o ≡ Some x)
+of_choice true o x is = (refl, is)
+of_choice false o x is = absurd (cc)
 
 pub front_is : (text : List ℕ) (next : Patch × List ℕ) → front text ≡ Some next → (begins_patch text ≡ true) × (first_of text ≡ next)
 unfolding front
-front_is text next is = of_choice (begins_patch text) (first_of text) next is
+front_is text next is = let chosen = of_choice (begins_patch text) (Some (first_of text)) next is in (chosen.0, some_same chosen.1)
 
 -- what a text that begins with a patch has
 pub record Begun (text : List ℕ) : Type 0 where
@@ -122,9 +116,6 @@ pub record Begins (n : ℕ) (text : List ℕ) (patches : List Patch) : Type 0 wh
   pub split : patches ≡ first ∷ rest
   pub goes_on : patches_of n after ≡ Some rest
 
-some_same : {A : Type 0} {x y : A} → Some x ≡ Some y → x ≡ y
-some_same is = cc
-
 put_some : (first : Patch) (o : Option (List Patch)) (patches : List Patch) → option_map (λ more. first ∷ more) o ≡ Some patches → (rest : List Patch) × (o ≡ Some rest) × (patches ≡ first ∷ rest)
 put_some first None patches is = absurd (cc)
 put_some first (Some rest) patches is = (rest, refl, sym (some_same is))
@@ -145,26 +136,22 @@ nothing_left [] patches reads = sym (some_same reads)
 nothing_left (b ∷ text) patches reads = absurd (cc)
 
 -- the patches of a text may stand in an intent, and there are as many as were counted
-pub reads_fit : (n : ℕ) (text : List ℕ) (patches : List Patch) → patches_of n text ≡ Some patches → AllFit patches × (length patches ≡ n) × (11 * n ≤ length text)
-reads_fit zero text patches reads = rw (nothing_left text patches reads) (tt, refl, omega arith)
+pub reads_fit : (n : ℕ) (text : List ℕ) (patches : List Patch) → patches_of n text ≡ Some patches → All IsFit patches × (length patches ≡ n) × (11 * n ≤ length text)
+reads_fit zero text patches reads = rw (nothing_left text patches reads) (λ k d within. absurd (omega arith), refl, omega arith)
 reads_fit (suc n) text patches reads =
     let b = begins n text patches reads in
     let fit = front_fit text b.after b.first b.at_front in
     let more = reads_fit n b.after b.rest b.goes_on in
-    rw b.split ((fit.0, more.0), ap suc more.1, omega (arith, fit.1, more.2))
+    rw b.split (All-cons IsFit b.first b.rest fit.0 more.0, ap suc more.1, omega (arith, fit.1, more.2))
 
-pub fit_at : (done rest : List Patch) (p : Patch) → AllFit (done ++ p ∷ rest) → IsFit p
-fit_at [] rest p all = all.0
-fit_at (q ∷ done) rest p all = fit_at done rest p all.1
-
-pub fit_more : (done : List Patch) (p : Patch) → AllFit done → IsFit p → AllFit (done ++ p ∷ [])
-fit_more [] p all fit = (fit, tt)
-fit_more (q ∷ done) p all fit = (all.0, fit_more done p all.1 fit)
+pub fit_at : (done rest : List Patch) (p : Patch) → All IsFit (done ++ p ∷ rest) → IsFit p
+fit_at [] rest p all = All-head IsFit p rest all
+fit_at (q ∷ done) rest p all = fit_at done rest p (All-tail IsFit q (done ++ p ∷ rest) all)
 
 -- patches that are spelled read as they are
-pub spelled_reads : (patches : List Patch) → AllFit patches → patches_of (length patches) (patches_text patches) ≡ Some patches
+pub spelled_reads : (patches : List Patch) → All IsFit patches → patches_of (length patches) (patches_text patches) ≡ Some patches
 unfolding patches_of
 spelled_reads [] all = refl
 spelled_reads (p ∷ patches) all =
-    ap (option_and_then (λ next. option_map (λ more. next.0 ∷ more) (patches_of (length patches) next.1))) (front_of p (patches_text patches) all.0)
-    ∙ ap (option_map (λ more. p ∷ more)) (spelled_reads patches all.1)
+    ap (option_and_then (λ next. option_map (λ more. next.0 ∷ more) (patches_of (length patches) next.1))) (front_of p (patches_text patches) (All-head IsFit p patches all))
+    ∙ ap (option_map (λ more. p ∷ more)) (spelled_reads patches (All-tail IsFit p patches all))

@@ -3,6 +3,7 @@ mod Carried
 mod Checking
 mod Closing
 mod Front
+mod Grammar
 pub mod Hosts
 mod JournalRead
 mod Moves

@@ -1,6 +1,7 @@
 -- The patches of an open journal are carried out, and the gate is closed.
 use Rattle.std.proofs.Common.{◌≡◌, ⊎_elim, ℕ, ◌<◌, List, [], ◌∷◌, length, refl, sym, ◌∙◌, ap, subst}
-use Rattle.std.specs.Prelude.{◌==◌}
+use Rattle.std.specs.Prelude.{All, ◌==◌}
+use Rattle.std.proofs.lemmas.List.Elements.{All-head, All-tail}
 use Rattle.std.proofs.lemmas.Bool.{ne_eqb, cond-false}
 use Rattle.door_outside.specs.Disk.{Disk, Image, Now, AllNow, Passes, InFile, Torn, Holds, Reached, as_read, written}
 use Rattle.door_outside.proofs.Moments.{reads_have}
@@ -9,16 +10,16 @@ use Rattle.intent_journal.specs.Hosts.{IsCalm}
 use Rattle.intent_journal.specs.Journal.{body_patches, intent_of}
 use Rattle.intent_journal.specs.Patches.{Files, file_of, apply, patched, data_files}
 use Rattle.intent_journal.specs.Recovered.{recovered, Back}
+use Rattle.intent_journal.specs.Spells.{IsFit}
 use Rattle.intent_journal.specs.Steps.{IsOpen, IsSure, JournalKept, Stands}
-use Rattle.intent_journal.proofs.Front.{AllFit}
 use Rattle.intent_journal.proofs.Moves.{all_same, closed_by, data_patched, data_same, from_data, gate_outcome, recovered_by}
 
 -- no patch is for the journal
-pub journal_stays : (patches : List Patch) → AllFit patches → (files : Files) → patched patches files 1 ≡ files 1
+pub journal_stays : (patches : List Patch) → All IsFit patches → (files : Files) → patched patches files 1 ≡ files 1
 journal_stays [] fit files = refl
-journal_stays (p ∷ patches) fit files = journal_stays patches fit.1 (apply p files) ∙ cond-false (1 == file_of p) _ _ (ne_eqb 1 (file_of p) (λ is. fit.0.no_journal (sym is)))
+journal_stays (p ∷ patches) fit files = journal_stays patches (All-tail IsFit p patches fit) (apply p files) ∙ cond-false (1 == file_of p) _ _ (ne_eqb 1 (file_of p) (λ is. (All-head IsFit p patches fit).no_journal (sym is)))
 
-module _ (patches : List Patch) (fit : AllFit patches) (old : Disk) (sure : IsSure old) (is_open : IsOpen patches (old.files 1)) where
+module _ (patches : List Patch) (fit : All IsFit patches) (old : Disk) (sure : IsSure old) (is_open : IsOpen patches (old.files 1)) where
   outcome : data_files (patched patches old.files) ≡ recovered old.files
   outcome = sym (recovered_by patches old.files is_open.intent)
 

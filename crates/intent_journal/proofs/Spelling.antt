@@ -1,15 +1,17 @@
 -- Adding a patch to a spelled intent.
 use Rattle.std.proofs.Common.{◌≡◌, inl, inr, ℕ, ◌+◌, ◌*◌, ◌<◌, ◌≤◌, List, [], ◌∷◌, ◌++◌, length, get_or, set, refl, sym, ◌∙◌, ap, subst, arith, append_assoc, length-append}
 use Rattle.std.proofs.lemmas.List.{get_or-set_same, get_or-set_other, get_or-replicate, append-nil}
+use Rattle.std.proofs.lemmas.List.Elements.{All-push}
 use Rattle.std.proofs.lemmas.List.Folds.{list_any-append}
 use Rattle.std.proofs.lemmas.Bool.{cases_eq, eq-eqb, ne_eqb, and_parts, and_from}
-use Rattle.std.specs.Prelude.{Bool, true, false, not, ◌||◌, ◌==◌, Option, Some, unwrap_or, replicate}
+use Rattle.std.specs.Prelude.{All, Bool, true, false, not, ◌||◌, ◌==◌, Option, Some, unwrap_or, replicate}
 use Rattle.record_numbers.specs.Numbers.{u16_text, u32_text}
 use Rattle.intent_journal.specs.declared.patch.Patch.{Patch}
 use Rattle.intent_journal.specs.declared.patch.Patch.TheVariants.{Whole}
 use Rattle.intent_journal.specs.Patches.{file_of, bytes_of, is_touched, is_once}
+use Rattle.intent_journal.specs.Spells.{IsFit}
 use Rattle.intent_journal.specs.Journal.{Marks, patch_text, patches_text, journal_text, patches_of, spelled, IsSpelled, Takes}
-use Rattle.intent_journal.proofs.Front.{AllFit, reads_fit, fit_more, spelled_reads}
+use Rattle.intent_journal.proofs.Front.{reads_fit, spelled_reads}
 
 pub none_spelled : spelled 0 [] ≡ []
 unfolding patches_of
@@ -99,7 +101,7 @@ module _ (count : ℕ) (text more : List ℕ) (spelt : IsSpelled count text) (p 
   all_more : patches_of (count + 1) more ≡ Some (patches ++ p ∷ [])
   all_more =
       let so_far = reads_fit count text patches spelt.reads in
-      let fit : AllFit (patches ++ p ∷ []) = fit_more patches p so_far.0 (record { no_journal = takes.no_journal; known = known; in_range = takes.in_range }) in
+      let fit : All IsFit (patches ++ p ∷ []) = All-push IsFit patches p so_far.0 (record { no_journal = takes.no_journal; known = known; in_range = takes.in_range }) in
       let count_is : count + 1 ≡ length (patches ++ p ∷ []) = omega (arith, so_far.1, length-append patches (p ∷ [])) in
       let text_is : more ≡ patches_text (patches ++ p ∷ []) = is ∙ ap (λ (l : List ℕ). l ++ patch_text p) spelt.spells ∙ sym (text_more patches p) in
       (λ i. patches_of (count_is i) (text_is i)) ∙ spelled_reads (patches ++ p ∷ []) fit

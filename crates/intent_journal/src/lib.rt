@@ -11,6 +11,7 @@ mod files;
 mod gate;
 mod headers;
 mod intent;
+pub mod laws;
 mod patch;
 mod reading;
 mod recovery;
