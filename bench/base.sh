@@ -1,0 +1,54 @@
+#!/bin/sh
+# Times the reading of the four files of a full conference: 9,999 messages, about 17 MB. The files are made in
+# memory, so a run that only makes them is timed beside those that read them once and eleven times. Shows the
+# peak of memory too. It is no part of the gate, which runs the program once for what it prints.
+# usage: bench/base.sh [RUNS]
+
+runs=${1:-3}
+top=$(dirname -- "$(readlink -f -- "$0")")/..
+cd -- "$top/crates/base_bench" || exit 1
+if ! rt run >/dev/null 2>&1; then
+    echo 'the program was not built' >&2
+    exit 1
+fi
+program=./out/base_bench
+
+# The least of the times in seconds that a command takes, its output thrown away.
+best() {
+    least=
+    turn=0
+    while [ "$turn" -lt "$runs" ]; do
+        before=$(date +%s.%N)
+        "$@" >/dev/null || return 1
+        after=$(date +%s.%N)
+        least=$(awk -v a="$before" -v b="$after" -v least="$least" 'BEGIN {
+            taken = b - a
+            print (least == "" || taken < least) ? taken : least
+        }')
+        turn=$((turn + 1))
+    done
+    printf '%s\n' "$least"
+}
+
+if ! "$program" | cmp -s - stdout; then
+    echo 'the files were not read as they should be:' >&2
+    "$program" >&2
+    exit 1
+fi
+cat stdout
+
+making=$(best "$program" 0) || exit 1
+once=$(best "$program" 1) || exit 1
+eleven=$(best "$program" 11) || exit 1
+awk -v runs="$runs" -v making="$making" -v once="$once" -v eleven="$eleven" 'BEGIN {
+    printf "making the files: %.3f s, the best of %d\n", making, runs
+    printf "making and reading them once: %.3f s, so the first reading takes %.3f s\n", once, once - making
+    printf "reading them ten times more: %.3f s, so each takes %.3f s\n", eleven - once, (eleven - once) / 10
+}'
+if [ -x /usr/bin/time ] && /usr/bin/time -f %M true 2>/dev/null; then
+    alone=$(/usr/bin/time -f %M "$program" 0 2>&1 >/dev/null)
+    peak=$(/usr/bin/time -f %M "$program" 1 2>&1 >/dev/null)
+    printf 'peak of memory: %s KiB making the files, %s KiB making and reading them\n' "$alone" "$peak"
+else
+    echo 'peak of memory: not measured, since /usr/bin/time is missing'
+fi
