@@ -6,29 +6,14 @@
 
 runs=${1:-3}
 top=$(dirname -- "$(readlink -f -- "$0")")/..
+# shellcheck source=/dev/null
+. "$top/bench/best.sh"
 cd -- "$top/crates/base_bench" || exit 1
 if ! rt run >/dev/null 2>&1; then
     echo 'the program was not built' >&2
     exit 1
 fi
 program=./out/base_bench
-
-# The least of the times in seconds that a command takes, its output thrown away.
-best() {
-    least=
-    turn=0
-    while [ "$turn" -lt "$runs" ]; do
-        before=$(date +%s.%N)
-        "$@" >/dev/null || return 1
-        after=$(date +%s.%N)
-        least=$(awk -v a="$before" -v b="$after" -v least="$least" 'BEGIN {
-            taken = b - a
-            print (least == "" || taken < least) ? taken : least
-        }')
-        turn=$((turn + 1))
-    done
-    printf '%s\n' "$least"
-}
 
 if ! "$program" | cmp -s - stdout; then
     echo 'the files were not read as they should be:' >&2

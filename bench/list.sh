@@ -4,6 +4,8 @@
 
 runs=${1:-3}
 top=$(dirname -- "$(readlink -f -- "$0")")/..
+# shellcheck source=/dev/null
+. "$top/bench/best.sh"
 work=$(mktemp -d) || exit 1
 trap 'rm -rf -- "$work"' EXIT
 trap 'exit 1' HUP INT TERM
@@ -38,23 +40,6 @@ PROGRAM
             }
         }' >"$big"
     fi
-}
-
-# The least of the times in seconds that a command takes, its output thrown away.
-best() {
-    least=
-    turn=0
-    while [ "$turn" -lt "$runs" ]; do
-        before=$(date +%s.%N)
-        "$@" >/dev/null || return 1
-        after=$(date +%s.%N)
-        least=$(awk -v a="$before" -v b="$after" -v least="$least" 'BEGIN {
-            taken = b - a
-            print (least == "" || taken < least) ? taken : least
-        }')
-        turn=$((turn + 1))
-    done
-    printf '%s\n' "$least"
 }
 
 list() {

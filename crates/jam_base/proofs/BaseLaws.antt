@@ -1,12 +1,12 @@
 -- The base header: what is read is the layout, and the layout is read.
-use Rattle.std.proofs.Common.{◌≡◌, ℕ, zero, suc, ◌+◌, ◌^◌, ◌≤◌, ◌<◌, Bool, true, false, not, ◌||◌, eqb, List, [], ◌∷◌, ◌++◌, length, take, drop, replicate, refl, sym, ap, ◌∙◌, arith, append_assoc}
+use Rattle.std.proofs.Common.{◌≡◌, ℕ, zero, suc, ◌+◌, ◌^◌, ◌≤◌, ◌<◌, Bool, true, not, ◌||◌, eqb, List, [], ◌∷◌, ◌++◌, length, take, drop, replicate, refl, sym, ap, ◌∙◌, arith, append_assoc}
 use Rattle.std.specs.Prelude.{All}
 use Rattle.std.specs.List.{list_all}
 use Rattle.std.proofs.Math.ListN.{length-replicate}
-use Rattle.std.proofs.lemmas.Bool.{ltb-false, le-ltb, eqb-true, eq-eqb}
+use Rattle.std.proofs.lemmas.Bool.{ltb-false, le-ltb, eqb-true}
 use Rattle.std.proofs.lemmas.Slice.Eq.{bytes_eq-Decides}
 use Rattle.std.proofs.lemmas.List.{take_at, drop_at, take-append-drop, drop-drop, length-take, length-drop}
-use Rattle.std.proofs.lemmas.List.Elements.{All-cons}
+use Rattle.std.proofs.lemmas.List.Elements.{All-cons, All-nil}
 use Rattle.byte_lists.specs.Byte.{IsByte}
 use Rattle.record_numbers.specs.Numbers.{u32_at, u32s_text, IsU32}
 use Rattle.jam_records.specs.Signature.{signature}
@@ -17,14 +17,8 @@ use Rattle.jam_base.specs.Base.{wrong_base, base_rules}
 use Rattle.jam_base.specs.declared.shape.Shape.{Shape}
 use Rattle.jam_base.proofs.Kept.{Kept}
 use Rattle.record_numbers.proofs.NumberFronts.{numbers_front}
-use Rattle.jam_base.proofs.MarkLaws.{or_false, not_not, both_false}
+use Rattle.jam_base.proofs.TestLaws.{or_false, not_not, both_false, equal, unequal}
 use Rattle.jam_base.proofs.ValueLaws.{and_true}
-
-equal : (a b : ℕ) → not (eqb a b) ≡ false → a ≡ b
-equal a b e = eqb-true a b (not_not (eqb a b) e)
-
-unequal : (a b : ℕ) → a ≡ b → not (eqb a b) ≡ false
-unequal a b e = ap not (eq-eqb a b e)
 
 -- ---- zeros
 abbrev is_zero : ℕ → Bool
@@ -94,9 +88,6 @@ base_takes shape bytes all k =
     let same : zeros ≡ replicate 1000 0 = zeros_are 1000 zeros len (not_not (list_all is_zero zeros) r.1) in
     (parts_front bytes h all long signed is ∙ (ap (λ xs. parts h xs ++ drop 1024 bytes) same ∙ ap (λ xs. xs ++ drop 1024 bytes) (sym (text_parts h))), long)
 
-no_numbers : All IsU32 []
-no_numbers = λ k d within. absurd (omega (arith, within))
-
 pub record BaseAgain (shape : Shape) (counter active : ℕ) (rest bytes : List ℕ) : Type 0 where
   pub kept : Kept (base_rules shape bytes)
   pub counter_is : u32_at 8 bytes ≡ counter
@@ -110,7 +101,7 @@ base_again shape counter active rest created count live =
     let bytes : List ℕ = base_text h ++ rest in
     let one : 1 < 2 ^ 32 = omega arith in
     let ones : 0xFFFF_FFFF < 2 ^ 32 = omega arith in
-    let numbers : IsBaseHeader h = All-cons IsU32 shape.created (counter ∷ active ∷ 0xFFFF_FFFF ∷ 1 ∷ []) created (All-cons IsU32 counter (active ∷ 0xFFFF_FFFF ∷ 1 ∷ []) count (All-cons IsU32 active (0xFFFF_FFFF ∷ 1 ∷ []) live (All-cons IsU32 0xFFFF_FFFF (1 ∷ []) ones (All-cons IsU32 1 [] one no_numbers)))) in
+    let numbers : IsBaseHeader h = All-cons IsU32 shape.created (counter ∷ active ∷ 0xFFFF_FFFF ∷ 1 ∷ []) created (All-cons IsU32 counter (active ∷ 0xFFFF_FFFF ∷ 1 ∷ []) count (All-cons IsU32 active (0xFFFF_FFFF ∷ 1 ∷ []) live (All-cons IsU32 0xFFFF_FFFF (1 ∷ []) ones (All-cons IsU32 1 [] one (All-nil IsU32))))) in
     let stands : BaseHeaderStands bytes h = base_stands h rest numbers in
     let f = sym stands.fields in
     let made : u32_at 4 bytes ≡ shape.created = ap (λ (x : BaseHeader). x.created) f in

@@ -162,7 +162,7 @@ layout_is shape files c fits e =
     let moved : LinksFit links hs = links_move first_links links (length (slots_of 1 hs)) hs agree (below_all hs (rising_of kind start hs headers.1)) second.1 in
     let fit : LinksFit links (map bare es) = subst (LinksFit links) (sym bodies.1) moved in
     let index = jdx_take links place 1024 es files.jdx slots fits.jdx.0 (linked_of links es fit bodies.2) x4.1 in
-    let pointers = pointers_take place (length slots) 0 shape.readers files.jlr x5.0 fits.jlr.0 x5.1 in
+    let pointers = pointers_take place (length slots) 0 shape.readers files.jlr x5.0 fits.jlr x5.1 in
     let d : Conference = record { counter = x0.0; slots = slots; pointers = x5.0 } in
     let hs_is : hs ≡ map bare (entries_of links 1 slots) = sym bodies.1 ∙ ap (map bare) (sym index.1) in
     let live : u32_at 12 files.jhr ≡ live_count slots = second.0 ∙ (ap active_in hs_is ∙ active_is links 1 slots) in

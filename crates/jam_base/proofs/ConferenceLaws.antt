@@ -2,7 +2,7 @@
 use Rattle.std.proofs.Common.{◌≡◌, ℕ, suc, ◌+◌, ◌*◌, ◌^◌, ◌≤◌, ◌<◌, List, [], ◌∷◌, ◌++◌, length, map, refl, sym, ap, ◌∙◌, subst, arith, length-append}
 use Rattle.std.specs.Prelude.{All}
 use Rattle.std.proofs.lemmas.List.{take_at, drop_at}
-use Rattle.std.proofs.lemmas.List.Elements.{All-drop, All-take, All-cons}
+use Rattle.std.proofs.lemmas.List.Elements.{All-drop, All-take, All-cons, All-nil}
 use Rattle.byte_lists.specs.Byte.{IsByte}
 use Rattle.jam_records.specs.MessageHeaders.{header_text}
 use Rattle.jam_records.specs.Subfields.{subfield_text, subfields_text}
@@ -23,7 +23,7 @@ use Rattle.jam_base.specs.declared.entry.Entry.{Entry}
 use Rattle.jam_base.specs.declared.entry.Front.{Front}
 use Rattle.jam_base.proofs.BodyLaws.{bare, Bodiless, BodiesFit}
 use Rattle.jam_base.proofs.CrcLaws.{crc_small}
-use Rattle.jam_base.proofs.EntryLaws.{HeaderFits, HeadersFit, short_values, entry_length}
+use Rattle.jam_base.proofs.EntryLaws.{HeaderFits, HeadersFit, entry_length}
 use Rattle.jam_base.proofs.FieldLaws.{subfield, behind_head}
 use Rattle.jam_base.proofs.IndexLaws.{made, Linked, RoomFor}
 use Rattle.jam_base.proofs.LinkBounds.{LinkBound}
@@ -109,7 +109,6 @@ one_fits kind f n link m rising few bound ok bytes small =
       msgid = crc_small m.msgid bytes.msgid;
       reply = crc_small m.replyid bytes.replyid;
       short = short;
-      values = short_values (message_with m []) short;
     }
 
 pub record Fits (kind : Kind) (f : Front) (at : ℕ) (slots : List Slot) (es : List Entry) : Type 0 where
@@ -143,11 +142,8 @@ conference_fits links kind n f at offset (Held m ∷ slots) lt few bound all byt
     }
 
 -- ---- and what the files fit is a conference
-no_slots : (kind : Kind) → All (IsSlot kind) []
-no_slots kind = λ k d within. absurd (omega (arith, within))
-
 pub slots_fit : (links : ℕ → Link) (kind : Kind) (n : ℕ) (f : Front) (slots : List Slot) → HeadersFit kind f (map bare (entries_of links n slots)) → BodiesFit (entries_of links n slots) → All (IsSlot kind) slots
-slots_fit links kind n f [] headers bodies = no_slots kind
+slots_fit links kind n f [] headers bodies = All-nil (IsSlot kind)
 slots_fit links kind n f (Gone ∷ slots) headers bodies = All-cons (IsSlot kind) Gone slots tt (slots_fit links kind (n + 1) f slots headers bodies)
 slots_fit links kind n f (Held m ∷ slots) headers bodies =
     let h = headers.0 in

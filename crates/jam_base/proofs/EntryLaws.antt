@@ -2,7 +2,7 @@
 use Rattle.std.proofs.Common.{◌≡◌, ℕ, zero, suc, ◌+◌, ◌-◌, ◌*◌, ◌^◌, ◌≤◌, ◌<◌, List, [], ◌∷◌, ◌++◌, length, take, drop, Ok, refl, sym, ap, ◌∙◌, subst, arith, append_assoc, length-append}
 use Rattle.std.specs.Prelude.{All, IsTrue}
 use Rattle.std.proofs.lemmas.List.{take_at, drop_at, take-append-drop, drop-drop, length-take, length-drop}
-use Rattle.std.proofs.lemmas.List.Elements.{All-drop, All-take, All-cons}
+use Rattle.std.proofs.lemmas.List.Elements.{All-drop, All-take, All-cons, All-nil}
 use Rattle.byte_lists.specs.Byte.{IsByte}
 use Rattle.name_crc.specs.JamCrc.{jam_crc}
 use Rattle.record_numbers.specs.Numbers.{u16_at, IsU32}
@@ -15,9 +15,7 @@ use Rattle.jam_records.proofs.HeaderLemmas.{header_stands}
 use Rattle.jam_base.specs.Rules.{◌>>=◌}
 use Rattle.jam_base.specs.Places.{jhr_file}
 use Rattle.jam_base.specs.Walk.{Step, walk_from, walk}
-use Rattle.jam_base.specs.Fields.{field, subfields_of, values_at}
-use Rattle.jam_records.specs.Subfields.{subfield_text}
-use Rattle.jam_base.proofs.FieldLaws.{subfield, text_length}
+use Rattle.jam_base.specs.Fields.{subfields_of, values_at}
 use Rattle.jam_base.specs.Marks.{attribute_of, is_net}
 use Rattle.jam_base.specs.Headers.{values_of, header_rules, message_of, entry_of, behind, step_of, header_at, marks_in, message_header, entry_text, headers_text, header_size}
 use Rattle.jam_base.specs.declared.entry.Entry.{Entry}
@@ -27,7 +25,7 @@ use Rattle.jam_base.proofs.Kept.{Kept, rules_kept, kept_rules, bind_ok, ok_is}
 use Rattle.jam_base.proofs.Walks.{walk_more, walk_done, behind_first, drop_one}
 use Rattle.record_numbers.proofs.NumberFronts.{u32_small}
 use Rattle.jam_base.proofs.Fronts.{header_front}
-use Rattle.jam_base.proofs.ValueLaws.{HasValues, RightTexts, right_texts, values_take, values_again, values_in, maybe_back, texts, right_by_texts, Short}
+use Rattle.jam_base.proofs.ValueLaws.{HasValues, RightTexts, right_texts, values_take, values_again, message_values, maybe_back, right_by_texts}
 use Rattle.jam_base.proofs.HeaderLaws.{HeaderKept, keep, keeps}
 use Rattle.jam_base.proofs.MarkLaws.{marks_again, right_attribute, attribute_right}
 
@@ -48,7 +46,6 @@ pub record HeaderFits (kind : Kind) (f : Front) (e : Entry) : Type 0 where
   pub msgid : jam_crc e.message.msgid < 2 ^ 32
   pub reply : jam_crc e.message.replyid < 2 ^ 32
   pub short : length (subfields_text (subfields_of e.message)) < 2 ^ 31
-  pub values : Short e.message
 
 abbrev pub HeadersFit : Kind → Front → List Entry → Type 0
 HeadersFit kind f [] = Unit {0}
@@ -57,38 +54,6 @@ HeadersFit kind f (e ∷ es) = HeaderFits kind f e × HeadersFit kind (behind f 
 has_read : (h : MessageHeader) (v : Values) → HasValues (message_of h v) v
 unfolding message_of
 has_read h v = record { origin = refl; destination = refl; from = refl; to = refl; msgid = refl; replyid = refl; subject = refl }
-
--- ---- each value is shorter than all subfields
-field_longer : (id : ℕ) (value : List ℕ) → length value ≤ length (subfields_text (field id value))
-field_longer id [] = omega arith
-field_longer id (b ∷ value) = omega (arith, length-append (subfield_text (subfield id (b ∷ value))) [], text_length (subfield id (b ∷ value)))
-
-pub short_values : (m : Message) → length (subfields_text (subfields_of m)) < 2 ^ 31 → Short m
-unfolding subfields_of
-short_values m short =
-    let a : List ℕ = subfields_text (field 0 m.origin) in
-    let b : List ℕ = subfields_text (field 1 m.destination) in
-    let c : List ℕ = subfields_text (field 2 m.from) in
-    let d : List ℕ = subfields_text (field 3 m.to) in
-    let e : List ℕ = subfields_text (field 4 m.msgid) in
-    let f : List ℕ = subfields_text (field 5 m.replyid) in
-    let g : List ℕ = subfields_text (field 6 m.subject) in
-    let whole : length (subfields_text (subfields_of m)) ≡ length (a ++ (b ++ (c ++ (d ++ (e ++ (f ++ g)))))) = ap length (texts (field 0 m.origin) (field 1 m.destination) (field 2 m.from) (field 3 m.to) (field 4 m.msgid) (field 5 m.replyid) (field 6 m.subject)) in
-    let l0 = length-append a (b ++ (c ++ (d ++ (e ++ (f ++ g))))) in
-    let l1 = length-append b (c ++ (d ++ (e ++ (f ++ g)))) in
-    let l2 = length-append c (d ++ (e ++ (f ++ g))) in
-    let l3 = length-append d (e ++ (f ++ g)) in
-    let l4 = length-append e (f ++ g) in
-    let l5 = length-append f g in
-    record {
-      origin = omega (arith, field_longer 0 m.origin);
-      destination = omega (arith, field_longer 1 m.destination);
-      from = omega (arith, field_longer 2 m.from);
-      to = omega (arith, field_longer 3 m.to);
-      msgid = omega (arith, field_longer 4 m.msgid);
-      replyid = omega (arith, field_longer 5 m.replyid);
-      subject = omega (arith, field_longer 6 m.subject);
-    }
 
 -- ---- what is read is the text of its entry
 header_is : (kind : Kind) (f : Front) (bytes : List ℕ) (h : MessageHeader) (v : Values) → HeaderKept kind f h v bytes → h.subfield_len ≡ length (subfields_text (subfields_of (message_of h v))) → h ≡ message_header kind f.offset (entry_of h v)
@@ -149,14 +114,10 @@ header_takes kind f bytes fits small k =
         msgid = subst (λ (n : ℕ). n < 2 ^ 32) k.msgid (u32_small 16 bytes fits);
         reply = subst (λ (n : ℕ). n < 2 ^ 32) k.reply (u32_small 20 bytes fits);
         short = short;
-        values = short_values m short;
       },
     )
 
 -- ---- what is written is read
-no_numbers : All IsU32 []
-no_numbers = λ k d within. absurd (omega (arith, within))
-
 header_numbers : (kind : Kind) (f : Front) (e : Entry) → f.offset < 2 ^ 32 → HeaderFits kind f e → IsMessageHeader (message_header kind f.offset e)
 unfolding message_header
 header_numbers kind f e small fits =
@@ -164,7 +125,7 @@ header_numbers kind f e small fits =
     let a : attribute_of kind (marks_in e.message) < 2 ^ 32 = (marks_again kind (marks_in e.message)).1 in
     let none : 0 < 2 ^ 32 = omega arith in
     let ones : 0xFFFF_FFFF < 2 ^ 32 = omega arith in
-    All-cons IsU32 h.subfield_len (h.times_read ∷ h.msgid_crc ∷ h.reply_crc ∷ h.reply_to ∷ h.reply1st ∷ h.reply_next ∷ h.written ∷ h.received ∷ h.processed ∷ h.number ∷ h.attribute ∷ h.attribute2 ∷ h.offset ∷ h.text_len ∷ h.password_crc ∷ h.cost ∷ []) (omega (arith, fits.short)) (All-cons IsU32 h.times_read (h.msgid_crc ∷ h.reply_crc ∷ h.reply_to ∷ h.reply1st ∷ h.reply_next ∷ h.written ∷ h.received ∷ h.processed ∷ h.number ∷ h.attribute ∷ h.attribute2 ∷ h.offset ∷ h.text_len ∷ h.password_crc ∷ h.cost ∷ []) none (All-cons IsU32 h.msgid_crc (h.reply_crc ∷ h.reply_to ∷ h.reply1st ∷ h.reply_next ∷ h.written ∷ h.received ∷ h.processed ∷ h.number ∷ h.attribute ∷ h.attribute2 ∷ h.offset ∷ h.text_len ∷ h.password_crc ∷ h.cost ∷ []) fits.msgid (All-cons IsU32 h.reply_crc (h.reply_to ∷ h.reply1st ∷ h.reply_next ∷ h.written ∷ h.received ∷ h.processed ∷ h.number ∷ h.attribute ∷ h.attribute2 ∷ h.offset ∷ h.text_len ∷ h.password_crc ∷ h.cost ∷ []) fits.reply (All-cons IsU32 h.reply_to (h.reply1st ∷ h.reply_next ∷ h.written ∷ h.received ∷ h.processed ∷ h.number ∷ h.attribute ∷ h.attribute2 ∷ h.offset ∷ h.text_len ∷ h.password_crc ∷ h.cost ∷ []) fits.to (All-cons IsU32 h.reply1st (h.reply_next ∷ h.written ∷ h.received ∷ h.processed ∷ h.number ∷ h.attribute ∷ h.attribute2 ∷ h.offset ∷ h.text_len ∷ h.password_crc ∷ h.cost ∷ []) fits.first (All-cons IsU32 h.reply_next (h.written ∷ h.received ∷ h.processed ∷ h.number ∷ h.attribute ∷ h.attribute2 ∷ h.offset ∷ h.text_len ∷ h.password_crc ∷ h.cost ∷ []) fits.next (All-cons IsU32 h.written (h.received ∷ h.processed ∷ h.number ∷ h.attribute ∷ h.attribute2 ∷ h.offset ∷ h.text_len ∷ h.password_crc ∷ h.cost ∷ []) fits.written (All-cons IsU32 h.received (h.processed ∷ h.number ∷ h.attribute ∷ h.attribute2 ∷ h.offset ∷ h.text_len ∷ h.password_crc ∷ h.cost ∷ []) fits.received (All-cons IsU32 h.processed (h.number ∷ h.attribute ∷ h.attribute2 ∷ h.offset ∷ h.text_len ∷ h.password_crc ∷ h.cost ∷ []) fits.processed (All-cons IsU32 h.number (h.attribute ∷ h.attribute2 ∷ h.offset ∷ h.text_len ∷ h.password_crc ∷ h.cost ∷ []) (omega (arith, fits.few)) (All-cons IsU32 h.attribute (h.attribute2 ∷ h.offset ∷ h.text_len ∷ h.password_crc ∷ h.cost ∷ []) a (All-cons IsU32 h.attribute2 (h.offset ∷ h.text_len ∷ h.password_crc ∷ h.cost ∷ []) none (All-cons IsU32 h.offset (h.text_len ∷ h.password_crc ∷ h.cost ∷ []) small (All-cons IsU32 h.text_len (h.password_crc ∷ h.cost ∷ []) (omega (arith, fits.text)) (All-cons IsU32 h.password_crc (h.cost ∷ []) ones (All-cons IsU32 h.cost ([]) none no_numbers))))))))))))))))
+    All-cons IsU32 h.subfield_len (h.times_read ∷ h.msgid_crc ∷ h.reply_crc ∷ h.reply_to ∷ h.reply1st ∷ h.reply_next ∷ h.written ∷ h.received ∷ h.processed ∷ h.number ∷ h.attribute ∷ h.attribute2 ∷ h.offset ∷ h.text_len ∷ h.password_crc ∷ h.cost ∷ []) (omega (arith, fits.short)) (All-cons IsU32 h.times_read (h.msgid_crc ∷ h.reply_crc ∷ h.reply_to ∷ h.reply1st ∷ h.reply_next ∷ h.written ∷ h.received ∷ h.processed ∷ h.number ∷ h.attribute ∷ h.attribute2 ∷ h.offset ∷ h.text_len ∷ h.password_crc ∷ h.cost ∷ []) none (All-cons IsU32 h.msgid_crc (h.reply_crc ∷ h.reply_to ∷ h.reply1st ∷ h.reply_next ∷ h.written ∷ h.received ∷ h.processed ∷ h.number ∷ h.attribute ∷ h.attribute2 ∷ h.offset ∷ h.text_len ∷ h.password_crc ∷ h.cost ∷ []) fits.msgid (All-cons IsU32 h.reply_crc (h.reply_to ∷ h.reply1st ∷ h.reply_next ∷ h.written ∷ h.received ∷ h.processed ∷ h.number ∷ h.attribute ∷ h.attribute2 ∷ h.offset ∷ h.text_len ∷ h.password_crc ∷ h.cost ∷ []) fits.reply (All-cons IsU32 h.reply_to (h.reply1st ∷ h.reply_next ∷ h.written ∷ h.received ∷ h.processed ∷ h.number ∷ h.attribute ∷ h.attribute2 ∷ h.offset ∷ h.text_len ∷ h.password_crc ∷ h.cost ∷ []) fits.to (All-cons IsU32 h.reply1st (h.reply_next ∷ h.written ∷ h.received ∷ h.processed ∷ h.number ∷ h.attribute ∷ h.attribute2 ∷ h.offset ∷ h.text_len ∷ h.password_crc ∷ h.cost ∷ []) fits.first (All-cons IsU32 h.reply_next (h.written ∷ h.received ∷ h.processed ∷ h.number ∷ h.attribute ∷ h.attribute2 ∷ h.offset ∷ h.text_len ∷ h.password_crc ∷ h.cost ∷ []) fits.next (All-cons IsU32 h.written (h.received ∷ h.processed ∷ h.number ∷ h.attribute ∷ h.attribute2 ∷ h.offset ∷ h.text_len ∷ h.password_crc ∷ h.cost ∷ []) fits.written (All-cons IsU32 h.received (h.processed ∷ h.number ∷ h.attribute ∷ h.attribute2 ∷ h.offset ∷ h.text_len ∷ h.password_crc ∷ h.cost ∷ []) fits.received (All-cons IsU32 h.processed (h.number ∷ h.attribute ∷ h.attribute2 ∷ h.offset ∷ h.text_len ∷ h.password_crc ∷ h.cost ∷ []) fits.processed (All-cons IsU32 h.number (h.attribute ∷ h.attribute2 ∷ h.offset ∷ h.text_len ∷ h.password_crc ∷ h.cost ∷ []) (omega (arith, fits.few)) (All-cons IsU32 h.attribute (h.attribute2 ∷ h.offset ∷ h.text_len ∷ h.password_crc ∷ h.cost ∷ []) a (All-cons IsU32 h.attribute2 (h.offset ∷ h.text_len ∷ h.password_crc ∷ h.cost ∷ []) none (All-cons IsU32 h.offset (h.text_len ∷ h.password_crc ∷ h.cost ∷ []) small (All-cons IsU32 h.text_len (h.password_crc ∷ h.cost ∷ []) (omega (arith, fits.text)) (All-cons IsU32 h.password_crc (h.cost ∷ []) ones (All-cons IsU32 h.cost ([]) none (All-nil IsU32)))))))))))))))))
 
 reserved_is : (h : MessageHeader) (rest : List ℕ) → u16_at 6 (header_text h ++ rest) ≡ 0
 unfolding u16_at header_text
@@ -178,7 +139,7 @@ header_length : (h : MessageHeader) → length (header_text h) ≡ 76
 unfolding header_text
 header_length h = omega arith
 
-message_again : (kind : Kind) (f : Front) (e : Entry) → HeaderFits kind f e → message_of (message_header kind f.offset e) (values_in e.message) ≡ e.message
+message_again : (kind : Kind) (f : Front) (e : Entry) → HeaderFits kind f e → message_of (message_header kind f.offset e) (message_values e.message) ≡ e.message
 unfolding message_of message_header
 message_again kind f e fits =
     let m : Message = e.message in
@@ -201,12 +162,12 @@ message_again kind f e fits =
       deleted = (marks i).deleted;
     }
 
-entry_again : (kind : Kind) (f : Front) (e : Entry) → HeaderFits kind f e → entry_of (message_header kind f.offset e) (values_in e.message) ≡ e
+entry_again : (kind : Kind) (f : Front) (e : Entry) → HeaderFits kind f e → entry_of (message_header kind f.offset e) (message_values e.message) ≡ e
 unfolding entry_of message_header
 entry_again kind f e fits = λ i. record { number = e.number; text_len = e.text_len; link = e.link; message = message_again kind f e fits i }
 
 kept_again : (kind : Kind) (f : Front) (e : Entry) (bytes : List ℕ) → HeaderFits kind f e → MessageHeaderStands bytes (message_header kind f.offset e) → u16_at 6 bytes ≡ 0
-    → 76 + length (subfields_text (subfields_of e.message)) ≤ length bytes → HeaderKept kind f (message_header kind f.offset e) (values_in e.message) bytes
+    → 76 + length (subfields_text (subfields_of e.message)) ≤ length bytes → HeaderKept kind f (message_header kind f.offset e) (message_values e.message) bytes
 unfolding message_header
 kept_again kind f e bytes fits stands reserved long = record {
   long = stands.whole;
@@ -233,16 +194,16 @@ kept_again kind f e bytes fits stands reserved long = record {
 abbrev pub step_behind : Front → Entry → Step Front Entry
 step_behind f e = record { value = e; size = header_size e.message; next = behind f e }
 
-values_found : (kind : Kind) (f : Front) (e : Entry) (rest : List ℕ) → HeaderFits kind f e → values_of (message_header kind f.offset e) (header_text (message_header kind f.offset e) ++ (subfields_text (subfields_of e.message) ++ rest)) ≡ values_in e.message
+values_found : (kind : Kind) (f : Front) (e : Entry) (rest : List ℕ) → HeaderFits kind f e → values_of (message_header kind f.offset e) (header_text (message_header kind f.offset e) ++ (subfields_text (subfields_of e.message) ++ rest)) ≡ message_values e.message
 unfolding message_header
 values_found kind f e rest fits =
     let h : MessageHeader = message_header kind f.offset e in
     let subs : List ℕ = subfields_text (subfields_of e.message) in
     ap (λ xs. values_at (take (length subs) xs)) (behind_header h (subs ++ rest))
     ∙ ap values_at (take_at subs rest (length subs) refl)
-    ∙ values_again e.message fits.values
+    ∙ values_again e.message (omega (arith, fits.short))
 
-step_is : (kind : Kind) (f : Front) (e : Entry) → HeaderFits kind f e → step_of f (message_header kind f.offset e) (values_in e.message) ≡ step_behind f e
+step_is : (kind : Kind) (f : Front) (e : Entry) → HeaderFits kind f e → step_of f (message_header kind f.offset e) (message_values e.message) ≡ step_behind f e
 unfolding message_header header_size
 step_is kind f e fits =
     ap (λ (x : Entry). record { value = x; size = 76 + length (subfields_text (subfields_of e.message)); next = behind f x }) (entry_again kind f e fits)
@@ -253,7 +214,7 @@ header_again place kind f e rest small fits =
     let h : MessageHeader = message_header kind f.offset e in
     let subs : List ℕ = subfields_text (subfields_of e.message) in
     let bytes : List ℕ = header_text h ++ (subs ++ rest) in
-    let v : Values = values_in e.message in
+    let v : Values = message_values e.message in
     let stands : MessageHeaderStands bytes h = header_stands h (subs ++ rest) (header_numbers kind f e small fits) in
     let long : 76 + length subs ≤ length bytes = omega (arith, length-append (header_text h) (subs ++ rest), length-append subs rest, header_length h) in
     let kept : HeaderKept kind f h v bytes = kept_again kind f e bytes fits stands (reserved_is h (subs ++ rest)) long in

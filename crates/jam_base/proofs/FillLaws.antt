@@ -12,17 +12,17 @@ use Rattle.jam_base.specs.Places.{jhr_file}
 use Rattle.jam_base.specs.SecondPass.{same_link, links_at, slots_of, Numbered}
 use Rattle.jam_base.specs.declared.entry.Entry.{Entry}
 
-pub fill_more : (slots new total : List Slot) (count : ℕ) → length slots < count → new ≡ slots ++ Gone ∷ [] → slots ++ replicate (count - length slots) Gone ≡ total → new ++ replicate (count - length new) Gone ≡ total
-fill_more slots new total count lt is so_far =
-    let len : length new ≡ length slots + 1 = ap length is ∙ length-append slots (Gone ∷ []) in
-    let left : suc (count - length new) ≡ count - length slots = omega arith in
-    ap (λ (xs : List Slot). xs ++ replicate (count - length new) Gone) is
-    ∙ (append_assoc slots (Gone ∷ []) (replicate (count - length new) Gone) ∙ (ap (λ n. slots ++ replicate n Gone) left ∙ so_far))
+pub fill_more : {X : Type 0} (items new total : List X) (item : X) (count : ℕ) → length items < count → new ≡ items ++ item ∷ [] → items ++ replicate (count - length items) item ≡ total → new ++ replicate (count - length new) item ≡ total
+fill_more {X = X} items new total item count lt is so_far =
+    let len : length new ≡ length items + 1 = ap length is ∙ length-append items (item ∷ []) in
+    let left : suc (count - length new) ≡ count - length items = omega arith in
+    ap (λ (xs : List X). xs ++ replicate (count - length new) item) is
+    ∙ (append_assoc items (item ∷ []) (replicate (count - length new) item) ∙ (ap (λ n. items ++ replicate n item) left ∙ so_far))
 
-pub fill_done : (slots total : List Slot) (count : ℕ) → count ≤ length slots → slots ++ replicate (count - length slots) Gone ≡ total → slots ≡ total
-fill_done slots total count le so_far =
-    let none : count - length slots ≡ 0 = omega arith in
-    sym (ap (λ n. slots ++ replicate n Gone) none ∙ append-nil slots) ∙ so_far
+pub fill_done : {X : Type 0} (items total : List X) (item : X) (count : ℕ) → count ≤ length items → items ++ replicate (count - length items) item ≡ total → items ≡ total
+fill_done items total item count le so_far =
+    let none : count - length items ≡ 0 = omega arith in
+    sym (ap (λ n. items ++ replicate n item) none ∙ append-nil items) ∙ so_far
 
 abbrev one : ℕ → ℕ → Bool → Result (Unit {0}) Damage
 one place i b = by_rules (jhr_file place) i ((Links, not b) ∷ []) (tt {0})

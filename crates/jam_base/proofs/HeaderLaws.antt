@@ -1,6 +1,6 @@
 -- .JHR, first pass: the headers that are read are those of the layout, and the layout is read.
 use Rattle.std.proofs.Common.{◌≡◌, ℕ, ◌+◌, ◌≤◌, ◌<◌, true, false, not, ◌||◌, eqb, ltb, leb, List, [], ◌++◌, length, take, unwrap_or, ap, subst, arith}
-use Rattle.std.proofs.lemmas.Bool.{ltb-false, le-ltb, eqb-true, eq-eqb}
+use Rattle.std.proofs.lemmas.Bool.{ltb-false, le-ltb}
 use Rattle.std.proofs.lemmas.Bool.Decides.{nat_tests}
 use Rattle.std.proofs.lemmas.Slice.Eq.{bytes_eq-Decides}
 use Rattle.name_crc.specs.JamCrc.{jam_crc}
@@ -15,7 +15,7 @@ use Rattle.jam_base.specs.Headers.{wrong_fields, wrong_number, wrong_text, wrong
 use Rattle.jam_base.specs.declared.entry.Front.{Front}
 use Rattle.jam_base.specs.declared.fields.Values.{Values}
 use Rattle.jam_base.proofs.Kept.{Kept, kept_both, both_kept}
-use Rattle.jam_base.proofs.MarkLaws.{or_false, not_not, both_false}
+use Rattle.jam_base.proofs.TestLaws.{or_false, not_not, both_false, equal, unequal}
 
 -- ---- the rules of a header as facts
 pub record HeaderKept (kind : Kind) (f : Front) (h : MessageHeader) (v : Values) (bytes : List ℕ) : Type 0 where
@@ -37,12 +37,6 @@ pub record HeaderKept (kind : Kind) (f : Front) (h : MessageHeader) (v : Values)
   pub values : right_values v ≡ true
   pub msgid : h.msgid_crc ≡ jam_crc (unwrap_or v.msgid [])
   pub reply : h.reply_crc ≡ jam_crc (unwrap_or v.replyid [])
-
-equal : (a b : ℕ) → not (eqb a b) ≡ false → a ≡ b
-equal a b e = eqb-true a b (not_not (eqb a b) e)
-
-unequal : (a b : ℕ) → a ≡ b → not (eqb a b) ≡ false
-unequal a b e = ap not (eq-eqb a b e)
 
 pub keep : (kind : Kind) (f : Front) (bytes : List ℕ) → Kept (header_rules kind f bytes) → HeaderKept kind f (message_header_at bytes) (values_of (message_header_at bytes) bytes) bytes
 unfolding front_rules field_rules length_rules value_rules wrong_fields wrong_number wrong_text wrong_crc

@@ -3,7 +3,7 @@ use Rattle.std.proofs.Common.{◌≡◌, ℕ, zero, suc, ◌+◌, ◌-◌, ◌^�
 use Rattle.std.specs.Prelude.{All}
 use Rattle.std.proofs.lemmas.Bool.{ltb-false, le-ltb, eqb-true, eq-eqb}
 use Rattle.std.proofs.lemmas.Bool.Decides.{nat_tests}
-use Rattle.std.proofs.lemmas.List.Elements.{All-drop, All-cons}
+use Rattle.std.proofs.lemmas.List.Elements.{All-drop, All-cons, All-nil}
 use Rattle.byte_lists.specs.Byte.{IsByte}
 use Rattle.name_crc.specs.JamCrc.{jam_crc}
 use Rattle.record_numbers.specs.Numbers.{u32_at, IsU32}
@@ -24,7 +24,7 @@ use Rattle.jam_base.specs.declared.entry.Entry.{Entry}
 use Rattle.jam_base.proofs.Kept.{Kept, rules_kept, kept_rules, bind_ok, ok_is}
 use Rattle.jam_base.proofs.Walks.{walk_more, walk_done, behind_first, drop_one}
 use Rattle.jam_base.proofs.Fronts.{index_front}
-use Rattle.jam_base.proofs.MarkLaws.{or_false, not_not, both_false}
+use Rattle.jam_base.proofs.TestLaws.{or_false, both_false, equal, unequal}
 
 abbrev no_bytes : List ℕ
 no_bytes = []
@@ -32,12 +32,6 @@ no_bytes = []
 drop_none : (n : ℕ) → drop n no_bytes ≡ no_bytes
 drop_none zero = refl
 drop_none (suc n) = refl
-
-equal : (a b : ℕ) → not (eqb a b) ≡ false → a ≡ b
-equal a b e = eqb-true a b (not_not (eqb a b) e)
-
-unequal : (a b : ℕ) → a ≡ b → not (eqb a b) ≡ false
-unequal a b e = ap not (eq-eqb a b e)
 
 -- a record that keeps its rules is the pair
 pair_takes : (pair : IndexRecord) (bytes : List ℕ) → All IsByte bytes → Kept (index_rules pair bytes) → bytes ≡ index_text pair ++ drop 8 bytes
@@ -48,12 +42,9 @@ pair_takes pair bytes fits k =
     let is : index_at bytes ≡ pair = λ i. record { to_crc = crc i; offset = at i } in
     index_front bytes fits (ltb-false _ _ k.0) ∙ ap (λ (x : IndexRecord). index_text x ++ drop 8 bytes) is
 
-no_numbers : All IsU32 []
-no_numbers = λ k d within. absurd (omega (arith, within))
-
 pair_again : (pair : IndexRecord) (rest : List ℕ) → pair.to_crc < 2 ^ 32 → pair.offset < 2 ^ 32 → Kept (index_rules pair (index_text pair ++ rest))
 pair_again pair rest a b =
-    let stands = index_stands pair rest (All-cons IsU32 pair.to_crc (pair.offset ∷ []) a (All-cons IsU32 pair.offset [] b no_numbers)) in
+    let stands = index_stands pair rest (All-cons IsU32 pair.to_crc (pair.offset ∷ []) a (All-cons IsU32 pair.offset [] b (All-nil IsU32))) in
     let f = sym stands.fields in
     let crc : u32_at 0 (index_text pair ++ rest) ≡ pair.to_crc = ap (λ (x : IndexRecord). x.to_crc) f in
     let at : u32_at 4 (index_text pair ++ rest) ≡ pair.offset = ap (λ (x : IndexRecord). x.offset) f in

@@ -2,8 +2,10 @@ pub mod Kept
 pub mod Walks
 pub mod Fronts
 pub mod FieldLaws
+pub mod InOrderLaws
 pub mod ValueLaws
 pub mod CrcLaws
+pub mod TestLaws
 pub mod MarkLaws
 pub mod HeaderLaws
 pub mod EntryLaws
@@ -28,3 +30,8 @@ pub mod NumberedLaws
 pub mod AddressLaws
 pub mod SizeLaws
 pub mod Reading
+pub mod ChangeLaws
+pub mod MemberLaws
+pub mod SlotSizes
+pub mod ReplyLaws
+pub mod LayoutLoop

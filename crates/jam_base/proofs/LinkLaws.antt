@@ -23,7 +23,7 @@ use Rattle.jam_base.specs.declared.entry.Entry.{Entry}
 use Rattle.jam_base.proofs.Kept.{rules_kept, kept_rules, bind_ok}
 use Rattle.jam_base.proofs.BodyLaws.{bare}
 use Rattle.jam_base.proofs.IndexLaws.{first_number}
-use Rattle.jam_base.proofs.MarkLaws.{not_not}
+use Rattle.jam_base.proofs.TestLaws.{not_not}
 use Rattle.jam_base.proofs.ValueLaws.{and_true}
 
 -- ---- slots without their bodies

@@ -1,11 +1,12 @@
 -- The marks of an attribute: what is written is read. The 48 attributes are computed.
-use Rattle.std.proofs.Common.{◌≡◌, ℕ, ◌^◌, ◌<◌, Bool, true, false, not, ◌&&◌, ◌||◌, eqb, ltb, refl, sym, ap, subst}
+use Rattle.std.proofs.Common.{◌≡◌, ℕ, ◌^◌, ◌<◌, Bool, true, false, not, ◌&&◌, eqb, ltb, refl, sym, ap, subst}
 use Rattle.std.specs.Prelude.{IsTrue}
 use Rattle.std.proofs.lemmas.Bool.{ltb-true, eqb-true, eq-eqb}
 use Rattle.jam_records.specs.declared.message.Kind.{Kind}
 use Rattle.jam_records.specs.declared.message.Kind.TheVariants.{Local, Echo, Net}
 use Rattle.jam_base.specs.Marks.{attribute_of, marks_of, is_net, wrong_attribute}
 use Rattle.jam_base.specs.declared.marks.Marks.{Marks}
+use Rattle.jam_base.proofs.TestLaws.{or_false, not_not, both_false}
 use Rattle.jam_base.proofs.ValueLaws.{and_true}
 
 abbrev marks : Bool → Bool → Bool → Bool → Marks
@@ -62,14 +63,6 @@ marks_again kind m =
       ltb-true n (2 ^ 32) p.1,
     )
 
-pub or_false : (a b : Bool) → (a || b) ≡ false → (a ≡ false) × (b ≡ false)
-or_false true b e = absurd cc
-or_false false b e = (refl, e)
-
-pub not_not : (b : Bool) → not b ≡ false → b ≡ true
-not_not true e = refl
-not_not false e = absurd cc
-
 implied : (a b : Bool) → (a && not b) ≡ false → IsTrue a → IsTrue b
 implied true b e t = not_not b e
 implied false b e t = absurd cc
@@ -84,10 +77,6 @@ unfolding wrong_attribute
 right_attribute kind n e =
     let o = or_false (not (eqb n (attribute_of kind (marks_of n)))) (is_net kind && not (marks_of n).private) e in
     (eqb-true n (attribute_of kind (marks_of n)) (not_not _ o.0), implied (is_net kind) (marks_of n).private o.1)
-
-pub both_false : (a b : Bool) → a ≡ false → b ≡ false → (a || b) ≡ false
-both_false true b e f = absurd cc
-both_false false b e f = f
 
 pub attribute_right : (kind : Kind) (m : Marks) → (IsTrue (is_net kind) → IsTrue m.private) → wrong_attribute kind (attribute_of kind m) ≡ false
 unfolding wrong_attribute

@@ -1,7 +1,7 @@
 -- What rising numbers up to 9,999 bound.
 use Rattle.std.proofs.Common.{◌≡◌, ℕ, ◌+◌, ◌-◌, ◌^◌, ◌≤◌, ◌<◌, List, [], ◌∷◌, length, sym, ap, subst, arith}
 use Rattle.std.specs.Prelude.{All}
-use Rattle.std.proofs.lemmas.List.Elements.{All-cons}
+use Rattle.std.proofs.lemmas.List.Elements.{All-cons, All-nil}
 use Rattle.jam_records.specs.declared.message.Slot.{Slot}
 use Rattle.jam_records.specs.declared.message.Slot.TheVariants.{Held}
 use Rattle.jam_base.specs.SecondPass.{slots_of, Numbered}
@@ -22,14 +22,8 @@ rising_from : (last : ℕ) (es : List Entry) → Numbered last es → Rising (la
 rising_from last [] n = tt
 rising_from last (e ∷ es) n = let lt = n.0 in (omega arith, rising_from e.number es n.2)
 
-abbrev no_entries : List Entry
-no_entries = []
-
-none_within : (k : ℕ) → All (λ e. (1 ≤ e.number) × (e.number ≤ k)) (no_entries)
-none_within k = λ i d within. absurd (omega (arith, within))
-
 each_within : (k : ℕ) (es : List Entry) → Below k es → All (λ e. (1 ≤ e.number) × (e.number ≤ k)) es
-each_within k [] below = none_within k
+each_within k [] below = All-nil (λ e. (1 ≤ e.number) × (e.number ≤ k))
 each_within k (e ∷ es) below = let some = below.0 in All-cons (λ e. (1 ≤ e.number) × (e.number ≤ k)) e es (omega arith, below.1) (each_within k es below.2)
 
 moved : (es : List Entry) (slots : List Slot) → slots ≡ slots_of 1 es → Below (length (slots_of 1 es)) es → Below (length slots) es

@@ -1,10 +1,10 @@
 -- .JLR: what is read is the layout, and the layout is read.
-use Rattle.std.proofs.Common.{◌≡◌, ℕ, suc, ◌+◌, ◌^◌, ◌<◌, ◌≤◌, false, not, eqb, ltb, List, [], ◌∷◌, ◌++◌, length, drop, Ok, refl, sym, ap, ◌∙◌, subst, arith}
+use Rattle.std.proofs.Common.{◌≡◌, ℕ, suc, ◌+◌, ◌^◌, ◌<◌, ◌≤◌, not, eqb, ltb, List, [], ◌∷◌, ◌++◌, length, drop, Ok, refl, sym, ap, ◌∙◌, subst, arith}
 use Rattle.std.specs.Prelude.{All}
-use Rattle.std.proofs.lemmas.Bool.{eqb-true, eq-eqb, ltb-false, le-ltb}
+use Rattle.std.proofs.lemmas.Bool.{ltb-false, le-ltb}
 use Rattle.std.proofs.lemmas.Bool.Decides.{nat_tests}
 use Rattle.std.proofs.lemmas.List.{nil_from_length}
-use Rattle.std.proofs.lemmas.List.Elements.{All-drop, All-cons}
+use Rattle.std.proofs.lemmas.List.Elements.{All-drop, All-cons, All-nil, All-tail}
 use Rattle.byte_lists.specs.Byte.{IsByte}
 use Rattle.name_crc.specs.JamCrc.{jam_crc}
 use Rattle.record_numbers.specs.Numbers.{u32_at, IsU32}
@@ -20,13 +20,7 @@ use Rattle.jam_base.specs.Valid.{PointersFit}
 use Rattle.jam_base.proofs.Kept.{Kept, rules_kept, kept_rules, bind_ok, ok_is}
 use Rattle.jam_base.proofs.Fronts.{last_front}
 use Rattle.jam_base.proofs.CrcLaws.{crc_small}
-use Rattle.jam_base.proofs.MarkLaws.{or_false, not_not, both_false}
-
-equal : (a b : ℕ) → not (eqb a b) ≡ false → a ≡ b
-equal a b e = eqb-true a b (not_not (eqb a b) e)
-
-unequal : (a b : ℕ) → a ≡ b → not (eqb a b) ≡ false
-unequal a b e = ap not (eq-eqb a b e)
+use Rattle.jam_base.proofs.TestLaws.{or_false, both_false, equal, unequal}
 
 reader_takes : (count : ℕ) (reader : ℕ × List ℕ) (bytes : List ℕ) → All IsByte bytes → Kept (reader_rules count reader bytes) → (bytes ≡ last_text (last_read reader (u32_at 8 bytes)) ++ drop 16 bytes) × (u32_at 8 bytes ≤ count)
 reader_takes count reader bytes fits k =
@@ -43,12 +37,9 @@ reader_takes count reader bytes fits k =
     } in
     (last_front bytes fits (ltb-false _ _ k.0) ∙ ap (λ (x : LastRead). last_text x ++ drop 16 bytes) is, ltb-false count (u32_at 8 bytes) p.1)
 
-no_numbers : All IsU32 []
-no_numbers = λ k d within. absurd (omega (arith, within))
-
 reader_numbers : (reader : ℕ × List ℕ) (p : ℕ) → IsReader reader → p < 2 ^ 32 → IsLastRead (last_read reader p)
 reader_numbers reader p fits small =
-    All-cons IsU32 (jam_crc reader.1) (reader.0 ∷ p ∷ p ∷ []) (crc_small reader.1 fits.1) (All-cons IsU32 reader.0 (p ∷ p ∷ []) fits.0 (All-cons IsU32 p (p ∷ []) small (All-cons IsU32 p [] small no_numbers)))
+    All-cons IsU32 (jam_crc reader.1) (reader.0 ∷ p ∷ p ∷ []) (crc_small reader.1 fits.1) (All-cons IsU32 reader.0 (p ∷ p ∷ []) fits.0 (All-cons IsU32 p (p ∷ []) small (All-cons IsU32 p [] small (All-nil IsU32))))
 
 record Again (count : ℕ) (reader : ℕ × List ℕ) (p : ℕ) (bytes : List ℕ) : Type 0 where
   kept : Kept (reader_rules count reader bytes)
@@ -71,14 +62,11 @@ behind_last : (r : LastRead) (rest : List ℕ) → drop 16 (last_text r ++ rest)
 unfolding last_text
 behind_last r rest = refl
 
-none_within : (count : ℕ) → All (λ p. p ≤ count) []
-none_within count = λ k d within. absurd (omega (arith, within))
-
 pub pointers_take : (place count j : ℕ) (readers : List (ℕ × List ℕ)) (bytes pointers : List ℕ) → All IsByte bytes → pointers_at place count j readers bytes ≡ Ok pointers → (bytes ≡ last_reads readers pointers) × PointersFit count readers pointers
 pointers_take place count j [] bytes pointers fits e =
     let k = rules_kept (jlr_file place) j ((Rest, not (eqb (length bytes) 0)) ∷ []) [] pointers e in
     let none : length bytes ≡ 0 = grind (arith, nat_tests, k.0.0) in
-    subst (λ (ps : List ℕ). (bytes ≡ last_reads [] ps) × PointersFit count [] ps) k.1 (nil_from_length bytes none, record { all = refl; within = none_within count })
+    subst (λ (ps : List ℕ). (bytes ≡ last_reads [] ps) × PointersFit count [] ps) k.1 (nil_from_length bytes none, record { all = refl; within = All-nil (λ p. p ≤ count) })
 pointers_take place count j (r ∷ readers) bytes pointers fits e =
     let a = bind_ok (by_rules (jlr_file place) j (reader_rules count r bytes) (u32_at 8 bytes)) (λ p. pointers_at place count (j + 1) readers (drop 16 bytes) >>= λ ps. Ok (p ∷ ps)) pointers e in
     let b = bind_ok (pointers_at place count (j + 1) readers (drop 16 bytes)) (λ ps. Ok (a.0 ∷ ps)) pointers a.2 in
@@ -88,9 +76,6 @@ pointers_take place count j (r ∷ readers) bytes pointers fits e =
     let whole : bytes ≡ last_text (last_read r a.0) ++ last_reads readers b.0 = first.0 ∙ ap (λ xs. last_text (last_read r (u32_at 8 bytes)) ++ xs) others.0 ∙ ap (λ p. last_text (last_read r p) ++ last_reads readers b.0) k.1 in
     let le : a.0 ≤ count = subst (λ (p : ℕ). p ≤ count) k.1 first.1 in
     subst (λ (ps : List ℕ). (bytes ≡ last_reads (r ∷ readers) ps) × PointersFit count (r ∷ readers) ps) (ok_is (a.0 ∷ b.0) pointers b.2) (whole, record { all = ap suc others.1.all; within = All-cons (λ p. p ≤ count) a.0 b.0 le others.1.within })
-
-tail_all : (P : ℕ → Type 0) (x : ℕ) (xs : List ℕ) → All P (x ∷ xs) → All P xs
-tail_all P x xs all = All-drop P 1 (x ∷ xs) all
 
 pub pointers_again : (place count j : ℕ) (readers : List (ℕ × List ℕ)) (pointers : List ℕ) → count < 2 ^ 32 → All IsReader readers → PointersFit count readers pointers → pointers_at place count j readers (last_reads readers pointers) ≡ Ok pointers
 pointers_again place count j [] [] small fits ok = refl
@@ -104,6 +89,6 @@ pointers_again place count j (r ∷ readers) (p ∷ pointers) small fits ok =
     let again = reader_again count r p rest reader (omega arith) le in
     let first : by_rules (jlr_file place) j (reader_rules count r text) (u32_at 8 text) ≡ Ok p =
     kept_rules (jlr_file place) j (reader_rules count r text) (u32_at 8 text) again.kept ∙ ap (λ n. Ok n) again.pointer in
-    let others : pointers_at place count (j + 1) readers rest ≡ Ok pointers = pointers_again place count (j + 1) readers pointers small (All-drop IsReader 1 (r ∷ readers) fits) record { all = omega (arith, ok.all); within = tail_all (λ p. p ≤ count) p pointers ok.within } in
+    let others : pointers_at place count (j + 1) readers rest ≡ Ok pointers = pointers_again place count (j + 1) readers pointers small (All-drop IsReader 1 (r ∷ readers) fits) record { all = omega (arith, ok.all); within = All-tail (λ p. p ≤ count) p pointers ok.within } in
     let behind : pointers_at place count (j + 1) readers (drop 16 text) ≡ Ok pointers = ap (pointers_at place count (j + 1) readers) (behind_last (last_read r p) rest) ∙ others in
     ap (λ x. x >>= λ p. pointers_at place count (j + 1) readers (drop 16 text) >>= λ ps. Ok (p ∷ ps)) first ∙ ap (λ x. x >>= λ ps. Ok (p ∷ ps)) behind

@@ -1,7 +1,6 @@
 -- The values of a header: what is read is what is written, and what is written is read.
 use Rattle.std.proofs.Common.{◌≡◌, ℕ, ◌^◌, ◌<◌, Bool, true, false, ◌&&◌, List, [], ◌∷◌, ◌++◌, length, Option, Some, None, unwrap_or, refl, sym, ap, ◌∙◌, subst, inl, inr, arith, append-nil}
 use Rattle.std.specs.Prelude.{All, IsTrue}
-use Rattle.std.proofs.lemmas.List.{nil_from_length}
 use Rattle.std.proofs.lemmas.Grind.{flat_map-append}
 use Rattle.byte_lists.specs.Byte.{IsByte}
 use Rattle.jam_records.specs.Subfields.{subfield_text, subfields_text}
@@ -11,10 +10,12 @@ use Rattle.std.specs.Prelude.{decimal}
 use Rattle.std.specs.Str.{bytes_eq}
 use Rattle.jam_records.specs.Addresses.{point_text}
 use Rattle.jam_base.specs.Address.{is_address, is_address_of, is_part}
-use Rattle.jam_base.specs.Fields.{field, subfields_of, field_at, values_at, is_text, there, may_miss, right_values}
+use Rattle.jam_base.specs.Fields.{field, subfields_of, values_at, is_text, there, may_miss, right_values}
+use Rattle.jam_base.specs.InOrder.{FieldsFit}
 use Rattle.jam_base.specs.Messages.{EmptyOr}
 use Rattle.jam_base.specs.declared.fields.Values.{Values}
-use Rattle.jam_base.proofs.FieldLaws.{subfield, optional_text, field_takes, field_rest, field_found, maybe, Above, above_more}
+use Rattle.jam_base.proofs.FieldLaws.{optional}
+use Rattle.jam_base.proofs.InOrderLaws.{fields_of, fields_taken, fields_again, short_fit}
 
 -- ---- a value isn't there and empty
 
@@ -57,10 +58,10 @@ no_address : is_address [] ≡ false
 unfolding is_address
 no_address = no_parts 0 0 0 0
 
-optional_is : (id : ℕ) (v : Option (List ℕ)) → NotBlank v → optional_text id v ≡ subfields_text (field id (unwrap_or v []))
-optional_is id None n = refl
-optional_is id (Some []) n = absurd n
-optional_is id (Some (b ∷ value)) n = sym (append-nil (subfield_text (subfield id (b ∷ value))))
+field_is : (id : ℕ) (text : List ℕ) (v : Option (List ℕ)) → NotBlank v → text ≡ unwrap_or v [] → field id text ≡ optional id v
+field_is id text None n e = ap (field id) e
+field_is id text (Some []) n e = absurd n
+field_is id text (Some (b ∷ value)) n e = ap (field id) e
 
 -- ---- seven parts
 abbrev pub join : List ℕ → List ℕ → List ℕ → List ℕ → List ℕ → List ℕ → List ℕ → List ℕ
@@ -74,9 +75,6 @@ texts a b c d e f g =
     ∙ ap (λ xs. subfields_text c ++ xs) (flat_map-append subfield_text d (e ++ (f ++ g))
     ∙ ap (λ xs. subfields_text d ++ xs) (flat_map-append subfield_text e (f ++ g)
     ∙ ap (λ xs. subfields_text e ++ xs) (flat_map-append subfield_text f g)))))
-
-seven : (a b c d e f g h i j k l m n : List ℕ) → a ≡ h → b ≡ i → c ≡ j → d ≡ k → e ≡ l → f ≡ m → g ≡ n → join a b c d e f g ≡ join h i j k l m n
-seven a b c d e f g h i j k l m n p q r s t u v = cc
 
 -- the message has these values
 pub record HasValues (m : Message) (v : Values) : Type 0 where
@@ -117,45 +115,44 @@ pub is_right : (v : Values) → Right v → right_values v ≡ true
 unfolding right_values
 is_right v r = and_both _ _ (and_both _ _ (and_both _ _ r.origin r.destination) (and_both _ _ r.from r.to)) (and_both _ _ (and_both _ _ r.msgid r.replyid) r.subject)
 
-one_text : (id : ℕ) (v : Option (List ℕ)) (text : List ℕ) → NotBlank v → text ≡ unwrap_or v [] → optional_text id v ≡ subfields_text (field id text)
-one_text id v text n e = optional_is id v n ∙ ap (λ x. subfields_text (field id x)) (sym e)
+-- the subfields of the message are those of these values
+record SameFields (m : Message) (v : Values) : Type 0 where
+  origin : field 0 m.origin ≡ optional 0 v.origin
+  destination : field 1 m.destination ≡ optional 1 v.destination
+  from : field 2 m.from ≡ optional 2 v.from
+  to : field 3 m.to ≡ optional 3 v.to
+  msgid : field 4 m.msgid ≡ optional 4 v.msgid
+  replyid : field 5 m.replyid ≡ optional 5 v.replyid
+  subject : field 6 m.subject ≡ optional 6 v.subject
+
+fields_are : (m : Message) (v : Values) → SameFields m v → subfields_of m ≡ fields_of v
+unfolding subfields_of
+fields_are m v same =
+    let last = same.subject ∙ sym (append-nil (optional 6 v.subject)) in
+    λ i. same.origin i ++ (same.destination i ++ (same.from i ++ (same.to i ++ (same.msgid i ++ (same.replyid i ++ last i)))))
 
 pub values_take : (bytes : List ℕ) (m : Message) → All IsByte bytes → (values_at bytes).left ≡ 0 → right_values (values_at bytes) ≡ true → HasValues m (values_at bytes) → bytes ≡ subfields_text (subfields_of m)
-unfolding values_at subfields_of
-values_take bytes m fits none values has =
-    let r = right_is (values_at bytes) values in
+values_take bytes m fits none right has =
     let v : Values = values_at bytes in
-    let a = field_at 0 bytes in
-    let b = field_at 1 a.1 in
-    let c = field_at 2 b.1 in
-    let d = field_at 3 c.1 in
-    let e = field_at 4 d.1 in
-    let f = field_at 5 e.1 in
-    let g = field_at 6 f.1 in
-    let fa : All IsByte a.1 = field_rest 0 bytes fits in
-    let fb : All IsByte b.1 = field_rest 1 a.1 fa in
-    let fc : All IsByte c.1 = field_rest 2 b.1 fb in
-    let fd : All IsByte d.1 = field_rest 3 c.1 fc in
-    let fe : All IsByte e.1 = field_rest 4 d.1 fd in
-    let ff : All IsByte f.1 = field_rest 5 e.1 fe in
-    let end : g.1 ≡ [] = nil_from_length g.1 none in
-    let last : f.1 ≡ optional_text 6 g.0 = field_takes 6 f.1 ff ∙ (ap (λ xs. optional_text 6 g.0 ++ xs) end ∙ append-nil (optional_text 6 g.0)) in
-    let whole : bytes ≡ join (optional_text 0 a.0) (optional_text 1 b.0) (optional_text 2 c.0) (optional_text 3 d.0) (optional_text 4 e.0) (optional_text 5 f.0) (optional_text 6 g.0) =
-    field_takes 0 bytes fits ∙ ap (λ xs. optional_text 0 a.0 ++ xs) (field_takes 1 a.1 fa ∙ ap (λ xs. optional_text 1 b.0 ++ xs) (field_takes 2 b.1 fb ∙ ap (λ xs. optional_text 2 c.0 ++ xs) (field_takes 3 c.1 fc ∙ ap (λ xs. optional_text 3 d.0 ++ xs) (field_takes 4 d.1 fd ∙ ap (λ xs. optional_text 4 e.0 ++ xs) (field_takes 5 e.1 fe ∙ ap (λ xs. optional_text 5 f.0 ++ xs) last))))) in
-    let parts = seven (optional_text 0 a.0) (optional_text 1 b.0) (optional_text 2 c.0) (optional_text 3 d.0) (optional_text 4 e.0) (optional_text 5 f.0) (optional_text 6 g.0)
-    (subfields_text (field 0 m.origin)) (subfields_text (field 1 m.destination)) (subfields_text (field 2 m.from)) (subfields_text (field 3 m.to)) (subfields_text (field 4 m.msgid)) (subfields_text (field 5 m.replyid)) (subfields_text (field 6 m.subject))
-    (one_text 0 a.0 m.origin (miss_not is_address a.0 no_address r.origin) has.origin)
-    (one_text 1 b.0 m.destination (miss_not is_address b.0 no_address r.destination) has.destination)
-    (one_text 2 c.0 m.from (there_not (is_text 36) c.0 (no_text 36) r.from) has.from)
-    (one_text 3 d.0 m.to (there_not (is_text 36) d.0 (no_text 36) r.to) has.to)
-    (one_text 4 e.0 m.msgid (there_not (is_text 80) e.0 (no_text 80) r.msgid) has.msgid)
-    (one_text 5 f.0 m.replyid (miss_not (is_text 80) f.0 (no_text 80) r.replyid) has.replyid)
-    (one_text 6 g.0 m.subject (miss_not (is_text 72) g.0 (no_text 72) r.subject) has.subject) in
-    whole ∙ (parts ∙ sym (texts (field 0 m.origin) (field 1 m.destination) (field 2 m.from) (field 3 m.to) (field 4 m.msgid) (field 5 m.replyid) (field 6 m.subject)))
+    let r = right_is v right in
+    let same : SameFields m v = record {
+      origin = field_is 0 m.origin v.origin (miss_not is_address v.origin no_address r.origin) has.origin;
+      destination = field_is 1 m.destination v.destination (miss_not is_address v.destination no_address r.destination) has.destination;
+      from = field_is 2 m.from v.from (there_not (is_text 36) v.from (no_text 36) r.from) has.from;
+      to = field_is 3 m.to v.to (there_not (is_text 36) v.to (no_text 36) r.to) has.to;
+      msgid = field_is 4 m.msgid v.msgid (there_not (is_text 80) v.msgid (no_text 80) r.msgid) has.msgid;
+      replyid = field_is 5 m.replyid v.replyid (miss_not (is_text 80) v.replyid (no_text 80) r.replyid) has.replyid;
+      subject = field_is 6 m.subject v.subject (miss_not (is_text 72) v.subject (no_text 72) r.subject) has.subject;
+    } in
+    fields_taken bytes fits none ∙ ap subfields_text (sym (fields_are m v same))
 
 -- ---- the values of a message
-abbrev pub values_in : Message → Values
-values_in m = record {
+abbrev maybe : List ℕ → Option (List ℕ)
+maybe [] = None
+maybe (b ∷ value) = Some (b ∷ value)
+
+abbrev pub message_values : Message → Values
+message_values m = record {
   origin = maybe m.origin;
   destination = maybe m.destination;
   from = maybe m.from;
@@ -170,7 +167,7 @@ pub maybe_back : (value : List ℕ) → unwrap_or (maybe value) [] ≡ value
 maybe_back [] = refl
 maybe_back (b ∷ value) = refl
 
-pub has_in : (m : Message) → HasValues m (values_in m)
+pub has_in : (m : Message) → HasValues m (message_values m)
 has_in m = record {
   origin = sym (maybe_back m.origin);
   destination = sym (maybe_back m.destination);
@@ -208,8 +205,8 @@ pub record RightTexts (m : Message) : Type 0 where
   pub replyid : EmptyOr (is_text 80) m.replyid
   pub subject : EmptyOr (is_text 72) m.subject
 
-pub right_by_texts : (m : Message) → RightTexts m → right_values (values_in m) ≡ true
-right_by_texts m ok = is_right (values_in m) (record {
+pub right_by_texts : (m : Message) → RightTexts m → right_values (message_values m) ≡ true
+right_by_texts m ok = is_right (message_values m) (record {
   origin = maybe_passes is_address m.origin ok.origin;
   destination = maybe_passes is_address m.destination ok.destination;
   from = there_passes (is_text 36) m.from (no_text 36) ok.from;
@@ -233,36 +230,20 @@ right_texts m v e has =
     }
 
 -- ---- what is written is read
--- each value is shorter than 2^32
-pub record Short (m : Message) : Type 0 where
-  pub origin : length m.origin < 2 ^ 32
-  pub destination : length m.destination < 2 ^ 32
-  pub from : length m.from < 2 ^ 32
-  pub to : length m.to < 2 ^ 32
-  pub msgid : length m.msgid < 2 ^ 32
-  pub replyid : length m.replyid < 2 ^ 32
-  pub subject : length m.subject < 2 ^ 32
+maybe_is : (id : ℕ) (value : List ℕ) → field id value ≡ optional id (maybe value)
+maybe_is id [] = refl
+maybe_is id (b ∷ value) = refl
 
-pub values_again : (m : Message) → Short m → values_at (subfields_text (subfields_of m)) ≡ values_in m
-unfolding values_at subfields_of
+pub values_again : (m : Message) → length (subfields_text (subfields_of m)) < 2 ^ 32 → values_at (subfields_text (subfields_of m)) ≡ message_values m
 values_again m short =
-    let s6 : List Subfield = field 6 m.subject in
-    let s5 : List Subfield = field 5 m.replyid ++ s6 in
-    let s4 : List Subfield = field 4 m.msgid ++ s5 in
-    let s3 : List Subfield = field 3 m.to ++ s4 in
-    let s2 : List Subfield = field 2 m.from ++ s3 in
-    let s1 : List Subfield = field 1 m.destination ++ s2 in
-    let a6 : (id : ℕ) → id < 6 → Above id s6 = λ id lt. subst (Above id) (append-nil s6) (above_more id 6 m.subject [] lt (omega arith) tt) in
-    let a5 : (id : ℕ) → id < 5 → Above id s5 = λ id lt. above_more id 5 m.replyid s6 lt (omega arith) (a6 id (omega arith)) in
-    let a4 : (id : ℕ) → id < 4 → Above id s4 = λ id lt. above_more id 4 m.msgid s5 lt (omega arith) (a5 id (omega arith)) in
-    let a3 : (id : ℕ) → id < 3 → Above id s3 = λ id lt. above_more id 3 m.to s4 lt (omega arith) (a4 id (omega arith)) in
-    let a2 : (id : ℕ) → id < 2 → Above id s2 = λ id lt. above_more id 2 m.from s3 lt (omega arith) (a3 id (omega arith)) in
-    let a1 : (id : ℕ) → id < 1 → Above id s1 = λ id lt. above_more id 1 m.destination s2 lt (omega arith) (a2 id (omega arith)) in
-    let e0 = field_found 0 m.origin s1 (omega arith) short.origin (a1 0 (omega arith)) in
-    let e1 = field_found 1 m.destination s2 (omega arith) short.destination (a2 1 (omega arith)) in
-    let e2 = field_found 2 m.from s3 (omega arith) short.from (a3 2 (omega arith)) in
-    let e3 = field_found 3 m.to s4 (omega arith) short.to (a4 3 (omega arith)) in
-    let e4 = field_found 4 m.msgid s5 (omega arith) short.msgid (a5 4 (omega arith)) in
-    let e5 = field_found 5 m.replyid s6 (omega arith) short.replyid (a6 5 (omega arith)) in
-    let e6 : field_at 6 (subfields_text s6) ≡ (maybe m.subject, []) = ap (λ (xs : List Subfield). field_at 6 (subfields_text xs)) (sym (append-nil s6)) ∙ field_found 6 m.subject [] (omega arith) short.subject tt in
-    rw e0 (rw e1 (rw e2 (rw e3 (rw e4 (rw e5 (rw e6 refl))))))
+    let v : Values = message_values m in
+    let same : subfields_of m ≡ fields_of v = fields_are m v (record {
+      origin = maybe_is 0 m.origin;
+      destination = maybe_is 1 m.destination;
+      from = maybe_is 2 m.from;
+      to = maybe_is 3 m.to;
+      msgid = maybe_is 4 m.msgid;
+      replyid = maybe_is 5 m.replyid;
+      subject = maybe_is 6 m.subject;
+    }) in
+    ap (λ (xs : List Subfield). values_at (subfields_text xs)) same ∙ fields_again v (subst FieldsFit same (short_fit (subfields_of m) short))

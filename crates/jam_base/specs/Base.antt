@@ -53,6 +53,10 @@ layout shape c = record {
   jlr = last_reads shape.readers c.pointers;
 }
 
+-- how many bytes the four files have
+abbrev pub files_size : BaseFiles → ℕ
+files_size files = length files.jhr + (length files.jdt + (length files.jdx + length files.jlr))
+
 -- PasswordCRC, BaseMsgNum or the reserved bytes aren't the door's
 unfoldable pub wrong_base : List ℕ → Bool
 wrong_base bytes =

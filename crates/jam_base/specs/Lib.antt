@@ -1,9 +1,11 @@
 pub mod Address
 pub mod Base
 pub mod Bodies
+pub mod Change
 pub mod Conference
 pub mod Fields
 pub mod Headers
+pub mod InOrder
 pub mod Index
 pub mod Marks
 pub mod Messages
@@ -12,5 +14,6 @@ pub mod Reader
 pub mod Readers
 pub mod Rules
 pub mod SecondPass
+pub mod Sizes
 pub mod Valid
 pub mod Walk

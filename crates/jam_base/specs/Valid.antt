@@ -25,19 +25,19 @@ pub record ShapeFits (shape : Shape) : Type 0 where
   pub created : IsU32 shape.created
   pub readers : All IsReader shape.readers
 
--- four lists of bytes, each shorter than 2^31
+-- four lists of bytes; the headers, the bodies and the index are each shorter than 2^31
 pub record FilesFit (files : BaseFiles) : Type 0 where
   pub jhr : All IsByte files.jhr × (length files.jhr < 2 ^ 31)
   pub jdt : All IsByte files.jdt × (length files.jdt < 2 ^ 31)
   pub jdx : All IsByte files.jdx × (length files.jdx < 2 ^ 31)
-  pub jlr : All IsByte files.jlr × (length files.jlr < 2 ^ 31)
+  pub jlr : All IsByte files.jlr
 
 -- a pointer for each reader, none above the count of slots
 pub record PointersFit (count : ℕ) (readers : List (ℕ × List ℕ)) (pointers : List ℕ) : Type 0 where
   pub all : length pointers ≡ length readers
   pub within : All (λ p. p ≤ count) pointers
 
--- a conference of this shape, whose files are shorter than 2^31
+-- a conference of this shape, whose files fit
 pub record IsConference (shape : Shape) (c : Conference) : Type 0 where
   pub counter : IsU32 c.counter
   pub few : length c.slots ≤ 9999

@@ -2,16 +2,21 @@
 #![tactic(auto)]
 
 mod base;
+#[cfg(test)]
+mod base_tests;
 mod bodies;
+mod change;
 mod conference;
 mod entry;
 mod error;
 mod fields;
 mod files;
+mod fill;
 mod header_size;
 mod headers;
 mod index;
 pub mod laws;
+mod layout;
 mod marks;
 mod places;
 mod pointers;
@@ -19,10 +24,12 @@ mod read;
 mod reader_list;
 mod second_pass;
 mod shape;
+mod sizes;
 #[cfg(test)]
 mod tests;
 
 pub use base::Base;
+pub use change::BaseChange;
 pub use error::BaseError;
 pub use files::BaseFiles;
 pub use read::read_base;

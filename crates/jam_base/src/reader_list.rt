@@ -1,4 +1,4 @@
-ghost use Rattle.std.specs.Prelude.{◌≡◌, [], ◌∷◌, ◌++◌, length, slice_get, IfOk, OnOk, OnErr, All};
+ghost use Rattle.std.specs.Prelude.{◌≡◌, ◌<◌, ◌==◌, [], ◌∷◌, ◌++◌, length, slice_get, position, IfOk, IfSome, OnOk, OnErr, All};
 ghost use Rattle.std.specs.Option.{option_copied};
 ghost use Rattle.jam_base.specs.Reader.{IsReader};
 
@@ -54,6 +54,17 @@ impl Readers {
         ensures { option_copied result ≡ slice_get self.now place }
     {
         self.inner.get(place)
+    }
+
+    /// The place, from 0, of the reader with this id, or None where there is none.
+    pub fn position(&self, user: u32) -> Option<usize>
+        ensures place { result ≡ position (λ reader. reader.0 == user) self.now }
+        ensures within { IfSome result (λ place. place < length self.now) }
+    {
+        self.inner
+            .as_slice()
+            .iter()
+            .position(|reader| reader.0 == user)
     }
 
     /// The readers.

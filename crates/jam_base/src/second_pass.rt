@@ -8,22 +8,12 @@ ghost use Rattle.jam_base.specs.SecondPass.{slots_of, active_in, same_link as is
 
 use crate::entry::Entry;
 use crate::error::BaseError;
+use crate::fill::fill;
 use crate::places::{damaged, jhr};
 use byte_lists::Duplicate;
 use jam_records::{DamageRule, Slot, Slots};
 use jam_threads::{Link, Links, links};
 use std::alloc::{AllocError, Global};
-
-#[tactic(auto, using(crate::proofs::FillLaws::fill_more, crate::proofs::FillLaws::fill_done))]
-/// Adds slots without a message until there are so many.
-fn fill(slots: &mut Slots, count: usize) -> Result<(), AllocError>
-    ensures { OnOk result (slots.new ≡ slots.old ++ replicate (count - length slots.old) Gone) }
-{
-    while slots.len() < count {
-        slots.add(Slot::Gone)?;
-    }
-    Ok(())
-}
 
 /// The slots of the messages, up to the last.
 fn slots_in(alloc: Global, entries: &[Entry]) -> Result<Slots, AllocError>
@@ -32,7 +22,7 @@ fn slots_in(alloc: Global, entries: &[Entry]) -> Result<Slots, AllocError>
 {
     let mut slots = Slots::new(alloc);
     for entry in entries {
-        fill(&mut slots, entry.number as usize - 1)?;
+        fill(alloc, &mut slots, &Slot::Gone, entry.number as usize - 1)?;
         slots.add(Slot::Held(entry.message.duplicate(alloc)?))?;
     }
     Ok(slots)

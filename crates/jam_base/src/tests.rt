@@ -1,4 +1,4 @@
-ghost use Rattle.std.specs.Prelude.{IfOk};
+ghost use Rattle.std.specs.Prelude.{◌<◌, All, IfOk};
 ghost use Rattle.jam_base.specs.Valid.{IsShape};
 
 use crate::{Base, BaseError, BaseFiles, Readers, Shape, read_base};
@@ -18,11 +18,11 @@ const SECOND: [u8; 134] =
     *b"JAM\0\x01\0\0\0:\0\0\0\0\0\0\0\xB4_\x18\xCE\xFF\xFF\xFF\xFF\0\0\0\0\0\0\0\0\0\0\0\0\0\xCA\x9A;\0\0\0\0\0\xCA\x9A;\x02\0\0\0\x01\0\x80\0\0\0\0\0\x0B\0\0\0\x0B\0\0\0\xFF\xFF\xFF\xFF\0\0\0\0\x02\0\0\0\x07\0\0\0Bob Ray\x03\0\0\0\x03\0\0\0All\x04\0\0\0\x0B\0\0\00.2.TESTBBS\x06\0\0\0\x05\0\0\0Hello";
 
 /// Its other files.
-const JDT: [u8; 22] = *b"First line\rFirst line\r";
+pub(crate) const JDT: [u8; 22] = *b"First line\rFirst line\r";
 
 const JDX: [u8; 16] = *b"\x22\x8E\xE7\xC4\0\x04\0\0\x22\x8E\xE7\xC4\x86\x04\0\0";
 
-const JLR: [u8; 64] =
+pub(crate) const JLR: [u8; 64] =
     *b"\x99W\x03\x9F\x01\0\0\0\0\0\0\0\0\0\0\0\x91d\x92\xC6\x02\0\0\0\0\0\0\0\0\0\0\0#9\xC6m\x03\0\0\0\0\0\0\0\0\0\0\0\xAA\xFEL\x8E\x04\0\0\0\0\0\0\0\0\0\0\0";
 
 /// One change of a file.
@@ -90,7 +90,11 @@ fn files(alloc: Global, file: u16, change: Change) -> Result<BaseFiles, AllocErr
 }
 
 /// Reads files whose lengths `read_base` allows.
-fn read(alloc: Global, files: &BaseFiles, shape: &Shape) -> Option<Result<Base, BaseError>>
+pub(crate) fn read(
+    alloc: Global,
+    files: &BaseFiles,
+    shape: &Shape,
+) -> Option<Result<Base, BaseError>>
     requires { IsShape shape.now }
 {
     let most = 1usize << 31;
@@ -104,8 +108,9 @@ fn read(alloc: Global, files: &BaseFiles, shape: &Shape) -> Option<Result<Base, 
 }
 
 /// What the board says of the conference.
-fn general(alloc: Global) -> Result<Shape, AllocError>
-    ensures { IfOk result IsShape }
+pub(crate) fn general(alloc: Global) -> Result<Shape, AllocError>
+    ensures shape { IfOk result IsShape }
+    ensures members { IfOk result (λ shape. All (λ reader. reader.0 < 5) shape.readers) }
 {
     let mut readers = Readers::new(alloc);
     readers.add((1, Bytes::from_slice(alloc, b"Ann Lee")?))?;
@@ -120,6 +125,11 @@ fn general(alloc: Global) -> Result<Shape, AllocError>
     })
 }
 
+/// How many slots, live messages and bytes a base has.
+pub(crate) fn counts(base: &Base) -> (u32, u32, u64) {
+    (base.slot_count(), base.live_count(), base.size())
+}
+
 #[test]
 fn two_messages_are_read(rt: HostRuntime) -> Result<(), Fail> {
     let shape = general(rt.alloc())?;
@@ -127,7 +137,7 @@ fn two_messages_are_read(rt: HostRuntime) -> Result<(), Fail> {
         panic!(rt; "the files are long");
     };
     let base = result?;
-    assert_eq!(rt; base.conference.slots.len(), 2);
+    assert_eq!(rt; counts(&base), (2, 2, 1292 + 22 + 16 + 64));
     assert_eq!(rt; base.conference.counter, 1);
     Ok(())
 }
@@ -140,7 +150,7 @@ fn three_slots_are_read(rt: HostRuntime) -> Result<(), Fail> {
         panic!(rt; "the files are long");
     };
     let base = result?;
-    assert_eq!(rt; base.conference.slots.len(), 3);
+    assert_eq!(rt; counts(&base), (3, 2, 1292 + 22 + 24 + 64));
     Ok(())
 }
 

@@ -1,0 +1,123 @@
+-- The members of a conference, and the conferences that a change makes.
+use Rattle.std.proofs.Common.{◌≡◌, ℕ, ◌+◌, ◌^◌, ◌≤◌, ◌<◌, List, [], ◌∷◌, ◌++◌, length, sym, ap, ◌∙◌, subst, arith, length-append}
+use Rattle.std.specs.Prelude.{All, replicate}
+use Rattle.std.proofs.Math.ListN.{length-replicate}
+use Rattle.std.proofs.lemmas.List.{append-nil, get_or-replicate}
+use Rattle.std.proofs.lemmas.List.Elements.{All-drop, All-append, All-cons, All-nil}
+use Rattle.byte_lists.specs.Byte.{IsByte}
+use Rattle.jam_records.specs.BaseHeaders.{base_text}
+use Rattle.jam_records.specs.declared.message.Slot.{Slot}
+use Rattle.jam_base.specs.Base.{base_header, layout}
+use Rattle.jam_base.specs.Conference.{Contents, no_slots, with_reader}
+use Rattle.jam_base.specs.Messages.{IsSlot}
+use Rattle.jam_base.specs.Reader.{IsReader}
+use Rattle.jam_base.specs.Readers.{last_reads}
+use Rattle.jam_base.specs.Valid.{Rise, IsShape, FilesFit, IsConference}
+use Rattle.jam_base.specs.declared.conference.Conference.{Conference}
+use Rattle.jam_base.specs.declared.files.BaseFiles.{BaseFiles}
+use Rattle.jam_base.specs.declared.shape.Shape.{Shape}
+use Rattle.jam_base.proofs.BaseLaws.{base_length}
+
+-- ---- rising ids
+rise_more : (readers : List (ℕ × List ℕ)) (user : ℕ) (name : List ℕ) → Rise readers → All (λ r. r.0 < user) readers → Rise (readers ++ (user, name) ∷ [])
+rise_more [] user name rise below = tt
+rise_more (r ∷ []) user name rise below = (below 0 r (omega arith), tt)
+rise_more (r ∷ s ∷ readers) user name rise below = (rise.0, rise_more (s ∷ readers) user name rise.1 (All-drop (λ q. q.0 < user) 1 (r ∷ s ∷ readers) below))
+
+rise_span : (most : ℕ) (r : ℕ × List ℕ) (readers : List (ℕ × List ℕ)) → Rise (r ∷ readers) → All (λ q. q.0 < most) (r ∷ readers) → r.0 + length readers < most
+rise_span most r [] rise below = omega (arith, below 0 r (omega arith))
+rise_span most r (s ∷ readers) rise below =
+    omega (arith, rise.0, rise_span most s readers rise.1 (All-drop (λ q. q.0 < most) 1 (r ∷ s ∷ readers) below))
+
+ids_small : (readers : List (ℕ × List ℕ)) → All IsReader readers → All (λ q. q.0 < 2 ^ 32) readers
+ids_small readers fits = λ k d within. (fits k d within).0
+
+-- there are no more readers than ids
+pub few_readers : (readers : List (ℕ × List ℕ)) → Rise readers → All IsReader readers → length readers ≤ 2 ^ 32
+few_readers [] rise fits = omega arith
+few_readers (r ∷ readers) rise fits = omega (arith, rise_span (2 ^ 32) r readers rise (ids_small (r ∷ readers) fits))
+
+-- ---- a new conference
+zeros_within : (count n : ℕ) → All (λ p. p ≤ count) (replicate n 0)
+zeros_within count n = λ k d within.
+    let k_in : k < n = omega (arith, within, length-replicate {A = ℕ} n 0) in
+    omega (arith, get_or-replicate n k 0 d k_in)
+
+-- the files of a conference without messages
+pub empty_layout : (shape : Shape) (jhr jdt jdx jlr pointers : List ℕ) → jhr ≡ base_text (base_header shape (no_slots shape)) → jdt ≡ [] → jdx ≡ [] → jlr ≡ last_reads shape.readers pointers → pointers ≡ (no_slots shape).pointers
+    → record { jhr = jhr; jdt = jdt; jdx = jdx; jlr = jlr } ≡ layout shape (no_slots shape)
+empty_layout shape jhr jdt jdx jlr pointers header none nothing last is =
+    let header_is = header ∙ sym (append-nil (base_text (base_header shape (no_slots shape)))) in
+    let last_is = last ∙ ap (last_reads shape.readers) is in
+    λ i. record { jhr = header_is i; jdt = none i; jdx = nothing i; jlr = last_is i }
+
+pub empty_fits : (shape : Shape) (jhr jdt jdx jlr : List ℕ) → jhr ≡ base_text (base_header shape (no_slots shape)) → jdt ≡ [] → jdx ≡ [] → All IsByte jhr → All IsByte jlr
+    → FilesFit (record { jhr = jhr; jdt = jdt; jdx = jdx; jlr = jlr })
+empty_fits shape jhr jdt jdx jlr header none nothing bytes last = record {
+  jhr = (bytes, omega (arith, ap length header, base_length (base_header shape (no_slots shape))));
+  jdt = (subst (All IsByte) (sym none) (All-nil IsByte), omega (arith, ap length none));
+  jdx = (subst (All IsByte) (sym nothing) (All-nil IsByte), omega (arith, ap length nothing));
+  jlr = last;
+}
+
+fresh_is : (shape : Shape) → FilesFit (layout shape (no_slots shape)) → IsConference shape (no_slots shape)
+fresh_is shape fits = record {
+  counter = omega arith;
+  few = omega arith;
+  slots = All-nil (IsSlot shape.kind);
+  pointers = record { all = length-replicate {A = ℕ} (length shape.readers) 0; within = zeros_within 0 (length shape.readers) };
+  files = fits;
+}
+
+pub fresh_made : (shape : Shape) (slots : List Slot) (pointers : List ℕ) (files : BaseFiles) → slots ≡ [] → pointers ≡ (no_slots shape).pointers → files ≡ layout shape (no_slots shape) → FilesFit files
+    → IsConference shape (record { counter = 0; slots = slots; pointers = pointers })
+fresh_made shape slots pointers files none zeros is fits =
+    let made : Conference = record { counter = 0; slots = slots; pointers = pointers } in
+    let same : made ≡ no_slots shape = λ i. record { counter = 0; slots = none i; pointers = zeros i } in
+    subst (IsConference shape) (sym same) (fresh_is shape (subst FilesFit is fits))
+
+-- ---- a further reader
+one_zero : (count : ℕ) → All (λ p. p ≤ count) (0 ∷ [])
+one_zero count = All-cons (λ p. p ≤ count) 0 [] (omega arith) (All-nil (λ p. p ≤ count))
+
+joined_shape : (shape : Shape) (user : ℕ) (name : List ℕ) → IsShape shape → All (λ r. r.0 < user) shape.readers → IsShape (record shape { readers = shape.readers ++ (user, name) ∷ [] })
+joined_shape shape user name is below = record { place = is.place; rise = rise_more shape.readers user name is.rise below }
+
+-- the base with the further reader, as it is made
+module _ (base : Contents) (user : ℕ) (name : List ℕ) where
+  joined_is : IsConference base.shape base.conference → All IsByte (last_reads (with_reader user name base).shape.readers (with_reader user name base).conference.pointers)
+      → IsConference (with_reader user name base).shape (with_reader user name base).conference
+  joined_is ok bytes = record {
+    counter = ok.counter;
+    few = ok.few;
+    slots = ok.slots;
+    pointers = record {
+      all = length-append base.conference.pointers (0 ∷ []) ∙ (ap (λ n. n + 1) ok.pointers.all ∙ sym (length-append base.shape.readers ((user, name) ∷ [])));
+      within = All-append (λ p. p ≤ length base.conference.slots) base.conference.pointers (0 ∷ []) ok.pointers.within (one_zero (length base.conference.slots));
+    };
+    files = record { jhr = ok.files.jhr; jdt = ok.files.jdt; jdx = ok.files.jdx; jlr = bytes };
+  }
+
+  pub joined_made : (shape : Shape) (conference : Conference) (jlr : List ℕ) → shape ≡ (with_reader user name base).shape → conference ≡ (with_reader user name base).conference
+      → jlr ≡ last_reads shape.readers conference.pointers → All IsByte jlr → All (λ r. r.0 < user) base.shape.readers → IsShape base.shape × IsConference base.shape base.conference → IsShape shape × IsConference shape conference
+  joined_made shape conference jlr shape_is conference_is text bytes below is =
+      let text_is : jlr ≡ last_reads (with_reader user name base).shape.readers (with_reader user name base).conference.pointers =
+      text ∙ (ap (λ (s : Shape). last_reads s.readers conference.pointers) shape_is ∙ ap (λ (c : Conference). last_reads (with_reader user name base).shape.readers c.pointers) conference_is) in
+      let made : IsShape (with_reader user name base).shape × IsConference (with_reader user name base).shape (with_reader user name base).conference = (joined_shape base.shape user name is.0 below, joined_is is.1 (subst (All IsByte) text_is bytes)) in
+      subst (λ (s : Shape). IsShape s × IsConference s conference) (sym shape_is)
+      (subst (λ (c : Conference). IsShape (with_reader user name base).shape × IsConference (with_reader user name base).shape c) (sym conference_is) made)
+
+  pub joined_layout : (shape : Shape) (conference : Conference) (jlr : List ℕ) → shape ≡ (with_reader user name base).shape → conference ≡ (with_reader user name base).conference
+      → jlr ≡ last_reads shape.readers conference.pointers → record (layout base.shape base.conference) { jlr = jlr } ≡ layout shape conference
+  joined_layout shape conference jlr shape_is conference_is text =
+      let text_is : jlr ≡ last_reads (with_reader user name base).shape.readers (with_reader user name base).conference.pointers =
+      text ∙ (ap (λ (s : Shape). last_reads s.readers conference.pointers) shape_is ∙ ap (λ (c : Conference). last_reads (with_reader user name base).shape.readers c.pointers) conference_is) in
+      ap (λ (xs : List ℕ). record (layout base.shape base.conference) { jlr = xs }) text_is
+      ∙ (sym (ap (λ (c : Conference). layout (with_reader user name base).shape c) conference_is) ∙ sym (ap (λ (s : Shape). layout s conference) shape_is))
+
+pub shape_more : (s t : Shape) (readers : List (ℕ × List ℕ)) (user : ℕ) (name : List ℕ) → s ≡ t → readers ≡ t.readers ++ (user, name) ∷ []
+    → record { place = s.place; created = s.created; kind = s.kind; readers = readers } ≡ record t { readers = t.readers ++ (user, name) ∷ [] }
+shape_more s t readers user name same is = λ i. record { place = (same i).place; created = (same i).created; kind = (same i).kind; readers = is i }
+
+pub conference_more : (c d : Conference) (pointers : List ℕ) → c ≡ d → pointers ≡ d.pointers ++ 0 ∷ [] → record { counter = c.counter; slots = c.slots; pointers = pointers } ≡ record d { pointers = d.pointers ++ 0 ∷ [] }
+conference_more c d pointers same is = λ i. record { counter = (same i).counter; slots = (same i).slots; pointers = is i }

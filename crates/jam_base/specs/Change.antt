@@ -1,0 +1,41 @@
+-- A change of the four files of a conference, as patches.
+use Rattle.std.specs.Prelude.{◌≡◌, ◌⊎◌, ℕ, ◌+◌, ◌*◌, ◌≤◌, ◌<◌, List, [], ◌∷◌, length, All, IsTrue}
+use Rattle.intent_journal.specs.Patches.{Files, file_of, patched, is_once}
+use Rattle.intent_journal.specs.Journal.{patches_text}
+use Rattle.intent_journal.specs.declared.patch.Patch.{Patch}
+use Rattle.intent_journal.specs.declared.patch.Patch.TheVariants.{Whole}
+use Rattle.jam_base.specs.Places.{jhr_file, jdt_file, jdx_file, jlr_file}
+use Rattle.jam_base.specs.Base.{files_size}
+use Rattle.jam_base.specs.declared.files.BaseFiles.{BaseFiles}
+
+-- the four files of a place
+abbrev pub files_of_place : ℕ → Files → BaseFiles
+files_of_place place files = record {
+  jhr = files (jhr_file place);
+  jdt = files (jdt_file place);
+  jdx = files (jdx_file place);
+  jlr = files (jlr_file place);
+}
+
+abbrev pub IsOfPlace : ℕ → ℕ → Type 0
+IsOfPlace place file = (jhr_file place ≤ file) × (file ≤ jlr_file place)
+
+abbrev pub IsElsewhere : ℕ → ℕ → Type 0
+IsElsewhere place file = (file < jhr_file place) ⊎ (jlr_file place < file)
+
+-- the patches make the new four files of the old ones, and leave every other file
+pub record Turns (place : ℕ) (old new : BaseFiles) (patches : List Patch) : Type 0 where
+  pub base : (files : Files) → files_of_place place files ≡ old → files_of_place place (patched patches files) ≡ new
+  pub others : (files : Files) (file : ℕ) → IsElsewhere place file → patched patches files file ≡ files file
+
+-- what an intent asks of patches: each is of one of the four files, none has two, and with 11 bytes for
+-- each file they are spelled in no more than the new files have
+pub record SuitsIntent (place : ℕ) (new : BaseFiles) (patches : List Patch) : Type 0 where
+  pub within : All (λ patch. IsOfPlace place (file_of patch)) patches
+  pub once : IsTrue (is_once patches)
+  pub short : length (patches_text patches) ≤ 4 * 11 + files_size new
+
+-- a place's four files, whole
+abbrev pub whole_files : ℕ → BaseFiles → List Patch
+whole_files place files =
+    Whole (jhr_file place) files.jhr ∷ Whole (jdt_file place) files.jdt ∷ Whole (jdx_file place) files.jdx ∷ Whole (jlr_file place) files.jlr ∷ []

@@ -1,0 +1,55 @@
+ghost use Rattle.std.specs.Prelude.{◌≡◌, ◌<◌, [], ◌∷◌, IfOk};
+ghost use Rattle.intent_journal.specs.declared.patch.Patch.TheVariants.{Whole};
+ghost use Rattle.jam_base.specs.Places.{jlr_file};
+ghost use Rattle.jam_base.specs.Change.{whole_files};
+
+use crate::base::Base;
+use crate::files::BaseFiles;
+use crate::places::{jdt, jdx, jhr, jlr};
+use byte_lists::Bytes;
+use door_outside::FileId;
+use intent_journal::{Patch, Patches};
+use std::alloc::{AllocError, Global};
+
+/// A base after a change, and the change of its files.
+#[derive(Debug, Drop)]
+pub struct BaseChange {
+    /// The base after the change.
+    pub base: Base,
+    /// What makes its files of those before the change. No other file is touched, and no file twice.
+    pub patches: Patches,
+}
+
+/// The patch that gives a file these bytes.
+fn whole(file: u16, bytes: Bytes) -> Patch
+    requires { file < 258 }
+    ensures { result ≡ Whole file bytes }
+{
+    let Some(file) = FileId::new(file) else {
+        unreachable!()
+    };
+    Patch::Whole { file, bytes }
+}
+
+/// The patch that gives a place's .JLR these bytes.
+pub fn whole_jlr(alloc: Global, place: u8, bytes: Bytes) -> Result<Patches, AllocError>
+    requires { place < 64 }
+    ensures { IfOk result (λ patches. patches ≡ Whole (jlr_file place) bytes ∷ []) }
+{
+    let mut patches = Patches::new(alloc);
+    patches.add(whole(jlr(place), bytes))?;
+    Ok(patches)
+}
+
+/// The patches that give a place these four files.
+pub fn whole_files(alloc: Global, place: u8, files: BaseFiles) -> Result<Patches, AllocError>
+    requires { place < 64 }
+    ensures { IfOk result (λ patches. patches ≡ whole_files place files) }
+{
+    let mut patches = Patches::new(alloc);
+    patches.add(whole(jhr(place), files.jhr))?;
+    patches.add(whole(jdt(place), files.jdt))?;
+    patches.add(whole(jdx(place), files.jdx))?;
+    patches.add(whole(jlr(place), files.jlr))?;
+    Ok(patches)
+}
