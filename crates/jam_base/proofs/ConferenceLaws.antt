@@ -24,7 +24,8 @@ use Rattle.jam_base.specs.declared.entry.Front.{Front}
 use Rattle.jam_base.proofs.BodyLaws.{bare, Bodiless, BodiesFit}
 use Rattle.jam_base.proofs.CrcLaws.{crc_small}
 use Rattle.jam_base.proofs.EntryLaws.{HeaderFits, HeadersFit, entry_length}
-use Rattle.jam_base.proofs.FieldLaws.{subfield, behind_head}
+use Rattle.jam_records.proofs.SubfieldLemmas.{behind_head}
+use Rattle.jam_base.proofs.FieldLaws.{subfield}
 use Rattle.jam_base.proofs.IndexLaws.{made, Linked, RoomFor}
 use Rattle.jam_base.proofs.LinkBounds.{LinkBound}
 use Rattle.jam_base.proofs.LinkLaws.{LinksFit, Rising}

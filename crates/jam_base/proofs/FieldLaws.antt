@@ -8,34 +8,13 @@ use Rattle.byte_lists.specs.Byte.{IsByte}
 use Rattle.record_numbers.specs.Numbers.{u16_at, u32_at, u16_text, u32_text}
 use Rattle.jam_records.specs.Subfields.{subfield_text, subfields_text}
 use Rattle.jam_records.specs.declared.subfield.Subfield.{Subfield}
-use Rattle.record_numbers.proofs.NumberLemmas.{number_of_bytes}
+use Rattle.jam_records.proofs.SubfieldLemmas.{lo_is, hi_is, size_is, behind_head, text_length}
 use Rattle.record_numbers.proofs.NumberFronts.{u16_front, u32_front, u32_small}
 use Rattle.jam_base.specs.Fields.{has_field, field_at}
 use Rattle.jam_base.specs.InOrder.{FieldsFit}
 
 abbrev pub subfield : ℕ → List ℕ → Subfield
 subfield id value = record { lo = id; hi = 0; value = value }
-
--- ---- numbers that were written
-pub lo_is : (s : Subfield) (rest : List ℕ) → s.lo < 2 ^ 16 → u16_at 0 (subfield_text s ++ rest) ≡ s.lo
-unfolding u16_at subfield_text
-lo_is s rest small = number_of_bytes 2 s.lo [] small
-
-pub hi_is : (s : Subfield) (rest : List ℕ) → s.hi < 2 ^ 16 → u16_at 2 (subfield_text s ++ rest) ≡ s.hi
-unfolding u16_at subfield_text
-hi_is s rest small = number_of_bytes 2 s.hi [] small
-
-pub size_is : (s : Subfield) (rest : List ℕ) → length s.value < 2 ^ 32 → u32_at 4 (subfield_text s ++ rest) ≡ length s.value
-unfolding u32_at subfield_text
-size_is s rest small = number_of_bytes 4 (length s.value) [] small
-
-pub behind_head : (s : Subfield) (rest : List ℕ) → drop 8 (subfield_text s ++ rest) ≡ s.value ++ rest
-unfolding subfield_text
-behind_head s rest = refl
-
-pub text_length : (s : Subfield) → length (subfield_text s) ≡ 8 + length s.value
-unfolding subfield_text
-text_length s = omega arith
 
 no_number : u16_at 0 [] ≡ 0
 unfolding u16_at

@@ -15,7 +15,8 @@ use Rattle.jam_records.specs.declared.subfield.Subfield.{Subfield}
 use Rattle.jam_base.specs.Fields.{field_at, values_at}
 use Rattle.jam_base.specs.InOrder.{HasDoorId, InOrder, FieldsFit, value_of, values_in}
 use Rattle.jam_base.specs.declared.fields.Values.{Values}
-use Rattle.jam_base.proofs.FieldLaws.{subfield, optional, field_takes, field_rest, field_fits, field_found, Above, text_length}
+use Rattle.jam_base.proofs.FieldLaws.{subfield, optional, field_takes, field_rest, field_fits, field_found, Above}
+use Rattle.jam_records.proofs.SubfieldLemmas.{text_length}
 
 -- ---- the reading, id by id
 -- the values of so many ids from one on, and what is left

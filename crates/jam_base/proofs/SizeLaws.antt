@@ -3,7 +3,8 @@ use Rattle.std.proofs.Common.{◌≡◌, ℕ, ◌+◌, ◌<◌, List, [], ◌∷
 use Rattle.jam_records.specs.Subfields.{subfield_text, subfields_text}
 use Rattle.jam_records.specs.declared.message.Message.{Message}
 use Rattle.jam_base.specs.Fields.{field, subfields_of}
-use Rattle.jam_base.proofs.FieldLaws.{subfield, text_length}
+use Rattle.jam_records.proofs.SubfieldLemmas.{text_length}
+use Rattle.jam_base.proofs.FieldLaws.{subfield}
 use Rattle.jam_base.proofs.ValueLaws.{texts}
 
 pub field_length : (id : ℕ) (value : List ℕ) → 0 < length value → length (subfields_text (field id value)) ≡ 8 + length value

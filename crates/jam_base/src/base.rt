@@ -37,8 +37,10 @@ impl Model for Base {
 }
 
 impl Base {
-    /// The base of a new conference: no slots, and the pointer of each member 0. Its patches make its files
-    /// of any. The place is at most 63, and the ids of the members rise.
+    /// The base of a new conference: no slots, and the pointer of each member 0. Its patches write its four
+    /// files, whatever they were. The shape's place is at most 63, and the ids of its members rise.
+    ///
+    /// The error comes where there is no memory.
     pub fn fresh(alloc: Global, shape: &Shape) -> Result<BaseChange, AllocError>
         requires { IsShape shape.now }
         ensures base { IfOk result (λ change. change.base ≡ record { shape = shape.now; conference = no_slots shape.now }) }
@@ -60,7 +62,10 @@ impl Base {
         })
     }
 
-    /// The base with a further member, whose pointer is 0. His id is above that of each member.
+    /// The base with a further member, whose pointer is 0. His id is above that of each member. Its patches
+    /// make its files of those of this base.
+    ///
+    /// The error comes where there is no memory.
     pub fn joined(&self, alloc: Global, user: u32, name: &[u8]) -> Result<BaseChange, AllocError>
         requires { All (λ reader. reader.0 < user) self.now.shape.readers }
         ensures base { IfOk result (λ change. change.base ≡ with_reader user name.now self.now) }

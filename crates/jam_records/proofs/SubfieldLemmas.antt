@@ -31,30 +31,31 @@ subfield_of_bytes bytes lo hi value small long whole low high is =
     ∙ ap (λ word. u16_text lo ++ (word ++ (take 4 (drop 4 bytes) ++ value))) (sym middle ∙ ap (little_bytes 2) (sym high))
     ∙ ap (λ word. u16_text lo ++ (u16_text hi ++ (word ++ value))) (sym behind ∙ ap (little_bytes 4) (sym size))
 
-lo_of : (s : Subfield) (rest : List ℕ) → IsSubfield s → u16_at 0 (subfield_text s ++ rest) ≡ s.lo
+-- ---- the parts of a subfield's text
+pub lo_is : (s : Subfield) (rest : List ℕ) → s.lo < 2 ^ 16 → u16_at 0 (subfield_text s ++ rest) ≡ s.lo
 unfolding u16_at subfield_text
-lo_of s rest ids = number_of_bytes 2 s.lo [] ids.0
+lo_is s rest small = number_of_bytes 2 s.lo [] small
 
-hi_of : (s : Subfield) (rest : List ℕ) → IsSubfield s → u16_at 2 (subfield_text s ++ rest) ≡ s.hi
+pub hi_is : (s : Subfield) (rest : List ℕ) → s.hi < 2 ^ 16 → u16_at 2 (subfield_text s ++ rest) ≡ s.hi
 unfolding u16_at subfield_text
-hi_of s rest ids = number_of_bytes 2 s.hi [] ids.1
+hi_is s rest small = number_of_bytes 2 s.hi [] small
 
-length_of : (s : Subfield) (rest : List ℕ) → length s.value < 2 ^ 32 → u32_at 4 (subfield_text s ++ rest) ≡ length s.value
+pub size_is : (s : Subfield) (rest : List ℕ) → length s.value < 2 ^ 32 → u32_at 4 (subfield_text s ++ rest) ≡ length s.value
 unfolding u32_at subfield_text
-length_of s rest small = number_of_bytes 4 (length s.value) [] small
+size_is s rest small = number_of_bytes 4 (length s.value) [] small
 
-behind_head : (s : Subfield) (rest : List ℕ) → drop 8 (subfield_text s ++ rest) ≡ s.value ++ rest
+pub behind_head : (s : Subfield) (rest : List ℕ) → drop 8 (subfield_text s ++ rest) ≡ s.value ++ rest
 unfolding subfield_text
 behind_head s rest = refl
 
-length-subfield_text : (s : Subfield) → length (subfield_text s) ≡ 8 + length s.value
+pub text_length : (s : Subfield) → length (subfield_text s) ≡ 8 + length s.value
 unfolding subfield_text
-length-subfield_text s = omega arith
+text_length s = omega arith
 
 -- one of many is no longer than all
 pub one_fits : (subfields : List Subfield) (i : ℕ) (d : Subfield) → i < length subfields → length (subfields_text subfields) < 2 ^ 31 → length (get_or subfields i d).value < 2 ^ 31
 one_fits subfields i d within small =
-    omega (arith, length-flat_map-take subfield_text subfields i d within, length-subfield_text (get_or subfields i d))
+    omega (arith, length-flat_map-take subfield_text subfields i d within, text_length (get_or subfields i d))
 
 -- one subfield more
 pub one_more : (bytes : List ℕ) (subfields : List Subfield) (s : Subfield) (n : ℕ) (rest : List ℕ) → bytes ≡ subfields_text subfields ++ rest → take n rest ≡ subfield_text s → bytes ≡ subfields_text (subfields ++ s ∷ []) ++ drop n rest
@@ -71,8 +72,8 @@ NotWhole bytes = 8 ≤ length bytes → length bytes < 8 + u32_at 4 bytes
 
 whole_front : (s : Subfield) (rest : List ℕ) → length (subfield_text s ++ rest) < 2 ^ 32 → ¬ NotWhole (subfield_text s ++ rest)
 whole_front s rest small not_whole =
-    let long : length (subfield_text s ++ rest) ≡ 8 + length s.value + length rest = length-append (subfield_text s) rest ∙ ap (λ n. n + length rest) (length-subfield_text s) in
-    let size = length_of s rest (omega arith) in
+    let long : length (subfield_text s ++ rest) ≡ 8 + length s.value + length rest = length-append (subfield_text s) rest ∙ ap (λ n. n + length rest) (text_length s) in
+    let size = size_is s rest (omega arith) in
     let short = not_whole (omega arith) in
     omega arith
 
@@ -89,12 +90,12 @@ record SameFirst (x y : Subfield) (r t : List ℕ) : Type 0 where
 
 same_first : (x y : Subfield) (r t : List ℕ) → IsSubfield x → IsSubfield y → length (subfield_text x ++ r) < 2 ^ 32 → subfield_text x ++ r ≡ subfield_text y ++ t → SameFirst x y r t
 same_first x y r t ids_x ids_y small same =
-    let long_x : length (subfield_text x ++ r) ≡ 8 + length x.value + length r = length-append (subfield_text x) r ∙ ap (λ n. n + length r) (length-subfield_text x) in
-    let long_y : length (subfield_text y ++ t) ≡ 8 + length y.value + length t = length-append (subfield_text y) t ∙ ap (λ n. n + length t) (length-subfield_text y) in
-    let lo : x.lo ≡ y.lo = sym (lo_of x r ids_x) ∙ ap (u16_at 0) same ∙ lo_of y t ids_y in
-    let hi : x.hi ≡ y.hi = sym (hi_of x r ids_x) ∙ ap (u16_at 2) same ∙ hi_of y t ids_y in
+    let long_x : length (subfield_text x ++ r) ≡ 8 + length x.value + length r = length-append (subfield_text x) r ∙ ap (λ n. n + length r) (text_length x) in
+    let long_y : length (subfield_text y ++ t) ≡ 8 + length y.value + length t = length-append (subfield_text y) t ∙ ap (λ n. n + length t) (text_length y) in
+    let lo : x.lo ≡ y.lo = sym (lo_is x r ids_x.0) ∙ ap (u16_at 0) same ∙ lo_is y t ids_y.0 in
+    let hi : x.hi ≡ y.hi = sym (hi_is x r ids_x.1) ∙ ap (u16_at 2) same ∙ hi_is y t ids_y.1 in
     let total = ap length same in
-    let len : length x.value ≡ length y.value = sym (length_of x r (omega arith)) ∙ ap (u32_at 4) same ∙ length_of y t (omega arith) in
+    let len : length x.value ≡ length y.value = sym (size_is x r (omega arith)) ∙ ap (u32_at 4) same ∙ size_is y t (omega arith) in
     let values : x.value ++ r ≡ y.value ++ t = sym (behind_head x r) ∙ ap (drop 8) same ∙ behind_head y t in
     let value : x.value ≡ y.value = sym (take_at x.value r (length x.value) refl) ∙ ap (take (length x.value)) values ∙ take_at y.value t (length x.value) (sym len) in
     let behind : r ≡ t = sym (drop_at x.value r (length x.value) refl) ∙ ap (drop (length x.value)) values ∙ drop_at y.value t (length x.value) (sym len) in
