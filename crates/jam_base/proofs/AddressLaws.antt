@@ -3,7 +3,7 @@ use Rattle.std.proofs.Common.{◌≡◌, ◌↔◌, ℕ, zero, suc, ◌+◌, ◌
 use Rattle.std.specs.Prelude.{All, IsTrue, decimal}
 use Rattle.std.specs.Char.{is_ascii_digit}
 use Rattle.std.specs.List.{prefix_len}
-use Rattle.std.proofs.lemmas.Bool.{leb-true, le-leb, eq-eqb}
+use Rattle.std.proofs.lemmas.Bool.{leb-true, le-leb, eq-eqb, and_from, and_parts}
 use Rattle.std.proofs.lemmas.Bool.Decides.{nat_tests}
 use Rattle.std.proofs.lemmas.Fmt.{decimal_is_IsNumeral}
 use Rattle.std.proofs.lemmas.List.{take_at, take_all, drop_all, append-nil}
@@ -11,11 +11,6 @@ use Rattle.std.proofs.lemmas.Slice.Eq.{bytes_eq-Decides}
 use Rattle.jam_records.specs.Addresses.{IsPart, IsDigit, point_text, IsAddress}
 use Rattle.jam_records.proofs.AddressLemmas.{digits_of_decimal}
 use Rattle.jam_base.specs.Address.{number_of, before, past, is_part, is_address_of, is_address_with, is_address}
-use Rattle.jam_base.proofs.ValueLaws.{and_true}
-
-both : (a b : Bool) → a ≡ true → b ≡ true → (a && b) ≡ true
-both true b e f = f
-both false b e f = absurd cc
 
 not_mark : (c mark : ℕ) → is_ascii_digit c ≡ true → mark < 48 → eqb c mark ≡ false
 not_mark c mark digit low = grind (arith, nat_tests)
@@ -57,10 +52,10 @@ test_is text e =
     let tail : List ℕ = past 47 (past 58 text) in
     let node : ℕ = number_of (before 46 tail) in
     let point : ℕ = number_of (past 46 tail) in
-    let a = and_true ((is_part zone && is_part net) && (is_part node && is_part point)) _ e in
-    let b = and_true (is_part zone && is_part net) (is_part node && is_part point) a.0 in
-    let front = and_true (is_part zone) (is_part net) b.0 in
-    let back = and_true (is_part node) (is_part point) b.1 in
+    let a = and_parts ((is_part zone && is_part net) && (is_part node && is_part point)) _ e in
+    let b = and_parts (is_part zone && is_part net) (is_part node && is_part point) a.0 in
+    let front = and_parts (is_part zone) (is_part net) b.0 in
+    let back = and_parts (is_part node) (is_part point) b.1 in
     record {
       zone = zone;
       net = net;
@@ -103,7 +98,7 @@ node_is node (suc point) small tiny =
 
 passes : (zone net node point : ℕ) (text : List ℕ) → IsPart zone → IsPart net → IsPart node → IsPart point → text ≡ decimal zone ++ (58 ∷ (decimal net ++ (47 ∷ (decimal node ++ point_text point)))) → is_address_of zone net node point text ≡ true
 passes zone net node point text a b c d whole =
-    both _ _ (both _ _ (both _ _ (le-leb zone 32767 a) (le-leb net 32767 b)) (both _ _ (le-leb node 32767 c) (le-leb point 32767 d))) ((bytes_eq-Decides text _).1 whole)
+    and_from _ _ (and_from _ _ (and_from _ _ (le-leb zone 32767 a) (le-leb net 32767 b)) (and_from _ _ (le-leb node 32767 c) (le-leb point 32767 d))) ((bytes_eq-Decides text _).1 whole)
 
 pub is_test : (text : List ℕ) → IsAddress text → is_address text ≡ true
 unfolding is_address

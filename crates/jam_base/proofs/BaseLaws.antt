@@ -3,7 +3,7 @@ use Rattle.std.proofs.Common.{◌≡◌, ℕ, zero, suc, ◌+◌, ◌^◌, ◌�
 use Rattle.std.specs.Prelude.{All}
 use Rattle.std.specs.List.{list_all}
 use Rattle.std.proofs.Math.ListN.{length-replicate}
-use Rattle.std.proofs.lemmas.Bool.{ltb-false, le-ltb, eqb-true}
+use Rattle.std.proofs.lemmas.Bool.{ltb-false, le-ltb, eqb-true, and_parts}
 use Rattle.std.proofs.lemmas.Slice.Eq.{bytes_eq-Decides}
 use Rattle.std.proofs.lemmas.List.{take_at, drop_at, take-append-drop, drop-drop, length-take, length-drop}
 use Rattle.std.proofs.lemmas.List.Elements.{All-cons, All-nil}
@@ -18,22 +18,18 @@ use Rattle.jam_base.specs.declared.shape.Shape.{Shape}
 use Rattle.jam_base.proofs.Kept.{Kept}
 use Rattle.record_numbers.proofs.NumberFronts.{numbers_front}
 use Rattle.jam_base.proofs.TestLaws.{or_false, not_not, both_false, equal, unequal}
-use Rattle.jam_base.proofs.ValueLaws.{and_true}
 
 -- ---- zeros
 abbrev is_zero : ℕ → Bool
 is_zero b = eqb b 0
-
-cons_is : (a b : ℕ) (xs ys : List ℕ) → a ≡ b → xs ≡ ys → a ∷ xs ≡ b ∷ ys
-cons_is a b xs ys e f = cc
 
 zeros_are : (n : ℕ) (xs : List ℕ) → length xs ≡ n → list_all is_zero xs ≡ true → xs ≡ replicate n 0
 zeros_are zero [] len all = refl
 zeros_are (suc n) [] len all = absurd (omega arith)
 zeros_are zero (x ∷ xs) len all = absurd (omega arith)
 zeros_are (suc n) (x ∷ xs) len all =
-    let a = and_true (eqb x 0) (list_all is_zero xs) all in
-    cons_is x 0 xs (replicate n 0) (eqb-true x 0 a.0) (zeros_are n xs (omega arith) a.1)
+    let a = and_parts (eqb x 0) (list_all is_zero xs) all in
+    (λ i. eqb-true x 0 a.0 i ∷ zeros_are n xs (omega arith) a.1 i)
 
 are_zeros : (n : ℕ) → list_all is_zero (replicate n 0) ≡ true
 are_zeros zero = refl

@@ -61,9 +61,6 @@ body_again len body rest n is =
 bare_again : (e : Entry) (body : List ℕ) → e.message.body ≡ [] → bare (with_body e body) ≡ e
 bare_again e body none = λ i. record { number = e.number; text_len = e.text_len; link = e.link; message = message_with e.message (sym none i) }
 
-cons_is : (a b : Entry) (xs ys : List Entry) → a ≡ b → xs ≡ ys → a ∷ xs ≡ b ∷ ys
-cons_is a b xs ys e f = cc
-
 pub bodies_take : (place i : ℕ) (headers : List Entry) (bytes : List ℕ) (entries : List Entry) → Bodiless headers → bodies_at place i headers bytes ≡ Ok entries → (bytes ≡ bodies_text entries) × (map bare entries ≡ headers) × BodiesFit entries
 bodies_take place i [] bytes entries bodiless e =
     let k = rules_kept (jdt_file place) i ((Rest, not (eqb (length bytes) 0)) ∷ []) [] entries e in
@@ -78,7 +75,7 @@ bodies_take place i (h ∷ headers) bytes entries bodiless e =
     let body : List ℕ = take n bytes in
     let others = bodies_take place (i + 1) headers (drop n bytes) b.0 bodiless.1 b.1 in
     let whole : bytes ≡ body ++ bodies_text b.0 = sym (take-append-drop n bytes) ∙ ap (λ xs. body ++ xs) others.0 in
-    let heads : map bare (with_body h body ∷ b.0) ≡ h ∷ headers = cons_is (bare (with_body h body)) h (map bare b.0) headers (bare_again h body bodiless.0) others.1 in
+    let heads : map bare (with_body h body ∷ b.0) ≡ h ∷ headers = λ i. bare_again h body bodiless.0 i ∷ others.1 i in
     subst (λ (es : List Entry). (bytes ≡ bodies_text es) × (map bare es ≡ h ∷ headers) × BodiesFit es) (ap (λ x. with_body h x ∷ b.0) k.1 ∙ ok_is (with_body h a.0 ∷ b.0) entries b.2) (whole, heads, ((first.1, sym first.0), others.2))
 
 pub bodies_again : (place i : ℕ) (entries : List Entry) → BodiesFit entries → bodies_at place i (map bare entries) (bodies_text entries) ≡ Ok entries

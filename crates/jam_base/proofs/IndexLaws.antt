@@ -70,9 +70,6 @@ record Behind (links : ℕ → Link) (j at : ℕ) (entries : List Entry) (slots 
   layout : index_text x.pair ++ index_records x.next.at slots ≡ index_records at (x.slot ∷ slots)
   numbered : entries_of links (j + 1 + 1) slots ≡ x.next.entries → entries_of links (j + 1) (x.slot ∷ slots) ≡ entries
 
-cons_is : (a b : Entry) (xs ys : List Entry) → a ≡ b → xs ≡ ys → a ∷ xs ≡ b ∷ ys
-cons_is a b xs ys e f = cc
-
 same_entry : (links : ℕ → Link) (e : Entry) (n : ℕ) → e.number ≡ n → e.link ≡ links e.number → e.text_len ≡ length e.message.body → made n (links n) e.message ≡ e
 same_entry links e n number link len =
     let l : links n ≡ e.link = ap links (sym number) ∙ sym link in
@@ -86,7 +83,7 @@ one_slot links j at (p ∷ entries) slots linked = chosen (Behind links j at (p 
       linked = linked.1;
       item = refl;
       layout = refl;
-      numbered = λ e. cons_is (made (j + 1) (links (j + 1)) p.message) p (entries_of links (j + 1 + 1) slots) entries (same_entry links p (j + 1) (eqb-true p.number (j + 1) is) linked.0.0 linked.0.1) e;
+      numbered = λ e i. same_entry links p (j + 1) (eqb-true p.number (j + 1) is) linked.0.0 linked.0.1 i ∷ e i;
     })
     (λ other. record { linked = linked; item = refl; layout = refl; numbered = λ e. e })
 

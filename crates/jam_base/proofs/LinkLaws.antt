@@ -1,8 +1,8 @@
 -- Links: those of the messages as their headers show them are those of the slots.
-use Rattle.std.proofs.Common.{◌≡◌, ℕ, zero, suc, ◌+◌, ◌-◌, ◌≤◌, ◌<◌, cond, true, false, not, ◌&&◌, eqb, ltb, Bool, List, [], ◌∷◌, ◌++◌, length, take, map, replicate, Option, Some, None, Result, Ok, refl, sym, ap, ◌∙◌, subst, arith, append_assoc, append-nil, length-append}
+use Rattle.std.proofs.Common.{◌≡◌, ℕ, zero, suc, ◌+◌, ◌-◌, ◌≤◌, ◌<◌, cond, true, not, ◌&&◌, eqb, ltb, List, [], ◌∷◌, ◌++◌, length, take, map, replicate, Option, Some, None, Result, Ok, refl, sym, ap, ◌∙◌, subst, arith, append_assoc, append-nil, length-append}
 use Rattle.std.specs.List.{prefix_len, fold}
 use Rattle.std.specs.Prelude.{position, filter, slice_get, option_map}
-use Rattle.std.proofs.lemmas.Bool.{eqb-true, eq-eqb}
+use Rattle.std.proofs.lemmas.Bool.{eqb-true, eq-eqb, and_from, and_parts}
 use Rattle.std.proofs.lemmas.List.{take-map, length-map}
 use Rattle.std.proofs.lemmas.Option.{slice_get-map}
 use Rattle.jam_records.specs.declared.damage.Damage.{Damage}
@@ -24,7 +24,6 @@ use Rattle.jam_base.proofs.Kept.{rules_kept, kept_rules, bind_ok}
 use Rattle.jam_base.proofs.BodyLaws.{bare}
 use Rattle.jam_base.proofs.IndexLaws.{first_number}
 use Rattle.jam_base.proofs.TestLaws.{not_not}
-use Rattle.jam_base.proofs.ValueLaws.{and_true}
 
 -- ---- slots without their bodies
 abbrev pub strip : Slot → Slot
@@ -163,19 +162,15 @@ below_all es rising = below_slots 1 (length (slots_of 1 es)) es (omega arith) ri
 
 same_is : (a b : Link) → same_link a b ≡ true → a ≡ b
 same_is a b e =
-    let p = and_true (eqb a.to b.to && eqb a.first b.first) (eqb a.next b.next) e in
-    let q = and_true (eqb a.to b.to) (eqb a.first b.first) p.0 in
+    let p = and_parts (eqb a.to b.to && eqb a.first b.first) (eqb a.next b.next) e in
+    let q = and_parts (eqb a.to b.to) (eqb a.first b.first) p.0 in
     let to : a.to ≡ b.to = eqb-true a.to b.to q.0 in
     let first : a.first ≡ b.first = eqb-true a.first b.first q.1 in
     let next : a.next ≡ b.next = eqb-true a.next b.next p.1 in
     λ i. record { to = to i; first = first i; next = next i }
 
-both : (a b : Bool) → a ≡ true → b ≡ true → (a && b) ≡ true
-both true b e f = f
-both false b e f = absurd cc
-
 is_same : (a b : Link) → a ≡ b → same_link a b ≡ true
-is_same a b e = both _ _ (both _ _ (eq-eqb a.to b.to (ap (λ (x : Link). x.to) e)) (eq-eqb a.first b.first (ap (λ (x : Link). x.first) e))) (eq-eqb a.next b.next (ap (λ (x : Link). x.next) e))
+is_same a b e = and_from _ _ (and_from _ _ (eq-eqb a.to b.to (ap (λ (x : Link). x.to) e)) (eq-eqb a.first b.first (ap (λ (x : Link). x.first) e))) (eq-eqb a.next b.next (ap (λ (x : Link). x.next) e))
 
 abbrev unit : Result (Unit {0}) Damage
 unit = Ok (tt {0})

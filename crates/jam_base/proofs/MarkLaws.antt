@@ -1,13 +1,12 @@
 -- The marks of an attribute: what is written is read. The 48 attributes are computed.
 use Rattle.std.proofs.Common.{◌≡◌, ℕ, ◌^◌, ◌<◌, Bool, true, false, not, ◌&&◌, eqb, ltb, refl, sym, ap, subst}
 use Rattle.std.specs.Prelude.{IsTrue}
-use Rattle.std.proofs.lemmas.Bool.{ltb-true, eqb-true, eq-eqb}
+use Rattle.std.proofs.lemmas.Bool.{ltb-true, eqb-true, eq-eqb, and_parts}
 use Rattle.jam_records.specs.declared.message.Kind.{Kind}
 use Rattle.jam_records.specs.declared.message.Kind.TheVariants.{Local, Echo, Net}
 use Rattle.jam_base.specs.Marks.{attribute_of, marks_of, is_net, wrong_attribute}
 use Rattle.jam_base.specs.declared.marks.Marks.{Marks}
 use Rattle.jam_base.proofs.TestLaws.{or_false, not_not, both_false}
-use Rattle.jam_base.proofs.ValueLaws.{and_true}
 
 abbrev marks : Bool → Bool → Bool → Bool → Marks
 marks a b c d = record { local = a; private = b; seen = c; deleted = d }
@@ -17,8 +16,8 @@ abbrev both : (Bool → Bool) → Bool
 both t = t true && t false
 
 both_is : (t : Bool → Bool) → both t ≡ true → (b : Bool) → t b ≡ true
-both_is t e true = (and_true (t true) (t false) e).0
-both_is t e false = (and_true (t true) (t false) e).1
+both_is t e true = (and_parts (t true) (t false) e).0
+both_is t e false = (and_parts (t true) (t false) e).1
 
 abbrev same : Bool → Bool → Bool
 same true b = b
@@ -49,10 +48,10 @@ passes kind a b c d =
 pub marks_again : (kind : Kind) (m : Marks) → (marks_of (attribute_of kind m) ≡ m) × (attribute_of kind m < 2 ^ 32)
 unfolding test
 marks_again kind m =
-    let p = and_true _ _ (passes kind m.local m.private m.seen m.deleted) in
-    let q = and_true _ _ p.0 in
-    let low = and_true _ _ q.0 in
-    let high = and_true _ _ q.1 in
+    let p = and_parts _ _ (passes kind m.local m.private m.seen m.deleted) in
+    let q = and_parts _ _ p.0 in
+    let low = and_parts _ _ q.0 in
+    let high = and_parts _ _ q.1 in
     let n : ℕ = attribute_of kind m in (
       λ i. record {
         local = same_is (marks_of n).local m.local low.0 i;

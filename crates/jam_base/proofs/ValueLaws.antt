@@ -1,5 +1,6 @@
 -- The values of a header: what is read is what is written, and what is written is read.
 use Rattle.std.proofs.Common.{◌≡◌, ℕ, ◌^◌, ◌<◌, Bool, true, false, ◌&&◌, List, [], ◌∷◌, ◌++◌, length, Option, Some, None, unwrap_or, refl, sym, ap, ◌∙◌, subst, inl, inr, arith, append-nil}
+use Rattle.std.proofs.lemmas.Bool.{and_from, and_parts}
 use Rattle.std.specs.Prelude.{All, IsTrue}
 use Rattle.std.proofs.lemmas.Grind.{flat_map-append}
 use Rattle.byte_lists.specs.Byte.{IsByte}
@@ -18,10 +19,6 @@ use Rattle.jam_base.proofs.FieldLaws.{optional}
 use Rattle.jam_base.proofs.InOrderLaws.{fields_of, fields_taken, fields_again, short_fit}
 
 -- ---- a value isn't there and empty
-
-pub and_true : (a b : Bool) → (a && b) ≡ true → (a ≡ true) × (b ≡ true)
-and_true true b e = (refl, e)
-and_true false b e = absurd cc
 
 abbrev NotBlank : Option (List ℕ) → Type 0
 NotBlank None = Unit {0}
@@ -99,21 +96,17 @@ pub record Right (v : Values) : Type 0 where
 pub right_is : (v : Values) → right_values v ≡ true → Right v
 unfolding right_values
 right_is v e =
-    let a = and_true _ _ e in
-    let b = and_true _ _ a.0 in
-    let addresses = and_true _ _ b.0 in
-    let names = and_true _ _ b.1 in
-    let c = and_true _ _ a.1 in
-    let ids = and_true _ _ c.0 in
+    let a = and_parts _ _ e in
+    let b = and_parts _ _ a.0 in
+    let addresses = and_parts _ _ b.0 in
+    let names = and_parts _ _ b.1 in
+    let c = and_parts _ _ a.1 in
+    let ids = and_parts _ _ c.0 in
     record { origin = addresses.0; destination = addresses.1; from = names.0; to = names.1; msgid = ids.0; replyid = ids.1; subject = c.1 }
-
-and_both : (a b : Bool) → a ≡ true → b ≡ true → (a && b) ≡ true
-and_both true b e f = f
-and_both false b e f = absurd cc
 
 pub is_right : (v : Values) → Right v → right_values v ≡ true
 unfolding right_values
-is_right v r = and_both _ _ (and_both _ _ (and_both _ _ r.origin r.destination) (and_both _ _ r.from r.to)) (and_both _ _ (and_both _ _ r.msgid r.replyid) r.subject)
+is_right v r = and_from _ _ (and_from _ _ (and_from _ _ r.origin r.destination) (and_from _ _ r.from r.to)) (and_from _ _ (and_from _ _ r.msgid r.replyid) r.subject)
 
 -- the subfields of the message are those of these values
 record SameFields (m : Message) (v : Values) : Type 0 where
