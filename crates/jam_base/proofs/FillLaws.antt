@@ -1,5 +1,6 @@
 -- Filling up with slots without a message, and testing links one after the other, as loops do.
-use Rattle.std.proofs.Common.{◌≡◌, ℕ, zero, suc, ◌+◌, ◌-◌, ◌≤◌, ◌<◌, true, false, not, Bool, List, [], ◌∷◌, ◌++◌, length, drop, replicate, Result, Ok, Err, refl, sym, ap, ◌∙◌, subst, arith, append_assoc, append-nil, length-append}
+use Rattle.std.proofs.Common.{◌≡◌, ℕ, suc, ◌+◌, ◌-◌, ◌≤◌, ◌<◌, true, false, not, Bool, List, [], ◌∷◌, ◌++◌, length, drop, replicate, Result, Ok, Err, refl, sym, ap, ◌∙◌, subst, arith, append_assoc, append-nil, length-append}
+use Rattle.std.proofs.Math.ListN.{length-replicate}
 use Rattle.std.proofs.lemmas.List.{drop_all}
 use Rattle.jam_records.specs.declared.damage.Damage.{Damage}
 use Rattle.jam_records.specs.declared.damage.DamageRule.TheVariants.{Links}
@@ -45,10 +46,6 @@ pub record SoFar (slots : List Slot) (j : ℕ) (entries : List Entry) : Type 0 w
   pub made : slots ++ slots_of (length slots + 1) (drop j entries) ≡ slots_of 1 entries
   pub left : Numbered (length slots) (drop j entries)
 
-length_gone : (k : ℕ) → length (replicate {A = Slot} k Gone) ≡ k
-length_gone zero = refl
-length_gone (suc k) = ap suc (length_gone k)
-
 pub slots_more : (slots filled new : List Slot) (j : ℕ) (entries : List Entry) (e : Entry) (m : Message) → drop j entries ≡ e ∷ drop (j + 1) entries → filled ≡ slots ++ replicate (e.number - 1 - length slots) Gone → new ≡ filled ++ Held m ∷ [] → m ≡ e.message
     → SoFar slots j entries → SoFar new (j + 1) entries
 slots_more slots filled new j entries e m is full pushed same so_far =
@@ -56,7 +53,7 @@ slots_more slots filled new j entries e m is full pushed same so_far =
     let numbered : Numbered (length slots) (e ∷ rest) = subst (Numbered (length slots)) is so_far.left in
     let lt : length slots < e.number = numbered.0 in
     let gones : List Slot = replicate (e.number - 1 - length slots) Gone in
-    let len : length new ≡ e.number = ap length pushed ∙ omega (arith, length-append filled (Held m ∷ []), ap length full, length-append slots gones, length_gone (e.number - 1 - length slots), lt) in
+    let len : length new ≡ e.number = ap length pushed ∙ omega (arith, length-append filled (Held m ∷ []), ap length full, length-append slots gones, length-replicate {A = Slot} (e.number - 1 - length slots) Gone, lt) in
     let count : e.number - 1 - length slots ≡ e.number - (length slots + 1) = omega arith in
     let tail : List Slot = slots_of (e.number + 1) rest in
     let text : new ++ slots_of (length new + 1) rest ≡ slots ++ slots_of (length slots + 1) (e ∷ rest) =

@@ -84,14 +84,14 @@ impl Base {
         })
     }
 
-    /// How many slots the conference has. It is the greatest message number.
+    /// How many slots the conference has, 0 to 9,999. It is the greatest message number.
     pub fn slot_count(&self) -> u32
         ensures { result ≡ length self.now.conference.slots }
     {
         self.conference.slots.len() as u32
     }
 
-    /// How many messages aren't deleted.
+    /// How many messages aren't deleted. It is ActiveMsgs of the base header.
     pub fn live_count(&self) -> u32
         ensures { result ≡ live_count self.now.conference.slots }
     {

@@ -1,6 +1,6 @@
 use byte_lists::Bytes;
 
-/// The four files of a conference.
+/// The four files of a conference (JAM message base proposal, revision 1).
 #[derive(Debug, Drop)]
 pub struct BaseFiles {
     /// The header of the base, and the headers of its messages.

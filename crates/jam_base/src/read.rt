@@ -91,8 +91,11 @@ fn conference_in(alloc: Global, files: &BaseFiles, shape: &Shape) -> Result<Conf
     })
 }
 
-/// The conference whose layout the files are, or their first damage. Where damage and want of memory
-/// meet, either may be answered.
+/// The conference whose layout the files are (JAM message base proposal, revision 1). Each file has fewer
+/// than 2^31 bytes, the shape's place is at most 63, and the ids of its members rise.
+///
+/// `Damaged` comes where the files are the layout of no conference of that shape, with the first rule that
+/// they break. `OutOfMemory` comes where there is no memory. Where both meet, either may be answered.
 pub fn read_base(alloc: Global, files: &BaseFiles, shape: &Shape) -> Result<Base, BaseError>
     requires shape { IsShape shape.now }
     requires jhr { length files.now.jhr < 2 ^ 31 }
