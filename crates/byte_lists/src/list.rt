@@ -1,4 +1,4 @@
-ghost use Rattle.std.specs.Prelude.{◌≡◌, List as ListOf, [], ◌∷◌, ◌++◌, length, slice_get, IfOk, OnOk, OnErr};
+ghost use Rattle.std.specs.Prelude.{◌≡◌, ◌-◌, List as ListOf, [], ◌∷◌, ◌++◌, length, replicate, slice_get, IfOk, OnOk, OnErr};
 ghost use Rattle.std.specs.Option.{option_copied};
 
 use crate::copies::Duplicate;
@@ -25,6 +25,20 @@ impl<T> List<T> {
         List {
             items: Vec::new(alloc),
         }
+    }
+
+    /// The list of these items, which are not copied.
+    pub fn from_vec(items: Vec<T>) -> List<T>
+        ensures { result ≡ items.items }
+    {
+        List { items }
+    }
+
+    /// Its items, which are not copied.
+    pub fn into_vec(self) -> Vec<T>
+        ensures { result.items ≡ self }
+    {
+        self.items
     }
 
     /// How many items there are.
@@ -61,6 +75,18 @@ impl<T: Drop> List<T> {
 }
 
 impl<T: Duplicate> List<T> {
+    /// Adds copies of an item at the end until there are so many items. Where there is no memory for all,
+    /// some of them were added.
+    #[tactic(auto, using(crate::proofs::Filling::fill_more, crate::proofs::Filling::fill_done))]
+    pub fn fill(&mut self, alloc: Global, item: &T, count: usize) -> Result<(), AllocError>
+        ensures { OnOk result (self.new ≡ self.old ++ replicate (count - length self.old) item.now) }
+    {
+        while self.len() < count {
+            self.add(item.duplicate(alloc)?)?;
+        }
+        Ok(())
+    }
+
     /// An equal list.
     pub fn copy(&self, alloc: Global) -> Result<List<T>, AllocError>
         ensures { IfOk result (λ copy. copy ≡ self.now) }

@@ -24,3 +24,12 @@ fn numbers_and_pairs_are_copied(rt: HostRuntime) -> Result<(), Fail> {
     assert_eq!(rt; copy.as_slice(), [(Some(7), 8), (None, 9)].as_slice());
     Ok(())
 }
+
+#[test]
+fn a_list_is_filled_up_and_moved(rt: HostRuntime) -> Result<(), Fail> {
+    let mut numbers = List::from_vec([7u32].to_vec(rt.alloc())?);
+    numbers.fill(rt.alloc(), &9, 3)?;
+    numbers.fill(rt.alloc(), &8, 2)?;
+    assert_eq!(rt; numbers.into_vec().as_slice(), [7, 9, 9].as_slice());
+    Ok(())
+}
