@@ -1,5 +1,6 @@
 mod Choosing
 pub mod Fetching
+pub mod Left
 mod Maps
 pub mod Moments
 pub mod Names

@@ -7,9 +7,9 @@ use Rattle.std.proofs.lemmas.List.{take_min, append-nil}
 use Rattle.door_outside.specs.Disk.{Image, Passes, Reached, InFile, Torn, Cut, Says, Same}
 use Rattle.door_outside.specs.declared.event.Event.{Event}
 use Rattle.door_outside.specs.declared.event.Event.TheVariants.{Write, Shorten, Sync, Put, Say}
-use Rattle.door_outside.specs.Events.{read, spoken, Left, Within}
-use Rattle.door_outside.specs.Left.{since_now, only_now, here, there, torn_written}
-use Rattle.door_outside.specs.MemoryHost.{Hosted, Recorded, disk_of, told}
+use Rattle.door_outside.specs.Events.{read, Left, Within}
+use Rattle.door_outside.proofs.Left.{here, there, told_since, torn_written}
+use Rattle.door_outside.specs.MemoryHost.{Hosted, Recorded, disk_of, only_now, shown, since_now, told}
 
 -- a call that adds an event
 passes : (during after : Image → Image → Type 0) (event : Event) (past : List Event) (w w' : ℕ)
@@ -18,13 +18,13 @@ passes : (during after : Image → Image → Type 0) (event : Event) (past : Lis
     → Passes during after (told past w) (told (event ∷ past) w')
 passes during after event past w w' ends goes = record {
   later = omega arith;
-  now = λ image left. let from = ends image (only_now (event ∷ past) image left) in (from.0, since_now (length past) past from.0 from.1, from.2);
-  since = λ t image le left. ⊎_elim (λ now. inr (back image (inl now))) (λ earlier. ⊎_elim (λ within. inr (back image (inr within))) (λ before. inl before) earlier.1) left;
-  keeps = λ t image le left. inr (le, inr left);
+  now = λ image left. let from = ends image (only_now (event ∷ past) image (told_since (length (event ∷ past)) (event ∷ past) image left)) in (from.0, inl (since_now (length past) past from.0 from.1), from.2);
+  since = λ t image le left. ⊎_elim (λ now. inr (back image (inl now))) (λ earlier. ⊎_elim (λ within. inr (back image (inr within))) (λ before. inl (inl before)) earlier.1) (told_since t (event ∷ past) image left);
+  keeps = λ t image le left. inl (inr (le, inr (told_since t past image left)));
 }
   where
     back : (image : Image) → Left (event ∷ past) image ⊎ Within event past image → Reached during (told past w) image
-    back image left = let from = goes image left in (from.0, since_now (length past) past from.0 from.1, from.2)
+    back image left = let from = goes image left in (from.0, inl (since_now (length past) past from.0 from.1), from.2)
 
 -- a call that changes nothing
 passes_none : (step : Image → Image → Type 0) (past : List Event) (w w' : ℕ) → ((image : Image) → step image image) → Passes step step (told past w) (told past w')
@@ -92,9 +92,6 @@ put_crash (Ok x) to made bytes old new same is = subst (λ (h : Hosted). Passes 
 put_crash (Err e) to made bytes old new same is = tt
 
 -- and what the disk reads as then
-abbrev shown : List Event → Image
-shown events = record { files = read events; said = spoken events }
-
 pub write_torn : {E : Type 0} (result : Result (Unit {0}) E) (to at : ℕ) (bytes : List ℕ) (past now : List Event) → Recorded (Write to at bytes) past now result
     → InFile to (Torn at (length bytes)) (shown past) (shown now)
 write_torn (Ok x) to at bytes past now is = subst (λ (es : List Event). InFile to (Torn at (length bytes)) (shown past) (shown es)) (sym is) (record {

@@ -10,7 +10,7 @@ use Rattle.door_outside.specs.Images.{Takes}
 use Rattle.door_outside.specs.declared.event.Event.{Event}
 use Rattle.door_outside.specs.declared.event.Event.TheVariants.{Write, Shorten, Sync, Put, Say}
 use Rattle.door_outside.specs.Events.{changed, read, synced, synced_after, spoken, Left, AreShort, IsShort}
-use Rattle.door_outside.specs.Left.{torn_written, cut_taken}
+use Rattle.door_outside.proofs.Left.{torn_written, cut_taken}
 
 -- the files with other bytes in one of them
 abbrev with_file : ℕ → List ℕ → (ℕ → List ℕ) → ℕ → List ℕ

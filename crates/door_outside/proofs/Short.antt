@@ -5,7 +5,7 @@ use Rattle.door_outside.specs.Disk.{Image, InFile}
 use Rattle.door_outside.specs.declared.event.Event.{Event}
 use Rattle.door_outside.specs.declared.event.Event.TheVariants.{Write, Shorten, Sync, Put, Say}
 use Rattle.door_outside.specs.Events.{read, spoken, Left, AreShort}
-use Rattle.door_outside.specs.Left.{left_reads}
+use Rattle.door_outside.proofs.Left.{left_reads}
 
 -- a step that changes one file
 one_file : (to : ℕ) (step : List ℕ → List ℕ → Type 0) (before image : Image) → InFile to step before image

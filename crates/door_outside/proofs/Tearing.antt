@@ -5,7 +5,7 @@ use Rattle.std.proofs.lemmas.List.{take-take, take_min, drop-drop}
 use Rattle.door_outside.specs.Contents.{content, Sets}
 use Rattle.door_outside.specs.Disk.{Torn, Cut}
 use Rattle.door_outside.specs.Images.{OneFile}
-use Rattle.door_outside.specs.Left.{here, there}
+use Rattle.door_outside.proofs.Left.{here, there}
 
 -- a part of a range that was torn
 pub torn_wider : (at n place m : ℕ) (old new : List ℕ) → at ≤ place → place + m ≤ at + n → Torn place m old new → Torn at n old new

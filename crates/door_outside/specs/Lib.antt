@@ -2,8 +2,8 @@ pub mod Cause
 pub mod Contents
 pub mod Disk
 pub mod Events
+pub mod File
 pub mod Images
-pub mod Left
 pub mod MemoryHost
 pub mod MemoryShelf
 pub mod Name

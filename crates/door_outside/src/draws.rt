@@ -36,4 +36,14 @@ impl Draws {
         self.state = next as u32;
         (self.state / 65_536) as usize % count
     }
+
+    /// A place below `count`, by two draws, since one alone is below 65,536.
+    pub(crate) fn place(&mut self, count: usize) -> usize
+        requires { 0 < count }
+        ensures { result < count }
+    {
+        let high = self.below(65_536);
+        let low = self.below(65_536);
+        (high * 65_536 + low) % count
+    }
 }

@@ -1,4 +1,4 @@
-ghost use Rattle.std.specs.Prelude.{◌≡◌, ℕ, ◌<◌, ◌≤◌, ◌^◌, IfOk, IsErrOf, IsTrue};
+ghost use Rattle.std.specs.Prelude.{◌≡◌, ℕ, ◌<◌, ◌≤◌, ◌^◌, length, IfOk, OnOk, IsErrOf, IsTrue};
 ghost use Rattle.door_outside.specs.Cause.{Rose};
 ghost use Rattle.door_outside.specs.Shelf.{held, fetched, FetchedWithin};
 
@@ -56,7 +56,42 @@ impl From<AllocError> for FetchError {
     }
 }
 
+/// The whole file of that name, where it has at most `max` bytes, read by pieces into the room.
+fn fetch_by<S: Shelf>(
+    alloc: Global,
+    shelf: &mut S,
+    name: &ShelfName,
+    max: u32,
+    room: &mut [u8],
+) -> Result<Fetched, FetchError>
+    requires max { max < 2 ^ 31 }
+    requires room { 0 < length room.old }
+    ensures value { IsTrue S.tells → IfOk result (λ found. found ≡ fetched max (held (S.files shelf.old) name.now)) }
+    ensures within { IfOk result (λ found. FetchedWithin max found) }
+    ensures unchanged { IsTrue S.tells → S.files shelf.new ≡ S.files shelf.old }
+    ensures later { S.faults shelf.old ≤ S.faults shelf.new }
+    ensures cause { IsErrOf result FetchError.ShelfFault → Rose (S.faults shelf.old) (S.faults shelf.new) }
+    ensures kept { OnOk result (S.faults shelf.new ≡ S.faults shelf.old) }
+    ensures starved { IsErrOf result FetchError.OutOfMemory → S.faults shelf.new ≡ S.faults shelf.old }
+{
+    let most = max as usize;
+    let mut whole = Bytes::new(alloc);
+    while whole.as_slice().len() <= most {
+        let at = whole.as_slice().len();
+        let wanted = (most + 1 - at).min(room.len());
+        match shelf.piece(name, at as u32, &mut room[..wanted])? {
+            Piece::Missing => return Ok(Fetched::Missing),
+            Piece::Count(0) => return Ok(Fetched::Whole(whole)),
+            Piece::Count(count) => whole.add(&room[..count])?,
+        }
+    }
+    Ok(Fetched::TooLarge)
+}
+
 /// The whole file of that name, where it has at most `max` bytes. It asks for `max` + 1 bytes at most.
+///
+/// `ShelfFault` comes only where the shelf's count of faults rose. `OutOfMemory` comes where there is no
+/// memory for the file. It hides no fault: it leaves the count as it was, as an answer does.
 pub fn fetch_whole<S: Shelf>(
     alloc: Global,
     shelf: &mut S,
@@ -69,18 +104,10 @@ pub fn fetch_whole<S: Shelf>(
     ensures unchanged { IsTrue S.tells → S.files shelf.new ≡ S.files shelf.old }
     ensures later { S.faults shelf.old ≤ S.faults shelf.new }
     ensures cause { IsErrOf result FetchError.ShelfFault → Rose (S.faults shelf.old) (S.faults shelf.new) }
+    ensures kept { OnOk result (S.faults shelf.new ≡ S.faults shelf.old) }
+    ensures starved { IsErrOf result FetchError.OutOfMemory → S.faults shelf.new ≡ S.faults shelf.old }
 {
-    let most = max as usize;
-    let mut whole = Bytes::new(alloc);
-    let mut room = [0u8; PIECE];
-    while whole.as_slice().len() <= most {
-        let at = whole.as_slice().len();
-        let wanted = (most + 1 - at).min(PIECE);
-        match shelf.piece(name, at as u32, &mut room[..wanted])? {
-            Piece::Missing => return Ok(Fetched::Missing),
-            Piece::Count(0) => return Ok(Fetched::Whole(whole)),
-            Piece::Count(count) => whole.add(&room[..count])?,
-        }
-    }
-    Ok(Fetched::TooLarge)
+    // On the heap, since a stack may be small.
+    let mut room = vec![in alloc; 0u8; PIECE]?;
+    fetch_by(alloc, shelf, name, max, &mut room)
 }

@@ -28,7 +28,7 @@ mod tests;
 pub use byte_lists::{Bytes, Duplicate, Lines, List};
 pub use fault::{DiskFault, ShelfFault, VoiceFault};
 pub use fetch::{FetchError, Fetched, fetch_whole};
-pub use file::FileId;
+pub use file::{FILE_COUNT, FileId};
 pub use host::Host;
 pub use image::ImageChoice;
 pub use memory_host::MemoryHost;

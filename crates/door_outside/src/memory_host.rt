@@ -116,6 +116,13 @@ impl MemoryHost {
         self.said.as_slice()
     }
 
+    /// How many bytes were given to writes, or 18,446,744,073,709,551,615 where they are more.
+    pub fn wrote(&self) -> u64
+        ensures { result ≡ self.now.wrote }
+    {
+        self.wrote
+    }
+
     /// How many calls failed because there was no memory.
     pub fn starved(&self) -> u64
         ensures { result ≡ self.now.counts.starved }

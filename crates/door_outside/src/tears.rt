@@ -26,9 +26,9 @@ fn tear_write(
         0 => Ok(()),
         1 => image.write(file, at, bytes),
         _ => {
-            let from = draws.below(bytes.len() + 1);
+            let from = draws.place(bytes.len() + 1);
             let rest = &bytes[from..];
-            let count = draws.below(rest.len() + 1);
+            let count = draws.place(rest.len() + 1);
             image.write(file, at + from as u32, &rest[..count])
         }
     }
@@ -43,8 +43,9 @@ fn tear_cut(image: &mut Contents, draws: &mut Draws, file: FileId, len: u32)
         1 => image.cut(file, len),
         _ => {
             let spare = image.get(file).len().saturating_sub(len as usize);
-            let kept = draws.below(spare.saturating_add(1));
-            image.cut(file, len.saturating_add(kept as u32));
+            let kept = draws.place(spare.saturating_add(1));
+            let kept = u32::try_from(kept).unwrap_or(u32::MAX);
+            image.cut(file, len.saturating_add(kept));
         }
     }
 }

@@ -1,5 +1,5 @@
--- What a crash may leave after some events.
-use Rattle.std.proofs.Common.{◌≡◌, ◌≢◌, ℕ, ◌+◌, ◌-◌, List, [], ◌∷◌, ◌++◌, length, take, drop, refl, ◌∙◌, ap, arith, inl, inr, length-append, length-take, length-drop, append_assoc}
+-- That what a crash may leave after some events is what a disk asks: the disk as it reads is an image, and what was said stays said.
+use Rattle.std.proofs.Common.{◌≡◌, ◌≢◌, ◌⊎◌, ℕ, ◌+◌, ◌-◌, List, [], ◌∷◌, ◌++◌, length, take, drop, refl, sym, ◌∙◌, ap, subst, ⊎_elim, arith, length-append, length-take, length-drop, append_assoc}
 use Rattle.std.specs.Prelude.{◌==◌, if◌then◌else◌, min, replicate}
 use Rattle.std.proofs.lemmas.List.{take_at, drop_at, take-take, take_min, length-replicate}
 use Rattle.std.proofs.lemmas.Bool.{eq-eqb, ne_eqb, cond-true, cond-false}
@@ -7,6 +7,7 @@ use Rattle.door_outside.specs.Disk.{Image, Torn, Cut, written}
 use Rattle.door_outside.specs.declared.event.Event.{Event}
 use Rattle.door_outside.specs.declared.event.Event.TheVariants.{Write, Shorten, Sync, Put, Say}
 use Rattle.door_outside.specs.Events.{read, spoken, Left, Since}
+use Rattle.door_outside.specs.MemoryHost.{shown, since_now}
 
 -- a write that was done is one that a crash may leave
 pub torn_written : (old bytes : List ℕ) (at : ℕ) → Torn at (length bytes) old (written old at bytes)
@@ -74,21 +75,6 @@ left_reads (Put to bytes ∷ past) = (
 )
 left_reads (Say bytes ∷ past) = (record { files = read past; said = spoken past }, left_reads past, refl, refl)
 
--- what was said stays said
-pub left_stays : (events : List Event) (image : Image) → Left events image → image.said ≡ spoken events
-left_stays [] image left = left.1
-left_stays (Write to at bytes ∷ past) image left = left.2.said ∙ left_stays past left.0 left.1
-left_stays (Shorten to len ∷ past) image left = left.2.said ∙ left_stays past left.0 left.1
-left_stays (Sync to ∷ past) image left = left_stays past image left.0
-left_stays (Put to bytes ∷ past) image left = left.2.said ∙ left_stays past left.0 left.1
-left_stays (Say bytes ∷ past) image left = left.3 ∙ ap (λ (l : List ℕ). l ++ bytes) (left_stays past left.0 left.1)
-
--- now there is no other moment
-pub only_now : (events : List Event) (image : Image) → Since (length events) events image → Left events image
-only_now [] image left = left
-only_now (event ∷ past) image (inl now) = now
-only_now (event ∷ past) image (inr earlier) = absurd (omega (arith, earlier.0))
-
-pub since_now : (t : ℕ) (events : List Event) (image : Image) → Left events image → Since t events image
-since_now t [] image left = left
-since_now t (event ∷ past) image left = inl left
+-- what a host in memory tells of an image is what its events left
+pub told_since : (t : ℕ) (events : List Event) (image : Image) → Since t events image ⊎ (image ≡ shown events) → Since t events image
+told_since t events image left = ⊎_elim (λ since. since) (λ is. subst (Since t events) (sym is) (since_now t events (shown events) (left_reads events))) left
