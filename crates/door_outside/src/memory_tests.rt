@@ -80,10 +80,8 @@ fn host(alloc: Global) -> Result<MemoryHost, AllocError> {
 }
 
 /// The ledger and the journal.
-fn two_files() -> Result<(FileId, FileId), Fail> {
-    let ledger = FileId::new(0).ok_or("no file")?;
-    let journal = FileId::new(1).ok_or("no file")?;
-    Ok((ledger, journal))
+fn two_files() -> (FileId, FileId) {
+    (FileId::ledger(), FileId::journal())
 }
 
 // The calls of a host without their clauses, so that what a test says rests on what it runs alone.
@@ -144,7 +142,7 @@ fn reads(
 
 #[test]
 fn a_host_reads_back_what_was_written(rt: HostRuntime) -> Result<(), Fail> {
-    let (ledger, journal) = two_files()?;
+    let (ledger, journal) = two_files();
     let mut host = host(rt.alloc())?;
     write(&mut host, ledger, 2, b"abcdef")?;
     write(&mut host, ledger, 4, b"UVWXYZ")?;
@@ -159,7 +157,7 @@ fn a_host_reads_back_what_was_written(rt: HostRuntime) -> Result<(), Fail> {
 
 #[test]
 fn a_read_ends_with_the_file(rt: HostRuntime) -> Result<(), Fail> {
-    let (ledger, _) = two_files()?;
+    let (ledger, _) = two_files();
     let mut host = host(rt.alloc())?;
     write(&mut host, ledger, 3, b"UVWXYZ")?;
     assert!(rt; reads(&mut host, ledger, 2, 4, b"\0UVW")?);
@@ -170,7 +168,7 @@ fn a_read_ends_with_the_file(rt: HostRuntime) -> Result<(), Fail> {
 
 #[test]
 fn calls_of_a_host_fail_by_plan(rt: HostRuntime) -> Result<(), Fail> {
-    let (ledger, _) = two_files()?;
+    let (ledger, _) = two_files();
     let plan = plan(rt.alloc(), &[1, 3], Some(5))?;
     let mut host = MemoryHost::new(rt.alloc(), plan);
     assert!(rt; say(&mut host, b"lost").is_err());
@@ -186,7 +184,7 @@ fn calls_of_a_host_fail_by_plan(rt: HostRuntime) -> Result<(), Fail> {
 
 /// A host with a write and a cut that weren't synced.
 fn history(alloc: Global) -> Result<MemoryHost, Fail> {
-    let (ledger, journal) = two_files()?;
+    let (ledger, journal) = two_files();
     let mut host = host(alloc)?;
     host.put(journal, b"put")?;
     write(&mut host, ledger, 0, b"synced")?;
@@ -199,7 +197,7 @@ fn history(alloc: Global) -> Result<MemoryHost, Fail> {
 
 #[test]
 fn a_crash_leaves_what_was_synced_or_what_was_written(rt: HostRuntime) -> Result<(), Fail> {
-    let (ledger, journal) = two_files()?;
+    let (ledger, journal) = two_files();
     let host = history(rt.alloc())?;
     let synced = crashed(rt.alloc(), &host, ImageChoice::Synced)?;
     assert!(rt; holds(&synced, ledger, b"synced"));
@@ -222,7 +220,7 @@ fn is_image(host: &MemoryHost, ledger: FileId, journal: FileId) -> bool {
 
 #[test]
 fn a_mixed_image_keeps_the_bytes_that_no_call_touched(rt: HostRuntime) -> Result<(), Fail> {
-    let (ledger, journal) = two_files()?;
+    let (ledger, journal) = two_files();
     let host = history(rt.alloc())?;
     for seed in 0..20 {
         let mixed = crashed(rt.alloc(), &host, ImageChoice::Mixed(seed))?;
@@ -231,9 +229,50 @@ fn a_mixed_image_keeps_the_bytes_that_no_call_touched(rt: HostRuntime) -> Result
     Ok(())
 }
 
+/// How many bytes a long file has: more than one draw reaches.
+const LONG: usize = 200_000;
+
+/// A host whose ledger is all `a` on the disk, and all `b` as it reads.
+fn overwritten(alloc: Global) -> Result<MemoryHost, Fail> {
+    let mut host = host(alloc)?;
+    let old = vec![in alloc; b'a'; LONG]?;
+    host.put(FileId::ledger(), &old)?;
+    let new = vec![in alloc; b'b'; LONG]?;
+    host.write_at(FileId::ledger(), 0, &new)?;
+    Ok(host)
+}
+
+/// The place of the first byte of the ledger that a crash left written, where some were and some weren't.
+fn torn_from(host: &MemoryHost) -> Option<usize> {
+    let bytes = host.file(FileId::ledger());
+    if bytes.iter().all(|b| *b == b'b') {
+        return None;
+    }
+    bytes.iter().position(|b| *b == b'b')
+}
+
+#[test]
+fn a_mixed_image_is_torn_anywhere_in_a_file(rt: HostRuntime) -> Result<(), Fail> {
+    let host = overwritten(rt.alloc())?;
+    let mut early = false;
+    let mut late = false;
+    for seed in 0..20 {
+        let mixed = crashed(rt.alloc(), &host, ImageChoice::Mixed(seed))?;
+        match torn_from(&mixed) {
+            Some(from) if from <= 65_536 => early = true,
+            Some(_) => late = true,
+            None => {}
+        }
+    }
+    assert!(rt; early);
+    assert!(rt; late);
+    assert_eq!(rt; host.wrote(), LONG as u64);
+    Ok(())
+}
+
 #[test]
 fn a_host_takes_many_appends(rt: HostRuntime) -> Result<(), Fail> {
-    let (_, journal) = two_files()?;
+    let (_, journal) = two_files();
     let mut host = host(rt.alloc())?;
     for turn in 0u16..10_000 {
         write(&mut host, journal, turn * 6, b"record")?;

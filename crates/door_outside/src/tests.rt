@@ -41,4 +41,16 @@ fn a_name_is_joined_to_its_folder(rt: HostRuntime) -> Result<(), Fail> {
 fn there_are_258_files(rt: HostRuntime) {
     assert_eq!(rt; FileId::new(257).map(|file| file.number()), Some(257));
     assert!(rt; FileId::new(258).is_none());
+    assert_eq!(rt;
+        (FileId::ledger().number(), FileId::journal().number()),
+        (0, 1)
+    );
+    assert_eq!(rt;
+        (FileId::jhr(0).number(), FileId::jdt(63).number()),
+        (2, 255)
+    );
+    assert_eq!(rt;
+        (FileId::jdx(63).number(), FileId::jlr(63).number()),
+        (256, 257)
+    );
 }
