@@ -1,6 +1,6 @@
 -- The lines of a text, one at a time.
 use Rattle.std.proofs.Common.{◌≡◌, ◌≢◌, ℕ, ◌-◌, ◌<◌, Bool, true, false, cond, eqb, List, [], ◌∷◌, ◌++◌, length, length-append, get_or, take, refl, sym, ap, ◌∙◌, arith, append_assoc, eq-eqb, ne_eqb}
-use Rattle.std.proofs.lemmas.List.{nil_from_length, append-nil, get_or_push, take_at}
+use Rattle.std.proofs.lemmas.List.{append-nil, get_or_push, take_at}
 use Rattle.std.proofs.lemmas.List.Elements.{All-head, All-tail, All-push}
 use Rattle.std.proofs.lemmas.List.Splits.{slice_split_at, slice_split_none}
 use Rattle.std.proofs.lemmas.Bool.Decides.{nat_tests}
@@ -36,19 +36,22 @@ last_line xs some h =
 no_feed : (xs : List ℕ) → Lacks 10 xs → All (λ b. eqb b 10 ≡ false) xs
 no_feed xs h i d lt = ne_eqb _ 10 (h i d lt)
 
--- one line more
-pub goes_on : (text rest line after : List ℕ) (all new : List (List ℕ)) → lines text ≡ all ++ lines rest → SplitsAt 10 rest line after
-    → new ≡ all ++ strip_carriage_return line ∷ [] → lines text ≡ new ++ lines after
-goes_on text rest line after all new so_far split e =
-    so_far ∙ (ap (λ zs. all ++ zs) (ap lines split.whole ∙ first_line line after (no_feed line split.first))
-    ∙ (sym (append_assoc all (strip_carriage_return line ∷ []) (lines after)) ∙ ap (λ zs. zs ++ lines after) (sym e)))
+-- the line before the first line feed
+pub line_first : (text line rest : List ℕ) → SplitsAt 10 text line rest → lines text ≡ strip_carriage_return line ∷ lines rest
+line_first text line rest split = ap lines split.whole ∙ first_line line rest (no_feed line split.first)
 
 -- the line without a line feed
-pub last_is : (text rest : List ℕ) (all new : List (List ℕ)) → lines text ≡ all ++ lines rest → 0 < length rest → Lacks 10 rest → new ≡ all ++ rest ∷ [] → new ≡ lines text
-last_is text rest all new so_far some clear e = e ∙ sym (so_far ∙ ap (λ zs. all ++ zs) (last_line rest some (no_feed rest clear)))
+pub line_last : (text : List ℕ) → 0 < length text → Lacks 10 text → lines text ≡ text ∷ []
+line_last text some clear = last_line text some (no_feed text clear)
 
-pub none_is_left : (text rest : List ℕ) (all : List (List ℕ)) → lines text ≡ all ++ lines rest → length rest ≡ 0 → all ≡ lines text
-none_is_left text rest all so_far none = sym (so_far ∙ (ap (λ xs. all ++ lines xs) (nil_from_length rest none) ∙ append-nil all))
+-- one line more
+pub goes_on : (text rest line after : List ℕ) (all new : List (List ℕ)) → lines text ≡ all ++ lines rest → lines rest ≡ line ∷ lines after
+    → new ≡ all ++ line ∷ [] → lines text ≡ new ++ lines after
+goes_on text rest line after all new so_far next e =
+    so_far ∙ (ap (λ zs. all ++ zs) next ∙ (sym (append_assoc all (line ∷ []) (lines after)) ∙ ap (λ zs. zs ++ lines after) (sym e)))
+
+pub none_is_left : (text rest : List ℕ) (all : List (List ℕ)) → lines text ≡ all ++ lines rest → lines rest ≡ [] → all ≡ lines text
+none_is_left text rest all so_far none = sym (so_far ∙ (ap (λ zs. all ++ zs) none ∙ append-nil all))
 
 -- a carriage return at the end is dropped
 strip_push : (xs : List ℕ) → strip_carriage_return (xs ++ 13 ∷ []) ≡ xs

@@ -1,4 +1,4 @@
-ghost use Rattle.std.specs.Prelude.{◌≡◌, ◌++◌, IfOk, OnOk};
+ghost use Rattle.std.specs.Prelude.{◌≡◌, [], ◌∷◌, ◌++◌, MatchOption, IfOk, OnOk};
 ghost use Rattle.std.specs.Str.Lines.{lines, strip_carriage_return};
 ghost use Rattle.text_fields.specs.Lines.{ended};
 
@@ -16,21 +16,31 @@ fn without_return(line: &[u8]) -> &[u8]
     }
 }
 
-/// The lines of a text. A line ends at LF, and one CR before the LF is dropped. What follows the last
-/// LF is one more line where it isn't empty, with a CR at its end if it has one.
+/// The first line of a text, without its end, and what stands behind it; or None where the text is
+/// empty. A line ends at LF, and one CR before the LF is dropped. What follows the last LF is one more
+/// line where it isn't empty, with a CR at its end if it has one.
+pub fn next_line(text: &[u8]) -> Option<(&[u8], &[u8])>
+    ensures { MatchOption result (lines text.now ≡ []) (λ parts. lines text.now ≡ parts.0.now ∷ lines parts.1.now) }
+{
+    if text.is_empty() {
+        return None;
+    }
+    match split_at_byte(text, b'\n') {
+        Some((line, rest)) => Some((without_return(line), rest)),
+        None => Some((text, b"")),
+    }
+}
+
+/// The lines of a text, as `next_line` takes them.
 pub fn lines_of(alloc: Global, text: &[u8]) -> Result<Lines, AllocError>
     ensures { IfOk result (λ all. all ≡ lines text.now) }
 {
     let mut all = Lines::new(alloc);
     let mut rest = text;
-    while let Some((line, after)) = split_at_byte(rest, b'\n') {
-        all.add(Bytes::from_slice(alloc, without_return(line))?)?;
+    while let Some((line, after)) = next_line(rest) {
+        all.add(Bytes::from_slice(alloc, line)?)?;
         rest = after;
     }
-    if rest.is_empty() {
-        return Ok(all);
-    }
-    all.add(Bytes::from_slice(alloc, rest)?)?;
     Ok(all)
 }
 

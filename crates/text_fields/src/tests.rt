@@ -1,7 +1,7 @@
 //! Fields and texts from worked examples.
 use crate::{
-    Blank, add_decimal, add_line, digits_of, lines_of, number_of, split_at_byte, trimmed,
-    trimmed_end,
+    Blank, add_decimal, add_line, digits_of, lines_of, next_line, number_of, split_at_byte,
+    trimmed, trimmed_end,
 };
 use byte_lists::Bytes;
 use std::process::Abort;
@@ -53,6 +53,17 @@ fn splits_at_the_first_byte(rt: HostRuntime) -> Result<(), Fail> {
     assert_eq!(rt; front, b"12345".as_slice());
     assert_eq!(rt; rest, b"TEST,BBS".as_slice());
     assert!(rt; split_at_byte(b"12345", b',').is_none());
+    Ok(())
+}
+
+#[test]
+fn takes_the_first_line(rt: HostRuntime) -> Result<(), Fail> {
+    let (line, rest) = next_line(b"one\r\ntwo\r").ok_or("no line")?;
+    assert_eq!(rt; line, b"one".as_slice());
+    assert_eq!(rt; rest, b"two\r".as_slice());
+    let (line, rest) = next_line(rest).ok_or("no last line")?;
+    assert_eq!(rt; line, b"two\r".as_slice());
+    assert!(rt; next_line(rest).is_none());
     Ok(())
 }
 

@@ -6,4 +6,4 @@ abbrev pub invariant-loop-line : goal.invariant-loop-line
 invariant-loop-line l = lines l.text ≡ l.all ++ lines l.rest
 
 abbrev pub decreases-loop-line : goal.decreases-loop-line
-decreases-loop-line l = length l.rest
+decreases-loop-line l = length (lines l.rest)
