@@ -1,5 +1,5 @@
 -- The first line of CONTROL.DAT that breaks its rule.
-use Rattle.std.specs.Prelude.{◌≡◌, ◌⊎◌, ℕ, ◌+◌, ◌*◌, ◌<◌, ◌≤◌, List, Some, length, Result, Err}
+use Rattle.std.specs.Prelude.{◌≡◌, ◌⊎◌, ℕ, ◌+◌, ◌*◌, ◌<◌, ◌≤◌, List, Some, length, drop, Result, Err}
 use Rattle.std.specs.Str.Lines.{lines}
 use Rattle.qwk_control.specs.Line.{line, PlaceLine, IdLine}
 use Rattle.qwk_control.specs.declared.fault.ControlError.{ControlError}
@@ -42,11 +42,14 @@ KeepsUpto all n = (j : ℕ) → 1 ≤ j → j ≤ n → Keeps all j
 abbrev pub BreaksUpto : List (List ℕ) → ℕ → ControlError → Type 0
 BreaksUpto all n fault = (k : ℕ) × (1 ≤ k) × (k ≤ n) × ((j : ℕ) → 1 ≤ j → j < k → Keeps all j) × Breaks all k fault
 
--- each line that must be there keeps its rule, and line 11 is n
-pub record LinesKept (all : List (List ℕ)) (n : ℕ) : Type 0 where
-  pub keeps : KeepsUpto all (13 + 2 * n)
-  pub last : (text : List ℕ) → line all 11 ≡ Some text → PlaceLine text n
-  pub within : 11 ≤ length all
+-- the first lines keep their rules, and these follow them
+pub record Reached (all : List (List ℕ)) (k : ℕ) (rest : List (List ℕ)) : Type 0 where
+  pub keeps : KeepsUpto all k
+  pub left : drop k all ≡ rest
+
+-- where so many lines keep their rules and these follow, the first fault is this one, and among the first lines
+abbrev pub FirstFault : ℕ → List (List ℕ) → ℕ → ControlError → Type 0
+FirstFault before rest upto fault = (all : List (List ℕ)) → Reached all before rest → BreaksUpto all upto fault
 
 -- want of memory, or a fault of which P holds
 abbrev pub MemoryOr : (ControlError → Type 0) → ControlError → Type 0

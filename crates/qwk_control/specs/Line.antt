@@ -1,5 +1,6 @@
 -- What single lines of CONTROL.DAT say. Lines count from 1.
-use Rattle.std.specs.Prelude.{ℕ, ◌-◌, ◌≤◌, List, [], Option, length, slice_get, unwrap_or, All}
+use Rattle.std.specs.Prelude.{ℕ, ◌-◌, ◌≤◌, List, [], Option, length, map, slice_get, unwrap_or, All}
+use Rattle.std.specs.Borrow.{Bor}
 use Rattle.text_fields.specs.Blank.{IsBlank}
 use Rattle.text_fields.specs.Number.{Number}
 use Rattle.text_fields.specs.Split.{SplitsAt}
@@ -12,6 +13,10 @@ line all k = slice_get all (k - 1)
 -- a line that may be missing, and is then empty
 abbrev pub or_empty : List (List ℕ) → ℕ → List ℕ
 or_empty all k = unwrap_or (line all k) []
+
+-- the lines that are borrowed
+abbrev pub texts : List (Bor (List ℕ)) → List (List ℕ)
+texts borrowed = map (λ line. line.now) borrowed
 
 abbrev pub IsSpace : ℕ → Type 0
 IsSpace b = IsBlank Spaces b

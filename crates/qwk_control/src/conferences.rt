@@ -1,46 +1,50 @@
-ghost use Rattle.std.specs.Prelude.{◌≡◌, ◌≤◌, ◌+◌, ◌*◌, Some, length, drop, IfOk};
-ghost use Rattle.qwk_control.specs.Line.{line, or_empty};
+ghost use Rattle.std.specs.Prelude.{◌≡◌, ◌≤◌, ◌+◌, ◌*◌, ℕ, List, ◌∷◌, length, MatchResult};
+ghost use Rattle.std.specs.Str.Lines.{lines};
+ghost use Rattle.qwk_control.specs.Line.{PlaceLine};
 ghost use Rattle.qwk_control.specs.Control.{ConferencesRead};
-ghost use Rattle.qwk_control.specs.Fault.{KeepsUpto};
+ghost use Rattle.qwk_control.specs.Fault.{FirstFault, MemoryOr};
 
 use crate::control::Listed;
-use crate::rules::number_at;
-use byte_lists::{Bytes, Lines};
-use std::alloc::{AllocError, Global};
+use crate::fault::ControlError;
+use crate::lines::wanted_line;
+use crate::number::place_number;
+use byte_lists::Bytes;
+use std::alloc::Global;
 
-/// A copy of a line that is there.
-pub fn copy_line(alloc: Global, all: &Lines, k: usize) -> Result<Bytes, AllocError>
-    requires from { 1 ≤ k }
-    requires within { k ≤ length all.now }
-    ensures { IfOk result (λ bytes. line all.now k ≡ Some bytes) }
+/// The number and the name of the conference in a place, from 0, whose lines begin the text, and what
+/// stands behind them.
+fn conference_of(text: &[u8], place: usize) -> Result<(u16, &[u8], &[u8]), ControlError>
+    requires { place ≤ 65535 }
+    ensures { MatchResult result
+        (λ found. (number : List ℕ) × (lines text.now ≡ number ∷ found.1.now ∷ lines found.2.now) × PlaceLine number found.0)
+        (FirstFault (11 + 2 * place) (lines text.now) (13 + 2 * place)) }
 {
-    match all.get(k - 1) {
-        Some(text) => text.copy(alloc),
-        None => Ok(Bytes::new(alloc)),
-    }
+    let line = 12 + 2 * place;
+    let (first, after) = wanted_line(text, line)?;
+    let Some(number) = place_number(first) else {
+        return Err(ControlError::BadNumber { line: line as u32 });
+    };
+    let (name, rest) = wanted_line(after, line + 1)?;
+    Ok((number, name, rest))
 }
 
-/// A copy of a line, or nothing where it isn't there.
-pub fn copy_or_empty(alloc: Global, all: &Lines, k: usize) -> Result<Bytes, AllocError>
-    requires { 1 ≤ k }
-    ensures { IfOk result (λ bytes. bytes ≡ or_empty all.now k) }
-{
-    match all.get(k - 1) {
-        Some(text) => text.copy(alloc),
-        None => Ok(Bytes::new(alloc)),
-    }
-}
-
-/// The conferences of lines that keep their rules.
-pub fn conferences_of(alloc: Global, all: &Lines, last: u16) -> Result<Listed, AllocError>
-    requires { KeepsUpto all.now (13 + 2 * last) }
-    ensures { IfOk result (λ listed. (length listed ≡ last + 1) × ConferencesRead (drop 11 all.now) listed (drop (13 + 2 * last) all.now)) }
+/// The conferences, whose lines begin the text, and what stands behind them. The last is in this place,
+/// from 0.
+pub fn conferences_of(
+    alloc: Global,
+    text: &[u8],
+    last: u16,
+) -> Result<(Listed, &[u8]), ControlError>
+    ensures { MatchResult result
+        (λ found. (length found.0 ≡ last + 1) × ConferencesRead (lines text.now) found.0 (lines found.1.now))
+        (MemoryOr (FirstFault 11 (lines text.now) (13 + 2 * last))) }
 {
     let mut listed = Listed::new(alloc);
+    let mut rest = text;
     for i in 0..last as usize + 1 {
-        let number = number_at(all, 12 + 2 * i);
-        let name = copy_line(alloc, all, 13 + 2 * i)?;
-        listed.add((number, name))?;
+        let (number, name, after) = conference_of(rest, i)?;
+        listed.add((number, Bytes::from_slice(alloc, name)?))?;
+        rest = after;
     }
-    Ok(listed)
+    Ok((listed, rest))
 }

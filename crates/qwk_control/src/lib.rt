@@ -5,11 +5,12 @@
 mod conferences;
 mod control;
 mod fault;
+mod head;
 mod id;
 pub mod laws;
+mod lines;
 mod number;
 mod read;
-mod rules;
 #[cfg(test)]
 mod tests;
 mod writable;

@@ -1,88 +1,51 @@
-ghost use Rattle.std.specs.Prelude.{◌≡◌, ◌⊎◌, ◌≤◌, ◌<◌, ◌^◌, ℕ, List, Some, Err, length, MatchResult, IfOk};
+ghost use Rattle.std.specs.Prelude.{◌≡◌, ◌⊎◌, Err, Ok, MatchResult, IfOk};
 ghost use Rattle.std.specs.Str.Lines.{lines};
-ghost use Rattle.qwk_control.specs.Line.{line, IdLine};
-ghost use Rattle.qwk_control.specs.Control.{CountReads, LinesRead, ControlReads};
-ghost use Rattle.qwk_control.specs.Fault.{Keeps, LineFault, LinesKept, ControlFault, MemoryOr, UnlessMemory};
+ghost use Rattle.qwk_control.specs.Line.{or_empty};
+ghost use Rattle.qwk_control.specs.Control.{ControlReads};
+ghost use Rattle.qwk_control.specs.Fault.{ControlFault, MemoryOr, UnlessMemory};
 ghost use Rattle.qwk_control.specs.declared.control.Control.{Control};
 ghost use Rattle.qwk_control.specs.declared.fault.ControlError.{ControlError};
 ghost use Rattle.qwk_control.specs.declared.fault.ControlError.TheVariants.{OutOfMemory};
 
-use crate::conferences::{conferences_of, copy_line, copy_or_empty};
-use crate::control::Control;
+use crate::conferences::conferences_of;
+use crate::control::{Control, Listed};
 use crate::fault::ControlError;
-use crate::id::id_of;
-use crate::number::line_number;
-use crate::rules::checked;
-use byte_lists::{Bytes, Lines};
+use crate::head::{BoardLines, PacketLines, board_of, packet_of};
+use crate::lines::line_or_empty;
+use byte_lists::Bytes;
 use std::alloc::{AllocError, Global};
-use text_fields::lines_of;
 
-/// The serial and the board id of line 5.
-fn serial_and_id(alloc: Global, all: &Lines) -> Result<(Bytes, Bytes), AllocError>
-    requires { Keeps all.now 5 }
-    ensures { IfOk result (λ found. (text : List ℕ) → line all.now 5 ≡ Some text → IdLine text found.0 found.1) }
+/// The value of lines that keep their rules. The text is what stands behind those of the conferences.
+fn control_of(
+    alloc: Global,
+    board: &BoardLines<'_>,
+    packet: &PacketLines<'_>,
+    conferences: Listed,
+    text: &[u8],
+) -> Result<Control, AllocError>
+    ensures board { IfOk result (λ control. (control.board ≡ board.now.name.now) × (control.city ≡ board.now.city.now) × (control.phone ≡ board.now.phone.now) × (control.sysop ≡ board.now.sysop.now) × (control.serial ≡ board.now.serial.now) × (control.bbsid ≡ board.now.bbsid.now)) }
+    ensures packet { IfOk result (λ control. (control.stamp ≡ packet.now.stamp.now) × (control.user ≡ packet.now.user.now) × (control.menu ≡ packet.now.menu.now) × (control.count ≡ packet.now.count)) }
+    ensures conferences { IfOk result (λ control. control.conferences ≡ conferences) }
+    ensures files { IfOk result (λ control. (control.welcome ≡ or_empty (lines text.now) 1) × (control.news ≡ or_empty (lines text.now) 2) × (control.goodbye ≡ or_empty (lines text.now) 3)) }
 {
-    let mut serial = Bytes::new(alloc);
-    let mut bbsid = Bytes::new(alloc);
-    let Some(text) = all.get(4) else {
-        return Ok((serial, bbsid));
-    };
-    let Some((front, id)) = id_of(text.as_slice()) else {
-        return Ok((serial, bbsid));
-    };
-    serial.add(front)?;
-    bbsid.add(id)?;
-    Ok((serial, bbsid))
-}
-
-/// The number in line 10, or 0.
-fn count_of(all: &Lines) -> u32
-    ensures { (text : List ℕ) → line all.now 10 ≡ Some text → CountReads text result }
-{
-    let Some(text) = all.get(9) else {
-        return 0;
-    };
-    match line_number(text.as_slice()) {
-        Some(count) => count,
-        None => 0,
-    }
-}
-
-/// The value of lines that keep their rules.
-fn control_of(alloc: Global, all: &Lines, last: u16) -> Result<Control, AllocError>
-    requires kept { LinesKept all.now last }
-    requires within { 11 ≤ length all.now }
-    ensures { IfOk result (LinesRead all.now) }
-{
-    let (serial, bbsid) = serial_and_id(alloc, all)?;
-    let conferences = conferences_of(alloc, all, last)?;
-    let rest = 13 + 2 * last as usize;
-    let board = copy_line(alloc, all, 1)?;
-    let city = copy_line(alloc, all, 2)?;
-    let phone = copy_line(alloc, all, 3)?;
-    let sysop = copy_line(alloc, all, 4)?;
-    let stamp = copy_line(alloc, all, 6)?;
-    let user = copy_line(alloc, all, 7)?;
-    let menu = copy_line(alloc, all, 8)?;
-    let welcome = copy_or_empty(alloc, all, rest + 1)?;
-    let news = copy_or_empty(alloc, all, rest + 2)?;
-    let goodbye = copy_or_empty(alloc, all, rest + 3)?;
-    let count = count_of(all);
+    let (welcome, rest) = line_or_empty(text);
+    let (news, last) = line_or_empty(rest);
+    let (goodbye, _) = line_or_empty(last);
     Ok(Control {
-        board,
-        city,
-        phone,
-        sysop,
-        serial,
-        bbsid,
-        stamp,
-        user,
-        menu,
-        count,
+        board: Bytes::from_slice(alloc, board.name)?,
+        city: Bytes::from_slice(alloc, board.city)?,
+        phone: Bytes::from_slice(alloc, board.phone)?,
+        sysop: Bytes::from_slice(alloc, board.sysop)?,
+        serial: Bytes::from_slice(alloc, board.serial)?,
+        bbsid: Bytes::from_slice(alloc, board.bbsid)?,
+        stamp: Bytes::from_slice(alloc, packet.stamp)?,
+        user: Bytes::from_slice(alloc, packet.user)?,
+        menu: Bytes::from_slice(alloc, packet.menu)?,
+        count: packet.count,
         conferences,
-        welcome,
-        news,
-        goodbye,
+        welcome: Bytes::from_slice(alloc, welcome)?,
+        news: Bytes::from_slice(alloc, news)?,
+        goodbye: Bytes::from_slice(alloc, goodbye)?,
     })
 }
 
@@ -90,13 +53,15 @@ fn control_of(alloc: Global, all: &Lines, last: u16) -> Result<Control, AllocErr
 fn control_in(alloc: Global, bytes: &[u8]) -> Result<Control, ControlError>
     ensures { MatchResult result (ControlReads bytes.now) (MemoryOr (ControlFault bytes.now)) }
 {
-    let all = lines_of(alloc, bytes)?;
-    let last = checked(&all)?;
-    Ok(control_of(alloc, &all, last)?)
+    let (board, behind_board) = board_of(bytes)?;
+    let (packet, behind_packet) = packet_of(behind_board)?;
+    let (conferences, rest) = conferences_of(alloc, behind_packet, packet.last)?;
+    Ok(control_of(alloc, &board, &packet, conferences, rest)?)
 }
 
 /// The value of the bytes of CONTROL.DAT, by Lee's QWK Mail Packet File Layout of 1992, or their first
-/// fault. The answer may be want of memory in place of either.
+/// fault. The answer may be want of memory in place of either. Lines behind the last that counts aren't
+/// looked at.
 pub fn read_control(alloc: Global, bytes: &[u8]) -> Result<Control, ControlError>
     // A value is answered exactly where the bytes read as it, unless memory runs out.
     ensures ok { IfOk result (λ control. ControlReads bytes.now control) }

@@ -1,5 +1,6 @@
 //! Files from worked examples.
 use crate::{Control, ControlError, read_control, write_control};
+use byte_lists::Bytes;
 use std::process::Abort;
 use std::test::Fail;
 
@@ -63,6 +64,16 @@ fn reads_loose_lines(rt: HostRuntime) -> Result<(), Fail> {
     assert_eq!(&rt; control.news.as_slice().len(), 0);
     assert!(&rt; !control.writable());
     Ok(())
+}
+
+#[test]
+fn looks_at_no_line_behind_the_last(rt: HostRuntime) -> Result<(), Fail> {
+    let mut text = Bytes::from_slice(rt.alloc(), EXAMPLE)?;
+    for _ in 0..1_000 {
+        text.add(&[b'\n'; 4_096])?;
+    }
+    let control = read_control(rt.alloc(), text.as_slice())?;
+    assert_example(&rt, &control)
 }
 
 #[test]

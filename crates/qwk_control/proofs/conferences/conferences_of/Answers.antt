@@ -1,14 +1,23 @@
-use Rattle.std.proofs.Common.{◌+◌, ◌*◌, ap, length, arith}
+use Rattle.std.proofs.Common.{◌+◌, ◌*◌, List, ℕ, [], ◌∷◌, ◌++◌, length, sym, ap, ◌∙◌, subst, inr, arith}
 use Rattle.std.proofs.lemmas.List.{length_push}
-use Rattle.qwk_control.proofs.Kept.{kept_within, conference_more}
+use Rattle.std.proofs.lemmas.Result.{err_from_is_err_and}
+use Rattle.std.specs.Str.Lines.{lines}
+use Rattle.qwk_control.specs.Control.{ConferencesRead}
+use Rattle.qwk_control.proofs.Kept.{conference_more, conference_push, within_more}
 use Rattle.qwk_control.proofs.conferences.conferences_of.Goals as goal
 
-pub copy_line-requires-clause-within : goal.copy_line-requires-clause-within
-copy_line-requires-clause-within c = kept_within c.args.all.now (13 + 2 * c.loop-i.i) (omega arith) (c.requires (13 + 2 * c.loop-i.i) (omega arith) (omega arith))
+pub returns-in_err-number : goal.returns-in_err-number
+returns-in_err-number c =
+    let p = err_from_is_err_and c.from_residual.result c.from_residual.ensures.1 in
+    rw (p.1, p.2) (inr (λ all h. within_more all (13 + 2 * c.loop-i.i) (13 + 2 * c.args.last) c.in_err-number.field-0.0 (omega arith) (c.in_err-number.ensures all (c.loop-i.invariant.reached all h))))
 
 pub loop-i-preserved : goal.loop-i-preserved
-loop-i-preserved c = record {
-  count = omega (arith, ap length c.in_ok-add.ensures.ok, length_push c.loop-i.listed (c.number_at-number.result, c.in_ok-name.name), c.loop-i.invariant.count);
-  read = conference_more c.args.all.now c.loop-i.listed c.add.new.self c.loop-i.i c.number_at-number.result c.in_ok-name.name
-      (c.requires (12 + 2 * c.loop-i.i) (omega arith) (omega arith)) c.number_at-number.ensures c.in_ok-name.ensures c.loop-i.invariant.read c.in_ok-add.ensures.ok;
-}
+loop-i-preserved c =
+    let p = c.in_ok-number.ensures in
+    let e = c.in_ok-add.ensures.ok ∙ ap (λ (name : List ℕ). c.loop-i.listed ++ (c.in_ok-number.number, name) ∷ []) c.in_ok-from_slice.ensures in
+    record {
+      count = omega (arith, ap length e, length_push c.loop-i.listed (c.in_ok-number.number, c.in_ok-number.name.now), c.loop-i.invariant.count);
+      read = subst (λ listed. ConferencesRead (lines c.args.text.now) listed (lines c.in_ok-number.after.now)) (sym e)
+          (conference_push (lines c.args.text.now) c.loop-i.listed p.0 c.in_ok-number.name.now (lines c.in_ok-number.after.now) c.in_ok-number.number (subst (ConferencesRead (lines c.args.text.now) c.loop-i.listed) p.1 c.loop-i.invariant.read) p.2);
+      reached = λ all h. conference_more all c.loop-i.i c.in_ok-number.number p.0 c.in_ok-number.name.now (lines c.loop-i.rest.now) (lines c.in_ok-number.after.now) (c.loop-i.invariant.reached all h) p.1 p.2;
+    }
