@@ -5,14 +5,15 @@ use Rattle.door_outside.proofs.Moments.{now_same, now_unchanged, reads_have}
 use Rattle.intent_journal.specs.declared.patch.Patch.{Patch}
 use Rattle.intent_journal.specs.Hosts.{IsFirm, IsSettled, IsCalm}
 use Rattle.intent_journal.specs.Journal.{IsClosed}
-use Rattle.intent_journal.specs.Patches.{Files, data_files}
+use Rattle.intent_journal.specs.Patches.{Files, SameFiles, data_files}
 use Rattle.intent_journal.specs.Recovered.{recovered, Back, OldOrPatched}
-use Rattle.intent_journal.specs.Steps.{JournalKept}
+use Rattle.intent_journal.specs.Steps.{IsSure, JournalKept}
+use Rattle.intent_journal.proofs.DataFiles.{kept_unchanged, recovered_same}
 use Rattle.intent_journal.proofs.Moves.{intent_closed, recovered_by}
 
 -- where nothing is pending, every image is as read
-pub unpending_is_firm : (disk : Disk) → AllNow disk (λ image. image.files ≡ disk.files) → IsFirm disk
-unpending_is_firm disk kept image left = ap recovered (kept image left)
+pub unpending_is_firm : (disk : Disk) → AllNow disk (λ image. SameFiles image.files disk.files) → IsFirm disk
+unpending_is_firm disk kept image left = recovered_same image.files disk.files (kept image left)
 
 pub calm_is_firm : (disk : Disk) → IsCalm disk → IsFirm disk
 calm_is_firm disk calm = unpending_is_firm disk calm.kept
@@ -25,7 +26,7 @@ calm_is_settled disk calm = firm_is_settled disk (calm_is_firm disk calm)
 
 -- the data files of a calm host are the recovered ones
 pub calm_recovers : (disk : Disk) → IsCalm disk → recovered disk.files ≡ data_files disk.files
-calm_recovers disk calm = recovered_by [] disk.files (intent_closed (disk.files 1) calm.closed)
+calm_recovers disk calm = recovered_by [] disk.files (intent_closed disk.files calm.closed)
 
 -- where every image recovers to one outcome, the host is firm
 pub firm_by_outcome : (disk : Disk) (outcome : Files) → AllNow disk (λ image. recovered image.files ≡ outcome) → IsFirm disk
@@ -60,13 +61,25 @@ settled_unchanged old new settled same image left journal =
 pub calm_unchanged : (old new : Disk) → IsCalm old → Unchanged old new → IsCalm new
 calm_unchanged old new calm same = record {
   closed = subst (λ (f : Files). IsClosed (f 1)) (sym same.files) calm.closed;
-  kept = λ image left. now_unchanged same calm.kept image left ∙ sym same.files;
+  kept = kept_unchanged old new calm.kept same;
 }
+
+pub sure_unchanged : (old new : Disk) → IsSure old → Unchanged old new → IsSure new
+sure_unchanged old new sure same = record {
+  firm = firm_unchanged old new sure.firm same;
+  journal = λ image left. now_unchanged same sure.journal image left ∙ ap (λ (f : Files). f 1) (sym same.files);
+}
+
+pub back_unchanged : (old mid : Disk) → Unchanged old mid → (image : Image) → Back mid image → Back old image
+back_unchanged old mid same image back = record { said = back.said ∙ same.said; files = back.files ∙ ap recovered same.files }
+
+pub back_still : (old mid : Disk) → IsFirm old → Unchanged old mid → AllNow mid (Back old)
+back_still old mid firm same image left = record { said = mid.stays image left ∙ same.said; files = now_unchanged same firm image left }
 
 -- every image since the entry of a commit recovers to the old data files or to the patched ones
 pub since_calm : (patches : List Patch) (old new : Disk) → IsCalm old → Between old new (OldOrPatched patches old) → (image : Image) → new.leaves old.clock image → OldOrPatched patches old image
 since_calm patches old new calm run image left = ⊎_elim
-    (λ before. record { said = old.stays image before; files = inl (ap recovered (calm.kept image before) ∙ calm_recovers old calm) })
+    (λ before. record { said = old.stays image before; files = inl (calm_is_firm old calm image before ∙ calm_recovers old calm) })
     (λ in_it. in_it) (run.each old.clock image (omega arith) left)
 
 -- every image since the entry of a recovery of a firm host recovers to one outcome

@@ -2,54 +2,48 @@
 use Rattle.std.proofs.Common.{◌++◌, ◌-◌, take, ◌≡◌, ◌≢◌, ◌⊎◌, inl, inr, ⊎_elim, ℕ, ◌<◌, List, [], ◌∷◌, length, drop, get_or, refl, sym, ◌∙◌, ap, arith}
 use Rattle.std.proofs.lemmas.List.{drop_more}
 use Rattle.std.proofs.lemmas.Bool.{cases_eq, eq-eqb, ne_eqb, cond-true, cond-false}
-use Rattle.std.specs.Prelude.{replicate, Option, Some, unwrap_or, ◌==◌}
+use Rattle.std.specs.Prelude.{true, false, replicate, Option, Some, unwrap_or, ◌==◌, if◌then◌else◌}
 use Rattle.door_outside.specs.Disk.{Disk, Image, AllNow, InFile, Torn, written}
 use Rattle.door_outside.proofs.Moments.{reads_have}
 use Rattle.record_numbers.specs.Numbers.{u32_at}
-use Rattle.intent_journal.proofs.Steps.{Agree, same_files, apply_keeps}
 use Rattle.intent_journal.specs.Hosts.{IsSettled}
-use Rattle.intent_journal.specs.Journal.{body_patches, intent_of, IsClosed}
-use Rattle.intent_journal.specs.Patches.{Files, apply, patched, data_files}
+use Rattle.intent_journal.specs.Journal.{body_patches, open_patches, intent_of, IsClosed}
+use Rattle.intent_journal.specs.Patches.{Files, are_within, patched, data_files}
 use Rattle.intent_journal.specs.Recovered.{recovered}
 use Rattle.intent_journal.specs.Steps.{Quiet}
 use Rattle.intent_journal.specs.declared.patch.Patch.{Patch}
+use Rattle.intent_journal.proofs.DataFiles.{recovered_same}
 
-pub intent_closed : (journal : List ℕ) → IsClosed journal → intent_of journal ≡ []
-intent_closed [] closed = refl
-intent_closed (gate ∷ body) closed =
+pub closed_patches : (journal : List ℕ) → IsClosed journal → open_patches journal ≡ []
+closed_patches [] closed = refl
+closed_patches (gate ∷ body) closed =
     let shut : gate ≢ 79 = λ is. closed (ap (λ (x : ℕ). x ∷ []) is) in
     cond-false (gate == 79) _ _ (ne_eqb gate 79 shut)
 
-pub data_same : (a b : Files) → ((other : ℕ) → other ≢ 1 → a other ≡ b other) → data_files a ≡ data_files b
-data_same a b same = same_files _ _ (λ file. elim (cases_eq file 1) [
-  | inl is ↦ cond-true (file == 1) _ _ (eq-eqb file 1 is) ∙ sym (cond-true (file == 1) _ _ (eq-eqb file 1 is))
-  | inr ne ↦ cond-false (file == 1) _ _ (ne_eqb file 1 ne) ∙ same file ne ∙ sym (cond-false (file == 1) _ _ (ne_eqb file 1 ne))
-])
+-- the intent by the patches behind an open gate
+pub intent_by : (patches : List Patch) (files : Files) → open_patches (files 1) ≡ patches → are_within patches files ≡ true → intent_of files ≡ patches
+intent_by patches files is within = (λ i. if are_within (is i) files then is i else []) ∙ cond-true (are_within patches files) patches [] within
 
-pub all_same : (a b : Files) → a 1 ≡ b 1 → ((other : ℕ) → other ≢ 1 → a other ≡ b other) → a ≡ b
-all_same a b journal others = same_files a b (λ file. elim (cases_eq file 1) [
-  | inl is ↦ ap a is ∙ journal ∙ sym (ap b is)
-  | inr ne ↦ others file ne
-])
+pub intent_past : (patches : List Patch) (files : Files) → open_patches (files 1) ≡ patches → are_within patches files ≡ false → intent_of files ≡ []
+intent_past patches files is past = (λ i. if are_within (is i) files then is i else []) ∙ cond-false (are_within patches files) patches [] past
 
-pub patched_keeps : (patches : List Patch) (file : ℕ) (a b : Files) → Agree file a b → Agree file (patched patches a) (patched patches b)
-patched_keeps [] file a b agree = agree
-patched_keeps (p ∷ patches) file a b agree = patched_keeps patches file (apply p a) (apply p b) (apply_keeps p file a b agree)
+pub intent_none : (files : Files) → open_patches (files 1) ≡ [] → intent_of files ≡ []
+intent_none files is = λ i. if are_within (is i) files then is i else []
 
-pub data_patched : (patches : List Patch) (a b : Files) → ((other : ℕ) → other ≢ 1 → a other ≡ b other) → data_files (patched patches a) ≡ data_files (patched patches b)
-data_patched patches a b same = data_same _ _ (patched_keeps patches 1 a b (record { elsewhere = same })).elsewhere
+pub intent_closed : (files : Files) → IsClosed (files 1) → intent_of files ≡ []
+intent_closed files closed = intent_none files (closed_patches (files 1) closed)
 
-pub recovered_by : (patches : List Patch) (files : Files) → intent_of (files 1) ≡ patches → recovered files ≡ data_files (patched patches files)
+pub recovered_by : (patches : List Patch) (files : Files) → intent_of files ≡ patches → recovered files ≡ data_files (patched patches files)
 recovered_by patches files is = ap (λ (ps : List Patch). data_files (patched ps files)) is
 
 pub quiet_recovers : (old image : Image) → Quiet old image → recovered image.files ≡ data_files old.files
-quiet_recovers old image quiet = recovered_by [] image.files quiet.closed ∙ data_same image.files old.files quiet.others
+quiet_recovers old image quiet = recovered_by [] image.files quiet.closed ∙ quiet.files
 
--- where only the journal differs, the journal decides
-pub settled_by_others : (disk : Disk) (files : Files) → AllNow disk (λ image. (other : ℕ) → other ≢ 1 → image.files other ≡ files other) → IsSettled disk
-settled_by_others disk files all image left journal =
-    let here = reads_have disk (λ image. (other : ℕ) → other ≢ 1 → image.files other ≡ files other) all in
-    ap recovered (all_same image.files disk.files journal (λ other ne. all image left other ne ∙ sym (here other ne)))
+-- where the data files are the same, the journal decides
+pub settled_by_data : (disk : Disk) (files : Files) → AllNow disk (λ image. data_files image.files ≡ data_files files) → IsSettled disk
+settled_by_data disk files all image left journal =
+    let here = reads_have disk (λ image. data_files image.files ≡ data_files files) all in
+    recovered_same image.files disk.files (record { journal = journal; files = all image left ∙ sym here })
 
 pub settled_by_outcome : (disk : Disk) (outcome : Files) → AllNow disk (λ image. recovered image.files ≡ outcome) → IsSettled disk
 settled_by_outcome disk outcome all image left journal = all image left ∙ sym (reads_have disk (λ image. recovered image.files ≡ outcome) all)
@@ -64,18 +58,19 @@ unfolding body_patches u32_at
 body_behind gate [] some = absurd (omega arith)
 body_behind gate (g ∷ body) some = refl
 
-gate_reads : (gate : ℕ) (body : List ℕ) (patches : List Patch) → body_patches (gate ∷ body) ≡ Some patches → (intent_of (gate ∷ body) ≡ []) ⊎ (intent_of (gate ∷ body) ≡ patches)
+gate_reads : (gate : ℕ) (body : List ℕ) (patches : List Patch) → body_patches (gate ∷ body) ≡ Some patches → (open_patches (gate ∷ body) ≡ []) ⊎ (open_patches (gate ∷ body) ≡ patches)
 gate_reads gate body patches is = elim (cases_eq gate 79) [
   | inl open_gate ↦ inr (cond-true (gate == 79) _ _ (eq-eqb gate 79 open_gate) ∙ ap (λ (o : Option (List Patch)). unwrap_or o []) is)
   | inr shut ↦ inl (cond-false (gate == 79) _ _ (ne_eqb gate 79 shut))
 ]
 
 -- the outcome of each image while the gate is written over a whole body: the files, or the patched files
-pub gate_outcome : (patches : List Patch) (before image : Image) → body_patches (before.files 1) ≡ Some patches → 0 < length (before.files 1) → InFile 1 (Torn 0 1) before image
+pub gate_outcome : (patches : List Patch) (before image : Image) → body_patches (before.files 1) ≡ Some patches → 0 < length (before.files 1) → are_within patches image.files ≡ true → InFile 1 (Torn 0 1) before image
     → (recovered image.files ≡ data_files image.files) ⊎ (recovered image.files ≡ data_files (patched patches image.files))
-gate_outcome patches before image body some step =
+gate_outcome patches before image body some within step =
     let torn = gate_torn (before.files 1) (image.files 1) some step.changed in
-    ⊎_elim (λ none. inl (recovered_by [] image.files (ap intent_of torn.1 ∙ none))) (λ some_is. inr (recovered_by patches image.files (ap intent_of torn.1 ∙ some_is)))
+    ⊎_elim (λ none. inl (recovered_by [] image.files (intent_none image.files (ap open_patches torn.1 ∙ none))))
+    (λ some_is. inr (recovered_by patches image.files (intent_by patches image.files (ap open_patches torn.1 ∙ some_is) within)))
     (gate_reads torn.0 (drop 1 (before.files 1)) patches (body_behind torn.0 (before.files 1) some ∙ body))
 
 -- a first byte is written
@@ -87,6 +82,3 @@ pub closed_by : (old new : List ℕ) → new ≡ written old 0 (67 ∷ []) → I
 closed_by old new holds is =
     let journal : new ≡ 67 ∷ drop 1 old = holds ∙ gate_written old 67 in
     absurd (omega (arith, ap (λ (l : List ℕ). get_or l 0 0) (sym (ap (take 1) journal) ∙ is)))
-
-pub from_data : (a b : Files) → data_files a ≡ data_files b → (file : ℕ) → file ≢ 1 → a file ≡ b file
-from_data a b same file ne = sym (cond-false (file == 1) _ _ (ne_eqb file 1 ne)) ∙ ap (λ (f : Files). f file) same ∙ cond-false (file == 1) _ _ (ne_eqb file 1 ne)

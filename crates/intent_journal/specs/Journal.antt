@@ -1,14 +1,20 @@
 -- The text of a journal. Numbers have their lowest byte first.
-use Rattle.std.specs.Prelude.{◌≡◌, ◌≢◌, ℕ, ◌+◌, ◌<◌, ◌≤◌, ◌^◌, Bool, false, not, ◌&&◌, ◌==◌, nat_eq, nat_le, nat_lt, if◌then◌else◌, List, [], ◌∷◌, ◌++◌, length, take, drop, slice_index, get_or, codes, zero, suc, Option, Some, None, unwrap_or, option_and_then, option_map, IsTrue}
-use Rattle.std.specs.List.{starts_with}
+use Rattle.std.specs.Prelude.{◌≡◌, ◌≢◌, ℕ, ◌+◌, ◌<◌, ◌≤◌, ◌^◌, Bool, true, false, not, ◌&&◌, ◌||◌, ◌==◌, nat_eq, nat_le, nat_lt, if◌then◌else◌, List, [], ◌∷◌, ◌++◌, length, take, drop, slice_index, get_or, codes, zero, suc, Option, Some, None, unwrap_or, option_and_then, option_map, IsTrue}
+use Rattle.std.specs.List.{starts_with, list_any}
+use Rattle.door_outside.specs.File.{is_data_file}
 use Rattle.record_numbers.specs.Numbers.{u16_at, u32_at, u16_text, u32_text}
 use Rattle.intent_journal.specs.declared.patch.Patch.{Patch}
-use Rattle.intent_journal.specs.declared.patch.Patch.TheVariants.{Whole}
-use Rattle.intent_journal.specs.Patches.{file_of, bytes_of, is_touched, is_once}
+use Rattle.intent_journal.specs.declared.patch.Patch.TheVariants.{Whole, Put}
+use Rattle.intent_journal.specs.Patches.{Files, file_of, place_of, bytes_of, clash, is_once, is_touched, is_replaced, are_within}
+
+-- the number of its kind
+abbrev pub kind_of : Patch → ℕ
+kind_of (Whole file bytes) = 0
+kind_of (Put file at bytes) = 1
 
 -- a patch: its kind in one byte, its file in two, its place and its length in four each, and its bytes
 abbrev pub patch_text : Patch → List ℕ
-patch_text (Whole file bytes) = 0 ∷ u16_text file ++ u32_text 0 ++ u32_text (length bytes) ++ bytes
+patch_text patch = kind_of patch ∷ u16_text (file_of patch) ++ u32_text (place_of patch) ++ u32_text (length (bytes_of patch)) ++ bytes_of patch
 
 abbrev pub patches_text : List Patch → List ℕ
 patches_text [] = []
@@ -22,15 +28,23 @@ body_text count text = codes "QDJ1" ++ u32_text count ++ u32_text (length text) 
 abbrev pub journal_text : List Patch → List ℕ
 journal_text patches = 79 ∷ body_text (length patches) (patches_text patches)
 
--- whether a text begins with a whole new content of one of the 258 files, but not of the journal
+-- whether a text begins with a patch of a data file
 abbrev pub begins_patch : List ℕ → Bool
 begins_patch text =
-    nat_le (11 + u32_at 7 text) (length text) && slice_index text 0 == 0 && u32_at 3 text == 0 && nat_lt (u32_at 7 text) (2 ^ 31) && nat_lt (u16_at 1 text) 258 && not (u16_at 1 text == 1)
+    nat_le (11 + u32_at 7 text) (length text) && ((slice_index text 0 == 0 && u32_at 3 text == 0) || slice_index text 0 == 1) && nat_lt (u32_at 3 text + u32_at 7 text) (2 ^ 31) && is_data_file (u16_at 1 text)
+
+-- the patch of these parts
+abbrev pub patch_by : Bool → ℕ → ℕ → List ℕ → Patch
+patch_by true file at bytes = Whole file bytes
+patch_by false file at bytes = Put file at bytes
 
 -- the patch at the front of a text, and what follows it
+abbrev pub first_of : List ℕ → Patch × List ℕ
+first_of text = (patch_by (slice_index text 0 == 0) (u16_at 1 text) (u32_at 3 text) (take (u32_at 7 text) (drop 11 text)), drop (11 + u32_at 7 text) text)
+
+-- where there is one
 unfoldable pub front : List ℕ → Option (Patch × List ℕ)
-front text =
-    if begins_patch text then Some (Whole (u16_at 1 text) (take (u32_at 7 text) (drop 11 text)), drop (11 + u32_at 7 text) text) else None
+front text = if begins_patch text then Some (first_of text) else None
 
 -- so many patches, and nothing behind them
 unfoldable pub patches_of : ℕ → List ℕ → Option (List Patch)
@@ -42,7 +56,7 @@ patches_of (suc n) bytes = option_and_then (λ next. option_map (λ patches. nex
 abbrev pub spelled : ℕ → List ℕ → List Patch
 spelled count text = unwrap_or (patches_of count text) []
 
--- where no file has two
+-- where no two of them clash
 abbrev pub are_once : Option (List Patch) → Bool
 are_once None = false
 are_once (Some patches) = is_once patches
@@ -55,15 +69,20 @@ begins_body journal = starts_with nat_eq (drop 1 journal) (codes "QDJ1") && nat_
 abbrev pub text_of : List ℕ → List ℕ
 text_of journal = take (u32_at 9 journal) (drop 13 journal)
 
--- the patches that the body reads as, where it does, behind any gate
+-- the patches that the body spells, where it does, behind any gate
 unfoldable pub body_patches : List ℕ → Option (List Patch)
 body_patches journal =
     if begins_body journal && are_once (patches_of (u32_at 5 journal) (text_of journal)) then patches_of (u32_at 5 journal) (text_of journal) else None
 
--- the intent that a journal holds, or no patches: its gate is open and its body reads
-abbrev pub intent_of : List ℕ → List Patch
-intent_of [] = []
-intent_of (gate ∷ body) = if gate == 79 then unwrap_or (body_patches (gate ∷ body)) [] else []
+-- the patches behind an open gate, or none
+abbrev pub open_patches : List ℕ → List Patch
+open_patches [] = []
+open_patches (gate ∷ body) = if gate == 79 then unwrap_or (body_patches (gate ∷ body)) [] else []
+
+-- the intent that the files hold, or no patches: the journal's gate is open and its body reads, and each Put begins at
+-- most at the end of its file, as these files and the patches before it leave it
+abbrev pub intent_of : Files → List Patch
+intent_of files = if are_within (open_patches (files 1)) files then open_patches (files 1) else []
 
 -- the gate isn't open
 abbrev pub IsClosed : List ℕ → Type 0
@@ -76,13 +95,14 @@ pub record IsSpelled (count : ℕ) (text : List ℕ) : Type 0 where
   pub once : IsTrue (is_once (spelled count text))
   pub short : 13 + length text ≤ 41943040
 
--- a table of the files that have a patch
-abbrev pub Marks : List Bool → List Patch → Type 0
-Marks table patches = (file : ℕ) → file < 258 → get_or table file false ≡ is_touched file patches
+-- tables of the files that have a patch, and of those that have one for all their bytes
+pub record Marks (any whole : List Bool) (patches : List Patch) : Type 0 where
+  pub touched : (file : ℕ) → file < 258 → get_or any file false ≡ is_touched file patches
+  pub replaced : (file : ℕ) → file < 258 → get_or whole file false ≡ is_replaced file patches
 
 -- the patches may have this one more
 pub record Takes (patches : List Patch) (patch : Patch) : Type 0 where
   pub no_journal : file_of patch ≢ 1
-  pub once : is_touched (file_of patch) patches ≡ false
-  pub in_range : length (bytes_of patch) < 2 ^ 31
+  pub once : list_any (clash patch) patches ≡ false
+  pub in_range : place_of patch + length (bytes_of patch) < 2 ^ 31
   pub fits : length (journal_text (patches ++ patch ∷ [])) ≤ 41943040

@@ -1,20 +1,27 @@
 -- What holds between the steps of a commit and of a recovery.
-use Rattle.std.specs.Prelude.{◌≡◌, ◌≢◌, ℕ, ◌+◌, ◌<◌, List, [], length, take, drop, Some}
-use Rattle.door_outside.specs.Disk.{Disk, Image, AllNow}
+use Rattle.std.specs.Prelude.{◌≡◌, ◌≢◌, ℕ, ◌+◌, ◌<◌, List, [], ◌∷◌, length, take, drop, Some, IsTrue}
+use Rattle.door_outside.specs.Disk.{Disk, Image, AllNow, Torn}
 use Rattle.intent_journal.specs.declared.patch.Patch.{Patch}
+use Rattle.intent_journal.specs.declared.patch.Patch.TheVariants.{Whole, Put}
 use Rattle.intent_journal.specs.Hosts.{IsFirm}
-use Rattle.intent_journal.specs.Journal.{IsClosed, body_patches, body_text, intent_of, patches_of, spelled}
-use Rattle.intent_journal.specs.Patches.{Files, patched}
+use Rattle.intent_journal.specs.Journal.{IsClosed, body_patches, body_text, intent_of, open_patches, patches_of, spelled}
+use Rattle.intent_journal.specs.Patches.{Files, SameFiles, patched, are_within, data_files, is_once}
 
--- the journal is that of the disk as it reads, and carrying out the patches gives the same
+-- the journal is that of the disk as it reads, and carrying out the patches is allowed and gives the same data files
 pub record Stands (patches : List Patch) (goal image : Image) : Type 0 where
   pub said : image.said ≡ goal.said
   pub journal : image.files 1 ≡ goal.files 1
-  pub result : patched patches image.files ≡ patched patches goal.files
+  pub within : IsTrue (are_within patches image.files)
+  pub result : data_files (patched patches image.files) ≡ data_files (patched patches goal.files)
 
 -- a file changes in any way
 abbrev pub Anyhow : List ℕ → List ℕ → Type 0
 Anyhow old new = Unit {0}
+
+-- what a patch may make of its file until it is durable there
+abbrev pub Partly : Patch → List ℕ → List ℕ → Type 0
+Partly (Whole file bytes) old new = Anyhow old new
+Partly (Put file at bytes) old new = Torn at (length bytes) old new
 
 -- a change of the journal that keeps its first byte
 abbrev pub BehindGate : List ℕ → List ℕ → Type 0
@@ -31,38 +38,39 @@ pub record HasBody (count : ℕ) (text : List ℕ) (old new : Files) : Type 0 wh
 abbrev pub JournalKept : Disk → Type 0
 JournalKept disk = AllNow disk (λ image. image.files 1 ≡ disk.files 1)
 
--- the files are as they were but the journal, which holds no intent
+-- the data files are as they were, and the journal holds no intent
 pub record Quiet (old image : Image) : Type 0 where
   pub said : image.said ≡ old.said
-  pub others : (other : ℕ) → other ≢ 1 → image.files other ≡ old.files other
-  pub closed : intent_of (image.files 1) ≡ []
+  pub files : data_files image.files ≡ data_files old.files
+  pub closed : intent_of image.files ≡ []
 
--- the whole body stands behind a gate, the files are otherwise as they were, and in every image they are as read
+-- the whole body stands behind a gate, the data files are as they were, and in every image all are as read
 pub record IsStaged (patches : List Patch) (old new : Disk) : Type 0 where
   pub body : body_patches (new.files 1) ≡ Some patches
   pub gate : 0 < length (new.files 1)
-  pub others : (other : ℕ) → other ≢ 1 → new.files other ≡ old.files other
-  pub kept : AllNow new (λ image. image.files ≡ new.files)
+  pub files : data_files new.files ≡ data_files old.files
+  pub kept : AllNow new (λ image. SameFiles image.files new.files)
 
--- a closed gate stands alone or before a body, the files are otherwise as they were, and in every image they are as read
+-- a closed gate stands alone or before a body, the data files are as they were, and in every image all are as read
 pub record IsShut (old new : Disk) : Type 0 where
   pub closed : IsClosed (new.files 1)
   pub gate : 0 < length (new.files 1)
-  pub others : (other : ℕ) → other ≢ 1 → new.files other ≡ old.files other
-  pub kept : AllNow new (λ image. image.files ≡ new.files)
+  pub files : data_files new.files ≡ data_files old.files
+  pub kept : AllNow new (λ image. SameFiles image.files new.files)
 
 -- firm, and every image has the journal as read
 pub record IsSure (disk : Disk) : Type 0 where
   pub firm : IsFirm disk
   pub journal : JournalKept disk
 
--- the journal is open over these patches
+-- an open gate stands before a body of these patches
 pub record IsOpen (patches : List Patch) (journal : List ℕ) : Type 0 where
-  pub intent : intent_of journal ≡ patches
+  pub intent : open_patches journal ≡ patches
   pub body : body_patches journal ≡ Some patches
-  pub gate : 0 < length journal
+  pub gate : take 1 journal ≡ 79 ∷ []
 
 -- what is read of an open journal
 pub record IsRead (count : ℕ) (text journal : List ℕ) : Type 0 where
   pub reads : patches_of count text ≡ Some (spelled count text)
+  pub once : IsTrue (is_once (spelled count text))
   pub is_open : IsOpen (spelled count text) journal

@@ -2,9 +2,10 @@
 ghost use Rattle.std.specs.Prelude.{◌≡◌, ℕ, ◌≤◌, [], ◌∷◌, ◌++◌, ◌↔◌, length, OnOk, OnErr, IsTrue};
 ghost use Rattle.intent_journal.specs.Journal.{journal_text, spelled, IsSpelled, Takes};
 
-use crate::files::{FILES, JOURNAL, no_files};
-use crate::headers::whole_header;
+use crate::headers::patch_header;
+use crate::marks::FileMarks;
 use crate::patch::Patch;
+use door_outside::FileId;
 use std::alloc::{AllocError, Global};
 use std::marker::Model;
 
@@ -16,7 +17,7 @@ const LONGEST: u64 = 41_943_040;
 pub struct Intent {
     count: u32,
     text: Vec<u8>,
-    touched: [bool; FILES],
+    marks: FileMarks,
 }
 
 impl Model for Intent {
@@ -28,7 +29,7 @@ impl Model for Intent {
 
     ghost view = { λ s. spelled s.count s.text.items };
 
-    ghost invariant = { λ s. IsSpelled s.count s.text.items × Marks s.touched (spelled s.count s.text.items) };
+    ghost invariant = { λ s. IsSpelled s.count s.text.items × Marks s.marks.touched s.marks.replaced (spelled s.count s.text.items) };
 }
 
 /// Adds two parts at the end of a text, or leaves it as it was.
@@ -55,20 +56,25 @@ impl Intent {
         Intent {
             count: 0,
             text: Vec::new(alloc),
-            touched: no_files(),
+            marks: FileMarks::new(),
         }
     }
 
     #[tactic(auto, using(crate::proofs::Spelling::size_more))]
-    /// Whether a patch may be added: its file isn't the journal and has no patch yet, its bytes are fewer
-    /// than 2^31, and the spelled intent stays within 41,943,040 bytes.
+    /// Whether a patch may be added: its file isn't the journal; the file has no patch for all its bytes yet,
+    /// and none at all where this is one; its end is below 2^31; and the spelled intent stays within
+    /// 41,943,040 bytes.
     pub fn takes(&self, patch: &Patch) -> bool
         ensures { IsTrue result ↔ Takes self.now patch.now }
     {
-        let file = patch.file().number();
-        let len = patch.bytes().len();
-        let new = file != JOURNAL && !self.touched[file as usize];
-        new && self.size() + 11 + len as u64 <= LONGEST
+        let file = patch.file();
+        let len = patch.bytes().len() as u64;
+        let clashes = self.marks.clashes(file, patch.is_whole());
+        let short = self.size() + 11 + len <= LONGEST;
+        file != FileId::journal()
+            && !clashes
+            && short
+            && u64::from(patch.place()) + len < 0x8000_0000
     }
 
     /// The length in bytes of the journal that holds the intent.
@@ -85,12 +91,17 @@ impl Intent {
         ensures ok { OnOk result (self.new ≡ self.old ++ patch ∷ []) }
         ensures err { OnErr result (self.new ≡ self.old) }
     {
-        let file = patch.file().number();
+        let file = patch.file();
         let bytes = patch.bytes();
-        let header = whole_header(file, bytes.len() as u32);
+        let header = patch_header(
+            patch.kind(),
+            file.number(),
+            patch.place(),
+            bytes.len() as u32,
+        );
         append(&mut self.text, &header, bytes)?;
         self.count += 1;
-        self.touched[file as usize] = true;
+        self.marks.mark(file, patch.is_whole());
         Ok(())
     }
 

@@ -1,11 +1,13 @@
 // Reading the journal.
 ghost use Rattle.std.specs.Prelude.{◌≡◌, ℕ, ◌+◌, ◌<◌, ◌≤◌, ◌^◌, Bool, [], ◌&&◌, ◌==◌, slice_index, length, Some, None, IfSome, MatchOption};
-ghost use Rattle.intent_journal.specs.Journal.{begins_patch, begins_body, front, patches_of, are_once, intent_of};
+ghost use Rattle.record_numbers.specs.Numbers.{u16_at};
+ghost use Rattle.intent_journal.specs.Journal.{begins_patch, begins_body, front, patch_by, patches_of, are_once, open_patches};
 ghost use Rattle.intent_journal.specs.Steps.{IsRead};
-ghost use Rattle.intent_journal.specs.declared.patch.Patch.TheVariants.{Whole};
 
-use crate::files::{FILES, JOURNAL, no_files};
 use crate::gate::OPEN;
+use crate::marks::FileMarks;
+use crate::patch::{PUT, WHOLE};
+use door_outside::FileId;
 use record_numbers::{u16_at, u32_at};
 
 /// How many bytes stand before those of a patch.
@@ -14,49 +16,66 @@ const PATCH_HEADER: usize = 11;
 /// How many bytes stand before the patches.
 const JOURNAL_HEADER: usize = 13;
 
-/// The kind of a patch that gives a file all its bytes.
-const WHOLE: u8 = 0;
+/// What stands before the length of a patch.
+#[derive(Clone, Copy)]
+pub(crate) struct PatchHead {
+    /// Whether its bytes become all bytes of the file.
+    pub(crate) whole: bool,
+    /// The file, which isn't the journal.
+    pub(crate) file: FileId,
+    /// Where in it the bytes begin.
+    pub(crate) at: u32,
+}
 
-/// Whether a text of at least 11 bytes begins with a patch.
-fn is_patch(text: &[u8]) -> bool
-    requires { 11 ≤ length text.now }
+/// Whether a text of at least 11 bytes, which names this file, begins with a patch.
+fn is_patch(file: FileId, text: &[u8]) -> bool
+    requires long { 11 ≤ length text.now }
+    requires names { file ≡ u16_at 1 text.now }
     ensures { result ≡ begins_patch text.now }
 {
-    let file = u16_at(text, 1);
+    let at = u32_at(text, 3) as usize;
     let len = u32_at(text, 7) as usize;
-    let whole = text[0] == WHOLE && u32_at(text, 3) == 0;
-    let known = (file as usize) < FILES && file != JOURNAL;
-    PATCH_HEADER + len <= text.len() && whole && len < 0x8000_0000 && known
+    let kind = text[0] == WHOLE && at == 0 || text[0] == PUT;
+    let data = file != FileId::journal();
+    PATCH_HEADER + len <= text.len() && kind && at + len < 0x8000_0000 && data
 }
 
 #[tactic(auto, unfolding(crate::specs::Journal::front))]
-/// The patch at the front of a text: its file, its bytes and what follows them.
-pub(crate) fn front_patch(text: &[u8]) -> Option<(u16, &[u8], &[u8])>
-    ensures known { IfSome result (λ r. (r.0 < 258) × (length r.1.now < 2 ^ 31)) }
-    ensures value { MatchOption result (front text.now ≡ None) (λ r. front text.now ≡ Some (Whole r.0 r.1.now, r.2.now)) }
+/// The patch at the front of a text: its head, its bytes and what follows them.
+pub(crate) fn front_patch(text: &[u8]) -> Option<(PatchHead, &[u8], &[u8])>
+    ensures in_range { IfSome result (λ r. r.0.at + length r.1.now < 2 ^ 31) }
+    ensures value { MatchOption result (front text.now ≡ None) (λ r. front text.now ≡ Some (patch_by r.0.whole r.0.file r.0.at r.1.now, r.2.now)) }
 {
-    if text.len() < PATCH_HEADER || !is_patch(text) {
+    if text.len() < PATCH_HEADER {
         return None;
     }
+    let file = FileId::new(u16_at(text, 1))?;
+    if !is_patch(file, text) {
+        return None;
+    }
+    let head = PatchHead {
+        whole: text[0] == WHOLE,
+        file,
+        at: u32_at(text, 3),
+    };
     let end = PATCH_HEADER + u32_at(text, 7) as usize;
-    Some((u16_at(text, 1), &text[PATCH_HEADER..end], &text[end..]))
+    Some((head, &text[PATCH_HEADER..end], &text[end..]))
 }
 
-/// Whether a text spells so many patches, no two of one file.
+/// Whether a text spells so many patches of which no two clash.
 fn is_intent(count: u32, text: &[u8]) -> bool
     ensures { result ≡ are_once (patches_of count text.now) }
 {
-    let mut seen = no_files();
+    let mut seen = FileMarks::new();
     let mut rest = text;
     for _done in 0..count {
-        let Some((file, _, after)) = front_patch(rest) else {
+        let Some((head, _, after)) = front_patch(rest) else {
             return false;
         };
-        let place = file as usize;
-        if seen[place] {
+        if seen.clashes(head.file, head.whole) {
             return false;
         }
-        seen[place] = true;
+        seen.mark(head.file, head.whole);
         rest = after;
     }
     rest.is_empty()
@@ -72,9 +91,9 @@ fn is_open_body(journal: &[u8]) -> bool
         && JOURNAL_HEADER + u32_at(journal, 9) as usize <= journal.len()
 }
 
-/// The intent that a journal holds: the count of its patches and their text.
+/// The patches behind an open gate: their count and their text.
 pub(crate) fn read_intent(journal: &[u8]) -> Option<(u32, &[u8])>
-    ensures { MatchOption result (intent_of journal.now ≡ []) (λ r. IsRead r.0 r.1.now journal.now) }
+    ensures { MatchOption result (open_patches journal.now ≡ []) (λ r. IsRead r.0 r.1.now journal.now) }
 {
     if !is_open_body(journal) {
         return None;

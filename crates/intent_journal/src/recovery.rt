@@ -1,18 +1,18 @@
 // Recovering what a crash left.
-ghost use Rattle.std.specs.Prelude.{◌≡◌, ℕ, [], ◌∷◌, ◌≤◌, take, IfOk, OnOk, IsErrOf, IsTrue};
+ghost use Rattle.std.specs.Prelude.{◌≡◌, ℕ, [], ◌∷◌, ◌+◌, ◌≤◌, take, Some, IfOk, OnOk, IsErrOf, IsTrue};
 ghost use Rattle.door_outside.specs.Cause.{HasCause, Rose};
 ghost use Rattle.door_outside.specs.Disk.{Disk, Between, AllNow, Unchanged, as_read};
 ghost use Rattle.intent_journal.specs.Hosts.{IsCalm, IsFirm, IsSettled};
-ghost use Rattle.intent_journal.specs.Journal.{intent_of};
-ghost use Rattle.intent_journal.specs.Patches.{data_files};
+ghost use Rattle.intent_journal.specs.Journal.{intent_of, patches_of, spelled};
+ghost use Rattle.intent_journal.specs.Patches.{byte_count, data_files, is_once};
 ghost use Rattle.intent_journal.specs.Recovered.{recovered, Back};
-ghost use Rattle.intent_journal.specs.Steps.{IsSure};
+ghost use Rattle.intent_journal.specs.Steps.{IsOpen, IsSure};
 
 use crate::carrying::replay;
-use crate::files::journal;
 use crate::gate::{CLOSED, is_open, set_gate};
 use crate::reading::read_intent;
-use door_outside::{DiskFault, Host};
+use crate::within::fits_files;
+use door_outside::{DiskFault, FileId, Host};
 use std::alloc::{AllocError, Global};
 use thiserror::Error;
 
@@ -57,27 +57,51 @@ fn settle<H: Host>(host: &mut H) -> Result<(), DiskFault>
     ensures same { IsTrue H.tells → as_read (H.disk host.new) ≡ as_read (H.disk host.old) }
     ensures firm { IsTrue H.tells → IsFirm (H.disk host.old) → AllNow (H.disk host.new) (Back (H.disk host.old)) }
     ensures sure { OnOk result (IsTrue H.tells → IsSure (H.disk host.new)) }
+    ensures wrote { IsTrue H.tells → (H.disk host.new).wrote ≡ (H.disk host.old).wrote }
     ensures cause { HasCause (H.disk_faults host.old) (H.disk_faults host.new) result }
     ensures voice { H.voice_faults host.new ≡ H.voice_faults host.old }
 {
-    host.sync(journal())?;
+    host.sync(FileId::journal())?;
     Ok(())
 }
 
 /// Closes a gate over a body that is no intent.
 fn close<H: Host>(host: &mut H) -> Result<(), DiskFault>
     requires sure { IsTrue H.tells → IsSure (H.disk host.old) }
-    requires none { IsTrue H.tells → intent_of ((H.disk host.old).files 1) ≡ [] }
+    requires none { IsTrue H.tells → intent_of (H.disk host.old).files ≡ [] }
     requires gate { IsTrue H.tells → take 1 ((H.disk host.old).files 1) ≡ 79 ∷ [] }
     ensures moments { IsTrue H.tells → Between (H.disk host.old) (H.disk host.new) (Back (H.disk host.old)) }
     ensures now { IsTrue H.tells → AllNow (H.disk host.new) (Back (H.disk host.old)) }
     ensures calm { OnOk result (IsTrue H.tells → IsCalm (H.disk host.new)) }
     ensures done { OnOk result (IsTrue H.tells → data_files (H.disk host.new).files ≡ recovered (H.disk host.old).files) }
+    ensures wrote { IsTrue H.tells → (H.disk host.new).wrote ≤ (H.disk host.old).wrote + 1 }
     ensures cause { HasCause (H.disk_faults host.old) (H.disk_faults host.new) result }
     ensures voice { H.voice_faults host.new ≡ H.voice_faults host.old }
 {
     set_gate(host, CLOSED)?;
     Ok(())
+}
+
+/// Carries out the patches behind an open gate, or closes it over them where one begins past the end of its
+/// file.
+fn finish_open<H: Host>(host: &mut H, count: u32, text: &[u8]) -> Result<(), DiskFault>
+    requires reads { patches_of count text.now ≡ Some (spelled count text.now) }
+    requires once { IsTrue (is_once (spelled count text.now)) }
+    requires sure { IsTrue H.tells → IsSure (H.disk host.old) }
+    requires is_open { IsTrue H.tells → IsOpen (spelled count text.now) ((H.disk host.old).files 1) }
+    ensures moments { IsTrue H.tells → Between (H.disk host.old) (H.disk host.new) (Back (H.disk host.old)) }
+    ensures now { IsTrue H.tells → AllNow (H.disk host.new) (Back (H.disk host.old)) }
+    ensures calm { OnOk result (IsTrue H.tells → IsCalm (H.disk host.new)) }
+    ensures done { OnOk result (IsTrue H.tells → data_files (H.disk host.new).files ≡ recovered (H.disk host.old).files) }
+    ensures wrote { IsTrue H.tells → (H.disk host.new).wrote ≤ (H.disk host.old).wrote + byte_count (intent_of (H.disk host.old).files) + 1 }
+    ensures cause { HasCause (H.disk_faults host.old) (H.disk_faults host.new) result }
+    ensures voice { H.voice_faults host.new ≡ H.voice_faults host.old }
+{
+    if fits_files(host, count, text)? {
+        replay(host, count, text)
+    } else {
+        close(host)
+    }
 }
 
 /// Carries out the intent that was read, or closes a gate over none.
@@ -88,11 +112,12 @@ fn finish_recovery<H: Host>(host: &mut H, journal: &[u8]) -> Result<(), DiskFaul
     ensures now { IsTrue H.tells → AllNow (H.disk host.new) (Back (H.disk host.old)) }
     ensures calm { OnOk result (IsTrue H.tells → IsCalm (H.disk host.new)) }
     ensures done { OnOk result (IsTrue H.tells → data_files (H.disk host.new).files ≡ recovered (H.disk host.old).files) }
+    ensures wrote { IsTrue H.tells → (H.disk host.new).wrote ≤ (H.disk host.old).wrote + byte_count (intent_of (H.disk host.old).files) + 1 }
     ensures cause { HasCause (H.disk_faults host.old) (H.disk_faults host.new) result }
     ensures voice { H.voice_faults host.new ≡ H.voice_faults host.old }
 {
     match read_intent(journal) {
-        Some((count, text)) => replay(host, count, text),
+        Some((count, text)) => finish_open(host, count, text),
         None if is_open(journal) => close(host),
         None => Ok(()),
     }
@@ -104,11 +129,13 @@ fn read_journal<H: Host>(alloc: Global, host: &mut H) -> Result<Vec<u8>, Journal
     ensures unchanged { IsTrue H.tells → Unchanged (H.disk host.old) (H.disk host.new) }
     ensures later { H.disk_faults host.old ≤ H.disk_faults host.new }
     ensures cause { IsErrOf result JournalError.DiskFault → Rose (H.disk_faults host.old) (H.disk_faults host.new) }
+    ensures kept { OnOk result (H.disk_faults host.new ≡ H.disk_faults host.old) }
+    ensures starved_faults { IsErrOf result JournalError.OutOfMemory → H.disk_faults host.new ≡ H.disk_faults host.old }
     ensures voice { H.voice_faults host.new ≡ H.voice_faults host.old }
 {
-    let len = host.length(journal())?;
+    let len = host.length(FileId::journal())?;
     let mut bytes = vec![in alloc; 0u8; len as usize]?;
-    host.read_at(journal(), 0, &mut bytes)?;
+    host.read_at(FileId::journal(), 0, &mut bytes)?;
     Ok(bytes)
 }
 
@@ -130,8 +157,14 @@ pub fn recover<H: Host>(alloc: Global, host: &mut H) -> Result<(), JournalError>
     ensures same { IsTrue H.tells → Back (H.disk host.old) (as_read (H.disk host.new)) }
     ensures starved { IsErrOf result JournalError.OutOfMemory → IsTrue H.tells → as_read (H.disk host.new) ≡ as_read (H.disk host.old) }
     ensures firm { IsErrOf result JournalError.OutOfMemory → IsTrue H.tells → IsFirm (H.disk host.new) }
+
+    // At most what the patches of the intent put, and the gate.
+    ensures wrote { IsTrue H.tells → (H.disk host.new).wrote ≤ (H.disk host.old).wrote + byte_count (intent_of (H.disk host.old).files) + 1 }
+
     ensures later { H.disk_faults host.old ≤ H.disk_faults host.new }
     ensures cause { IsErrOf result JournalError.DiskFault → Rose (H.disk_faults host.old) (H.disk_faults host.new) }
+    ensures kept { OnOk result (H.disk_faults host.new ≡ H.disk_faults host.old) }
+    ensures starved_faults { IsErrOf result JournalError.OutOfMemory → H.disk_faults host.new ≡ H.disk_faults host.old }
     ensures voice { H.voice_faults host.new ≡ H.voice_faults host.old }
 {
     settle(host)?;

@@ -121,17 +121,34 @@ const WHOLE: [u8; 28] = [
     0, 0,
 ];
 
-/// That intent.
-fn whole_intent(alloc: Global) -> Result<Intent, Fail> {
+/// The journal of the intent of 01 00 00 00 at 8 in file 2, while it is open.
+const PUT: [u8; 28] = [
+    0x4F, 0x51, 0x44, 0x4A, 0x31, 1, 0, 0, 0, 0x0F, 0, 0, 0, 1, 2, 0, 8, 0, 0, 0, 4, 0, 0, 0, 1, 0,
+    0, 0,
+];
+
+/// The intent of one patch.
+fn intent_of(alloc: Global, patch: Patch) -> Result<Intent, Fail> {
     let mut intent = Intent::new(alloc);
-    let file = FileId::new(2).ok_or("no file")?;
-    let bytes = Bytes::from_slice(alloc, &[1, 0, 0, 0])?;
-    let patch = Patch::Whole { file, bytes };
     if !intent.takes(&patch) {
         return Err(Fail::from("not taken"));
     }
     intent.add(patch)?;
     Ok(intent)
+}
+
+/// The intent of `PUT`. File 2 is the .JHR of place 0.
+fn put_intent(alloc: Global) -> Result<Intent, Fail> {
+    let file = FileId::jhr(0);
+    let bytes = Bytes::from_slice(alloc, &[1, 0, 0, 0])?;
+    intent_of(alloc, Patch::Put { file, at: 8, bytes })
+}
+
+/// The intent of `WHOLE`.
+fn whole_intent(alloc: Global) -> Result<Intent, Fail> {
+    let file = FileId::jhr(0);
+    let bytes = Bytes::from_slice(alloc, &[1, 0, 0, 0])?;
+    intent_of(alloc, Patch::Whole { file, bytes })
 }
 
 #[test]
@@ -144,6 +161,47 @@ fn an_open_journal_has_these_bytes(rt: HostRuntime) -> Result<(), Fail> {
     assert_eq!(rt; host.files[1][0], 0x43);
     assert_eq!(rt; &host.files[2][..4], [1u8, 0, 0, 0].as_slice());
     assert_eq!(rt; host.lens[2], 4);
+    Ok(())
+}
+
+#[test]
+fn an_open_journal_of_a_put_has_these_bytes(rt: HostRuntime) -> Result<(), Fail> {
+    let mut host = SmallHost::new();
+    let intent = put_intent(rt.alloc())?;
+    assert_eq!(rt; intent.size(), 28);
+    host.write_at(FileId::jhr(0), 0, &[7; 10])?;
+    commit(&mut host, &intent)?;
+    assert_eq!(rt; &host.open[..28], PUT.as_slice());
+    assert_eq!(rt;
+        &host.files[2][..12],
+        [7u8, 7, 7, 7, 7, 7, 7, 7, 1, 0, 0, 0].as_slice()
+    );
+    assert_eq!(rt; host.lens[2], 12);
+    Ok(())
+}
+
+#[test]
+fn a_put_is_taken_beside_puts(rt: HostRuntime) -> Result<(), Fail> {
+    let puts = put_intent(rt.alloc())?;
+    let whole = whole_intent(rt.alloc())?;
+    let file = FileId::jhr(0);
+    let bytes = Bytes::from_slice(rt.alloc(), &[1])?;
+    let last = Patch::Put {
+        file,
+        at: 0x7FFF_FFFE,
+        bytes,
+    };
+    assert!(rt; puts.takes(&last));
+    assert!(rt; !whole.takes(&last));
+    let bytes = Bytes::from_slice(rt.alloc(), &[1])?;
+    let past = Patch::Put {
+        file,
+        at: 0x7FFF_FFFF,
+        bytes,
+    };
+    assert!(rt; !puts.takes(&past));
+    let bytes = Bytes::new(rt.alloc());
+    assert!(rt; !puts.takes(&Patch::Whole { file, bytes }));
     Ok(())
 }
 
@@ -164,8 +222,8 @@ fn a_patch_is_taken_under_its_conditions(rt: HostRuntime) -> Result<(), Fail> {
 
 #[test]
 fn only_an_open_intent_is_carried_out(rt: HostRuntime) -> Result<(), Fail> {
-    let journal = FileId::new(1).ok_or("no file")?;
-    let data = FileId::new(2).ok_or("no file")?;
+    let journal = FileId::journal();
+    let data = FileId::jhr(0);
     // One byte of the journal, its length, and the first byte of file 2 after a recovery.
     let cases = [
         (0, b'O', 28, 1),
@@ -174,7 +232,8 @@ fn only_an_open_intent_is_carried_out(rt: HostRuntime) -> Result<(), Fail> {
         (1, b'R', 28, 7),
         (5, 2, 28, 7),
         (9, 14, 28, 7),
-        (13, 1, 28, 7),
+        (13, 1, 28, 1),
+        (13, 2, 28, 7),
         (14, 1, 28, 7),
     ];
     for (place, byte, len, first) in cases {
