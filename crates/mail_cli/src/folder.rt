@@ -1,5 +1,5 @@
 //! A packet's folder on the shelf.
-ghost use Rattle.std.specs.Prelude.{◌≡◌, ℕ, ◌≤◌, ◌++◌, codes, IsTrue, IfOk, IsErrOf};
+ghost use Rattle.std.specs.Prelude.{◌≡◌, ◌⊎◌, ℕ, ◌≤◌, ◌++◌, codes, IsTrue, IfOk, IsErrOf};
 ghost use Rattle.door_outside.specs.Cause.{Rose};
 ghost use Rattle.door_outside.specs.Name.{HasParts};
 ghost use Rattle.mail_cli.specs.Halt.{Comes};
@@ -45,6 +45,7 @@ pub fn folder_in<S: Shelf>(alloc: Global, shelf: &mut S, folder: &ShelfName) -> 
     ensures unchanged { IsTrue S.tells → S.files shelf.new ≡ S.files shelf.old }
     ensures later { S.faults shelf.old ≤ S.faults shelf.new }
     ensures cause { IsErrOf result Halt.ShelfFault → Rose (S.faults shelf.old) (S.faults shelf.new) }
+    ensures kept { IsErrOf result Halt.ShelfFault ⊎ (S.faults shelf.new ≡ S.faults shelf.old) }
 {
     let name = control_name(alloc, folder)?;
     let control = match control_in(alloc, shelf, &name) {

@@ -1,5 +1,5 @@
 //! The command `list`.
-ghost use Rattle.std.specs.Prelude.{◌≡◌, ℕ, ◌≤◌, IsTrue, IfOk, IsErrOf};
+ghost use Rattle.std.specs.Prelude.{◌≡◌, ◌⊎◌, ℕ, ◌≤◌, IsTrue, IfOk, IsErrOf};
 ghost use Rattle.door_outside.specs.Cause.{Rose};
 ghost use Rattle.mail_cli.specs.Halt.{Comes, answered};
 ghost use Rattle.mail_cli.specs.List.{ListAnswers};
@@ -17,6 +17,7 @@ pub fn list<S: Shelf>(alloc: Global, shelf: &mut S, file: &ShelfName) -> Result<
     ensures unchanged { IsTrue S.tells → S.files shelf.new ≡ S.files shelf.old }
     ensures later { S.faults shelf.old ≤ S.faults shelf.new }
     ensures cause { IsErrOf result Halt.ShelfFault → Rose (S.faults shelf.old) (S.faults shelf.new) }
+    ensures kept { IsErrOf result Halt.ShelfFault ⊎ (S.faults shelf.new ≡ S.faults shelf.old) }
 {
     match packet_in(alloc, shelf, file) {
         Ok(messages) => Ok(list_packet(alloc, &messages)?),

@@ -1,5 +1,5 @@
 //! One entry of a run.
-ghost use Rattle.std.specs.Prelude.{◌≡◌, ◌≢◌, ◌↔◌, ℕ, ◌≤◌, ◌∷◌, [], IsTrue, IfOk, IfErr, IsErrOf};
+ghost use Rattle.std.specs.Prelude.{◌≡◌, ◌⊎◌, ◌≢◌, ◌↔◌, ℕ, ◌≤◌, ◌∷◌, [], IsTrue, IfOk, IfErr, IsErrOf};
 ghost use Rattle.door_outside.specs.Cause.{Rose};
 ghost use Rattle.door_outside.specs.Disk.{Between};
 ghost use Rattle.entry_runs.specs.Promise.{IsCarried, Stopped, IsHeld};
@@ -42,6 +42,7 @@ fn carry_out<S: Shelf>(
     ensures unchanged { IsTrue S.tells → S.files shelf.new ≡ S.files shelf.old }
     ensures later { S.faults shelf.old ≤ S.faults shelf.new }
     ensures cause { IsErrOf result Stop.ShelfFault → Rose (S.faults shelf.old) (S.faults shelf.new) }
+    ensures kept { IsErrOf result Stop.ShelfFault ⊎ (S.faults shelf.new ≡ S.faults shelf.old) }
     ensures no_voice { IfErr result (λ stop. stop ≢ Stop.VoiceFault) }
     ensures usage { IfOk result (λ answer. (answer ≡ Answer.Usage) ↔ (entry.now ≡ Entry.Wrong)) }
     ensures wrong { entry.now ≡ Entry.Wrong → result ≡ Ok Answer.Usage }
@@ -75,8 +76,10 @@ pub fn perform<H: Host, S: Shelf>(
     ensures disk { H.disk_faults host.new ≡ H.disk_faults host.old }
     ensures voice_later { H.voice_faults host.old ≤ H.voice_faults host.new }
     ensures voice_cause { IsErrOf result Stop.VoiceFault → Rose (H.voice_faults host.old) (H.voice_faults host.new) }
+    ensures voice_kept { IsErrOf result Stop.VoiceFault ⊎ (H.voice_faults host.new ≡ H.voice_faults host.old) }
     ensures shelf_later { S.faults shelf.old ≤ S.faults shelf.new }
     ensures shelf_cause { IsErrOf result Stop.ShelfFault → Rose (S.faults shelf.old) (S.faults shelf.new) }
+    ensures shelf_kept { IsErrOf result Stop.ShelfFault ⊎ (S.faults shelf.new ≡ S.faults shelf.old) }
 {
     let answer = carry_out(alloc, shelf, entry, now)?;
     let class = answer.class();

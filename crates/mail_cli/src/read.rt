@@ -1,5 +1,5 @@
 //! The two forms of the command `read`.
-ghost use Rattle.std.specs.Prelude.{◌≡◌, ℕ, ◌≤◌, IsTrue, IfOk, IsErrOf};
+ghost use Rattle.std.specs.Prelude.{◌≡◌, ◌⊎◌, ℕ, ◌≤◌, IsTrue, IfOk, IsErrOf};
 ghost use Rattle.door_outside.specs.Cause.{Rose};
 ghost use Rattle.door_outside.specs.Name.{HasParts};
 ghost use Rattle.mail_cli.specs.Halt.{Comes, answered};
@@ -20,6 +20,7 @@ pub fn read<S: Shelf>(alloc: Global, shelf: &mut S, folder: &ShelfName) -> Resul
     ensures unchanged { IsTrue S.tells → S.files shelf.new ≡ S.files shelf.old }
     ensures later { S.faults shelf.old ≤ S.faults shelf.new }
     ensures cause { IsErrOf result Halt.ShelfFault → Rose (S.faults shelf.old) (S.faults shelf.new) }
+    ensures kept { IsErrOf result Halt.ShelfFault ⊎ (S.faults shelf.new ≡ S.faults shelf.old) }
 {
     match folder_in(alloc, shelf, folder) {
         Ok(packet) => Ok(list_folder(alloc, &packet.control, &packet.messages)?),
@@ -39,6 +40,7 @@ pub fn show<S: Shelf>(
     ensures unchanged { IsTrue S.tells → S.files shelf.new ≡ S.files shelf.old }
     ensures later { S.faults shelf.old ≤ S.faults shelf.new }
     ensures cause { IsErrOf result Halt.ShelfFault → Rose (S.faults shelf.old) (S.faults shelf.new) }
+    ensures kept { IsErrOf result Halt.ShelfFault ⊎ (S.faults shelf.new ≡ S.faults shelf.old) }
 {
     let packet = match folder_in(alloc, shelf, folder) {
         Ok(packet) => packet,

@@ -39,11 +39,14 @@ pub fn run<H: Host, S: Shelf>(
     ensures held { IsTrue H.tells → IsTrue S.tells → Between (H.disk host.old) (H.disk host.new) (RunHolds now words.now (S.files shelf.old) (H.disk host.old)) }
     ensures files { IsTrue H.tells → (H.disk host.new).files ≡ (H.disk host.old).files }
 
-    // Each fault has its cause. Where no count rose, the whole was done, or memory ran out.
+    // A fault is answered exactly where its count rose: any other status leaves the count, so that want of memory
+    // hides no fault. Where no count rose, the whole was done, or memory ran out.
     ensures complete { IsTrue H.tells → IsTrue S.tells → ¬ Rose (S.faults shelf.old) (S.faults shelf.new) → ¬ Rose (H.voice_faults host.old) (H.voice_faults host.new)
         → (result ≡ Status.OutOfMemory) ⊎ RunIsWhole now words.now (S.files shelf.old) (H.disk host.old).said result (seen (H.disk host.new) (S.files shelf.new)) }
     ensures shelf_fault { result ≡ Status.ShelfFault → Rose (S.faults shelf.old) (S.faults shelf.new) }
     ensures voice_fault { result ≡ Status.VoiceFault → Rose (H.voice_faults host.old) (H.voice_faults host.new) }
+    ensures shelf_kept { (result ≡ Status.ShelfFault) ⊎ (S.faults shelf.new ≡ S.faults shelf.old) }
+    ensures voice_kept { (result ≡ Status.VoiceFault) ⊎ (H.voice_faults host.new ≡ H.voice_faults host.old) }
     ensures no_disk_fault { result ≢ Status.DiskFault }
     ensures disk_faults { H.disk_faults host.new ≡ H.disk_faults host.old }
     ensures voice_later { H.voice_faults host.old ≤ H.voice_faults host.new }

@@ -1,5 +1,5 @@
 //! Files of the shelf as commands read them.
-ghost use Rattle.std.specs.Prelude.{◌≡◌, ℕ, ◌<◌, ◌≤◌, ◌^◌, length, IsTrue, IfOk, IsErrOf};
+ghost use Rattle.std.specs.Prelude.{◌≡◌, ◌⊎◌, ℕ, ◌<◌, ◌≤◌, ◌^◌, length, IsTrue, IfOk, IsErrOf};
 ghost use Rattle.door_outside.specs.Cause.{Rose};
 ghost use Rattle.mail_cli.specs.Halt.{Comes, control_halt};
 ghost use Rattle.mail_cli.specs.Shelved.{file_of, PacketOf, ControlOf};
@@ -31,6 +31,7 @@ pub fn file_in<S: Shelf>(
     ensures unchanged { IsTrue S.tells → S.files shelf.new ≡ S.files shelf.old }
     ensures later { S.faults shelf.old ≤ S.faults shelf.new }
     ensures cause { IsErrOf result Halt.ShelfFault → Rose (S.faults shelf.old) (S.faults shelf.new) }
+    ensures kept { IsErrOf result Halt.ShelfFault ⊎ (S.faults shelf.new ≡ S.faults shelf.old) }
 {
     match fetch_whole(alloc, shelf, name, most) {
         Ok(Fetched::Whole(bytes)) => Ok(bytes),
@@ -51,6 +52,7 @@ pub fn packet_in<S: Shelf>(
     ensures unchanged { IsTrue S.tells → S.files shelf.new ≡ S.files shelf.old }
     ensures later { S.faults shelf.old ≤ S.faults shelf.new }
     ensures cause { IsErrOf result Halt.ShelfFault → Rose (S.faults shelf.old) (S.faults shelf.new) }
+    ensures kept { IsErrOf result Halt.ShelfFault ⊎ (S.faults shelf.new ≡ S.faults shelf.old) }
 {
     let bytes = match file_in(alloc, shelf, name, PACKET_LIMIT) {
         Ok(bytes) => bytes,
@@ -81,6 +83,7 @@ pub fn control_in<S: Shelf>(alloc: Global, shelf: &mut S, name: &ShelfName) -> R
     ensures unchanged { IsTrue S.tells → S.files shelf.new ≡ S.files shelf.old }
     ensures later { S.faults shelf.old ≤ S.faults shelf.new }
     ensures cause { IsErrOf result Halt.ShelfFault → Rose (S.faults shelf.old) (S.faults shelf.new) }
+    ensures kept { IsErrOf result Halt.ShelfFault ⊎ (S.faults shelf.new ≡ S.faults shelf.old) }
 {
     let bytes = match file_in(alloc, shelf, name, FILE_LIMIT) {
         Ok(bytes) => bytes,

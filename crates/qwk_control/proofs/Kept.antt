@@ -6,7 +6,7 @@ use Rattle.std.specs.Borrow.{Bor}
 use Rattle.std.specs.List.{slice_get}
 use Rattle.qwk_control.specs.Line.{line, or_empty, texts, PlaceLine, IdLine}
 use Rattle.qwk_control.specs.Control.{ConferencesRead, CountReads, LinesRead}
-use Rattle.qwk_control.specs.Fault.{IsNumberPlace, Keeps, KeepsUpto, BreaksUpto, Breaks, LineFault, Reached, FirstFault}
+use Rattle.qwk_control.specs.Fault.{IsNumberPlace, Keeps, KeepsUpto, BreaksUpto, Breaks, LineFault, KeptBefore, FaultBehind}
 use Rattle.qwk_control.specs.declared.control.Control.{Control}
 use Rattle.qwk_control.specs.declared.fault.ControlError.{ControlError}
 use Rattle.qwk_control.specs.declared.fault.ControlError.TheVariants.{TooFewLines, BadNumber, BadBoardId}
@@ -52,11 +52,11 @@ pub six_texts : (borrowed : List (Bor (List ℕ))) (other : Bor (List ℕ)) → 
 six_texts [] other h = absurd (omega arith)
 six_texts (first ∷ borrowed) other h = ap (λ ls. first.now ∷ ls) (five_texts borrowed other (omega arith))
 
-pub from_first : (all : List (List ℕ)) → Reached all 0 all
+pub from_first : (all : List (List ℕ)) → KeptBefore all 0 all
 from_first all = record { keeps = λ j from upto. absurd (omega arith); left = refl }
 
 -- one line more, which keeps the rules of its place
-one_more : (all : List (List ℕ)) (k : ℕ) (text : List ℕ) (rest : List (List ℕ)) → Reached all k (text ∷ rest) → (k + 1 ≡ 5 → (serial id : List ℕ) × IdLine text serial id) → (IsNumberPlace (k + 1) → (n : ℕ) × PlaceLine text n) → Reached all (k + 1) rest
+one_more : (all : List (List ℕ)) (k : ℕ) (text : List ℕ) (rest : List (List ℕ)) → KeptBefore all k (text ∷ rest) → (k + 1 ≡ 5 → (serial id : List ℕ) × IdLine text serial id) → (IsNumberPlace (k + 1) → (n : ℕ) × PlaceLine text n) → KeptBefore all (k + 1) rest
 one_more all k text rest h id number = record {
   keeps = keeps_more all k h.keeps (record { text = text; there = head_line all k text rest h.left; id = id; number = number });
   left = let e : k + 1 ≡ suc k = omega arith in ap (λ n. drop n all) e ∙ behind all k text rest h.left;
@@ -66,7 +66,7 @@ one_more all k text rest h id number = record {
 abbrev IsPlain : ℕ → Type 0
 IsPlain k = (k ≡ 5 → ⊥) × (IsNumberPlace k → ⊥)
 
-plain_more : (all : List (List ℕ)) (k : ℕ) (text : List ℕ) (rest : List (List ℕ)) → Reached all k (text ∷ rest) → IsPlain (k + 1) → Reached all (k + 1) rest
+plain_more : (all : List (List ℕ)) (k : ℕ) (text : List ℕ) (rest : List (List ℕ)) → KeptBefore all k (text ∷ rest) → IsPlain (k + 1) → KeptBefore all (k + 1) rest
 plain_more all k text rest h plain = one_more all k text rest h (λ e. absurd (plain.0 e)) (λ p. absurd (plain.1 p))
 
 early_plain : (k : ℕ) → k < 11 → (k ≡ 5 → ⊥) → IsPlain k
@@ -78,21 +78,21 @@ name_plain i = (λ e. omega arith, λ p. elim p [ inl e ↦ omega arith | inr j 
 not_fifth : (k : ℕ) → IsNumberPlace k → k ≡ 5 → ⊥
 not_fifth k p e = elim p [ inl f ↦ omega arith | inr j ↦ omega (arith, j.1) ]
 
-number_more : (all : List (List ℕ)) (k n : ℕ) (text : List ℕ) (rest : List (List ℕ)) → Reached all k (text ∷ rest) → IsNumberPlace (k + 1) → PlaceLine text n → Reached all (k + 1) rest
+number_more : (all : List (List ℕ)) (k n : ℕ) (text : List ℕ) (rest : List (List ℕ)) → KeptBefore all k (text ∷ rest) → IsNumberPlace (k + 1) → PlaceLine text n → KeptBefore all (k + 1) rest
 number_more all k n text rest h place number = one_more all k text rest h (λ e. absurd (not_fifth (k + 1) place e)) (λ p. (n, number))
 
 -- the line after those that keep their rules breaks its own
-breaks_next : (all : List (List ℕ)) (k upto : ℕ) (rest : List (List ℕ)) (fault : ControlError) → Reached all k rest → k < upto → Breaks all (k + 1) fault → BreaksUpto all upto fault
+breaks_next : (all : List (List ℕ)) (k upto : ℕ) (rest : List (List ℕ)) (fault : ControlError) → KeptBefore all k rest → k < upto → Breaks all (k + 1) fault → BreaksUpto all upto fault
 breaks_next all k upto rest fault h lt b = (k + 1, omega arith, omega arith, λ j from below. h.keeps j from (omega arith), b)
 
-too_few : (all : List (List ℕ)) (k upto : ℕ) → Reached all k [] → k < upto → BreaksUpto all upto (TooFewLines (k + 1))
+too_few : (all : List (List ℕ)) (k upto : ℕ) → KeptBefore all k [] → k < upto → BreaksUpto all upto (TooFewLines (k + 1))
 too_few all k upto h lt = breaks_next all k upto [] (TooFewLines (k + 1)) h lt (refl, omega (arith, length-drop k all, ap length h.left))
 
-no_number : (all : List (List ℕ)) (k upto : ℕ) (text : List ℕ) (rest : List (List ℕ)) → Reached all k (text ∷ rest) → k < upto → IsNumberPlace (k + 1) → ((n : ℕ) → PlaceLine text n → ⊥) → BreaksUpto all upto (BadNumber (k + 1))
+no_number : (all : List (List ℕ)) (k upto : ℕ) (text : List ℕ) (rest : List (List ℕ)) → KeptBefore all k (text ∷ rest) → k < upto → IsNumberPlace (k + 1) → ((n : ℕ) → PlaceLine text n → ⊥) → BreaksUpto all upto (BadNumber (k + 1))
 no_number all k upto text rest h lt place none = breaks_next all k upto (text ∷ rest) (BadNumber (k + 1)) h lt (refl, place, (text, head_line all k text rest h.left, none))
 
 -- the lines end among those without a rule
-ends_early : (all : List (List ℕ)) (k upto : ℕ) (rest : List (List ℕ)) → Reached all k rest → ((j : ℕ) → k < j → j < upto → IsPlain j) → k + length rest < upto → BreaksUpto all upto (TooFewLines (k + 1 + length rest))
+ends_early : (all : List (List ℕ)) (k upto : ℕ) (rest : List (List ℕ)) → KeptBefore all k rest → ((j : ℕ) → k < j → j < upto → IsPlain j) → k + length rest < upto → BreaksUpto all upto (TooFewLines (k + 1 + length rest))
 ends_early all k upto [] h plain lt = let e : k + 1 ≡ k + 1 + 0 = omega arith in subst (λ (n : ℕ). BreaksUpto all upto (TooFewLines n)) e (too_few all k upto h (omega arith))
 ends_early all k upto (text ∷ rest) h plain lt =
     let e : k + 1 + 1 + length rest ≡ k + 1 + suc (length rest) = omega arith in
@@ -100,69 +100,69 @@ ends_early all k upto (text ∷ rest) h plain lt =
     (ends_early all (k + 1) upto rest (plain_more all k text rest h (plain (k + 1) (omega arith) (omega arith))) (λ j from. plain j (omega arith)) (omega arith))
 
 -- the board's lines
-pub board_ends : (rest : List (List ℕ)) → length rest < 5 → FirstFault 0 rest 5 (TooFewLines (1 + length rest))
+pub board_ends : (rest : List (List ℕ)) → length rest < 5 → FaultBehind 0 rest 5 (TooFewLines (1 + length rest))
 board_ends rest lt all h = ends_early all 0 5 rest h (λ j from below. early_plain j (omega arith) (λ e. omega arith)) (omega arith)
 
-four_more : (all : List (List ℕ)) (a b c d : List ℕ) (rest : List (List ℕ)) → Reached all 0 (a ∷ b ∷ c ∷ d ∷ rest) → Reached all 4 rest
+four_more : (all : List (List ℕ)) (a b c d : List ℕ) (rest : List (List ℕ)) → KeptBefore all 0 (a ∷ b ∷ c ∷ d ∷ rest) → KeptBefore all 4 rest
 four_more all a b c d rest h =
     let plain : (j : ℕ) → j < 5 → IsPlain j = λ j lt. early_plain j (omega arith) (λ e. omega arith) in
-    let one : Reached all 1 (b ∷ c ∷ d ∷ rest) = plain_more all 0 a (b ∷ c ∷ d ∷ rest) h (plain 1 (omega arith)) in
-    let two : Reached all 2 (c ∷ d ∷ rest) = plain_more all 1 b (c ∷ d ∷ rest) one (plain 2 (omega arith)) in
+    let one : KeptBefore all 1 (b ∷ c ∷ d ∷ rest) = plain_more all 0 a (b ∷ c ∷ d ∷ rest) h (plain 1 (omega arith)) in
+    let two : KeptBefore all 2 (c ∷ d ∷ rest) = plain_more all 1 b (c ∷ d ∷ rest) one (plain 2 (omega arith)) in
     plain_more all 3 d rest (plain_more all 2 c (d ∷ rest) two (plain 3 (omega arith))) (plain 4 (omega arith))
 
-pub no_board_id : (a b c d text : List ℕ) (rest : List (List ℕ)) → ((serial id : List ℕ) → IdLine text serial id → ⊥) → FirstFault 0 (a ∷ b ∷ c ∷ d ∷ text ∷ rest) 5 BadBoardId
+pub no_board_id : (a b c d text : List ℕ) (rest : List (List ℕ)) → ((serial id : List ℕ) → IdLine text serial id → ⊥) → FaultBehind 0 (a ∷ b ∷ c ∷ d ∷ text ∷ rest) 5 BadBoardId
 no_board_id a b c d text rest none all h =
-    let four : Reached all 4 (text ∷ rest) = four_more all a b c d (text ∷ rest) h in
+    let four : KeptBefore all 4 (text ∷ rest) = four_more all a b c d (text ∷ rest) h in
     breaks_next all 4 5 (text ∷ rest) BadBoardId four (omega arith) (refl, (text, head_line all 4 text rest four.left, none))
 
-pub board_more : (all rest : List (List ℕ)) (a b c d text serial id : List ℕ) → all ≡ a ∷ b ∷ c ∷ d ∷ text ∷ rest → IdLine text serial id → Reached all 5 rest
+pub board_more : (all rest : List (List ℕ)) (a b c d text serial id : List ℕ) → all ≡ a ∷ b ∷ c ∷ d ∷ text ∷ rest → IdLine text serial id → KeptBefore all 5 rest
 board_more all rest a b c d text serial id e i =
-    one_more all 4 text rest (four_more all a b c d (text ∷ rest) (subst (Reached all 0) e (from_first all))) (λ e. (serial, id, i)) (λ p. absurd (not_fifth 5 p refl))
+    one_more all 4 text rest (four_more all a b c d (text ∷ rest) (subst (KeptBefore all 0) e (from_first all))) (λ e. (serial, id, i)) (λ p. absurd (not_fifth 5 p refl))
 
 -- the packet's lines
-pub packet_ends : (rest : List (List ℕ)) → length rest < 6 → FirstFault 5 rest 11 (TooFewLines (6 + length rest))
+pub packet_ends : (rest : List (List ℕ)) → length rest < 6 → FaultBehind 5 rest 11 (TooFewLines (6 + length rest))
 packet_ends rest lt all h = ends_early all 5 11 rest h (λ j from below. early_plain j below (λ e. omega arith)) (omega arith)
 
-five_more : (all : List (List ℕ)) (a b c d e : List ℕ) (rest : List (List ℕ)) → Reached all 5 (a ∷ b ∷ c ∷ d ∷ e ∷ rest) → Reached all 10 rest
+five_more : (all : List (List ℕ)) (a b c d e : List ℕ) (rest : List (List ℕ)) → KeptBefore all 5 (a ∷ b ∷ c ∷ d ∷ e ∷ rest) → KeptBefore all 10 rest
 five_more all a b c d e rest h =
     let plain : (j : ℕ) → 5 < j → j < 11 → IsPlain j = λ j from lt. early_plain j lt (λ e. omega arith) in
-    let six : Reached all 6 (b ∷ c ∷ d ∷ e ∷ rest) = plain_more all 5 a (b ∷ c ∷ d ∷ e ∷ rest) h (plain 6 (omega arith) (omega arith)) in
-    let seven : Reached all 7 (c ∷ d ∷ e ∷ rest) = plain_more all 6 b (c ∷ d ∷ e ∷ rest) six (plain 7 (omega arith) (omega arith)) in
-    let eight : Reached all 8 (d ∷ e ∷ rest) = plain_more all 7 c (d ∷ e ∷ rest) seven (plain 8 (omega arith) (omega arith)) in
+    let six : KeptBefore all 6 (b ∷ c ∷ d ∷ e ∷ rest) = plain_more all 5 a (b ∷ c ∷ d ∷ e ∷ rest) h (plain 6 (omega arith) (omega arith)) in
+    let seven : KeptBefore all 7 (c ∷ d ∷ e ∷ rest) = plain_more all 6 b (c ∷ d ∷ e ∷ rest) six (plain 7 (omega arith) (omega arith)) in
+    let eight : KeptBefore all 8 (d ∷ e ∷ rest) = plain_more all 7 c (d ∷ e ∷ rest) seven (plain 8 (omega arith) (omega arith)) in
     plain_more all 9 e rest (plain_more all 8 d (e ∷ rest) eight (plain 9 (omega arith) (omega arith))) (plain 10 (omega arith) (omega arith))
 
-pub no_last : (a b c d e text : List ℕ) (rest : List (List ℕ)) → ((n : ℕ) → PlaceLine text n → ⊥) → FirstFault 5 (a ∷ b ∷ c ∷ d ∷ e ∷ text ∷ rest) 11 (BadNumber 11)
+pub no_last : (a b c d e text : List ℕ) (rest : List (List ℕ)) → ((n : ℕ) → PlaceLine text n → ⊥) → FaultBehind 5 (a ∷ b ∷ c ∷ d ∷ e ∷ text ∷ rest) 11 (BadNumber 11)
 no_last a b c d e text rest none all h = no_number all 10 11 text rest (five_more all a b c d e (text ∷ rest) h) (omega arith) (inl refl) none
 
-pub packet_more : (all rest more : List (List ℕ)) (a b c d e text : List ℕ) (n : ℕ) → Reached all 5 rest → rest ≡ a ∷ b ∷ c ∷ d ∷ e ∷ text ∷ more → PlaceLine text n → Reached all 11 more
-packet_more all rest more a b c d e text n h same number = number_more all 10 n text more (five_more all a b c d e (text ∷ more) (subst (Reached all 5) same h)) (inl refl) number
+pub packet_more : (all rest more : List (List ℕ)) (a b c d e text : List ℕ) (n : ℕ) → KeptBefore all 5 rest → rest ≡ a ∷ b ∷ c ∷ d ∷ e ∷ text ∷ more → PlaceLine text n → KeptBefore all 11 more
+packet_more all rest more a b c d e text n h same number = number_more all 10 n text more (five_more all a b c d e (text ∷ more) (subst (KeptBefore all 5) same h)) (inl refl) number
 
 -- the lines of a conference
 number_place : (i : ℕ) → IsNumberPlace (11 + 2 * i + 1)
 number_place i = inr (i, omega arith)
 
-first_more : (all : List (List ℕ)) (i n : ℕ) (text : List ℕ) (rest more : List (List ℕ)) → Reached all (11 + 2 * i) rest → rest ≡ text ∷ more → PlaceLine text n → Reached all (11 + 2 * i + 1) more
-first_more all i n text rest more h e number = number_more all (11 + 2 * i) n text more (subst (Reached all (11 + 2 * i)) e h) (number_place i) number
+first_more : (all : List (List ℕ)) (i n : ℕ) (text : List ℕ) (rest more : List (List ℕ)) → KeptBefore all (11 + 2 * i) rest → rest ≡ text ∷ more → PlaceLine text n → KeptBefore all (11 + 2 * i + 1) more
+first_more all i n text rest more h e number = number_more all (11 + 2 * i) n text more (subst (KeptBefore all (11 + 2 * i)) e h) (number_place i) number
 
-pub no_first : (i : ℕ) (rest : List (List ℕ)) → rest ≡ [] → FirstFault (11 + 2 * i) rest (13 + 2 * i) (TooFewLines (12 + 2 * i))
+pub no_first : (i : ℕ) (rest : List (List ℕ)) → rest ≡ [] → FaultBehind (11 + 2 * i) rest (13 + 2 * i) (TooFewLines (12 + 2 * i))
 no_first i rest e all h =
     let k : 11 + 2 * i + 1 ≡ 12 + 2 * i = omega arith in
-    subst (λ (n : ℕ). BreaksUpto all (13 + 2 * i) (TooFewLines n)) k (too_few all (11 + 2 * i) (13 + 2 * i) (subst (Reached all (11 + 2 * i)) e h) (omega arith))
+    subst (λ (n : ℕ). BreaksUpto all (13 + 2 * i) (TooFewLines n)) k (too_few all (11 + 2 * i) (13 + 2 * i) (subst (KeptBefore all (11 + 2 * i)) e h) (omega arith))
 
-pub bad_first : (i : ℕ) (text : List ℕ) (rest more : List (List ℕ)) → rest ≡ text ∷ more → ((n : ℕ) → PlaceLine text n → ⊥) → FirstFault (11 + 2 * i) rest (13 + 2 * i) (BadNumber (12 + 2 * i))
+pub bad_first : (i : ℕ) (text : List ℕ) (rest more : List (List ℕ)) → rest ≡ text ∷ more → ((n : ℕ) → PlaceLine text n → ⊥) → FaultBehind (11 + 2 * i) rest (13 + 2 * i) (BadNumber (12 + 2 * i))
 bad_first i text rest more e none all h =
     let k : 11 + 2 * i + 1 ≡ 12 + 2 * i = omega arith in
-    subst (λ (n : ℕ). BreaksUpto all (13 + 2 * i) (BadNumber n)) k (no_number all (11 + 2 * i) (13 + 2 * i) text more (subst (Reached all (11 + 2 * i)) e h) (omega arith) (number_place i) none)
+    subst (λ (n : ℕ). BreaksUpto all (13 + 2 * i) (BadNumber n)) k (no_number all (11 + 2 * i) (13 + 2 * i) text more (subst (KeptBefore all (11 + 2 * i)) e h) (omega arith) (number_place i) none)
 
-pub no_name : (i n : ℕ) (text : List ℕ) (rest more : List (List ℕ)) → rest ≡ text ∷ more → PlaceLine text n → more ≡ [] → FirstFault (11 + 2 * i) rest (13 + 2 * i) (TooFewLines (12 + 2 * i + 1))
+pub no_name : (i n : ℕ) (text : List ℕ) (rest more : List (List ℕ)) → rest ≡ text ∷ more → PlaceLine text n → more ≡ [] → FaultBehind (11 + 2 * i) rest (13 + 2 * i) (TooFewLines (12 + 2 * i + 1))
 no_name i n text rest more e number none all h =
     let k : 11 + 2 * i + 1 + 1 ≡ 12 + 2 * i + 1 = omega arith in
-    subst (λ (m : ℕ). BreaksUpto all (13 + 2 * i) (TooFewLines m)) k (too_few all (11 + 2 * i + 1) (13 + 2 * i) (subst (Reached all (11 + 2 * i + 1)) none (first_more all i n text rest more h e number)) (omega arith))
+    subst (λ (m : ℕ). BreaksUpto all (13 + 2 * i) (TooFewLines m)) k (too_few all (11 + 2 * i + 1) (13 + 2 * i) (subst (KeptBefore all (11 + 2 * i + 1)) none (first_more all i n text rest more h e number)) (omega arith))
 
-pub conference_more : (all : List (List ℕ)) (i n : ℕ) (text name : List ℕ) (rest more : List (List ℕ)) → Reached all (11 + 2 * i) rest → rest ≡ text ∷ name ∷ more → PlaceLine text n → Reached all (11 + 2 * (i + 1)) more
+pub conference_more : (all : List (List ℕ)) (i n : ℕ) (text name : List ℕ) (rest more : List (List ℕ)) → KeptBefore all (11 + 2 * i) rest → rest ≡ text ∷ name ∷ more → PlaceLine text n → KeptBefore all (11 + 2 * (i + 1)) more
 conference_more all i n text name rest more h e number =
     let k : 11 + 2 * i + 1 + 1 ≡ 11 + 2 * (i + 1) = omega arith in
-    subst (λ (m : ℕ). Reached all m more) k (plain_more all (11 + 2 * i + 1) name more (first_more all i n text rest (name ∷ more) h e number) (name_plain i))
+    subst (λ (m : ℕ). KeptBefore all m more) k (plain_more all (11 + 2 * i + 1) name more (first_more all i n text rest (name ∷ more) h e number) (name_plain i))
 
 pub conference_push : (all : List (List ℕ)) (cs : List (ℕ × List ℕ)) (number name : List ℕ) (more : List (List ℕ)) (n : ℕ) → ConferencesRead all cs (number ∷ name ∷ more) → PlaceLine number n → ConferencesRead all (cs ++ (n, name) ∷ []) more
 conference_push all [] number name more n p q = (number, more, p, q, refl)

@@ -43,13 +43,13 @@ abbrev pub BreaksUpto : List (List ℕ) → ℕ → ControlError → Type 0
 BreaksUpto all n fault = (k : ℕ) × (1 ≤ k) × (k ≤ n) × ((j : ℕ) → 1 ≤ j → j < k → Keeps all j) × Breaks all k fault
 
 -- the first lines keep their rules, and these follow them
-pub record Reached (all : List (List ℕ)) (k : ℕ) (rest : List (List ℕ)) : Type 0 where
+pub record KeptBefore (all : List (List ℕ)) (k : ℕ) (rest : List (List ℕ)) : Type 0 where
   pub keeps : KeepsUpto all k
   pub left : drop k all ≡ rest
 
 -- where so many lines keep their rules and these follow, the first fault is this one, and among the first lines
-abbrev pub FirstFault : ℕ → List (List ℕ) → ℕ → ControlError → Type 0
-FirstFault before rest upto fault = (all : List (List ℕ)) → Reached all before rest → BreaksUpto all upto fault
+abbrev pub FaultBehind : ℕ → List (List ℕ) → ℕ → ControlError → Type 0
+FaultBehind before rest upto fault = (all : List (List ℕ)) → KeptBefore all before rest → BreaksUpto all upto fault
 
 -- want of memory, or a fault of which P holds
 abbrev pub MemoryOr : (ControlError → Type 0) → ControlError → Type 0

@@ -2,7 +2,7 @@ ghost use Rattle.std.specs.Prelude.{◌≡◌, ◌≤◌, ◌+◌, ◌*◌, ℕ,
 ghost use Rattle.std.specs.Str.Lines.{lines};
 ghost use Rattle.qwk_control.specs.Line.{PlaceLine};
 ghost use Rattle.qwk_control.specs.Control.{ConferencesRead};
-ghost use Rattle.qwk_control.specs.Fault.{FirstFault, MemoryOr};
+ghost use Rattle.qwk_control.specs.Fault.{FaultBehind, MemoryOr};
 
 use crate::control::Listed;
 use crate::fault::ControlError;
@@ -17,7 +17,7 @@ fn conference_of(text: &[u8], place: usize) -> Result<(u16, &[u8], &[u8]), Contr
     requires { place ≤ 65535 }
     ensures { MatchResult result
         (λ found. (number : List ℕ) × (lines text.now ≡ number ∷ found.1.now ∷ lines found.2.now) × PlaceLine number found.0)
-        (FirstFault (11 + 2 * place) (lines text.now) (13 + 2 * place)) }
+        (FaultBehind (11 + 2 * place) (lines text.now) (13 + 2 * place)) }
 {
     let line = 12 + 2 * place;
     let (first, after) = wanted_line(text, line)?;
@@ -37,7 +37,7 @@ pub fn conferences_of(
 ) -> Result<(Listed, &[u8]), ControlError>
     ensures { MatchResult result
         (λ found. (length found.0 ≡ last + 1) × ConferencesRead (lines text.now) found.0 (lines found.1.now))
-        (MemoryOr (FirstFault 11 (lines text.now) (13 + 2 * last))) }
+        (MemoryOr (FaultBehind 11 (lines text.now) (13 + 2 * last))) }
 {
     let mut listed = Listed::new(alloc);
     let mut rest = text;

@@ -2,7 +2,7 @@ ghost use Rattle.std.specs.Prelude.{◌≡◌, ℕ, List, ◌∷◌, MatchResult
 ghost use Rattle.std.specs.Str.Lines.{lines};
 ghost use Rattle.qwk_control.specs.Line.{PlaceLine, IdLine};
 ghost use Rattle.qwk_control.specs.Control.{CountReads};
-ghost use Rattle.qwk_control.specs.Fault.{FirstFault};
+ghost use Rattle.qwk_control.specs.Fault.{FaultBehind};
 
 use crate::fault::ControlError;
 use crate::id::id_of;
@@ -45,7 +45,7 @@ fn count_of(line: &[u8]) -> u32
 pub fn board_of(text: &[u8]) -> Result<(BoardLines<'_>, &[u8]), ControlError>
     ensures { MatchResult result
         (λ found. (fifth : List ℕ) × (lines text.now ≡ found.0.name.now ∷ found.0.city.now ∷ found.0.phone.now ∷ found.0.sysop.now ∷ fifth ∷ lines found.1.now) × IdLine fifth found.0.serial.now found.0.bbsid.now)
-        (FirstFault 0 (lines text.now) 5) }
+        (FaultBehind 0 (lines text.now) 5) }
 {
     let mut taken = [b"".as_slice(); 5];
     let rest = take_lines(text, 1, &mut taken)?;
@@ -68,7 +68,7 @@ pub fn board_of(text: &[u8]) -> Result<(BoardLines<'_>, &[u8]), ControlError>
 pub fn packet_of(text: &[u8]) -> Result<(PacketLines<'_>, &[u8]), ControlError>
     ensures { MatchResult result
         (λ found. (ninth tenth eleventh : List ℕ) × (lines text.now ≡ found.0.stamp.now ∷ found.0.user.now ∷ found.0.menu.now ∷ ninth ∷ tenth ∷ eleventh ∷ lines found.1.now) × CountReads tenth found.0.count × PlaceLine eleventh found.0.last)
-        (FirstFault 5 (lines text.now) 11) }
+        (FaultBehind 5 (lines text.now) 11) }
 {
     let mut taken = [b"".as_slice(); 6];
     let rest = take_lines(text, 6, &mut taken)?;

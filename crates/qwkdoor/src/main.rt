@@ -10,6 +10,7 @@ mod folder_host;
 mod folder_shelf;
 mod moment;
 mod opening;
+mod placement;
 #[cfg(test)]
 mod tests;
 mod transfer;
@@ -20,6 +21,7 @@ use folder_host::FolderHost;
 use folder_shelf::FolderShelf;
 use mail_cli::Status;
 use moment::unix_seconds;
+use placement::share_files;
 use std::alloc::AllocError;
 use std::process::ExitCode;
 
@@ -32,11 +34,16 @@ fn main(rt: HostRuntime) -> ExitCode {
     ExitCode::from(status.code())
 }
 
-/// Runs the program's words over its two folders. Fewer than three words are no command.
+/// Runs the program's words over its two folders. Fewer than three words are no command. Nor is a shelf that
+/// shares files with the board, since a command that fills a file of the shelf could write over the journal.
 fn run_on_folders(rt: HostRuntime) -> Result<Status, AllocError> {
     let Some(arguments) = Arguments::read(rt.alloc(), &rt)? else {
         return Ok(Status::Usage);
     };
+    if share_files(&rt, arguments.data.as_str(), arguments.shelf.as_str()) {
+        let _ = rt.eprintln("DATA and SHELF must not lie in one another");
+        return Ok(Status::Usage);
+    }
     let mut host = FolderHost::new(rt, arguments.data.as_str())?;
     let mut shelf = FolderShelf::new(rt, arguments.shelf.as_str())?;
     let now = unix_seconds(&rt);

@@ -2,6 +2,7 @@ use crate::arguments::Arguments;
 use crate::data_path::data_path;
 use crate::fault_line::fault_line;
 use crate::moment::unix_seconds;
+use crate::placement::share_files;
 use mail_cli::Status;
 use std::env::FillError;
 use std::io;
@@ -123,4 +124,19 @@ fn faults_and_files_have_their_names(rt: HostRuntime) -> Result<(), Fail> {
         assert_eq!(rt; data_path(rt.alloc(), "board", number)?.as_str(), path);
     }
     Ok(())
+}
+
+#[test]
+fn folders_share_files_where_one_lies_in_the_other(rt: HostRuntime) {
+    let cases = [
+        ("none/a", "none/a", true),
+        ("none/a", "none/a/b", true),
+        ("none/a/b/", "./none/a", true),
+        (".", "none", true),
+        ("none/a", "none/ab", false),
+        ("none/a", "none/b", false),
+    ];
+    for (data, shelf, share) in cases {
+        assert_eq!(rt; share_files(&rt, data, shelf), share, "{data} {shelf}");
+    }
 }
