@@ -1,5 +1,5 @@
 -- The patches are being carried out, one after the other.
-use Rattle.std.proofs.Common.{◌≡◌, ◌≢◌, inl, inr, ℕ, suc, ◌+◌, ◌<◌, ◌≤◌, List, [], ◌∷◌, ◌++◌, refl, sym, ◌∙◌, ap, subst, append_assoc, length, arith}
+use Rattle.std.proofs.Common.{◌≡◌, ◌≢◌, inl, inr, ℕ, suc, ◌+◌, ◌≤◌, List, [], ◌∷◌, ◌++◌, refl, sym, ◌∙◌, ap, subst, append_assoc, length, arith}
 use Rattle.std.specs.Prelude.{All, Bool, true, IsTrue, Some, None}
 use Rattle.std.proofs.lemmas.Bool.{cases_eq}
 use Rattle.std.proofs.lemmas.List.Sums.{sum_by-cons}
@@ -8,7 +8,7 @@ use Rattle.door_outside.proofs.Moments.{still, joined, by_call, now_by}
 use Rattle.intent_journal.proofs.Steps.{apply_here, apply_there, part_hidden, part_within, patched_local}
 use Rattle.intent_journal.proofs.DataFiles.{data_each, from_data}
 use Rattle.intent_journal.specs.Journal.{front, patch_by, patches_of}
-use Rattle.intent_journal.specs.Patches.{Files, file_of, bytes_of, byte_count, is_once, patched_file, apply, patched, data_files}
+use Rattle.intent_journal.specs.Patches.{file_of, bytes_of, byte_count, is_once, patched_file, apply, patched, data_files}
 use Rattle.intent_journal.specs.Spells.{IsFit}
 use Rattle.intent_journal.specs.Steps.{Stands, Partly}
 use Rattle.intent_journal.specs.declared.patch.Patch.{Patch}

@@ -3,7 +3,7 @@ use Rattle.std.proofs.Common.{◌≡◌, ◌≢◌, inl, inr, ℕ, ◌≤◌, Li
 use Rattle.std.proofs.lemmas.Bool.{cases_Bool, eq-eqb, ne_eqb, eqb-true, lt-ltb, and_parts, and_from, or_cases, not-true, true≢false, cond-true}
 use Rattle.std.proofs.lemmas.List.Elements.{All-head, All-tail}
 use Rattle.std.specs.Prelude.{All, Bool, true, false, not, ◌&&◌, ◌==◌, nat_lt, if◌then◌else◌, Option, Some, None, unwrap_or}
-use Rattle.door_outside.specs.Disk.{Disk, Image, AllNow, Unchanged}
+use Rattle.door_outside.specs.Disk.{Disk, AllNow, Unchanged}
 use Rattle.door_outside.specs.File.{is_data_file}
 use Rattle.door_outside.proofs.Moments.{now_unchanged}
 use Rattle.intent_journal.specs.declared.patch.Patch.{Patch}

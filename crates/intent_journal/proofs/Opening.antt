@@ -1,5 +1,5 @@
 -- The gate is opened over a whole body.
-use Rattle.std.proofs.Common.{◌≡◌, ◌≢◌, inl, inr, ⊎_elim, ℕ, ◌<◌, List, [], ◌∷◌, length, take, drop, sym, ◌∙◌, ap, subst}
+use Rattle.std.proofs.Common.{◌≡◌, inl, inr, ⊎_elim, ℕ, ◌<◌, List, [], ◌∷◌, length, take, drop, sym, ◌∙◌, ap, subst}
 use Rattle.std.specs.Prelude.{All, true, Some, unwrap_or}
 use Rattle.door_outside.specs.Disk.{Disk, Image, Now, AllNow, Between, Passes, InFile, Torn, Holds, Reached, written}
 use Rattle.door_outside.proofs.Moments.{joined, weaker, by_call, now_by, said_by}

@@ -1,5 +1,5 @@
 -- The patches of an open journal are carried out, and the gate is closed.
-use Rattle.std.proofs.Common.{◌≡◌, inl, inr, ⊎_elim, ℕ, ◌<◌, List, [], ◌∷◌, length, take, refl, sym, ◌∙◌, ap, subst, arith}
+use Rattle.std.proofs.Common.{◌≡◌, inl, inr, ⊎_elim, ℕ, ◌<◌, List, [], ◌∷◌, length, take, sym, ◌∙◌, ap, subst, arith}
 use Rattle.std.specs.Prelude.{All, true}
 use Rattle.std.proofs.lemmas.Bool.{cases_Bool}
 use Rattle.door_outside.specs.Disk.{Disk, Image, Now, AllNow, Passes, InFile, Torn, Holds, Reached, as_read, written}
@@ -7,7 +7,7 @@ use Rattle.door_outside.proofs.Moments.{reads_have}
 use Rattle.intent_journal.specs.declared.patch.Patch.{Patch}
 use Rattle.intent_journal.specs.Hosts.{IsCalm}
 use Rattle.intent_journal.specs.Journal.{body_patches, intent_of, open_patches}
-use Rattle.intent_journal.specs.Patches.{Files, is_once, are_within, patched, data_files}
+use Rattle.intent_journal.specs.Patches.{is_once, are_within, patched, data_files}
 use Rattle.intent_journal.specs.Recovered.{recovered, Back}
 use Rattle.intent_journal.specs.Spells.{IsFit}
 use Rattle.intent_journal.specs.Steps.{IsOpen, IsSure, JournalKept, Stands}

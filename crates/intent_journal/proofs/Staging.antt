@@ -6,7 +6,7 @@ use Rattle.std.proofs.lemmas.List.{nil_from_length}
 use Rattle.door_outside.specs.Disk.{Disk, Image, AllNow, Between, Passes, InFile, Torn, Holds, Reached, Unchanged, as_read, written}
 use Rattle.door_outside.proofs.Moments.{joined, by_call, by_nothing, now_by, now_unchanged, reads_have}
 use Rattle.intent_journal.specs.Hosts.{IsCalm, IsSettled}
-use Rattle.intent_journal.specs.Journal.{spelled, body_patches, open_patches, intent_of, IsClosed}
+use Rattle.intent_journal.specs.Journal.{spelled, body_patches, open_patches, IsClosed}
 use Rattle.intent_journal.specs.Patches.{Files, SameFiles, are_within, patched, data_files}
 use Rattle.intent_journal.specs.Recovered.{OldOrPatched}
 use Rattle.intent_journal.specs.Spells.{IsFit}

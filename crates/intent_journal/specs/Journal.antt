@@ -1,5 +1,5 @@
 -- The text of a journal. Numbers have their lowest byte first.
-use Rattle.std.specs.Prelude.{◌≡◌, ◌≢◌, ℕ, ◌+◌, ◌<◌, ◌≤◌, ◌^◌, Bool, true, false, not, ◌&&◌, ◌||◌, ◌==◌, nat_eq, nat_le, nat_lt, if◌then◌else◌, List, [], ◌∷◌, ◌++◌, length, take, drop, slice_index, get_or, codes, zero, suc, Option, Some, None, unwrap_or, option_and_then, option_map, IsTrue}
+use Rattle.std.specs.Prelude.{◌≡◌, ◌≢◌, ℕ, ◌+◌, ◌<◌, ◌≤◌, ◌^◌, Bool, true, false, ◌&&◌, ◌||◌, ◌==◌, nat_eq, nat_le, nat_lt, if◌then◌else◌, List, [], ◌∷◌, ◌++◌, length, take, drop, slice_index, get_or, codes, zero, suc, Option, Some, None, unwrap_or, option_and_then, option_map, IsTrue}
 use Rattle.std.specs.List.{starts_with, list_any}
 use Rattle.door_outside.specs.File.{is_data_file}
 use Rattle.record_numbers.specs.Numbers.{u16_at, u32_at, u16_text, u32_text}

@@ -143,7 +143,8 @@ fn read_journal<H: Host>(alloc: Global, host: &mut H) -> Result<Vec<u8>, Journal
 /// closes the gate. It takes memory for the bytes of the journal, and says nothing.
 ///
 /// A recovery that was stopped, any number of times, leads to the same files. `DiskFault` comes only where
-/// the host's count of disk faults rose.
+/// the host's count of disk faults rose. `OutOfMemory` hides no fault: it leaves the count as it was, as an
+/// answer does.
 pub fn recover<H: Host>(alloc: Global, host: &mut H) -> Result<(), JournalError>
     requires { IsTrue H.tells → IsSettled (H.disk host.old) }
 
