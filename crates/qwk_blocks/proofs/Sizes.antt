@@ -1,7 +1,7 @@
 -- How long the written form of a message is.
-use Rattle.std.proofs.Common.{◌≡◌, ℕ, ◌*◌, ◌^◌, ◌<◌, ◌≤◌, List, [], ◌∷◌, ◌++◌, length, sym, ap, subst, arith, length-append}
-use Rattle.std.specs.List.{All}
-use Rattle.std.proofs.lemmas.List.Elements.{All-cons, All-nil}
+use Rattle.std.proofs.Common.{ℕ, ◌*◌, ◌^◌, ◌<◌, ◌≤◌, List, [], ◌∷◌, length, arith, length-append}
+use Rattle.std.specs.List.{All, flat_map}
+use Rattle.std.proofs.lemmas.List.Elements.{All-head, All-tail}
 use Rattle.text_fields.proofs.Numbers.{number_small}
 use Rattle.qwk_blocks.specs.Header.{IsPad}
 use Rattle.qwk_blocks.specs.Packet.{MessageReads}
@@ -16,15 +16,14 @@ message_size_le m w =
     let x : MessageReads (message_text m) m = message_back m w in
     omega (arith, length_message (message_text m) m x, number_small IsPad 6 _ x.count x.header.blocks.number)
 
-pub one_message_fits : (notice : List ℕ) (m : QwkMessage) (ms : List QwkMessage) → length notice ≤ 128 → Writable m → ms ≡ [] ++ m ∷ [] → length (spelling notice ms) < 2 ^ 31
-one_message_fits notice m ms le w e = omega (
+all_size_le : (ms : List QwkMessage) → All Writable ms → length (flat_map message_text ms) ≤ 128 * 999999 * length ms
+all_size_le [] w = omega arith
+all_size_le (m ∷ ms) w = omega (
   arith,
-  ap (λ (k : List QwkMessage). length (spelling notice k)) e,
-  length-append (padded 128 notice) (message_text m ++ []),
-  length_padded 128 notice le,
-  length-append (message_text m) [],
-  message_size_le m w,
+  length-append (message_text m) (flat_map message_text ms),
+  message_size_le m (All-head Writable m ms w),
+  all_size_le ms (All-tail Writable m ms w),
 )
 
-pub all_one : (m : QwkMessage) (ms : List QwkMessage) → Writable m → ms ≡ [] ++ m ∷ [] → All Writable ms
-all_one m ms w e = subst (All Writable) (sym e) (All-cons Writable m [] w (All-nil Writable))
+pub messages_fit : (notice : List ℕ) (ms : List QwkMessage) → length notice ≤ 128 → All Writable ms → length ms ≤ 16 → length (spelling notice ms) < 2 ^ 31
+messages_fit notice ms le w few = omega (arith, length-append (padded 128 notice) (flat_map message_text ms), length_padded 128 notice le, all_size_le ms w)

@@ -166,15 +166,14 @@ fn message_of(alloc: Global, line: Option<usize>) -> Result<QwkMessage, AllocErr
     })
 }
 
-/// The written form of one message.
-#[tactic(auto, using(crate::proofs::Sizes::one_message_fits, crate::proofs::Sizes::all_one))]
-fn write(rt: &impl Abort, alloc: Global, message: QwkMessage) -> Result<Bytes, AllocError> {
-    assert!(rt; message.writable());
-    let mut messages = QwkMessages::new(alloc);
-    messages.add(message)?;
+/// The written form of messages.
+fn write(rt: &impl Abort, alloc: Global, messages: &QwkMessages) -> Result<Bytes, AllocError> {
+    let writable = messages.as_slice().iter().all(|message| message.writable());
+    assert!(rt; writable);
+    assert!(rt; messages.len() <= 16);
     let notice = b"Produced by qwkdoor, packet 1".as_slice();
     assert!(rt; notice.len() <= 128);
-    write_messages(alloc, notice, &messages)
+    write_messages(alloc, notice, messages)
 }
 
 #[test]
@@ -191,7 +190,9 @@ fn writes_whole_blocks(rt: HostRuntime) -> Result<(), Fail> {
             wanted.add(&[0xE3])?;
         }
         add_field(&mut wanted, b"", len, b' ')?;
-        let file = write(&rt, rt.alloc(), message_of(rt.alloc(), line)?)?;
+        let mut messages = QwkMessages::new(rt.alloc());
+        messages.add(message_of(rt.alloc(), line)?)?;
+        let file = write(&rt, rt.alloc(), &messages)?;
         let written = file.as_slice();
         assert_eq!(rt; written.len(), len);
         assert_eq!(rt; Some(written), wanted.as_slice().get(..len));
@@ -200,4 +201,123 @@ fn writes_whole_blocks(rt: HostRuntime) -> Result<(), Fail> {
         assert_eq!(rt; message.lines.len(), if line.is_some() { 1 } else { 0 });
     }
     Ok(())
+}
+
+/// The blocks of the two messages below, behind a notice.
+const BLOCKS: [&[u8]; 6] = [
+    b"Produced by qwkdoor, packet 1                                                                                                   ",
+    b"+999999911-27-2623:59SAM SYSOP                ANN LEE                  Re: Hello                SECRETSECRET999999993     \xE1\x07\x01\x01\x00*",
+    b"Dear Sam,\xE3\xE3this line has a  gap, and spaces at its end  \xE3and with this one the text takes more than a single block of one hundre",
+    b"d and twenty-eight bytes.\xE3                                                                                                      ",
+    b" 7      09-09-0101:46ALL                      BOB RAY                                                               2     \xE2\x07\x00\x01\x02 ",
+    b"First line\xE3                                                                                                                     ",
+];
+
+/// A private message with a password and a reference, of two text blocks.
+fn private_message(alloc: Global) -> Result<QwkMessage, AllocError> {
+    let mut lines = Lines::new(alloc);
+    for line in [
+        b"Dear Sam,".as_slice(),
+        b"",
+        b"this line has a  gap, and spaces at its end  ",
+        b"and with this one the text takes more than a single block of one hundred and twenty-eight bytes.",
+    ] {
+        lines.add(Bytes::from_slice(alloc, line)?)?;
+    }
+    Ok(QwkMessage {
+        header: Header {
+            status: b'+',
+            number: Some(9_999_999),
+            date: *b"11-27-26",
+            time: *b"23:59",
+            to: Bytes::from_slice(alloc, b"SAM SYSOP")?,
+            from: Bytes::from_slice(alloc, b"ANN LEE")?,
+            subject: Bytes::from_slice(alloc, b"Re: Hello")?,
+            password: Bytes::from_slice(alloc, b"SECRETSECRET")?,
+            reference: Some(99_999_999),
+            activity: 0xE1,
+            conference: 263,
+            logical: 1,
+            tag: b'*',
+        },
+        lines,
+    })
+}
+
+/// A killed public message without a subject and a reference.
+fn public_message(alloc: Global) -> Result<QwkMessage, AllocError> {
+    let mut lines = Lines::new(alloc);
+    lines.add(Bytes::from_slice(alloc, b"First line")?)?;
+    Ok(QwkMessage {
+        header: Header {
+            status: b' ',
+            number: Some(7),
+            date: *b"09-09-01",
+            time: *b"01:46",
+            to: Bytes::from_slice(alloc, b"ALL")?,
+            from: Bytes::from_slice(alloc, b"BOB RAY")?,
+            subject: Bytes::new(alloc),
+            password: Bytes::new(alloc),
+            reference: None,
+            activity: 0xE2,
+            conference: 7,
+            logical: 513,
+            tag: b' ',
+        },
+        lines,
+    })
+}
+
+fn assert_same_header(rt: &impl Abort, header: &Header, wanted: &Header) {
+    assert_eq!(rt; header.status, wanted.status);
+    assert_eq!(rt; header.number, wanted.number);
+    assert_eq!(rt; (header.date, header.time), (wanted.date, wanted.time));
+    for (text, other) in [
+        (&header.to, &wanted.to),
+        (&header.from, &wanted.from),
+        (&header.subject, &wanted.subject),
+        (&header.password, &wanted.password),
+    ] {
+        assert_eq!(rt; text.as_slice(), other.as_slice());
+    }
+    assert_eq!(rt; header.reference, wanted.reference);
+    assert_eq!(rt;
+        (header.activity, header.tag),
+        (wanted.activity, wanted.tag)
+    );
+    assert_eq!(rt; header.conference, wanted.conference);
+    assert_eq!(rt; header.logical, wanted.logical);
+}
+
+fn assert_same(
+    rt: &impl Abort,
+    messages: &QwkMessages,
+    wanted: &QwkMessages,
+    place: usize,
+) -> Result<(), Fail> {
+    let message = messages.get(place).ok_or("no message")?;
+    let other = wanted.get(place).ok_or("no message wanted")?;
+    assert_same_header(rt, &message.header, &other.header);
+    assert_eq!(rt; message.lines.len(), other.lines.len());
+    for (line, text) in message.lines.as_slice().iter().zip(other.lines.as_slice()) {
+        assert_eq!(rt; line.as_slice(), text.as_slice());
+    }
+    Ok(())
+}
+
+#[test]
+fn writes_and_reads_two_messages(rt: HostRuntime) -> Result<(), Fail> {
+    let mut messages = QwkMessages::new(rt.alloc());
+    messages.add(private_message(rt.alloc())?)?;
+    messages.add(public_message(rt.alloc())?)?;
+    let mut wanted = Bytes::new(rt.alloc());
+    for block in BLOCKS {
+        wanted.add(block)?;
+    }
+    let file = write(&rt, rt.alloc(), &messages)?;
+    assert_eq!(rt; file.as_slice(), wanted.as_slice());
+    let again = read(&rt, rt.alloc(), file.as_slice())?;
+    assert_eq!(rt; again.len(), 2);
+    assert_same(&rt, &again, &messages, 0)?;
+    assert_same(&rt, &again, &messages, 1)
 }
