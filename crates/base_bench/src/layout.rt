@@ -87,12 +87,12 @@ fn add_messages(alloc: Global, files: &mut BaseFiles, slots: &Slots) -> Result<(
     Ok(())
 }
 
-/// Adds the record of each member, who has read all.
-fn add_members(files: &mut BaseFiles, shape: &Shape) -> Result<(), AllocError> {
-    for (id, name) in shape.readers.as_slice() {
+/// Adds the record of each reader, who has read all.
+fn add_readers(files: &mut BaseFiles, shape: &Shape) -> Result<(), AllocError> {
+    for reader in shape.readers.as_slice() {
         let last = LastRead {
-            user_crc: name_crc(name.as_slice()),
-            user_id: *id,
+            user_crc: name_crc(reader.name.as_slice()),
+            user_id: reader.id,
             last: MOST,
             high: MOST,
         };
@@ -117,6 +117,6 @@ pub fn files(alloc: Global, shape: &Shape) -> Result<BaseFiles, AllocError> {
         jlr: Bytes::new(alloc),
     };
     add_messages(alloc, &mut files, &slots(alloc)?)?;
-    add_members(&mut files, shape)?;
+    add_readers(&mut files, shape)?;
     Ok(files)
 }

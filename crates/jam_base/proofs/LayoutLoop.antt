@@ -2,9 +2,10 @@
 use Rattle.std.proofs.Common.{◌≡◌, inl, inr, ◌⊎◌, ℕ, ◌+◌, ◌≤◌, ◌<◌, List, [], ◌∷◌, ◌++◌, length, drop, get_or, refl, sym, ap, ◌∙◌, arith, append_assoc, append-nil}
 use Rattle.std.proofs.lemmas.List.{drop_all, drop_more, length-drop}
 use Rattle.jam_records.specs.LastReads.{last_text}
-use Rattle.jam_base.specs.Readers.{last_read, last_reads}
+use Rattle.jam_layout.specs.Readers.{last_read, last_reads}
+use Rattle.jam_layout.specs.declared.reader.Reader.{Reader}
 
-pub record_added : (readers : List (ℕ × List ℕ)) (pointers : List ℕ) (n : ℕ) (r : ℕ × List ℕ) (p : ℕ) (text new whole : List ℕ) → n < length readers → n < length pointers → r ≡ get_or readers n r → p ≡ get_or pointers n p
+pub record_added : (readers : List Reader) (pointers : List ℕ) (n : ℕ) (r : Reader) (p : ℕ) (text new whole : List ℕ) → n < length readers → n < length pointers → r ≡ get_or readers n r → p ≡ get_or pointers n p
     → new ≡ text ++ last_text (last_read r p) → text ++ last_reads (drop n readers) (drop n pointers) ≡ whole → new ++ last_reads (drop (n + 1) readers) (drop (n + 1) pointers) ≡ whole
 record_added readers pointers n r p text new whole some_readers some_pointers reader pointer is so_far =
     let others : List ℕ = last_reads (drop (n + 1) readers) (drop (n + 1) pointers) in
@@ -13,12 +14,12 @@ record_added readers pointers n r p text new whole some_readers some_pointers re
     ap (λ xs. xs ++ others) is ∙ (append_assoc text (last_text (last_read r p)) others
     ∙ (sym (ap (λ xs. text ++ last_reads xs (drop n pointers)) rs ∙ ap (λ xs. text ++ last_reads (r ∷ drop (n + 1) readers) xs) ps) ∙ so_far))
 
-no_pointers : (readers : List (ℕ × List ℕ)) → last_reads readers [] ≡ []
+no_pointers : (readers : List Reader) → last_reads readers [] ≡ []
 no_pointers [] = refl
 no_pointers (r ∷ readers) = refl
 
 -- there is none left of the readers or of the pointers
-pub all_added : (readers : List (ℕ × List ℕ)) (pointers : List ℕ) (n : ℕ) (text whole : List ℕ) → (length readers ≤ n) ⊎ (length pointers ≤ n) → text ++ last_reads (drop n readers) (drop n pointers) ≡ whole → text ≡ whole
+pub all_added : (readers : List Reader) (pointers : List ℕ) (n : ℕ) (text whole : List ℕ) → (length readers ≤ n) ⊎ (length pointers ≤ n) → text ++ last_reads (drop n readers) (drop n pointers) ≡ whole → text ≡ whole
 all_added readers pointers n text whole (inl none) so_far =
     sym (append-nil text) ∙ (ap (λ xs. text ++ last_reads xs (drop n pointers)) (sym (drop_all n readers none)) ∙ so_far)
 all_added readers pointers n text whole (inr none) so_far =

@@ -1,4 +1,4 @@
--- The members of a conference, and the conferences that a change makes.
+-- The readers of a conference, and the conferences that a change makes.
 use Rattle.std.proofs.Common.{◌≡◌, ℕ, ◌+◌, ◌^◌, ◌≤◌, ◌<◌, List, [], ◌∷◌, ◌++◌, length, sym, ap, ◌∙◌, subst, arith, length-append}
 use Rattle.std.specs.Prelude.{All, replicate}
 use Rattle.std.proofs.Math.ListN.{length-replicate}
@@ -7,35 +7,24 @@ use Rattle.std.proofs.lemmas.List.Elements.{All-drop, All-append, All-cons, All-
 use Rattle.byte_lists.specs.Byte.{IsByte}
 use Rattle.jam_records.specs.BaseHeaders.{base_text}
 use Rattle.jam_records.specs.declared.message.Slot.{Slot}
-use Rattle.jam_base.specs.Base.{base_header, layout}
-use Rattle.jam_base.specs.Conference.{Contents, no_slots, with_reader}
-use Rattle.jam_base.specs.Messages.{IsSlot}
-use Rattle.jam_base.specs.Reader.{IsReader}
-use Rattle.jam_base.specs.Readers.{last_reads}
-use Rattle.jam_base.specs.Valid.{Rise, IsShape, FilesFit, IsConference}
-use Rattle.jam_base.specs.declared.conference.Conference.{Conference}
-use Rattle.jam_base.specs.declared.files.BaseFiles.{BaseFiles}
-use Rattle.jam_base.specs.declared.shape.Shape.{Shape}
-use Rattle.jam_base.proofs.BaseLaws.{base_length}
+use Rattle.jam_threads.specs.Links.{AreLinks}
+use Rattle.jam_threads.specs.declared.link.Link.{Link}
+use Rattle.jam_layout.specs.Layout.{base_header, layout}
+use Rattle.jam_base.specs.Contents.{Contents, no_slots, with_reader}
+use Rattle.jam_layout.specs.Messages.{IsSlot}
+use Rattle.jam_layout.specs.Readers.{last_reads}
+use Rattle.jam_layout.specs.Valid.{Rise, IsShape, FilesFit, IsConference}
+use Rattle.jam_layout.specs.declared.conference.Conference.{Conference}
+use Rattle.jam_layout.specs.declared.files.BaseFiles.{BaseFiles}
+use Rattle.jam_layout.specs.declared.reader.Reader.{Reader}
+use Rattle.jam_layout.specs.declared.shape.Shape.{Shape}
+use Rattle.jam_layout.proofs.BaseLaws.{base_length}
 
 -- ---- rising ids
-rise_more : (readers : List (ℕ × List ℕ)) (user : ℕ) (name : List ℕ) → Rise readers → All (λ r. r.0 < user) readers → Rise (readers ++ (user, name) ∷ [])
+rise_more : (readers : List Reader) (user : ℕ) (name : List ℕ) → Rise readers → All (λ r. r.id < user) readers → Rise (readers ++ record { id = user; name = name } ∷ [])
 rise_more [] user name rise below = tt
 rise_more (r ∷ []) user name rise below = (below 0 r (omega arith), tt)
-rise_more (r ∷ s ∷ readers) user name rise below = (rise.0, rise_more (s ∷ readers) user name rise.1 (All-drop (λ q. q.0 < user) 1 (r ∷ s ∷ readers) below))
-
-rise_span : (most : ℕ) (r : ℕ × List ℕ) (readers : List (ℕ × List ℕ)) → Rise (r ∷ readers) → All (λ q. q.0 < most) (r ∷ readers) → r.0 + length readers < most
-rise_span most r [] rise below = omega (arith, below 0 r (omega arith))
-rise_span most r (s ∷ readers) rise below =
-    omega (arith, rise.0, rise_span most s readers rise.1 (All-drop (λ q. q.0 < most) 1 (r ∷ s ∷ readers) below))
-
-ids_small : (readers : List (ℕ × List ℕ)) → All IsReader readers → All (λ q. q.0 < 2 ^ 32) readers
-ids_small readers fits = λ k d within. (fits k d within).0
-
--- there are no more readers than ids
-pub few_readers : (readers : List (ℕ × List ℕ)) → Rise readers → All IsReader readers → length readers ≤ 2 ^ 32
-few_readers [] rise fits = omega arith
-few_readers (r ∷ readers) rise fits = omega (arith, rise_span (2 ^ 32) r readers rise (ids_small (r ∷ readers) fits))
+rise_more (r ∷ s ∷ readers) user name rise below = (rise.0, rise_more (s ∷ readers) user name rise.1 (All-drop (λ q. q.id < user) 1 (r ∷ s ∷ readers) below))
 
 -- ---- a new conference
 zeros_within : (count n : ℕ) → All (λ p. p ≤ count) (replicate n 0)
@@ -76,11 +65,17 @@ fresh_made shape slots pointers files none zeros is fits =
     let same : made ≡ no_slots shape = λ i. record { counter = 0; slots = none i; pointers = zeros i } in
     subst (IsConference shape) (sym same) (fresh_is shape (subst FilesFit is fits))
 
+pub no_links : (slots : List Slot) (links : List Link) → slots ≡ [] → links ≡ [] → AreLinks slots links
+no_links slots links none nothing = record { count = ap length nothing ∙ sym (ap length none); each = λ place within. absurd (omega (arith, within, ap length none)) }
+
+pub same_links : (slots old : List Slot) (links kept : List Link) → slots ≡ old → links ≡ kept → AreLinks old kept → AreLinks slots links
+same_links slots old links kept same is are = subst (λ (xs : List Link). AreLinks slots xs) (sym is) (subst (λ (xs : List Slot). AreLinks xs kept) (sym same) are)
+
 -- ---- a further reader
 one_zero : (count : ℕ) → All (λ p. p ≤ count) (0 ∷ [])
 one_zero count = All-cons (λ p. p ≤ count) 0 [] (omega arith) (All-nil (λ p. p ≤ count))
 
-joined_shape : (shape : Shape) (user : ℕ) (name : List ℕ) → IsShape shape → All (λ r. r.0 < user) shape.readers → IsShape (record shape { readers = shape.readers ++ (user, name) ∷ [] })
+joined_shape : (shape : Shape) (user : ℕ) (name : List ℕ) → IsShape shape → All (λ r. r.id < user) shape.readers → IsShape (record shape { readers = shape.readers ++ record { id = user; name = name } ∷ [] })
 joined_shape shape user name is below = record { place = is.place; rise = rise_more shape.readers user name is.rise below }
 
 -- the base with the further reader, as it is made
@@ -92,14 +87,14 @@ module _ (base : Contents) (user : ℕ) (name : List ℕ) where
     few = ok.few;
     slots = ok.slots;
     pointers = record {
-      all = length-append base.conference.pointers (0 ∷ []) ∙ (ap (λ n. n + 1) ok.pointers.all ∙ sym (length-append base.shape.readers ((user, name) ∷ [])));
+      all = length-append base.conference.pointers (0 ∷ []) ∙ (ap (λ n. n + 1) ok.pointers.all ∙ sym (length-append base.shape.readers (record { id = user; name = name } ∷ [])));
       within = All-append (λ p. p ≤ length base.conference.slots) base.conference.pointers (0 ∷ []) ok.pointers.within (one_zero (length base.conference.slots));
     };
     files = record { jhr = ok.files.jhr; jdt = ok.files.jdt; jdx = ok.files.jdx; jlr = bytes };
   }
 
   pub joined_made : (shape : Shape) (conference : Conference) (jlr : List ℕ) → shape ≡ (with_reader user name base).shape → conference ≡ (with_reader user name base).conference
-      → jlr ≡ last_reads shape.readers conference.pointers → All IsByte jlr → All (λ r. r.0 < user) base.shape.readers → IsShape base.shape × IsConference base.shape base.conference → IsShape shape × IsConference shape conference
+      → jlr ≡ last_reads shape.readers conference.pointers → All IsByte jlr → All (λ r. r.id < user) base.shape.readers → IsShape base.shape × IsConference base.shape base.conference → IsShape shape × IsConference shape conference
   joined_made shape conference jlr shape_is conference_is text bytes below is =
       let text_is : jlr ≡ last_reads (with_reader user name base).shape.readers (with_reader user name base).conference.pointers =
       text ∙ (ap (λ (s : Shape). last_reads s.readers conference.pointers) shape_is ∙ ap (λ (c : Conference). last_reads (with_reader user name base).shape.readers c.pointers) conference_is) in
@@ -115,8 +110,8 @@ module _ (base : Contents) (user : ℕ) (name : List ℕ) where
       ap (λ (xs : List ℕ). record (layout base.shape base.conference) { jlr = xs }) text_is
       ∙ (sym (ap (λ (c : Conference). layout (with_reader user name base).shape c) conference_is) ∙ sym (ap (λ (s : Shape). layout s conference) shape_is))
 
-pub shape_more : (s t : Shape) (readers : List (ℕ × List ℕ)) (user : ℕ) (name : List ℕ) → s ≡ t → readers ≡ t.readers ++ (user, name) ∷ []
-    → record { place = s.place; created = s.created; kind = s.kind; readers = readers } ≡ record t { readers = t.readers ++ (user, name) ∷ [] }
+pub shape_more : (s t : Shape) (readers : List Reader) (user : ℕ) (name : List ℕ) → s ≡ t → readers ≡ t.readers ++ record { id = user; name = name } ∷ []
+    → record { place = s.place; created = s.created; kind = s.kind; readers = readers } ≡ record t { readers = t.readers ++ record { id = user; name = name } ∷ [] }
 shape_more s t readers user name same is = λ i. record { place = (same i).place; created = (same i).created; kind = (same i).kind; readers = is i }
 
 pub conference_more : (c d : Conference) (pointers : List ℕ) → c ≡ d → pointers ≡ d.pointers ++ 0 ∷ [] → record { counter = c.counter; slots = c.slots; pointers = pointers } ≡ record d { pointers = d.pointers ++ 0 ∷ [] }

@@ -1,44 +1,65 @@
 ghost use Rattle.std.specs.Prelude.{◌≡◌, ◌-◌, ◌<◌, ◌==◌, length, slice_get, All, None, IfOk, if◌then◌else◌};
 ghost use Rattle.std.specs.Option.{option_copied};
 ghost use Rattle.jam_threads.specs.Children.{original};
-ghost use Rattle.jam_base.specs.Base.{layout, files_size};
+ghost use Rattle.jam_layout.specs.Layout.{layout, files_size};
 ghost use Rattle.jam_base.specs.Change.{Turns, SuitsIntent};
-ghost use Rattle.jam_base.specs.Conference.{live_count, pointer_of, no_slots, with_reader};
-ghost use Rattle.jam_base.specs.Valid.{IsShape};
-ghost use Rattle.jam_base.specs.declared.files.BaseFiles.{BaseFiles};
+ghost use Rattle.jam_base.specs.Contents.{pointer_of, no_slots, with_reader};
+ghost use Rattle.jam_layout.specs.Conference.{live_count};
+ghost use Rattle.jam_layout.specs.Valid.{IsShape, IsConference};
+ghost use Rattle.jam_layout.specs.declared.files.BaseFiles.{BaseFiles};
 
 use crate::change::{BaseChange, whole_files, whole_jlr};
-use crate::conference::{Conference, answered_id, no_pointers};
-use crate::layout::{empty_files, jlr_of};
-use crate::shape::Shape;
-use crate::sizes::{jlr_size, slots_size};
+use crate::new_files::{empty_files, jlr_of, no_pointers};
 use byte_lists::{Bytes, Duplicate};
+use jam_layout::{Conference, Reader, Shape, files_size as size_of_files};
 use jam_records::{Slot, Slots};
-use jam_threads::original_of;
+use jam_threads::{Links, links};
 use std::alloc::{AllocError, Global};
 use std::marker::Model;
 
 /// A conference and its shape. Contracts see the two as `Contents`.
 #[derive(Debug, Drop)]
 pub struct Base {
-    pub(crate) shape: Shape,
-    pub(crate) conference: Conference,
+    shape: Shape,
+    conference: Conference,
+    /// The links of its slots, which its files show too.
+    links: Links,
 }
 
 impl Model for Base {
-    ghost use Rattle.jam_base.specs.Conference.{Contents};
-    ghost use Rattle.jam_base.specs.Valid.{IsShape, IsConference};
+    ghost use Rattle.jam_base.specs.Contents.{Contents};
+    ghost use Rattle.jam_layout.specs.Valid.{IsShape, IsConference};
+    ghost use Rattle.jam_threads.specs.Links.{AreLinks};
 
     ghost Value = { Contents };
 
     ghost view = { λ s. record { shape = s.shape; conference = s.conference } };
 
-    ghost invariant = { λ s. IsShape s.shape × IsConference s.shape s.conference };
+    ghost invariant = { λ s. IsShape s.shape × IsConference s.shape s.conference × AreLinks s.conference.slots s.links };
 }
 
 impl Base {
-    /// The base of a new conference: no slots, and the pointer of each member 0. Its patches write its four
-    /// files, whatever they were. The shape's place is at most 63, and the ids of its members rise.
+    /// The base of this shape and conference.
+    pub(crate) fn linked(
+        alloc: Global,
+        shape: &Shape,
+        conference: Conference,
+    ) -> Result<Base, AllocError>
+        requires shape { IsShape shape.now }
+        requires conference { IsConference shape.now conference }
+        ensures { IfOk result (λ base. base ≡ record { shape = shape.now; conference = conference }) }
+    {
+        let links = links(alloc, &conference.slots)?;
+        let shape = shape.duplicate(alloc)?;
+        Ok(Base {
+            shape,
+            conference,
+            links,
+        })
+    }
+
+    /// The base of a new conference: no slots, and the pointer of each reader 0. Its patches write its four
+    /// files, whatever they were. The shape's place is at most 63, and the ids of its readers rise.
     ///
     /// The error comes where there is no memory.
     pub fn fresh(alloc: Global, shape: &Shape) -> Result<BaseChange, AllocError>
@@ -57,29 +78,39 @@ impl Base {
             pointers,
         };
         Ok(BaseChange {
-            base: Base { shape, conference },
+            base: Base {
+                shape,
+                conference,
+                links: Links::new(alloc),
+            },
             patches,
         })
     }
 
-    /// The base with a further member, whose pointer is 0. His id is above that of each member. Its patches
-    /// make its files of those of this base.
+    /// The base with a further reader, whose pointer is 0: the user of this id, above that of each reader, and
+    /// this name. Its patches make its files of those of this base.
     ///
     /// The error comes where there is no memory.
     pub fn joined(&self, alloc: Global, user: u32, name: &[u8]) -> Result<BaseChange, AllocError>
-        requires { All (λ reader. reader.0 < user) self.now.shape.readers }
+        requires { All (λ reader. reader.id < user) self.now.shape.readers }
         ensures base { IfOk result (λ change. change.base ≡ with_reader user name.now self.now) }
         ensures files { IfOk result (λ change. Turns self.now.shape.place (layout self.now.shape self.now.conference) (layout change.base.shape change.base.conference) change.patches) }
         ensures intent { IfOk result (λ change. SuitsIntent self.now.shape.place (layout change.base.shape change.base.conference) change.patches) }
     {
         let mut shape = self.shape.duplicate(alloc)?;
-        shape.readers.add((user, Bytes::from_slice(alloc, name)?))?;
+        let name = Bytes::from_slice(alloc, name)?;
+        shape.readers.add(Reader { id: user, name })?;
         let mut conference = self.conference.duplicate(alloc)?;
         conference.pointers.add(0)?;
-        let jlr = jlr_of(alloc, shape.members(), conference.pointers.as_slice())?;
+        let links = self.links.copy(alloc)?;
+        let jlr = jlr_of(alloc, shape.readers.as_slice(), conference.pointers.as_slice())?;
         let patches = whole_jlr(alloc, shape.place, jlr)?;
         Ok(BaseChange {
-            base: Base { shape, conference },
+            base: Base {
+                shape,
+                conference,
+                links,
+            },
             patches,
         })
     }
@@ -98,8 +129,8 @@ impl Base {
         self.conference.live_count() as u32
     }
 
-    /// The last-read pointer of a member: a message number, or 0 before the first. None where no member has
-    /// this id.
+    /// The last-read pointer of the reader who is the user of this id: a message number, or 0 before the first.
+    /// None where no reader has the id.
     pub fn pointer(&self, user: u32) -> Option<u32>
         ensures { result ≡ pointer_of user self.now.shape.readers self.now.conference.pointers }
     {
@@ -111,7 +142,7 @@ impl Base {
     pub fn size(&self) -> u64
         ensures { result ≡ files_size (layout self.now.shape self.now.conference) }
     {
-        1024 + slots_size(self.conference.slots.as_slice()) + jlr_size(&self.shape)
+        size_of_files(&self.shape, &self.conference)
     }
 
     /// The slot of a message number, from 1, or None where there is none.
@@ -129,10 +160,6 @@ impl Base {
     pub fn reply_to(&self, number: u32) -> u32
         ensures { result ≡ original self.now.conference.slots number }
     {
-        let Some(slot) = self.slot(number) else {
-            return 0;
-        };
-        let first = original_of(&self.conference.slots, answered_id(slot));
-        if first < number { first } else { 0 }
+        self.links.original(number)
     }
 }

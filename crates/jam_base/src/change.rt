@@ -1,14 +1,13 @@
 ghost use Rattle.std.specs.Prelude.{◌≡◌, ◌<◌, [], ◌∷◌, IfOk};
 ghost use Rattle.intent_journal.specs.declared.patch.Patch.TheVariants.{Whole};
-ghost use Rattle.jam_base.specs.Places.{jlr_file};
+ghost use Rattle.jam_layout.specs.Places.{jlr_file};
 ghost use Rattle.jam_base.specs.Change.{whole_files};
 
 use crate::base::Base;
-use crate::files::BaseFiles;
-use crate::places::{jdt, jdx, jhr, jlr};
 use byte_lists::Bytes;
 use door_outside::FileId;
 use intent_journal::{Patch, Patches};
+use jam_layout::{BaseFiles, jdt, jdx, jhr, jlr};
 use std::alloc::{AllocError, Global};
 
 /// A base after a change, and the change of its files.

@@ -1,96 +1,65 @@
 ghost use Rattle.std.specs.Prelude.{◌<◌, All, IfOk};
-ghost use Rattle.jam_base.specs.Valid.{IsShape};
+ghost use Rattle.jam_layout.specs.Valid.{IsShape};
 
-use crate::{Base, BaseError, BaseFiles, Readers, Shape, read_base};
+use crate::{Base, BaseChange, BaseError, BaseFiles, Reader, Readers, Shape, read_base};
 use byte_lists::Bytes;
-use jam_records::{Damage, DamageRule, Kind};
+use intent_journal::Patch;
+use jam_records::{Kind, Message, Slot};
 use std::alloc::{AllocError, Global};
 use std::test::Fail;
 
-/// The first 24 bytes of the .JHR of a conference of two messages. 1000 zeros follow.
-const BASE: [u8; 24] = *b"JAM\0\0\xCA\x9A;\x01\0\0\0\x02\0\0\0\xFF\xFF\xFF\xFF\x01\0\0\0";
+/// The first 24 bytes of the .JHR of a message and three answers to it, of which the second was deleted.
+/// 1000 zeros follow.
+const BASE: [u8; 24] = *b"JAM\0\0\xCA\x9A;\x03\0\0\0\x03\0\0\0\xFF\xFF\xFF\xFF\x01\0\0\0";
 
-/// The headers of its messages, of 134 bytes each.
-const FIRST: [u8; 134] =
-    *b"JAM\0\x01\0\0\0:\0\0\0\0\0\0\0qc\x95\xF7\xFF\xFF\xFF\xFF\0\0\0\0\0\0\0\0\0\0\0\0\0\xCA\x9A;\0\0\0\0\0\xCA\x9A;\x01\0\0\0\x01\0\x80\0\0\0\0\0\0\0\0\0\x0B\0\0\0\xFF\xFF\xFF\xFF\0\0\0\0\x02\0\0\0\x07\0\0\0Bob Ray\x03\0\0\0\x03\0\0\0All\x04\0\0\0\x0B\0\0\00.1.TESTBBS\x06\0\0\0\x05\0\0\0Hello";
+/// The headers of the messages.
+const ORIGINAL: [u8; 134] =
+    *b"JAM\0\x01\0\0\0:\0\0\0\0\0\0\0qc\x95\xF7\xFF\xFF\xFF\xFF\0\0\0\0\x02\0\0\0\0\0\0\0\0\xCA\x9A;\0\0\0\0\0\xCA\x9A;\x01\0\0\0\x01\0\x80\0\0\0\0\0\0\0\0\0\x0B\0\0\0\xFF\xFF\xFF\xFF\0\0\0\0\x02\0\0\0\x07\0\0\0Bob Ray\x03\0\0\0\x03\0\0\0All\x04\0\0\0\x0B\0\0\00.1.TESTBBS\x06\0\0\0\x05\0\0\0Hello";
 
-const SECOND: [u8; 134] =
-    *b"JAM\0\x01\0\0\0:\0\0\0\0\0\0\0\xB4_\x18\xCE\xFF\xFF\xFF\xFF\0\0\0\0\0\0\0\0\0\0\0\0\0\xCA\x9A;\0\0\0\0\0\xCA\x9A;\x02\0\0\0\x01\0\x80\0\0\0\0\0\x0B\0\0\0\x0B\0\0\0\xFF\xFF\xFF\xFF\0\0\0\0\x02\0\0\0\x07\0\0\0Bob Ray\x03\0\0\0\x03\0\0\0All\x04\0\0\0\x0B\0\0\00.2.TESTBBS\x06\0\0\0\x05\0\0\0Hello";
+const FIRST_ANSWER: [u8; 153] =
+    *b"JAM\0\x01\0\0\0M\0\0\0\0\0\0\0\xB4_\x18\xCEqc\x95\xF7\x01\0\0\0\0\0\0\0\x03\0\0\0\0\xCA\x9A;\0\0\0\0\0\xCA\x9A;\x02\0\0\0\x01\0\x80\0\0\0\0\0\x0B\0\0\0\x0B\0\0\0\xFF\xFF\xFF\xFF\0\0\0\0\x02\0\0\0\x07\0\0\0Bob Ray\x03\0\0\0\x03\0\0\0All\x04\0\0\0\x0B\0\0\00.2.TESTBBS\x05\0\0\0\x0B\0\0\00.1.TESTBBS\x06\0\0\0\x05\0\0\0Hello";
 
-/// Its other files.
-pub(crate) const JDT: [u8; 22] = *b"First line\rFirst line\r";
+const SECOND_ANSWER: [u8; 153] =
+    *b"JAM\0\x01\0\0\0M\0\0\0\0\0\0\0\xF7Kc\xD9qc\x95\xF7\x01\0\0\0\0\0\0\0\x04\0\0\0\0\xCA\x9A;\0\0\0\0\0\xCA\x9A;\x03\0\0\0\x01\0\x80\x80\0\0\0\0\x16\0\0\0\x0B\0\0\0\xFF\xFF\xFF\xFF\0\0\0\0\x02\0\0\0\x07\0\0\0Bob Ray\x03\0\0\0\x03\0\0\0All\x04\0\0\0\x0B\0\0\00.3.TESTBBS\x05\0\0\0\x0B\0\0\00.1.TESTBBS\x06\0\0\0\x05\0\0\0Hello";
 
-const JDX: [u8; 16] = *b"\x22\x8E\xE7\xC4\0\x04\0\0\x22\x8E\xE7\xC4\x86\x04\0\0";
+const THIRD_ANSWER: [u8; 153] =
+    *b"JAM\0\x01\0\0\0M\0\0\0\0\0\0\0>&\x02\xBDqc\x95\xF7\x01\0\0\0\0\0\0\0\0\0\0\0\0\xCA\x9A;\0\0\0\0\0\xCA\x9A;\x04\0\0\0\x01\0\x80\0\0\0\0\0!\0\0\0\x0B\0\0\0\xFF\xFF\xFF\xFF\0\0\0\0\x02\0\0\0\x07\0\0\0Bob Ray\x03\0\0\0\x03\0\0\0All\x04\0\0\0\x0B\0\0\00.4.TESTBBS\x05\0\0\0\x0B\0\0\00.1.TESTBBS\x06\0\0\0\x05\0\0\0Hello";
 
-pub(crate) const JLR: [u8; 64] =
+/// The .JDX of the messages.
+const JDX: [u8; 32] =
+    *b"\x22\x8E\xE7\xC4\0\x04\0\0\x22\x8E\xE7\xC4\x86\x04\0\0\x22\x8E\xE7\xC4\x1F\x05\0\0\x22\x8E\xE7\xC4\xB8\x05\0\0";
+
+/// A body.
+const JDT: [u8; 22] = *b"First line\rFirst line\r";
+
+/// The .JLR of its four readers.
+const JLR: [u8; 64] =
     *b"\x99W\x03\x9F\x01\0\0\0\0\0\0\0\0\0\0\0\x91d\x92\xC6\x02\0\0\0\0\0\0\0\0\0\0\0#9\xC6m\x03\0\0\0\0\0\0\0\0\0\0\0\xAA\xFEL\x8E\x04\0\0\0\0\0\0\0\0\0\0\0";
 
-/// One change of a file.
-#[derive(Clone, Copy)]
-enum Change {
-    None,
-    Byte(usize, u8),
-    Cut(usize),
-    More(&'static [u8]),
-}
+/// The record of a fifth reader in .JLR.
+const FIFTH: [u8; 16] = *b"\xE8\xC3gg\x05\0\0\0\0\0\0\0\0\0\0\0";
 
-/// A file after a change.
-fn changed(alloc: Global, bytes: &[u8], change: Change) -> Result<Bytes, AllocError> {
-    let mut made = Bytes::new(alloc);
-    match change {
-        Change::None => made.add(bytes)?,
-        Change::Byte(at, byte) => {
-            if at < bytes.len() {
-                made.add(&bytes[..at])?;
-                made.add(&[byte])?;
-                made.add(&bytes[at + 1..])?;
-            }
-        }
-        Change::Cut(len) => {
-            if len <= bytes.len() {
-                made.add(&bytes[..len])?;
-            }
-        }
-        Change::More(more) => {
-            made.add(bytes)?;
-            made.add(more)?;
-        }
-    }
-    Ok(made)
-}
-
-/// The change, where it is one of this file.
-fn of_file(file: u16, changed: u16, change: Change) -> Change {
-    if file == changed {
-        change
-    } else {
-        Change::None
-    }
-}
-
-/// The .JHR of the conference.
-fn headers(alloc: Global) -> Result<Bytes, AllocError> {
-    let mut bytes = Bytes::new(alloc);
-    bytes.add(&BASE)?;
-    bytes.add(&[0; 1000])?;
-    bytes.add(&FIRST)?;
-    bytes.add(&SECOND)?;
-    Ok(bytes)
-}
-
-/// The four files of the conference, of which one is changed.
-fn files(alloc: Global, file: u16, change: Change) -> Result<BaseFiles, AllocError> {
-    let jhr = headers(alloc)?;
+/// The four files of the message and its answers.
+fn files(alloc: Global) -> Result<BaseFiles, AllocError> {
+    let mut jhr = Bytes::new(alloc);
+    jhr.add(&BASE)?;
+    jhr.add(&[0; 1000])?;
+    jhr.add(&ORIGINAL)?;
+    jhr.add(&FIRST_ANSWER)?;
+    jhr.add(&SECOND_ANSWER)?;
+    jhr.add(&THIRD_ANSWER)?;
+    let mut jdt = Bytes::from_slice(alloc, &JDT)?;
+    jdt.add(&JDT)?;
     Ok(BaseFiles {
-        jhr: changed(alloc, jhr.as_slice(), of_file(2, file, change))?,
-        jdt: changed(alloc, &JDT, of_file(3, file, change))?,
-        jdx: changed(alloc, &JDX, of_file(4, file, change))?,
-        jlr: changed(alloc, &JLR, of_file(5, file, change))?,
+        jhr,
+        jdt,
+        jdx: Bytes::from_slice(alloc, &JDX)?,
+        jlr: Bytes::from_slice(alloc, &JLR)?,
     })
 }
 
 /// Reads files whose lengths `read_base` allows.
-pub(crate) fn read(
+fn read(
     alloc: Global,
     files: &BaseFiles,
     shape: &Shape,
@@ -108,15 +77,19 @@ pub(crate) fn read(
 }
 
 /// What the board says of the conference.
-pub(crate) fn general(alloc: Global) -> Result<Shape, AllocError>
+fn general(alloc: Global) -> Result<Shape, AllocError>
     ensures shape { IfOk result IsShape }
-    ensures members { IfOk result (λ shape. All (λ reader. reader.0 < 5) shape.readers) }
+    ensures readers { IfOk result (λ shape. All (λ reader. reader.id < 5) shape.readers) }
 {
     let mut readers = Readers::new(alloc);
-    readers.add((1, Bytes::from_slice(alloc, b"Ann Lee")?))?;
-    readers.add((2, Bytes::from_slice(alloc, b"Bob Ray")?))?;
-    readers.add((3, Bytes::from_slice(alloc, b"Sam Sysop")?))?;
-    readers.add((4, Bytes::from_slice(alloc, b"Cy Day")?))?;
+    let name = Bytes::from_slice(alloc, b"Ann Lee")?;
+    readers.add(Reader { id: 1, name })?;
+    let name = Bytes::from_slice(alloc, b"Bob Ray")?;
+    readers.add(Reader { id: 2, name })?;
+    let name = Bytes::from_slice(alloc, b"Sam Sysop")?;
+    readers.add(Reader { id: 3, name })?;
+    let name = Bytes::from_slice(alloc, b"Cy Day")?;
+    readers.add(Reader { id: 4, name })?;
     Ok(Shape {
         place: 0,
         created: 1_000_000_000,
@@ -126,85 +99,126 @@ pub(crate) fn general(alloc: Global) -> Result<Shape, AllocError>
 }
 
 /// How many slots, live messages and bytes a base has.
-pub(crate) fn counts(base: &Base) -> (u32, u32, u64) {
+fn counts(base: &Base) -> (u32, u32, u64) {
     (base.slot_count(), base.live_count(), base.size())
 }
 
+/// The base of the message and its answers.
+fn chain(alloc: Global) -> Result<Option<Base>, AllocError> {
+    let shape = general(alloc)?;
+    match read(alloc, &files(alloc)?, &shape) {
+        Some(Ok(base)) => Ok(Some(base)),
+        _ => Ok(None),
+    }
+}
+
+/// The base of four readers and no messages.
+fn without_messages(alloc: Global) -> Result<BaseChange, AllocError>
+    ensures { IfOk result (λ change. All (λ reader. reader.id < 5) change.base.shape.readers) }
+{
+    let shape = general(alloc)?;
+    Base::fresh(alloc, &shape)
+}
+
+/// The change of a base of no messages by which a fifth reader joins.
+fn with_fifth(alloc: Global) -> Result<BaseChange, AllocError> {
+    let change = without_messages(alloc)?;
+    change.base.joined(alloc, 5, b"Eve Fox")
+}
+
+/// The same, without what the call promises.
+fn new_conference(alloc: Global) -> Result<BaseChange, AllocError> {
+    without_messages(alloc)
+}
+
+/// The number of the message that this one answers.
+fn answered(base: &Base, number: u32) -> u32 {
+    base.reply_to(number)
+}
+
+/// The last-read pointer of a reader.
+fn pointer(base: &Base, user: u32) -> Option<u32> {
+    base.pointer(user)
+}
+
+/// The message of a number.
+fn message(base: &Base, number: u32) -> Option<&Message> {
+    match base.slot(number) {
+        Some(Slot::Held(message)) => Some(message),
+        _ => None,
+    }
+}
+
+/// The number of the file that a patch replaces, and its bytes.
+fn parts(patch: &Patch) -> (u16, &[u8]) {
+    match patch {
+        Patch::Whole { file, bytes } => (file.number(), bytes.as_slice()),
+    }
+}
+
 #[test]
-fn two_messages_are_read(rt: HostRuntime) -> Result<(), Fail> {
-    let shape = general(rt.alloc())?;
-    let Some(result) = read(rt.alloc(), &files(rt.alloc(), 2, Change::None)?, &shape) else {
-        panic!(rt; "the files are long");
-    };
-    let base = result?;
-    assert_eq!(rt; counts(&base), (2, 2, 1292 + 22 + 16 + 64));
-    assert_eq!(rt; base.conference.counter, 1);
+fn a_chain_of_answers_is_read(rt: HostRuntime) -> Result<(), Fail> {
+    let base = chain(rt.alloc())?.ok_or("no base")?;
+    assert_eq!(rt; counts(&base), (4, 3, 1617 + 44 + 32 + 64));
+    for (number, original) in [(0, 0), (1, 0), (2, 1), (3, 1), (4, 1), (5, 0)] {
+        assert_eq!(rt; answered(&base, number), original);
+    }
+    assert_eq!(rt; pointer(&base, 4), Some(0));
+    assert_eq!(rt; pointer(&base, 5), None);
     Ok(())
 }
 
 #[test]
-fn three_slots_are_read(rt: HostRuntime) -> Result<(), Fail> {
-    let shape = general(rt.alloc())?;
-    let gone = files(rt.alloc(), 4, Change::More(&[0xFF; 8]))?;
-    let Some(result) = read(rt.alloc(), &gone, &shape) else {
-        panic!(rt; "the files are long");
-    };
-    let base = result?;
-    assert_eq!(rt; counts(&base), (3, 2, 1292 + 22 + 24 + 64));
-    Ok(())
-}
-
-#[test]
-fn the_first_damage_is_named(rt: HostRuntime) -> Result<(), Fail> {
-    let shape = general(rt.alloc())?;
-    let table = [
-        (2, Change::Byte(12, 3), 2, 0, DamageRule::Active),
-        (2, Change::Byte(1024, 0), 2, 1, DamageRule::Signature),
-        (2, Change::Byte(1048, 1), 2, 1, DamageRule::Links),
-        (2, Change::Cut(1291), 2, 2, DamageRule::Subfields),
-        (3, Change::Byte(10, b'x'), 3, 1, DamageRule::Line),
-        (3, Change::Cut(21), 3, 2, DamageRule::Short),
-        (3, Change::More(&[0]), 3, 3, DamageRule::Rest),
-        (4, Change::Cut(8), 4, 1, DamageRule::Missing),
-        (4, Change::Cut(15), 4, 1, DamageRule::Short),
-        (5, Change::Byte(8, 9), 5, 0, DamageRule::Pointer),
+fn the_fields_of_a_message_are_read(rt: HostRuntime) -> Result<(), Fail> {
+    let base = chain(rt.alloc())?.ok_or("no base")?;
+    let message = message(&base, 3).ok_or("no message")?;
+    let texts = [
+        (&message.from, b"Bob Ray".as_slice()),
+        (&message.to, b"All".as_slice()),
+        (&message.subject, b"Hello".as_slice()),
+        (&message.msgid, b"0.3.TESTBBS".as_slice()),
+        (&message.replyid, b"0.1.TESTBBS".as_slice()),
+        (&message.body, b"First line\r".as_slice()),
+        (&message.origin, b"".as_slice()),
     ];
-    for (file, change, in_file, item, rule) in table {
-        let damage = Damage {
-            file: in_file,
-            item,
-            rule,
-        };
-        let result = read(rt.alloc(), &files(rt.alloc(), file, change)?, &shape);
-        assert!(rt; matches!(&result, Some(Err(BaseError::Damaged(named))) if *named == damage));
+    for (text, wanted) in texts {
+        assert_eq!(rt; text.as_slice(), wanted);
+    }
+    assert_eq!(rt; (message.written, message.received), (1_000_000_000, 0));
+    assert!(rt; message.local && message.deleted && !message.private && !message.seen);
+    Ok(())
+}
+
+#[test]
+fn a_new_conference_has_four_files(rt: HostRuntime) -> Result<(), Fail> {
+    let change = new_conference(rt.alloc())?;
+    assert_eq!(rt; counts(&change.base), (0, 0, 1024 + 64));
+    let mut jhr = Bytes::from_slice(rt.alloc(), &BASE[..8])?;
+    jhr.add(&[0; 8])?;
+    jhr.add(&BASE[16..])?;
+    jhr.add(&[0; 1000])?;
+    let wanted = [
+        (2, jhr.as_slice()),
+        (3, [].as_slice()),
+        (4, [].as_slice()),
+        (5, JLR.as_slice()),
+    ];
+    assert_eq!(rt; change.patches.len(), 4);
+    for (patch, wanted) in change.patches.as_slice().iter().zip(wanted) {
+        assert_eq!(rt; parts(patch), wanted);
     }
     Ok(())
 }
 
 #[test]
-fn another_moment_is_damage(rt: HostRuntime) -> Result<(), Fail> {
-    let shape = Shape {
-        place: 1,
-        created: 1_000_000_000,
-        kind: Kind::Net,
-        readers: Readers::new(rt.alloc()),
-    };
-    let other = BaseFiles {
-        jhr: changed(
-            rt.alloc(),
-            headers(rt.alloc())?.as_slice(),
-            Change::Byte(4, 1),
-        )?,
-        jdt: Bytes::new(rt.alloc()),
-        jdx: Bytes::new(rt.alloc()),
-        jlr: Bytes::new(rt.alloc()),
-    };
-    let damage = Damage {
-        file: 6,
-        item: 0,
-        rule: DamageRule::Created,
-    };
-    let result = read(rt.alloc(), &other, &shape);
-    assert!(rt; matches!(&result, Some(Err(BaseError::Damaged(named))) if *named == damage));
+fn a_further_reader_is_added(rt: HostRuntime) -> Result<(), Fail> {
+    let change = with_fifth(rt.alloc())?;
+    assert_eq!(rt; pointer(&change.base, 5), Some(0));
+    assert_eq!(rt; counts(&change.base), (0, 0, 1024 + 80));
+    let mut jlr = Bytes::from_slice(rt.alloc(), &JLR)?;
+    jlr.add(&FIFTH)?;
+    assert_eq!(rt; change.patches.len(), 1);
+    let patch = change.patches.get(0).ok_or("no patch")?;
+    assert_eq!(rt; parts(patch), (5, jlr.as_slice()));
     Ok(())
 }

@@ -1,3 +1,4 @@
 pub mod ChildrenLemmas
 pub mod ChainLemmas
 pub mod FirstLemmas
+pub mod LookUpLemmas

@@ -1,5 +1,10 @@
-ghost use Rattle.std.specs.Prelude.{◌≡◌, slice_get};
+ghost use Rattle.std.specs.Prelude.{◌≡◌, List, [], slice_get, IfOk};
+ghost use Rattle.jam_records.specs.declared.message.Slot.{Slot};
+ghost use Rattle.jam_threads.specs.Children.{original};
+ghost use Rattle.jam_threads.specs.Links.{AreLinks};
 
+use byte_lists::Duplicate;
+use std::alloc::{AllocError, Global};
 use std::marker::Model;
 
 /// The links of a message. Each is a message number, or 0 for none.
@@ -29,10 +34,50 @@ impl Model for Links {
 }
 
 impl Links {
+    /// The links of no slots. It takes no memory.
+    #[tactic(auto, using(crate::proofs::LookUpLemmas::no_links))]
+    pub fn new(alloc: Global) -> Links
+        ensures empty { result ≡ [] }
+        ensures links { AreLinks [] result }
+    {
+        Links {
+            inner: Vec::new(alloc),
+        }
+    }
+
     /// The links of the slot in a place from 0, or None past the last.
     pub fn get(&self, place: usize) -> Option<Link>
         ensures { result ≡ slice_get self.now place }
     {
         self.inner.get(place).copied()
+    }
+
+    /// The number of the message that the one of this number answers, or 0 where it answers none that is
+    /// there or no slot has the number.
+    #[tactic(auto, using(crate::proofs::LookUpLemmas::none_zero, crate::proofs::LookUpLemmas::found_original, crate::proofs::LookUpLemmas::missing_original))]
+    pub fn original(&self, number: u32) -> u32
+        ensures { (slots : List Slot) → AreLinks slots self.now → result ≡ original slots number }
+    {
+        if number == 0 {
+            return 0;
+        }
+        match self.get(number as usize - 1) {
+            Some(link) => link.to,
+            None => 0,
+        }
+    }
+
+    /// Equal links.
+    pub fn copy(&self, alloc: Global) -> Result<Links, AllocError>
+        ensures { IfOk result (λ copy. copy ≡ self.now) }
+    {
+        let inner = Vec::from_slice(alloc, self.inner.as_slice())?;
+        Ok(Links { inner })
+    }
+}
+
+impl Duplicate for Links {
+    fn duplicate(&self, alloc: Global) -> Result<Links, AllocError> {
+        self.copy(alloc)
     }
 }

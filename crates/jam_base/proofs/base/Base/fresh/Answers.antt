@@ -1,11 +1,11 @@
 use Rattle.std.proofs.Common.{◌≡◌, ◌∙◌, sym, ap, subst, replicate}
-use Rattle.jam_base.specs.Base.{layout}
+use Rattle.jam_layout.specs.Layout.{layout}
 use Rattle.jam_base.specs.Change.{whole_files}
-use Rattle.jam_base.specs.Conference.{no_slots}
-use Rattle.jam_base.specs.Valid.{IsShape}
-use Rattle.jam_base.specs.declared.shape.Shape.{Shape}
+use Rattle.jam_base.specs.Contents.{no_slots}
+use Rattle.jam_layout.specs.Valid.{IsShape}
+use Rattle.jam_layout.specs.declared.shape.Shape.{Shape}
 use Rattle.jam_base.proofs.ChangeLaws.{whole_turns, whole_small}
-use Rattle.jam_base.proofs.MemberLaws.{fresh_made}
+use Rattle.jam_base.proofs.MemberLaws.{fresh_made, no_links}
 use Rattle.jam_base.proofs.base.Base.fresh.Goals as goal
 
 pub empty_files-requires : goal.empty_files-requires
@@ -14,9 +14,9 @@ empty_files-requires c = c.as_slice.ensures ∙ (c.in_ok-pointers.ensures ∙ ap
 pub invariant_of-result : goal.invariant_of-result
 invariant_of-result c =
     let pointers = c.in_ok-pointers.ensures ∙ ap (λ n. replicate n 0) c.len.ensures in
-    (subst IsShape (sym c.in_ok-shape.ensures) c.requires, fresh_made c.in_ok-shape.shape c.new.result c.in_ok-pointers.pointers c.in_ok-files.files c.new.ensures pointers c.in_ok-files.ensures.layout c.in_ok-files.ensures.fit)
+    (subst IsShape (sym c.in_ok-shape.ensures) c.requires, fresh_made c.in_ok-shape.shape c.new.result c.in_ok-pointers.pointers c.in_ok-files.files c.new.ensures pointers c.in_ok-files.ensures.layout c.in_ok-files.ensures.fit, no_links c.new.result c.new-2.result c.new.ensures c.new-2.ensures.empty)
 
-patches_are : (c : goal.After-new) → c.in_ok-patches.patches ≡ whole_files c.args.shape.now.place (layout c.args.shape.now (no_slots c.args.shape.now))
+patches_are : (c : goal.After-new-2) → c.in_ok-patches.patches ≡ whole_files c.args.shape.now.place (layout c.args.shape.now (no_slots c.args.shape.now))
 patches_are c =
     let files = c.in_ok-files.ensures.layout ∙ ap (λ (shape : Shape). layout shape (no_slots shape)) c.in_ok-shape.ensures in
     c.in_ok-patches.ensures ∙ (ap (λ (shape : Shape). whole_files shape.place c.in_ok-files.files) c.in_ok-shape.ensures ∙ ap (whole_files c.args.shape.now.place) files)

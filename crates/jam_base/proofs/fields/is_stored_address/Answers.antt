@@ -1,5 +1,0 @@
-use Rattle.jam_base.proofs.AddressLaws.{test_of}
-use Rattle.jam_base.proofs.fields.is_stored_address.Goals as goal
-
-pub returns : goal.returns
-returns c = test_of c.args.text.now c.address_text.result c.address_text.ensures

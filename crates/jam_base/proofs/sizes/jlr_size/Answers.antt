@@ -1,6 +1,0 @@
-use Rattle.std.proofs.Common.{length, ap, arith}
-use Rattle.jam_base.proofs.MemberLaws.{few_readers}
-use Rattle.jam_base.proofs.sizes.jlr_size.Goals as goal
-
-pub returns-clause-bound : goal.returns-clause-bound
-returns-clause-bound c = omega (arith, ap length c.members.ensures.same, few_readers c.args.shape.now.readers c.requires.rise c.members.ensures.fit.readers)

@@ -1,0 +1,38 @@
+-- Reading bodies one after the other, as a loop does.
+use Rattle.std.proofs.Common.{◌≡◌, ℕ, Bool, ◌+◌, ◌≤◌, List, [], ◌∷◌, ◌++◌, length, take, drop, eqb, not, true, false, Result, Ok, Err, sym, ap, ◌∙◌}
+use Rattle.std.proofs.lemmas.List.{append-nil, drop_all}
+use Rattle.jam_records.specs.declared.damage.Damage.{Damage}
+use Rattle.jam_records.specs.declared.damage.DamageRule.TheVariants.{Rest}
+use Rattle.jam_layout.specs.declared.error.BaseError.{BaseError}
+use Rattle.jam_layout.specs.declared.entry.Entry.{Entry}
+use Rattle.jam_layout.specs.Rules.{by_rules, Fails}
+use Rattle.jam_layout.specs.Places.{jdt_file}
+use Rattle.jam_layout.specs.Bodies.{body_rules, with_body, bodies_at}
+use Rattle.jam_layout.proofs.Kept.{with_front, one_more, one_fails}
+
+abbrev pub step : ℕ → ℕ → Entry → List ℕ → Result (List ℕ) Damage
+step place i h bytes = by_rules (jdt_file place) i (body_rules h.text_len bytes) (take h.text_len bytes)
+
+pub goes_on : (place i j : ℕ) (headers : List Entry) (h : Entry) (front new : List Entry) (bytes rest body : List ℕ) (total : Result (List Entry) Damage)
+    → drop j headers ≡ h ∷ drop (j + 1) headers → step place i h bytes ≡ Ok body → rest ≡ drop h.text_len bytes → new ≡ front ++ with_body h body ∷ []
+    → with_front front (bodies_at place i (drop j headers) bytes) ≡ total → with_front new (bodies_at place (i + 1) (drop (j + 1) headers) rest) ≡ total
+goes_on place i j headers h front new bytes rest body total is one e n so_far =
+    rw e (one_more front new (bodies_at place i (drop j headers) bytes) (bodies_at place (i + 1) (drop (j + 1) headers) (drop h.text_len bytes)) total (step place i h bytes) body (with_body h) (ap (λ hs. bodies_at place i hs bytes) is) one n so_far)
+
+pub fails : (place i j : ℕ) (headers : List Entry) (h : Entry) (front : List Entry) (bytes : List ℕ) (e : BaseError) (total : Result (List Entry) Damage)
+    → drop j headers ≡ h ∷ drop (j + 1) headers → Fails e (step place i h bytes)
+    → with_front front (bodies_at place i (drop j headers) bytes) ≡ total → Fails e total
+fails place i j headers h front bytes e total is one so_far =
+    one_fails front (bodies_at place i (drop j headers) bytes) (bodies_at place (i + 1) (drop (j + 1) headers) (drop h.text_len bytes)) total (step place i h bytes) (with_body h) e (ap (λ hs. bodies_at place i hs bytes) is) one so_far
+
+at_end : (place i j : ℕ) (headers : List Entry) (front : List Entry) (bytes : List ℕ) (total : Result (List Entry) Damage) (b : Bool) → length headers ≤ j → eqb (length bytes) 0 ≡ b
+    → with_front front (bodies_at place i (drop j headers) bytes) ≡ total → total ≡ with_front front (by_rules (jdt_file place) i ((Rest, not b) ∷ []) [])
+at_end place i j headers front bytes total b le is so_far = sym so_far ∙ (ap (λ hs. with_front front (bodies_at place i hs bytes)) (drop_all j headers le) ∙ ap (λ x. with_front front (by_rules (jdt_file place) i ((Rest, not x) ∷ []) [])) is)
+
+pub none_left : (place i j : ℕ) (headers : List Entry) (front : List Entry) (bytes : List ℕ) (total : Result (List Entry) Damage) → length headers ≤ j → eqb (length bytes) 0 ≡ true
+    → with_front front (bodies_at place i (drop j headers) bytes) ≡ total → total ≡ Ok front
+none_left place i j headers front bytes total le none so_far = at_end place i j headers front bytes total true le none so_far ∙ ap (λ xs. Ok xs) (append-nil front)
+
+pub some_left : (place i j : ℕ) (headers : List Entry) (front : List Entry) (bytes : List ℕ) (total : Result (List Entry) Damage) → length headers ≤ j → eqb (length bytes) 0 ≡ false
+    → with_front front (bodies_at place i (drop j headers) bytes) ≡ total → total ≡ Err (record { file = jdt_file place; item = i; rule = Rest })
+some_left place i j headers front bytes total le some so_far = at_end place i j headers front bytes total false le some so_far

@@ -1,0 +1,25 @@
+-- Reading headers one after the other, as a loop does.
+use Rattle.std.proofs.Common.{◌≡◌, ℕ, ◌<◌, List, length, eqb, Bool, false, Ok, ap, arith}
+use Rattle.std.proofs.lemmas.Bool.Decides.{nat_tests}
+use Rattle.jam_layout.specs.declared.error.BaseError.{BaseError}
+use Rattle.jam_layout.specs.declared.entry.Entry.{Entry}
+use Rattle.jam_layout.specs.declared.entry.Front.{Front}
+use Rattle.jam_layout.specs.Rules.{◌>>=◌, Fails}
+use Rattle.jam_layout.specs.Walk.{walk}
+use Rattle.jam_layout.specs.Headers.{header_at, entries_at, start}
+use Rattle.jam_records.specs.declared.message.Kind.{Kind}
+use Rattle.jam_layout.proofs.Kept.{step_fails}
+use Rattle.jam_layout.proofs.Walks.{walk_behind, ends, is_done}
+
+pub headers_fail : (place : ℕ) (kind : Kind) (front : List Entry) (f : Front) (rest bytes : List ℕ) (e : BaseError) → 0 < length rest → Fails e (header_at place kind f rest)
+    → walk_behind front (walk (header_at place kind) f rest) ≡ walk (header_at place kind) start bytes → Fails e (entries_at place kind bytes)
+unfolding entries_at
+headers_fail place kind front f rest bytes e some h so_far = step_fails e (walk (header_at place kind) start bytes) (λ found. Ok found.0) (ends (header_at place kind) f rest front e (walk (header_at place kind) start bytes) some h so_far)
+
+pub headers_end : (place : ℕ) (kind : Kind) (front : List Entry) (f : Front) (rest bytes : List ℕ) → length rest ≡ 0
+    → walk_behind front (walk (header_at place kind) f rest) ≡ walk (header_at place kind) start bytes → entries_at place kind bytes ≡ Ok front
+unfolding entries_at
+headers_end place kind front f rest bytes none so_far = ap (λ r. r >>= λ found. Ok found.0) (is_done (header_at place kind) f rest front (walk (header_at place kind) start bytes) none so_far)
+
+pub not_empty : (bytes : List ℕ) (b : Bool) → b ≡ eqb (length bytes) 0 → b ≡ false → 0 < length bytes
+not_empty bytes b e f = grind (arith, nat_tests)

@@ -1,0 +1,5 @@
+use Rattle.jam_layout.proofs.Chain.{undamaged, unique}
+use Rattle.jam_layout.proofs.laws.unique_conference.Goals as goal
+
+pub returns : goal.returns
+returns c = record { undamaged = undamaged; unique = unique }

@@ -1,0 +1,34 @@
+-- .JDT: the body of each message, one after the other.
+use Rattle.std.specs.Prelude.{ℕ, ◌+◌, ◌-◌, List, [], ◌∷◌, ◌++◌, length, take, drop, slice_index, Result, Ok, not, ◌||◌, ◌==◌, nat_lt}
+use Rattle.jam_records.specs.declared.damage.Damage.{Damage}
+use Rattle.jam_records.specs.declared.damage.DamageRule.TheVariants.{Short, Line, Rest}
+use Rattle.jam_records.specs.declared.message.Message.{Message}
+use Rattle.jam_layout.specs.Rules.{Rules, by_rules, ◌>>=◌}
+use Rattle.jam_layout.specs.Places.{jdt_file}
+use Rattle.jam_layout.specs.declared.entry.Entry.{Entry}
+
+-- the rules of a body of this length, at the front of what is left
+abbrev pub body_rules : ℕ → List ℕ → Rules
+body_rules len bytes =
+    (Short, nat_lt (length bytes) len)
+    ∷ (Line, not (len == 0 || slice_index bytes (len - 1) == 0x0D))
+    ∷ []
+
+abbrev pub message_with : Message → List ℕ → Message
+message_with m body = record m { body = body }
+
+abbrev pub with_body : Entry → List ℕ → Entry
+with_body e body = record e { message = message_with e.message body }
+
+-- the messages of the headers from the one of record i on, whose bodies are all that is left
+abbrev pub bodies_at : ℕ → ℕ → List Entry → List ℕ → Result (List Entry) Damage
+bodies_at place i [] bytes = by_rules (jdt_file place) i ((Rest, not (length bytes == 0)) ∷ []) []
+bodies_at place i (e ∷ entries) bytes = do
+  body ← by_rules (jdt_file place) i (body_rules e.text_len bytes) (take e.text_len bytes)
+  others ← bodies_at place (i + 1) entries (drop e.text_len bytes)
+  Ok (with_body e body ∷ others)
+
+-- all bodies in order
+abbrev pub bodies_text : List Entry → List ℕ
+bodies_text [] = []
+bodies_text (e ∷ entries) = e.message.body ++ bodies_text entries

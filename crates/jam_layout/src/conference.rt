@@ -1,0 +1,50 @@
+ghost use Rattle.std.specs.Prelude.{◌≡◌};
+ghost use Rattle.jam_layout.specs.Conference.{is_live as is_live_slot, live_count};
+
+use byte_lists::{Duplicate, List};
+use jam_records::{Slot, Slots};
+use std::alloc::{AllocError, Global};
+
+/// What a conference holds.
+#[derive(Debug, Drop)]
+pub struct Conference {
+    /// How often it was changed.
+    pub counter: u32,
+    /// Its slots. The one in place i, from 0, has the message number i + 1.
+    pub slots: Slots,
+    /// The last-read pointers of its readers, in the order of the readers.
+    pub pointers: List<u32>,
+}
+
+/// Whether a slot holds a message that isn't deleted.
+fn is_live(slot: &Slot) -> bool
+    ensures { result ≡ is_live_slot slot.now }
+{
+    match slot {
+        Slot::Gone => false,
+        Slot::Held(message) => !message.deleted,
+    }
+}
+
+impl Conference {
+    /// How many messages aren't deleted.
+    pub fn live_count(&self) -> usize
+        ensures { result ≡ live_count self.now.slots }
+    {
+        self.slots
+            .as_slice()
+            .iter()
+            .filter(|slot| is_live(slot))
+            .count()
+    }
+}
+
+impl Duplicate for Conference {
+    fn duplicate(&self, alloc: Global) -> Result<Conference, AllocError> {
+        Ok(Conference {
+            counter: self.counter,
+            slots: self.slots.copy(alloc)?,
+            pointers: self.pointers.copy(alloc)?,
+        })
+    }
+}

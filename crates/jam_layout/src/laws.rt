@@ -1,0 +1,28 @@
+//! Laws of the files of a conference, each the contract of a function that does nothing.
+ghost use Rattle.std.specs.Prelude.{◌≡◌, ◌↔◌, ◌<◌, ◌^◌, ℕ, List, length, All, None};
+ghost use Rattle.byte_lists.specs.Byte.{IsByte};
+ghost use Rattle.jam_records.specs.Subfields.{subfields_text};
+ghost use Rattle.jam_records.specs.declared.subfield.Subfield.{Subfield};
+ghost use Rattle.jam_layout.specs.Layout.{layout, base_damage};
+ghost use Rattle.jam_layout.specs.Fields.{values_at};
+ghost use Rattle.jam_layout.specs.InOrder.{InOrder, FieldsFit, values_in};
+ghost use Rattle.jam_layout.specs.declared.conference.Conference.{Conference};
+ghost use Rattle.jam_layout.specs.Valid.{IsShape, ShapeFits, FilesFit, IsConference};
+ghost use Rattle.jam_layout.specs.declared.files.BaseFiles.{BaseFiles};
+ghost use Rattle.jam_layout.specs.declared.shape.Shape.{Shape};
+
+/// Four files have no damage exactly where they are the layout of a conference of that shape, and that
+/// conference is unique. Shapes and files are those that the types and the conditions of `read_base` allow.
+pub fn unique_conference()
+    ensures undamaged { (shape : Shape) (files : BaseFiles) → IsShape shape → ShapeFits shape → FilesFit files → (base_damage shape files ≡ None) ↔ ((c : Conference) × IsConference shape c × (files ≡ layout shape c)) }
+    ensures unique { (shape : Shape) (a b : Conference) → IsShape shape → ShapeFits shape → IsConference shape a → IsConference shape b → layout shape a ≡ layout shape b → a ≡ b }
+{}
+
+/// Bytes are subfields of the ids 0 to 6, with HiID 0, in rising order and nothing else, exactly where the
+/// reading in that order leaves nothing. What is read then is the value of each. Lengths are those that
+/// datlen can state, as all are in fewer than 2^32 bytes, and SubfieldLen states no more.
+pub fn rising_subfields()
+    ensures fill { (bytes : List ℕ) → All IsByte bytes → ((values_at bytes).left ≡ 0) ↔ ((fields : List Subfield) × InOrder fields × FieldsFit fields × (bytes ≡ subfields_text fields)) }
+    ensures values { (fields : List Subfield) → InOrder fields → FieldsFit fields → values_at (subfields_text fields) ≡ values_in fields }
+    ensures fit { (fields : List Subfield) → length (subfields_text fields) < 2 ^ 32 → FieldsFit fields }
+{}

@@ -1,0 +1,34 @@
+//! The four JAM files of one conference, without changes: exactly their layout, and the first damage named.
+#![tactic(auto)]
+
+mod bodies;
+mod conference;
+mod entry;
+mod error;
+mod fields;
+mod files;
+mod header_size;
+mod headers;
+mod index;
+pub mod laws;
+mod marks;
+mod places;
+mod pointers;
+mod read;
+mod reader;
+mod reader_list;
+mod second_pass;
+mod shape;
+mod sizes;
+#[cfg(test)]
+mod tests;
+
+pub use conference::Conference;
+pub use error::BaseError;
+pub use files::BaseFiles;
+pub use places::{jdt, jdx, jhr, jlr};
+pub use read::read_conference;
+pub use reader::Reader;
+pub use reader_list::Readers;
+pub use shape::Shape;
+pub use sizes::files_size;

@@ -1,0 +1,50 @@
+ghost use Rattle.std.specs.Prelude.{◌≡◌};
+ghost use Rattle.jam_layout.specs.Valid.{ShapeFits};
+
+use crate::reader::Reader;
+use crate::reader_list::Readers;
+use byte_lists::Duplicate;
+use jam_records::Kind;
+use std::alloc::{AllocError, Global};
+
+/// What the board says of a conference.
+#[derive(Debug, Drop)]
+pub struct Shape {
+    /// Its place, from 0 to 63.
+    pub place: u8,
+    /// When the board was made, in Unix seconds.
+    pub created: u32,
+    /// Where its messages go.
+    pub kind: Kind,
+    /// Its readers.
+    pub readers: Readers,
+}
+
+impl Shape {
+    /// When the board was made, in Unix seconds.
+    pub fn created(&self) -> u32
+        ensures { result ≡ self.now.created }
+    {
+        self.created
+    }
+
+    /// Its readers, in order, of which the numbers and names are of their types.
+    pub(crate) fn reader_slice(&self) -> &[Reader]
+        ensures same { result.now ≡ self.now.readers }
+        ensures fit { ShapeFits self.now }
+    {
+        let _created = self.created();
+        self.readers.as_slice()
+    }
+}
+
+impl Duplicate for Shape {
+    fn duplicate(&self, alloc: Global) -> Result<Shape, AllocError> {
+        Ok(Shape {
+            place: self.place,
+            created: self.created,
+            kind: self.kind,
+            readers: self.readers.copy(alloc)?,
+        })
+    }
+}

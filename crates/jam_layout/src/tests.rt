@@ -1,0 +1,211 @@
+ghost use Rattle.std.specs.Prelude.{IfOk};
+ghost use Rattle.jam_layout.specs.Valid.{IsShape};
+
+use crate::{BaseError, BaseFiles, Conference, Reader, Readers, Shape, read_conference};
+use byte_lists::Bytes;
+use jam_records::{Damage, DamageRule, Kind};
+use std::alloc::{AllocError, Global};
+use std::test::Fail;
+
+/// The first 24 bytes of the .JHR of a conference of two messages. 1000 zeros follow.
+const BASE: [u8; 24] = *b"JAM\0\0\xCA\x9A;\x01\0\0\0\x02\0\0\0\xFF\xFF\xFF\xFF\x01\0\0\0";
+
+/// The headers of its messages, of 134 bytes each.
+const FIRST: [u8; 134] =
+    *b"JAM\0\x01\0\0\0:\0\0\0\0\0\0\0qc\x95\xF7\xFF\xFF\xFF\xFF\0\0\0\0\0\0\0\0\0\0\0\0\0\xCA\x9A;\0\0\0\0\0\xCA\x9A;\x01\0\0\0\x01\0\x80\0\0\0\0\0\0\0\0\0\x0B\0\0\0\xFF\xFF\xFF\xFF\0\0\0\0\x02\0\0\0\x07\0\0\0Bob Ray\x03\0\0\0\x03\0\0\0All\x04\0\0\0\x0B\0\0\00.1.TESTBBS\x06\0\0\0\x05\0\0\0Hello";
+
+const SECOND: [u8; 134] =
+    *b"JAM\0\x01\0\0\0:\0\0\0\0\0\0\0\xB4_\x18\xCE\xFF\xFF\xFF\xFF\0\0\0\0\0\0\0\0\0\0\0\0\0\xCA\x9A;\0\0\0\0\0\xCA\x9A;\x02\0\0\0\x01\0\x80\0\0\0\0\0\x0B\0\0\0\x0B\0\0\0\xFF\xFF\xFF\xFF\0\0\0\0\x02\0\0\0\x07\0\0\0Bob Ray\x03\0\0\0\x03\0\0\0All\x04\0\0\0\x0B\0\0\00.2.TESTBBS\x06\0\0\0\x05\0\0\0Hello";
+
+/// Its other files.
+const JDT: [u8; 22] = *b"First line\rFirst line\r";
+
+const JDX: [u8; 16] = *b"\x22\x8E\xE7\xC4\0\x04\0\0\x22\x8E\xE7\xC4\x86\x04\0\0";
+
+const JLR: [u8; 64] =
+    *b"\x99W\x03\x9F\x01\0\0\0\0\0\0\0\0\0\0\0\x91d\x92\xC6\x02\0\0\0\0\0\0\0\0\0\0\0#9\xC6m\x03\0\0\0\0\0\0\0\0\0\0\0\xAA\xFEL\x8E\x04\0\0\0\0\0\0\0\0\0\0\0";
+
+/// One change of a file.
+#[derive(Clone, Copy)]
+enum Change {
+    None,
+    Byte(usize, u8),
+    Cut(usize),
+    More(&'static [u8]),
+}
+
+/// A file after a change.
+fn changed(alloc: Global, bytes: &[u8], change: Change) -> Result<Bytes, AllocError> {
+    let mut made = Bytes::new(alloc);
+    match change {
+        Change::None => made.add(bytes)?,
+        Change::Byte(at, byte) => {
+            if at < bytes.len() {
+                made.add(&bytes[..at])?;
+                made.add(&[byte])?;
+                made.add(&bytes[at + 1..])?;
+            }
+        }
+        Change::Cut(len) => {
+            if len <= bytes.len() {
+                made.add(&bytes[..len])?;
+            }
+        }
+        Change::More(more) => {
+            made.add(bytes)?;
+            made.add(more)?;
+        }
+    }
+    Ok(made)
+}
+
+/// The change, where it is one of this file.
+fn of_file(file: u16, changed: u16, change: Change) -> Change {
+    if file == changed {
+        change
+    } else {
+        Change::None
+    }
+}
+
+/// The .JHR of the conference.
+fn headers(alloc: Global) -> Result<Bytes, AllocError> {
+    let mut bytes = Bytes::new(alloc);
+    bytes.add(&BASE)?;
+    bytes.add(&[0; 1000])?;
+    bytes.add(&FIRST)?;
+    bytes.add(&SECOND)?;
+    Ok(bytes)
+}
+
+/// The four files of the conference, of which one is changed.
+fn files(alloc: Global, file: u16, change: Change) -> Result<BaseFiles, AllocError> {
+    let jhr = headers(alloc)?;
+    Ok(BaseFiles {
+        jhr: changed(alloc, jhr.as_slice(), of_file(2, file, change))?,
+        jdt: changed(alloc, &JDT, of_file(3, file, change))?,
+        jdx: changed(alloc, &JDX, of_file(4, file, change))?,
+        jlr: changed(alloc, &JLR, of_file(5, file, change))?,
+    })
+}
+
+/// Reads files whose lengths `read_conference` allows.
+fn read(
+    alloc: Global,
+    files: &BaseFiles,
+    shape: &Shape,
+) -> Option<Result<Conference, BaseError>>
+    requires { IsShape shape.now }
+{
+    let most = 1usize << 31;
+    if files.jhr.as_slice().len() >= most || files.jdt.as_slice().len() >= most {
+        return None;
+    }
+    if files.jdx.as_slice().len() >= most || files.jlr.as_slice().len() >= most {
+        return None;
+    }
+    Some(read_conference(alloc, files, shape))
+}
+
+/// What the board says of the conference.
+fn general(alloc: Global) -> Result<Shape, AllocError>
+    ensures { IfOk result IsShape }
+{
+    let mut readers = Readers::new(alloc);
+    let name = Bytes::from_slice(alloc, b"Ann Lee")?;
+    readers.add(Reader { id: 1, name })?;
+    let name = Bytes::from_slice(alloc, b"Bob Ray")?;
+    readers.add(Reader { id: 2, name })?;
+    let name = Bytes::from_slice(alloc, b"Sam Sysop")?;
+    readers.add(Reader { id: 3, name })?;
+    let name = Bytes::from_slice(alloc, b"Cy Day")?;
+    readers.add(Reader { id: 4, name })?;
+    Ok(Shape {
+        place: 0,
+        created: 1_000_000_000,
+        kind: Kind::Local,
+        readers,
+    })
+}
+
+/// The change counter of a conference, and how many slots and live messages it has.
+fn counts(conference: &Conference) -> (u32, usize, usize) {
+    let live = conference.live_count();
+    (conference.counter, conference.slots.len(), live)
+}
+
+#[test]
+fn two_messages_are_read(rt: HostRuntime) -> Result<(), Fail> {
+    let shape = general(rt.alloc())?;
+    let Some(result) = read(rt.alloc(), &files(rt.alloc(), 2, Change::None)?, &shape) else {
+        panic!(rt; "the files are long");
+    };
+    assert_eq!(rt; counts(&result?), (1, 2, 2));
+    Ok(())
+}
+
+#[test]
+fn three_slots_are_read(rt: HostRuntime) -> Result<(), Fail> {
+    let shape = general(rt.alloc())?;
+    let gone = files(rt.alloc(), 4, Change::More(&[0xFF; 8]))?;
+    let Some(result) = read(rt.alloc(), &gone, &shape) else {
+        panic!(rt; "the files are long");
+    };
+    assert_eq!(rt; counts(&result?), (1, 3, 2));
+    Ok(())
+}
+
+#[test]
+fn the_first_damage_is_named(rt: HostRuntime) -> Result<(), Fail> {
+    let shape = general(rt.alloc())?;
+    let table = [
+        (2, Change::Byte(12, 3), 2, 0, DamageRule::Active),
+        (2, Change::Byte(1024, 0), 2, 1, DamageRule::Signature),
+        (2, Change::Byte(1048, 1), 2, 1, DamageRule::Links),
+        (2, Change::Cut(1291), 2, 2, DamageRule::Subfields),
+        (3, Change::Byte(10, b'x'), 3, 1, DamageRule::Line),
+        (3, Change::Cut(21), 3, 2, DamageRule::Short),
+        (3, Change::More(&[0]), 3, 3, DamageRule::Rest),
+        (4, Change::Cut(8), 4, 1, DamageRule::Missing),
+        (4, Change::Cut(15), 4, 1, DamageRule::Short),
+        (5, Change::Byte(8, 9), 5, 0, DamageRule::Pointer),
+    ];
+    for (file, change, in_file, item, rule) in table {
+        let damage = Damage {
+            file: in_file,
+            item,
+            rule,
+        };
+        let result = read(rt.alloc(), &files(rt.alloc(), file, change)?, &shape);
+        assert!(rt; matches!(&result, Some(Err(BaseError::Damaged(named))) if *named == damage));
+    }
+    Ok(())
+}
+
+#[test]
+fn another_moment_is_damage(rt: HostRuntime) -> Result<(), Fail> {
+    let shape = Shape {
+        place: 1,
+        created: 1_000_000_000,
+        kind: Kind::Net,
+        readers: Readers::new(rt.alloc()),
+    };
+    let other = BaseFiles {
+        jhr: changed(
+            rt.alloc(),
+            headers(rt.alloc())?.as_slice(),
+            Change::Byte(4, 1),
+        )?,
+        jdt: Bytes::new(rt.alloc()),
+        jdx: Bytes::new(rt.alloc()),
+        jlr: Bytes::new(rt.alloc()),
+    };
+    let damage = Damage {
+        file: 6,
+        item: 0,
+        rule: DamageRule::Created,
+    };
+    let result = read(rt.alloc(), &other, &shape);
+    assert!(rt; matches!(&result, Some(Err(BaseError::Damaged(named))) if *named == damage));
+    Ok(())
+}
