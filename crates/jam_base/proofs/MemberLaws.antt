@@ -1,10 +1,9 @@
 -- The readers of a conference, and the conferences that a change makes.
-use Rattle.std.proofs.Common.{◌≡◌, ℕ, ◌+◌, ◌^◌, ◌≤◌, ◌<◌, List, [], ◌∷◌, ◌++◌, length, sym, ap, ◌∙◌, subst, arith, length-append}
+use Rattle.std.proofs.Common.{◌≡◌, ℕ, ◌+◌, ◌≤◌, ◌<◌, List, [], ◌∷◌, ◌++◌, length, sym, ap, ◌∙◌, subst, arith, length-append}
 use Rattle.std.specs.Prelude.{All, replicate}
 use Rattle.std.proofs.Math.ListN.{length-replicate}
 use Rattle.std.proofs.lemmas.List.{append-nil, get_or-replicate}
 use Rattle.std.proofs.lemmas.List.Elements.{All-drop, All-append, All-cons, All-nil}
-use Rattle.byte_lists.specs.Byte.{IsByte}
 use Rattle.jam_records.specs.BaseHeaders.{base_text}
 use Rattle.jam_records.specs.declared.message.Slot.{Slot}
 use Rattle.jam_threads.specs.Links.{AreLinks}
@@ -13,12 +12,10 @@ use Rattle.jam_layout.specs.Layout.{base_header, layout}
 use Rattle.jam_base.specs.Contents.{Contents, no_slots, with_reader}
 use Rattle.jam_layout.specs.Messages.{IsSlot}
 use Rattle.jam_layout.specs.Readers.{last_reads}
-use Rattle.jam_layout.specs.Valid.{Rise, IsShape, FilesFit, IsConference}
+use Rattle.jam_layout.specs.Valid.{Rise, IsShape, IsConference}
 use Rattle.jam_layout.specs.declared.conference.Conference.{Conference}
-use Rattle.jam_layout.specs.declared.files.BaseFiles.{BaseFiles}
 use Rattle.jam_layout.specs.declared.reader.Reader.{Reader}
 use Rattle.jam_layout.specs.declared.shape.Shape.{Shape}
-use Rattle.jam_layout.proofs.BaseLaws.{base_length}
 
 -- ---- rising ids
 rise_more : (readers : List Reader) (user : ℕ) (name : List ℕ) → Rise readers → All (λ r. r.id < user) readers → Rise (readers ++ record { id = user; name = name } ∷ [])
@@ -40,30 +37,19 @@ empty_layout shape jhr jdt jdx jlr pointers header none nothing last is =
     let last_is = last ∙ ap (last_reads shape.readers) is in
     λ i. record { jhr = header_is i; jdt = none i; jdx = nothing i; jlr = last_is i }
 
-pub empty_fits : (shape : Shape) (jhr jdt jdx jlr : List ℕ) → jhr ≡ base_text (base_header shape (no_slots shape)) → jdt ≡ [] → jdx ≡ [] → All IsByte jhr → All IsByte jlr
-    → FilesFit (record { jhr = jhr; jdt = jdt; jdx = jdx; jlr = jlr })
-empty_fits shape jhr jdt jdx jlr header none nothing bytes last = record {
-  jhr = (bytes, omega (arith, ap length header, base_length (base_header shape (no_slots shape))));
-  jdt = (subst (All IsByte) (sym none) (All-nil IsByte), omega (arith, ap length none));
-  jdx = (subst (All IsByte) (sym nothing) (All-nil IsByte), omega (arith, ap length nothing));
-  jlr = last;
-}
-
-fresh_is : (shape : Shape) → FilesFit (layout shape (no_slots shape)) → IsConference shape (no_slots shape)
-fresh_is shape fits = record {
+fresh_is : (shape : Shape) → IsConference shape (no_slots shape)
+fresh_is shape = record {
   counter = omega arith;
   few = omega arith;
   slots = All-nil (IsSlot shape.kind);
   pointers = record { all = length-replicate {A = ℕ} (length shape.readers) 0; within = zeros_within 0 (length shape.readers) };
-  files = fits;
 }
 
-pub fresh_made : (shape : Shape) (slots : List Slot) (pointers : List ℕ) (files : BaseFiles) → slots ≡ [] → pointers ≡ (no_slots shape).pointers → files ≡ layout shape (no_slots shape) → FilesFit files
-    → IsConference shape (record { counter = 0; slots = slots; pointers = pointers })
-fresh_made shape slots pointers files none zeros is fits =
+pub fresh_made : (shape : Shape) (slots : List Slot) (pointers : List ℕ) → slots ≡ [] → pointers ≡ (no_slots shape).pointers → IsConference shape (record { counter = 0; slots = slots; pointers = pointers })
+fresh_made shape slots pointers none zeros =
     let made : Conference = record { counter = 0; slots = slots; pointers = pointers } in
     let same : made ≡ no_slots shape = λ i. record { counter = 0; slots = none i; pointers = zeros i } in
-    subst (IsConference shape) (sym same) (fresh_is shape (subst FilesFit is fits))
+    subst (IsConference shape) (sym same) (fresh_is shape)
 
 pub no_links : (slots : List Slot) (links : List Link) → slots ≡ [] → links ≡ [] → AreLinks slots links
 no_links slots links none nothing = record { count = ap length nothing ∙ sym (ap length none); each = λ place within. absurd (omega (arith, within, ap length none)) }
@@ -80,9 +66,8 @@ joined_shape shape user name is below = record { place = is.place; rise = rise_m
 
 -- the base with the further reader, as it is made
 module _ (base : Contents) (user : ℕ) (name : List ℕ) where
-  joined_is : IsConference base.shape base.conference → All IsByte (last_reads (with_reader user name base).shape.readers (with_reader user name base).conference.pointers)
-      → IsConference (with_reader user name base).shape (with_reader user name base).conference
-  joined_is ok bytes = record {
+  joined_is : IsConference base.shape base.conference → IsConference (with_reader user name base).shape (with_reader user name base).conference
+  joined_is ok = record {
     counter = ok.counter;
     few = ok.few;
     slots = ok.slots;
@@ -90,15 +75,12 @@ module _ (base : Contents) (user : ℕ) (name : List ℕ) where
       all = length-append base.conference.pointers (0 ∷ []) ∙ (ap (λ n. n + 1) ok.pointers.all ∙ sym (length-append base.shape.readers (record { id = user; name = name } ∷ [])));
       within = All-append (λ p. p ≤ length base.conference.slots) base.conference.pointers (0 ∷ []) ok.pointers.within (one_zero (length base.conference.slots));
     };
-    files = record { jhr = ok.files.jhr; jdt = ok.files.jdt; jdx = ok.files.jdx; jlr = bytes };
   }
 
-  pub joined_made : (shape : Shape) (conference : Conference) (jlr : List ℕ) → shape ≡ (with_reader user name base).shape → conference ≡ (with_reader user name base).conference
-      → jlr ≡ last_reads shape.readers conference.pointers → All IsByte jlr → All (λ r. r.id < user) base.shape.readers → IsShape base.shape × IsConference base.shape base.conference → IsShape shape × IsConference shape conference
-  joined_made shape conference jlr shape_is conference_is text bytes below is =
-      let text_is : jlr ≡ last_reads (with_reader user name base).shape.readers (with_reader user name base).conference.pointers =
-      text ∙ (ap (λ (s : Shape). last_reads s.readers conference.pointers) shape_is ∙ ap (λ (c : Conference). last_reads (with_reader user name base).shape.readers c.pointers) conference_is) in
-      let made : IsShape (with_reader user name base).shape × IsConference (with_reader user name base).shape (with_reader user name base).conference = (joined_shape base.shape user name is.0 below, joined_is is.1 (subst (All IsByte) text_is bytes)) in
+  pub joined_made : (shape : Shape) (conference : Conference) → shape ≡ (with_reader user name base).shape → conference ≡ (with_reader user name base).conference
+      → All (λ r. r.id < user) base.shape.readers → IsShape base.shape × IsConference base.shape base.conference → IsShape shape × IsConference shape conference
+  joined_made shape conference shape_is conference_is below is =
+      let made : IsShape (with_reader user name base).shape × IsConference (with_reader user name base).shape (with_reader user name base).conference = (joined_shape base.shape user name is.0 below, joined_is is.1) in
       subst (λ (s : Shape). IsShape s × IsConference s conference) (sym shape_is)
       (subst (λ (c : Conference). IsShape (with_reader user name base).shape × IsConference (with_reader user name base).shape c) (sym conference_is) made)
 

@@ -1,11 +1,9 @@
 // The texts of the files of a conference without messages, and of a .JLR.
-ghost use Rattle.std.specs.Prelude.{◌≡◌, replicate, All, IfOk};
-ghost use Rattle.byte_lists.specs.Byte.{IsByte};
+ghost use Rattle.std.specs.Prelude.{◌≡◌, replicate, IfOk};
 ghost use Rattle.jam_records.specs.BaseHeaders.{base_text};
 ghost use Rattle.jam_layout.specs.Layout.{base_header, layout};
 ghost use Rattle.jam_base.specs.Contents.{no_slots};
 ghost use Rattle.jam_layout.specs.Readers.{last_read as record_of, last_reads};
-ghost use Rattle.jam_layout.specs.Valid.{FilesFit};
 
 use byte_lists::{Bytes, List};
 use jam_layout::{BaseFiles, Reader, Shape};
@@ -15,8 +13,7 @@ use std::alloc::{AllocError, Global};
 
 /// The .JHR of a conference without messages, which was never changed.
 fn empty_jhr(alloc: Global, shape: &Shape) -> Result<Bytes, AllocError>
-    ensures text { IfOk result (λ text. text ≡ base_text (base_header shape.now (no_slots shape.now))) }
-    ensures bytes { IfOk result (λ text. All IsByte text) }
+    ensures { IfOk result (λ text. text ≡ base_text (base_header shape.now (no_slots shape.now))) }
 {
     let header = BaseHeader {
         created: shape.created,
@@ -25,9 +22,7 @@ fn empty_jhr(alloc: Global, shape: &Shape) -> Result<Bytes, AllocError>
         password_crc: 0xFFFF_FFFF,
         base_number: 1,
     };
-    let text = Bytes::from_slice(alloc, &write_base_header(&header))?;
-    let _bytes = text.as_slice();
-    Ok(text)
+    Bytes::from_slice(alloc, &write_base_header(&header))
 }
 
 /// The last-read record of a reader with this pointer.
@@ -48,14 +43,12 @@ pub fn jlr_of(
     readers: &[Reader],
     pointers: &[u32],
 ) -> Result<Bytes, AllocError>
-    ensures text { IfOk result (λ text. text ≡ last_reads readers.now pointers.now) }
-    ensures bytes { IfOk result (λ text. All IsByte text) }
+    ensures { IfOk result (λ text. text ≡ last_reads readers.now pointers.now) }
 {
     let mut text = Bytes::new(alloc);
     for (reader, pointer) in readers.iter().zip(pointers) {
         text.add(&write_last(&last_read(reader, *pointer)))?;
     }
-    let _bytes = text.as_slice();
     Ok(text)
 }
 
@@ -71,8 +64,7 @@ pub fn no_pointers(alloc: Global, count: usize) -> Result<List<u32>, AllocError>
 /// The four files of a conference without messages, whose pointers are all 0.
 pub fn empty_files(alloc: Global, shape: &Shape, pointers: &[u32]) -> Result<BaseFiles, AllocError>
     requires { pointers.now ≡ (no_slots shape.now).pointers }
-    ensures layout { IfOk result (λ files. files ≡ layout shape.now (no_slots shape.now)) }
-    ensures fit { IfOk result FilesFit }
+    ensures { IfOk result (λ files. files ≡ layout shape.now (no_slots shape.now)) }
 {
     Ok(BaseFiles {
         jhr: empty_jhr(alloc, shape)?,

@@ -39,6 +39,7 @@ use Rattle.jam_layout.proofs.IndexLaws.{Linked, RoomFor, slots_take, slots_again
 use Rattle.jam_layout.proofs.LinkLaws.{strip, slots_bare, LinksFit, links_same, links_move, links_take, links_again, below_all, active_is}
 use Rattle.jam_layout.proofs.LinkBounds.{LinkBound, link_bound}
 use Rattle.jam_layout.proofs.BaseLaws.{base_length, header_of, base_takes, BaseAgain, base_again}
+use Rattle.jam_layout.proofs.LayoutBounds.{layout_fits}
 use Rattle.jam_layout.proofs.ConferenceLaws.{headers_bare, Fits, conference_fits, slots_fit, rising_of, bodiless_of, linked_of, links_of, index_length}
 
 -- ---- .JHR
@@ -177,9 +178,9 @@ layout_is shape files c fits e =
     let ok : IsConference shape d = record {
       counter = subst (λ (n : ℕ). n < 2 ^ 32) k0.1 (u32_small 8 files.jhr fits.jhr.0);
       few = index.2;
-      slots = slots_fit links kind 1 start slots (subst (HeadersFit kind start) hs_is headers.1) (subst BodiesFit (sym index.1) bodies.2);
+      slots = slots_fit links kind 1 0 start slots (subst (HeadersFit kind start) hs_is headers.1) (subst BodiesFit (sym index.1) bodies.2)
+        (subst (All IsByte) (headers.0 ∙ text) (All-drop IsByte 1024 files.jhr fits.jhr.0)) (subst (All IsByte) jdt fits.jdt.0);
       pointers = pointers.1;
-      files = subst FilesFit same fits;
     } in
     subst (λ (y : Conference). (files ≡ layout shape y) × IsConference shape y) (ok_is d c x5.2) (same, ok)
 
@@ -198,15 +199,15 @@ is_layout shape c fits ok =
     let rest : List ℕ = headers_text kind 0 es in
     let live : ℕ = live_count c.slots in
     let few = ok.few in
+    let fit : FilesFit files = layout_fits shape c ok in
     let small : live < 2 ^ 32 = omega (arith, count_by-le-length is_live c.slots, few) in
     let base : BaseAgain shape c.counter live rest files.jhr = base_again shape c.counter live rest fits.created ok.counter small in
-    let bytes : All IsByte rest = subst (All IsByte) base.behind (All-drop IsByte 1024 files.jhr ok.files.jhr.0) in
-    let whole = ok.files.jhr.1 in
+    let whole = fit.jhr.1 in
     let len = length-append (base_text (header_of shape c.counter live)) rest in
     let long = base_length (header_of shape c.counter live) in
     let room : 1024 + length rest < 2 ^ 31 = omega (arith, len, long, whole) in
     let bound : (k : ℕ) → LinkBound 9999 (links k) = λ k. bound_most (length c.slots) (links k) few (link_bound c.slots k) in
-    let all : Fits kind start 1024 c.slots es = conference_fits links kind 1 start 1024 0 c.slots (omega arith) (omega arith) bound ok.slots bytes room in
+    let all : Fits kind start 1024 c.slots es = conference_fits links kind 1 start 1024 0 c.slots (omega arith) (omega arith) bound ok.slots room in
     let agree : (n : ℕ) → n < length (slots_of 1 hs) → links (suc n) ≡ link_of (slots_of 1 hs) (suc n) = λ n within. sym (links_agree links c.slots hs es refl refl n within) in
     let moved : LinksFit (link_of (slots_of 1 hs)) hs = links_move links (link_of (slots_of 1 hs)) (length (slots_of 1 hs)) hs agree (below_all hs (rising_of kind start hs all.headers)) (links_of links 1 c.slots) in
     let active : u32_at 12 files.jhr ≡ active_in hs = base.active_is ∙ sym (active_is links 1 c.slots) in

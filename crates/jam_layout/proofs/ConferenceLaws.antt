@@ -12,13 +12,13 @@ use Rattle.jam_records.specs.declared.message.Slot.{Slot}
 use Rattle.jam_records.specs.declared.message.Slot.TheVariants.{Gone, Held}
 use Rattle.jam_threads.specs.declared.link.Link.{Link}
 use Rattle.jam_layout.specs.Layout.{entries_of}
-use Rattle.jam_layout.specs.Bodies.{message_with}
+use Rattle.jam_layout.specs.Bodies.{message_with, bodies_text}
 use Rattle.jam_layout.specs.Fields.{field, subfields_of}
 use Rattle.jam_layout.specs.Headers.{message_header, entry_text, headers_text, header_size, behind}
 use Rattle.jam_records.specs.IndexRecords.{index_text}
 use Rattle.jam_records.specs.declared.index_record.IndexRecord.{IndexRecord}
 use Rattle.jam_layout.specs.Index.{index_records, no_pair, pair_of}
-use Rattle.jam_layout.specs.Messages.{IsMessage, IsSlot}
+use Rattle.jam_layout.specs.Messages.{AreBytes, IsMessage, IsSlot}
 use Rattle.jam_layout.specs.declared.entry.Entry.{Entry}
 use Rattle.jam_layout.specs.declared.entry.Front.{Front}
 use Rattle.jam_layout.proofs.BodyLaws.{bare, Bodiless, BodiesFit}
@@ -44,15 +44,10 @@ value_bytes id (b ∷ value) all =
     let s = subfield id (b ∷ value) in
     all_left (b ∷ value) [] (subst (All IsByte) (behind_head s []) (All-drop IsByte 8 (subfield_text s ++ []) all))
 
--- the texts of which there are checksums
-record Bytes (m : Message) : Type 0 where
-  to : All IsByte m.to
-  msgid : All IsByte m.msgid
-  replyid : All IsByte m.replyid
-
-message_bytes : (m : Message) → All IsByte (subfields_text (subfields_of m)) → Bytes m
+-- the texts of a message are bytes where its subfields and its body are
+message_bytes : (m : Message) → All IsByte (subfields_text (subfields_of m)) → All IsByte m.body → AreBytes m
 unfolding subfields_of
-message_bytes m all =
+message_bytes m all body =
     let a : List ℕ = subfields_text (field 0 m.origin) in
     let b : List ℕ = subfields_text (field 1 m.destination) in
     let c : List ℕ = subfields_text (field 2 m.from) in
@@ -61,12 +56,20 @@ message_bytes m all =
     let f : List ℕ = subfields_text (field 5 m.replyid) in
     let g : List ℕ = subfields_text (field 6 m.subject) in
     let whole : All IsByte (a ++ (b ++ (c ++ (d ++ (e ++ (f ++ g)))))) = subst (All IsByte) (texts (field 0 m.origin) (field 1 m.destination) (field 2 m.from) (field 3 m.to) (field 4 m.msgid) (field 5 m.replyid) (field 6 m.subject)) all in
-    let third = all_right c (d ++ (e ++ (f ++ g))) (all_right b (c ++ (d ++ (e ++ (f ++ g)))) (all_right a (b ++ (c ++ (d ++ (e ++ (f ++ g))))) whole)) in
+    let first = all_right a (b ++ (c ++ (d ++ (e ++ (f ++ g))))) whole in
+    let second = all_right b (c ++ (d ++ (e ++ (f ++ g)))) first in
+    let third = all_right c (d ++ (e ++ (f ++ g))) second in
     let fourth = all_right d (e ++ (f ++ g)) third in
+    let fifth = all_right e (f ++ g) fourth in
     record {
+      origin = value_bytes 0 m.origin (all_left a (b ++ (c ++ (d ++ (e ++ (f ++ g))))) whole);
+      destination = value_bytes 1 m.destination (all_left b (c ++ (d ++ (e ++ (f ++ g)))) first);
+      from = value_bytes 2 m.from (all_left c (d ++ (e ++ (f ++ g))) second);
       to = value_bytes 3 m.to (all_left d (e ++ (f ++ g)) third);
       msgid = value_bytes 4 m.msgid (all_left e (f ++ g) fourth);
-      replyid = value_bytes 5 m.replyid (all_left f g (all_right e (f ++ g) fourth));
+      replyid = value_bytes 5 m.replyid (all_left f g fifth);
+      subject = value_bytes 6 m.subject (all_right f g fifth);
+      body = body;
     }
 
 -- ---- a header doesn't show the body
@@ -88,8 +91,8 @@ unfolding header_size
 size_is m = refl
 
 -- ---- a conference fits its files
-one_fits : (kind : Kind) (f : Front) (n : ℕ) (link : Link) (m : Message) → f.last < n → n ≤ 9999 → LinkBound 9999 link → IsMessage kind m → Bytes m → length (subfields_text (subfields_of m)) < 2 ^ 31 → HeaderFits kind f (bare (made n link m))
-one_fits kind f n link m rising few bound ok bytes small =
+one_fits : (kind : Kind) (f : Front) (n : ℕ) (link : Link) (m : Message) → f.last < n → n ≤ 9999 → LinkBound 9999 link → IsMessage kind m → length (subfields_text (subfields_of m)) < 2 ^ 31 → HeaderFits kind f (bare (made n link m))
+one_fits kind f n link m rising few bound ok small =
     let to = bound.to in
     let first = bound.first in
     let next = bound.next in
@@ -107,8 +110,8 @@ one_fits kind f n link m rising few bound ok bytes small =
       written = ok.written;
       received = ok.received;
       processed = ok.processed;
-      msgid = crc_small m.msgid bytes.msgid;
-      reply = crc_small m.replyid bytes.replyid;
+      msgid = crc_small m.msgid ok.bytes.msgid;
+      reply = crc_small m.replyid ok.bytes.replyid;
       short = short;
     }
 
@@ -118,12 +121,12 @@ pub record Fits (kind : Kind) (f : Front) (at : ℕ) (slots : List Slot) (es : L
   pub room : RoomFor at slots
 
 pub conference_fits : (links : ℕ → Link) (kind : Kind) (n : ℕ) (f : Front) (at offset : ℕ) (slots : List Slot) → f.last < n → n + length slots ≤ 10000 → ((k : ℕ) → LinkBound 9999 (links k)) → All (IsSlot kind) slots
-    → All IsByte (headers_text kind offset (entries_of links n slots)) → at + length (headers_text kind offset (entries_of links n slots)) < 2 ^ 31 → Fits kind f at slots (entries_of links n slots)
-conference_fits links kind n f at offset [] lt few bound all bytes small = record { headers = tt; bodies = tt; room = tt }
-conference_fits links kind n f at offset (Gone ∷ slots) lt few bound all bytes small =
-    let r = conference_fits links kind (n + 1) f at offset slots (omega arith) (omega arith) bound (All-drop (IsSlot kind) 1 (Gone ∷ slots) all) bytes small in
+    → at + length (headers_text kind offset (entries_of links n slots)) < 2 ^ 31 → Fits kind f at slots (entries_of links n slots)
+conference_fits links kind n f at offset [] lt few bound all small = record { headers = tt; bodies = tt; room = tt }
+conference_fits links kind n f at offset (Gone ∷ slots) lt few bound all small =
+    let r = conference_fits links kind (n + 1) f at offset slots (omega arith) (omega arith) bound (All-drop (IsSlot kind) 1 (Gone ∷ slots) all) small in
     record { headers = r.headers; bodies = r.bodies; room = r.room }
-conference_fits links kind n f at offset (Held m ∷ slots) lt few bound all bytes small =
+conference_fits links kind n f at offset (Held m ∷ slots) lt few bound all small =
     let e : Entry = made n (links n) m in
     let es : List Entry = entries_of links (n + 1) slots in
     let text : List ℕ = entry_text kind offset e in
@@ -132,23 +135,28 @@ conference_fits links kind n f at offset (Held m ∷ slots) lt few bound all byt
     let size = entry_length kind offset e in
     let is = size_is m in
     let ok : IsMessage kind m = all 0 Gone (omega arith) in
-    let subs : All IsByte (subfields_text (subfields_of m)) = all_right (header_text (message_header kind offset e)) (subfields_text (subfields_of m)) (all_left text rest bytes) in
-    let b : Bytes m = message_bytes m subs in
     let short : length (subfields_text (subfields_of m)) < 2 ^ 31 = omega (arith, len, size, is, small) in
-    let r = conference_fits links kind (n + 1) (behind f (bare e)) (at + header_size m) (offset + length m.body) slots (omega arith) (omega arith) bound (All-drop (IsSlot kind) 1 (Held m ∷ slots) all) (all_right text rest bytes) (omega (arith, len, size, small)) in
+    let r = conference_fits links kind (n + 1) (behind f (bare e)) (at + header_size m) (offset + length m.body) slots (omega arith) (omega arith) bound (All-drop (IsSlot kind) 1 (Held m ∷ slots) all) (omega (arith, len, size, small)) in
     record {
-      headers = (one_fits kind f n (links n) m lt (omega arith) (bound n) ok b short, r.headers);
+      headers = (one_fits kind f n (links n) m lt (omega arith) (bound n) ok short, r.headers);
       bodies = ((ok.ended, refl), r.bodies);
-      room = (omega (arith, small), crc_small m.to b.to, r.room);
+      room = (omega (arith, small), crc_small m.to ok.bytes.to, r.room);
     }
 
 -- ---- and what the files fit is a conference
-pub slots_fit : (links : ℕ → Link) (kind : Kind) (n : ℕ) (f : Front) (slots : List Slot) → HeadersFit kind f (map bare (entries_of links n slots)) → BodiesFit (entries_of links n slots) → All (IsSlot kind) slots
-slots_fit links kind n f [] headers bodies = All-nil (IsSlot kind)
-slots_fit links kind n f (Gone ∷ slots) headers bodies = All-cons (IsSlot kind) Gone slots tt (slots_fit links kind (n + 1) f slots headers bodies)
-slots_fit links kind n f (Held m ∷ slots) headers bodies =
+pub slots_fit : (links : ℕ → Link) (kind : Kind) (n offset : ℕ) (f : Front) (slots : List Slot) → HeadersFit kind f (map bare (entries_of links n slots)) → BodiesFit (entries_of links n slots)
+    → All IsByte (headers_text kind offset (entries_of links n slots)) → All IsByte (bodies_text (entries_of links n slots)) → All (IsSlot kind) slots
+slots_fit links kind n offset f [] headers bodies heads texts = All-nil (IsSlot kind)
+slots_fit links kind n offset f (Gone ∷ slots) headers bodies heads texts = All-cons (IsSlot kind) Gone slots tt (slots_fit links kind (n + 1) offset f slots headers bodies heads texts)
+slots_fit links kind n offset f (Held m ∷ slots) headers bodies heads texts =
     let h = headers.0 in
+    let e : Entry = made n (links n) m in
+    let es : List Entry = entries_of links (n + 1) slots in
+    let text : List ℕ = entry_text kind offset e in
+    let rest : List ℕ = headers_text kind (offset + length m.body) es in
+    let subs : All IsByte (subfields_text (subfields_of m)) = all_right (header_text (message_header kind offset e)) (subfields_text (subfields_of m)) (all_left text rest heads) in
     let ok : IsMessage kind m = record {
+      bytes = message_bytes m subs (all_left m.body (bodies_text es) texts);
       origin = h.texts.origin;
       destination = h.texts.destination;
       from = h.texts.from;
@@ -163,7 +171,7 @@ slots_fit links kind n f (Held m ∷ slots) headers bodies =
       processed = h.processed;
       private = h.private;
     } in
-    All-cons (IsSlot kind) (Held m) slots ok (slots_fit links kind (n + 1) (behind f (bare (made n (links n) m))) slots headers.1 bodies.1)
+    All-cons (IsSlot kind) (Held m) slots ok (slots_fit links kind (n + 1) (offset + length m.body) (behind f (bare (made n (links n) m))) slots headers.1 bodies.1 (all_right text rest heads) (all_right m.body (bodies_text es) texts))
 
 pub rising_of : (kind : Kind) (f : Front) (hs : List Entry) → HeadersFit kind f hs → Rising (f.last + 1) hs
 rising_of kind f [] fits = tt

@@ -16,6 +16,7 @@ pub mod LinkLaws
 pub mod BaseLaws
 pub mod LinkBounds
 pub mod ConferenceLaws
+pub mod LayoutBounds
 pub mod Chain
 pub mod BodyLoop
 pub mod PointerLoop

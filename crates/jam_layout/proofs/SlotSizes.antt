@@ -28,6 +28,7 @@ use Rattle.jam_layout.specs.declared.reader.Reader.{Reader}
 use Rattle.jam_layout.specs.declared.shape.Shape.{Shape}
 use Rattle.jam_layout.proofs.BaseLaws.{base_length}
 use Rattle.jam_layout.proofs.EntryLaws.{entry_length}
+use Rattle.jam_layout.proofs.LayoutBounds.{layout_fits}
 
 -- ---- lengths of records
 index_length : (pair : IndexRecord) → length (index_text pair) ≡ 8
@@ -82,13 +83,14 @@ jhr_length : (shape : Shape) (c : Conference) → length (layout shape c).jhr �
 jhr_length shape c = omega (arith, length-append (base_text (base_header shape c)) (headers_text shape.kind 0 (entries_in c)), base_length (base_header shape c))
 
 pub slot_headers_small : (shape : Shape) (c : Conference) → IsConference shape c → All (λ slot. slot_header slot < 2 ^ 31) c.slots
-slot_headers_small shape c ok = let short = ok.files.jhr.1 in headers_within shape.kind (links_in c) 0 1 (2 ^ 31) c.slots (omega (arith, short, jhr_length shape c))
+slot_headers_small shape c ok = let short = (layout_fits shape c ok).jhr.1 in headers_within shape.kind (links_in c) 0 1 (2 ^ 31) c.slots (omega (arith, short, jhr_length shape c))
 
 pub slots_small : (shape : Shape) (c : Conference) → IsConference shape c → sum_by slot_size c.slots < 2 ^ 33
 slots_small shape c ok =
-    let jhr = ok.files.jhr.1 in
-    let jdt = ok.files.jdt.1 in
-    let jdx = ok.files.jdx.1 in
+    let fit = layout_fits shape c ok in
+    let jhr = fit.jhr.1 in
+    let jdt = fit.jdt.1 in
+    let jdx = fit.jdx.1 in
     omega (arith, jhr, jdt, jdx, jhr_length shape c, parts_length shape.kind (links_in c) 0 1 1024 c.slots)
 
 pub size_is : (shape : Shape) (c : Conference) → IsConference shape c → files_size (layout shape c) ≡ 1024 + sum_by slot_size c.slots + 16 * length shape.readers

@@ -1,5 +1,6 @@
 -- What a message may hold.
-use Rattle.std.specs.Prelude.{◌≡◌, ◌⊎◌, ℕ, ◌-◌, ◌≤◌, List, length, slice_index, Bool, IsTrue}
+use Rattle.std.specs.Prelude.{◌≡◌, ◌⊎◌, ℕ, ◌-◌, ◌≤◌, List, length, slice_index, All, Bool, IsTrue}
+use Rattle.byte_lists.specs.Byte.{IsByte}
 use Rattle.record_numbers.specs.Numbers.{IsU32}
 use Rattle.jam_records.specs.declared.message.Kind.{Kind}
 use Rattle.jam_records.specs.declared.message.Message.{Message}
@@ -17,10 +18,22 @@ EmptyOr test text = (length text ≡ 0) ⊎ IsTrue (test text)
 abbrev pub IsBody : List ℕ → Type 0
 IsBody body = (length body ≡ 0) ⊎ (slice_index body (length body - 1) ≡ 0x0D)
 
+-- each text is one of bytes
+pub record AreBytes (m : Message) : Type 0 where
+  pub origin : All IsByte m.origin
+  pub destination : All IsByte m.destination
+  pub from : All IsByte m.from
+  pub to : All IsByte m.to
+  pub msgid : All IsByte m.msgid
+  pub replyid : All IsByte m.replyid
+  pub subject : All IsByte m.subject
+  pub body : All IsByte m.body
+
 -- names of 1 to 36 bytes, a subject of at most 72, a msgid of 1 to 80 and a replyid of at most 80, none
 -- with a byte below 20h; addresses as they are stored; a body of at most 16,384 bytes; private in a net
 -- conference
 pub record IsMessage (kind : Kind) (m : Message) : Type 0 where
+  pub bytes : AreBytes m
   pub origin : EmptyOr is_address m.origin
   pub destination : EmptyOr is_address m.destination
   pub from : IsTrue (is_text 36 m.from)

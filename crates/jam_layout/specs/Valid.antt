@@ -2,7 +2,6 @@
 use Rattle.std.specs.Prelude.{◌≡◌, ℕ, ◌≤◌, ◌<◌, ◌^◌, List, [], ◌∷◌, length, All}
 use Rattle.byte_lists.specs.Byte.{IsByte}
 use Rattle.record_numbers.specs.Numbers.{IsU32}
-use Rattle.jam_layout.specs.Layout.{layout}
 use Rattle.jam_layout.specs.declared.conference.Conference.{Conference}
 use Rattle.jam_layout.specs.Messages.{IsSlot}
 use Rattle.jam_layout.specs.Reader.{IsReader}
@@ -38,10 +37,9 @@ pub record PointersFit (count : ℕ) (readers : List Reader) (pointers : List �
   pub all : length pointers ≡ length readers
   pub within : All (λ p. p ≤ count) pointers
 
--- a conference of this shape, whose files fit
+-- a conference of this shape
 pub record IsConference (shape : Shape) (c : Conference) : Type 0 where
   pub counter : IsU32 c.counter
   pub few : length c.slots ≤ 9999
   pub slots : All (IsSlot shape.kind) c.slots
   pub pointers : PointersFit (length c.slots) shape.readers c.pointers
-  pub files : FilesFit (layout shape c)

@@ -3,7 +3,7 @@ ghost use Rattle.jam_layout.specs.Valid.{IsShape};
 
 use crate::{BaseError, BaseFiles, Conference, Reader, Readers, Shape, read_conference};
 use byte_lists::Bytes;
-use jam_records::{Damage, DamageRule, Kind};
+use jam_records::{Damage, DamageRule, Kind, Message, Slot};
 use std::alloc::{AllocError, Global};
 use std::test::Fail;
 
@@ -24,6 +24,29 @@ const JDX: [u8; 16] = *b"\x22\x8E\xE7\xC4\0\x04\0\0\x22\x8E\xE7\xC4\x86\x04\0\0"
 
 const JLR: [u8; 64] =
     *b"\x99W\x03\x9F\x01\0\0\0\0\0\0\0\0\0\0\0\x91d\x92\xC6\x02\0\0\0\0\0\0\0\0\0\0\0#9\xC6m\x03\0\0\0\0\0\0\0\0\0\0\0\xAA\xFEL\x8E\x04\0\0\0\0\0\0\0\0\0\0\0";
+
+/// The files of a netmail conference whose first slot is gone and whose second holds a message. 1000 zeros
+/// follow the first 24 bytes of its .JHR.
+const NET_BASE: [u8; 24] = *b"JAM\0\0\xCA\x9A;\x07\0\0\0\x01\0\0\0\xFF\xFF\xFF\xFF\x01\0\0\0";
+
+const NET_HEADER: [u8; 251] =
+    *b"JAM\0\x01\0\0\0\xAF\0\0\0\0\0\0\0\x9D\xF3\xB5\xFF\xFF\xFF\xFF\xFF\0\0\0\0\0\0\0\0\0\0\0\0\0\xAB\x90A\0\x8C\x86G<\xAB\x90A\x02\0\0\0\x0C\0\0\x02\0\0\0\0\0\0\0\0\x0A\0\0\0\xFF\xFF\xFF\xFF\0\0\0\0\0\0\0\0\x0B\0\0\02:5020/1042\x01\0\0\0\x0A\0\0\01:105/42.7\x02\0\0\0\x07\0\0\0Bob Ray\x03\0\0\0\x07\0\0\0Ann Lee\x04\0\0\0\x14\0\0\02:5020/1042 5e6f7a8b\x06\0\0\0H\0\0\0The hub moves on Sunday: poll the new address from 06:00, not the old..!";
+
+const NET_JDT: [u8; 10] = *b"Line one\r\r";
+
+const NET_JDX: [u8; 16] = *b"\xFF\xFF\xFF\xFF\xFF\xFF\xFF\xFF\x99W\x03\x9F\0\x04\0\0";
+
+const NET_JLR: [u8; 16] = *b"\x99W\x03\x9F\x01\0\0\0\x02\0\0\0\x02\0\0\0";
+
+/// The files of an echo conference of one message, which has no body.
+const ECHO_BASE: [u8; 24] = *b"JAM\0\0\xCA\x9A;\x01\0\0\0\x01\0\0\0\xFF\xFF\xFF\xFF\x01\0\0\0";
+
+const ECHO_HEADER: [u8; 121] =
+    *b"JAM\0\x01\0\0\0-\0\0\0\0\0\0\0qc\x95\xF7\xFF\xFF\xFF\xFF\0\0\0\0\0\0\0\0\0\0\0\0\0\xAB\x90A\0\0\0\0\0\xAB\x90A\x01\0\0\0\x01\0\0\x01\0\0\0\0\0\0\0\0\0\0\0\0\xFF\xFF\xFF\xFF\0\0\0\0\x02\0\0\0\x07\0\0\0Ann Lee\x03\0\0\0\x03\0\0\0All\x04\0\0\0\x0B\0\0\00.1.TESTBBS";
+
+const ECHO_JDX: [u8; 8] = *b"\x22\x8E\xE7\xC4\0\x04\0\0";
+
+const ECHO_JLR: [u8; 16] = *b"\x99W\x03\x9F\x01\0\0\0\x01\0\0\0\x01\0\0\0";
 
 /// One change of a file.
 #[derive(Clone, Copy)]
@@ -132,6 +155,117 @@ fn general(alloc: Global) -> Result<Shape, AllocError>
 fn counts(conference: &Conference) -> (u32, usize, usize) {
     let live = conference.live_count();
     (conference.counter, conference.slots.len(), live)
+}
+
+/// What the board says of a conference of this kind with one reader.
+fn with_one_reader(alloc: Global, kind: Kind) -> Result<Shape, AllocError>
+    ensures { IfOk result IsShape }
+{
+    let mut readers = Readers::new(alloc);
+    let name = Bytes::from_slice(alloc, b"Ann Lee")?;
+    readers.add(Reader { id: 1, name })?;
+    Ok(Shape {
+        place: 0,
+        created: 1_000_000_000,
+        kind,
+        readers,
+    })
+}
+
+/// The .JHR of one message.
+fn jhr(alloc: Global, base: &[u8], header: &[u8]) -> Result<Bytes, AllocError> {
+    let mut jhr = Bytes::from_slice(alloc, base)?;
+    jhr.add(&[0; 1000])?;
+    jhr.add(header)?;
+    Ok(jhr)
+}
+
+/// The files of the netmail conference.
+fn net_files(alloc: Global) -> Result<BaseFiles, AllocError> {
+    Ok(BaseFiles {
+        jhr: jhr(alloc, &NET_BASE, &NET_HEADER)?,
+        jdt: Bytes::from_slice(alloc, &NET_JDT)?,
+        jdx: Bytes::from_slice(alloc, &NET_JDX)?,
+        jlr: Bytes::from_slice(alloc, &NET_JLR)?,
+    })
+}
+
+/// The files of the echo conference.
+fn echo_files(alloc: Global) -> Result<BaseFiles, AllocError> {
+    Ok(BaseFiles {
+        jhr: jhr(alloc, &ECHO_BASE, &ECHO_HEADER)?,
+        jdt: Bytes::new(alloc),
+        jdx: Bytes::from_slice(alloc, &ECHO_JDX)?,
+        jlr: Bytes::from_slice(alloc, &ECHO_JLR)?,
+    })
+}
+
+/// The conference of this kind and one reader that the files hold.
+fn held(alloc: Global, kind: Kind, files: &BaseFiles) -> Result<Option<Conference>, AllocError> {
+    let shape = with_one_reader(alloc, kind)?;
+    match read(alloc, files, &shape) {
+        Some(Ok(conference)) => Ok(Some(conference)),
+        _ => Ok(None),
+    }
+}
+
+/// The message in a place, from 0.
+fn message(conference: &Conference, place: usize) -> Option<&Message> {
+    match conference.slots.get(place) {
+        Some(Slot::Held(message)) => Some(message),
+        _ => None,
+    }
+}
+
+/// Its local, private, seen and deleted marks.
+fn marks(message: &Message) -> [bool; 4] {
+    [
+        message.local,
+        message.private,
+        message.seen,
+        message.deleted,
+    ]
+}
+
+#[test]
+fn a_private_message_between_addresses_is_read(rt: HostRuntime) -> Result<(), Fail> {
+    let files = net_files(rt.alloc())?;
+    let conference = held(rt.alloc(), Kind::Net, &files)?.ok_or("no conference")?;
+    assert_eq!(rt; counts(&conference), (7, 2, 1));
+    assert_eq!(rt; conference.pointers.as_slice(), [2].as_slice());
+    assert!(rt; message(&conference, 0).is_none());
+    let message = message(&conference, 1).ok_or("no message")?;
+    let texts = [
+        (&message.origin, b"2:5020/1042".as_slice()),
+        (&message.destination, b"1:105/42.7".as_slice()),
+        (&message.from, b"Bob Ray".as_slice()),
+        (&message.to, b"Ann Lee".as_slice()),
+        (&message.msgid, b"2:5020/1042 5e6f7a8b".as_slice()),
+        (&message.replyid, b"".as_slice()),
+        (
+            &message.subject,
+            b"The hub moves on Sunday: poll the new address from 06:00, not the old..!".as_slice(),
+        ),
+        (&message.body, b"Line one\r\r".as_slice()),
+    ];
+    for (text, wanted) in texts {
+        assert_eq!(rt; text.as_slice(), wanted);
+    }
+    assert_eq!(rt; (message.written, message.received, message.processed), (1_100_000_000, 1_200_000_000, 1_100_000_060));
+    assert_eq!(rt; marks(message), [false, true, true, false]);
+    Ok(())
+}
+
+#[test]
+fn a_message_of_an_echo_is_read(rt: HostRuntime) -> Result<(), Fail> {
+    let files = echo_files(rt.alloc())?;
+    let conference = held(rt.alloc(), Kind::Echo, &files)?.ok_or("no conference")?;
+    assert_eq!(rt; counts(&conference), (1, 1, 1));
+    let message = message(&conference, 0).ok_or("no message")?;
+    assert_eq!(rt; message.msgid.as_slice(), b"0.1.TESTBBS".as_slice());
+    assert_eq!(rt; marks(message), [true, false, false, false]);
+    assert!(rt; message.body.as_slice().is_empty());
+    Ok(())
 }
 
 #[test]

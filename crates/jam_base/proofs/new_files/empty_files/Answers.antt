@@ -1,13 +1,9 @@
 use Rattle.std.proofs.Common.{◌∙◌, ap}
 use Rattle.jam_layout.specs.Readers.{last_reads}
-use Rattle.jam_base.proofs.MemberLaws.{empty_layout, empty_fits}
+use Rattle.jam_base.proofs.MemberLaws.{empty_layout}
 use Rattle.jam_base.proofs.new_files.empty_files.Goals as goal
 
-pub returns-clause-layout : goal.returns-clause-layout
-returns-clause-layout c =
-    empty_layout c.args.shape.now c.in_ok-empty_jhr.field-0 c.new.result c.new-2.result c.in_ok-jlr_of.field-0 c.args.pointers.now c.in_ok-empty_jhr.ensures.text c.new.ensures c.new-2.ensures
-    (c.in_ok-jlr_of.ensures.text ∙ ap (λ readers. last_reads readers c.args.pointers.now) c.as_slice.ensures.same) c.requires
-
-pub returns-clause-fit : goal.returns-clause-fit
-returns-clause-fit c =
-    empty_fits c.args.shape.now c.in_ok-empty_jhr.field-0 c.new.result c.new-2.result c.in_ok-jlr_of.field-0 c.in_ok-empty_jhr.ensures.text c.new.ensures c.new-2.ensures c.in_ok-empty_jhr.ensures.bytes c.in_ok-jlr_of.ensures.bytes
+pub returns : goal.returns
+returns c =
+    empty_layout c.args.shape.now c.in_ok-empty_jhr.field-0 c.new.result c.new-2.result c.in_ok-jlr_of.field-0 c.args.pointers.now c.in_ok-empty_jhr.ensures c.new.ensures c.new-2.ensures
+    (c.in_ok-jlr_of.ensures ∙ ap (λ readers. last_reads readers c.args.pointers.now) c.as_slice.ensures.same) c.requires

@@ -15,8 +15,8 @@ loop-reader-preserved c =
     let text = c.in_ok-add.ensures.ok ∙ ap (λ xs. c.loop-reader.text ++ xs) (c.write_last.ensures ∙ ap last_text c.last_read.ensures) in
     rw more (record_added c.args.readers.now c.args.pointers.now (length c.loop-reader.yielded) c.in-Some.reader.now c.in-Some.pointer.now c.loop-reader.text c.add.new.self _ turn.0 turn.1 (turn.2 _) (turn.3 _) text c.loop-reader.invariant)
 
-pub returns-clause-text : goal.returns-clause-text
-returns-clause-text c =
+pub returns : goal.returns
+returns c =
     let first : iter_rest (zip_first c.into_iter-reader-iterator.result) ≡ c.args.readers.now = search in
     let second : iter_rest (zip_second c.into_iter-reader-iterator.result) ≡ c.args.pointers.now = search in
     let so_far = Zip-so_far c.loop-reader.yielded c.into_iter-reader-iterator.result c.loop-reader.reader-iterator c.loop-reader.yielded_by in

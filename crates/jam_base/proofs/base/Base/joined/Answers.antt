@@ -36,7 +36,7 @@ conference_is c =
 
 text_is : (c : goal.In_ok-patches) → c.in_ok-jlr.jlr ≡ last_reads (shape c).readers (conference c).pointers
 unfolding shape conference
-text_is c = c.in_ok-jlr.ensures.text ∙ (ap (λ xs. last_reads xs c.as_slice-2.result.now) c.as_slice.ensures.same ∙ ap (last_reads c.add.new.self) c.as_slice-2.ensures)
+text_is c = c.in_ok-jlr.ensures ∙ (ap (λ xs. last_reads xs c.as_slice-2.result.now) c.as_slice.ensures.same ∙ ap (last_reads c.add.new.self) c.as_slice-2.ensures)
 
 new_files : (c : goal.In_ok-patches) → record (layout c.args.self.now.shape c.args.self.now.conference) { jlr = c.in_ok-jlr.jlr } ≡ layout (shape c) (conference c)
 new_files c = joined_layout c.args.self.now c.args.user c.args.name.now (shape c) (conference c) c.in_ok-jlr.jlr (shape_is c) (conference_is c) (text_is c)
@@ -44,7 +44,7 @@ new_files c = joined_layout c.args.self.now c.args.user c.args.name.now (shape c
 pub invariant_of-result : goal.invariant_of-result
 unfolding shape conference
 invariant_of-result c =
-    let made = joined_made c.args.self.now c.args.user c.args.name.now (shape c) (conference c) c.in_ok-jlr.jlr (shape_is c) (conference_is c) (text_is c) c.in_ok-jlr.ensures.bytes c.requires
+    let made = joined_made c.args.self.now c.args.user c.args.name.now (shape c) (conference c) (shape_is c) (conference_is c) c.requires
     (subst (λ (b : Contents). IsShape b.shape × IsConference b.shape b.conference) c.self.view_is (c.self.invariant.0, c.self.invariant.1)) in
     let slots = ap (λ (k : Conference). k.slots) c.in_ok-conference.ensures in
     (made.0, made.1, same_links c.in_ok-conference.conference.slots c.self.inside.conference.slots c.in_ok-links.links c.self.inside.links slots c.in_ok-links.ensures c.self.invariant.2)
