@@ -1,3 +1,3 @@
-pub mod ChangeLaws
-pub mod MemberLaws
-pub mod LayoutLoop
+pub mod PatchLaws
+pub mod ReaderLaws
+pub mod LastReadLoop

@@ -9,7 +9,7 @@ use Rattle.jam_layout.specs.Places.{jdt_file}
 use Rattle.jam_layout.specs.Bodies.{body_rules, with_body, message_with, bodies_at, bodies_text}
 use Rattle.jam_layout.specs.Messages.{IsBody}
 use Rattle.jam_layout.specs.declared.entry.Entry.{Entry}
-use Rattle.jam_layout.proofs.Kept.{Kept, rules_kept, kept_rules, bind_ok, ok_is}
+use Rattle.jam_layout.proofs.KeptRules.{Kept, rules_kept, kept_rules, bind_ok, ok_is}
 
 -- an entry as its header alone shows it
 abbrev pub bare : Entry → Entry

@@ -21,10 +21,10 @@ use Rattle.jam_layout.specs.Headers.{values_of, header_rules, message_of, entry_
 use Rattle.jam_layout.specs.declared.entry.Entry.{Entry}
 use Rattle.jam_layout.specs.declared.entry.Front.{Front}
 use Rattle.jam_layout.specs.declared.fields.Values.{Values}
-use Rattle.jam_layout.proofs.Kept.{Kept, rules_kept, kept_rules, bind_ok, ok_is}
-use Rattle.jam_layout.proofs.Walks.{walk_more, walk_done, behind_first, drop_one}
+use Rattle.jam_layout.proofs.KeptRules.{Kept, rules_kept, kept_rules, bind_ok, ok_is}
+use Rattle.jam_layout.proofs.RecordWalks.{walk_more, walk_done, behind_first, drop_one}
 use Rattle.record_numbers.proofs.NumberFronts.{u32_small}
-use Rattle.jam_layout.proofs.Fronts.{header_front}
+use Rattle.jam_layout.proofs.RecordFronts.{header_front}
 use Rattle.jam_layout.proofs.ValueLaws.{HasValues, RightTexts, right_texts, values_take, values_again, message_values, maybe_back, right_by_texts}
 use Rattle.jam_layout.proofs.HeaderLaws.{HeaderKept, keep, keeps}
 use Rattle.jam_layout.proofs.MarkLaws.{marks_again, right_attribute, attribute_right}

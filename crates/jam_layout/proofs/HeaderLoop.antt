@@ -8,8 +8,8 @@ use Rattle.jam_layout.specs.Rules.{◌>>=◌, Fails}
 use Rattle.jam_layout.specs.Walk.{walk}
 use Rattle.jam_layout.specs.Headers.{header_at, entries_at, start}
 use Rattle.jam_records.specs.declared.message.Kind.{Kind}
-use Rattle.jam_layout.proofs.Kept.{step_fails}
-use Rattle.jam_layout.proofs.Walks.{walk_behind, ends, is_done}
+use Rattle.jam_layout.proofs.KeptRules.{step_fails}
+use Rattle.jam_layout.proofs.RecordWalks.{walk_behind, ends, is_done}
 
 pub headers_fail : (place : ℕ) (kind : Kind) (front : List Entry) (f : Front) (rest bytes : List ℕ) (e : BaseError) → 0 < length rest → Fails e (header_at place kind f rest)
     → walk_behind front (walk (header_at place kind) f rest) ≡ walk (header_at place kind) start bytes → Fails e (entries_at place kind bytes)

@@ -21,10 +21,10 @@ use Rattle.jam_layout.specs.Headers.{header_size}
 use Rattle.jam_layout.specs.Layout.{entries_of}
 use Rattle.jam_layout.specs.Index.{index_records, Pending, Expected, none_here, one_here, expected_of, expected, index_rules, slot_at}
 use Rattle.jam_layout.specs.declared.entry.Entry.{Entry}
-use Rattle.jam_layout.proofs.Kept.{Kept, rules_kept, kept_rules, bind_ok, ok_is}
-use Rattle.jam_layout.proofs.Walks.{walk_more, walk_done, behind_first, drop_one}
-use Rattle.jam_layout.proofs.Fronts.{index_front}
-use Rattle.jam_layout.proofs.TestLaws.{or_false, both_false, equal, unequal}
+use Rattle.jam_layout.proofs.KeptRules.{Kept, rules_kept, kept_rules, bind_ok, ok_is}
+use Rattle.jam_layout.proofs.RecordWalks.{walk_more, walk_done, behind_first, drop_one}
+use Rattle.jam_layout.proofs.RecordFronts.{index_front}
+use Rattle.jam_layout.proofs.BoolTests.{or_false, both_false, equal, unequal}
 
 abbrev no_bytes : List ℕ
 no_bytes = []

@@ -11,8 +11,8 @@ use Rattle.jam_layout.specs.Rules.{by_rules, ◌>>=◌, Fails}
 use Rattle.jam_layout.specs.Places.{jdx_file}
 use Rattle.jam_layout.specs.Walk.{walk}
 use Rattle.jam_layout.specs.Index.{Pending, slot_at, slots_at}
-use Rattle.jam_layout.proofs.Kept.{kept_rules, step_fails}
-use Rattle.jam_layout.proofs.Walks.{walk_behind, ends, is_done}
+use Rattle.jam_layout.proofs.KeptRules.{kept_rules, step_fails}
+use Rattle.jam_layout.proofs.RecordWalks.{walk_behind, ends, is_done}
 
 abbrev begin : ℕ → List Entry → Pending
 begin at entries = record { item = 0; at = at; entries = entries }

@@ -39,7 +39,7 @@ use Rattle.jam_layout.specs.declared.reader.Reader.{Reader}
 use Rattle.jam_layout.specs.declared.shape.Shape.{Shape}
 use Rattle.jam_layout.proofs.AddressLaws.{test_is}
 use Rattle.jam_layout.proofs.BaseLaws.{base_length}
-use Rattle.jam_layout.proofs.ConferenceLaws.{index_length}
+use Rattle.jam_layout.proofs.SlotLaws.{index_length}
 use Rattle.jam_layout.proofs.EntryLaws.{entry_length}
 use Rattle.jam_layout.proofs.FieldLaws.{subfield}
 use Rattle.jam_layout.proofs.SizeLaws.{field_length, whole_length}

@@ -20,10 +20,10 @@ use Rattle.jam_layout.specs.Bodies.{message_with}
 use Rattle.jam_layout.specs.Conference.{is_live, live_count}
 use Rattle.jam_layout.specs.SecondPass.{slots_of, active_in, same_link, links_at}
 use Rattle.jam_layout.specs.declared.entry.Entry.{Entry}
-use Rattle.jam_layout.proofs.Kept.{rules_kept, kept_rules, bind_ok}
+use Rattle.jam_layout.proofs.KeptRules.{rules_kept, kept_rules, bind_ok}
 use Rattle.jam_layout.proofs.BodyLaws.{bare}
 use Rattle.jam_layout.proofs.IndexLaws.{first_number}
-use Rattle.jam_layout.proofs.TestLaws.{not_not}
+use Rattle.jam_layout.proofs.BoolTests.{not_not}
 
 -- ---- slots without their bodies
 abbrev pub strip : Slot → Slot

@@ -9,7 +9,7 @@ use Rattle.record_numbers.specs.Numbers.{u32_at}
 use Rattle.jam_layout.specs.Places.{jlr_file}
 use Rattle.jam_layout.specs.declared.reader.Reader.{Reader}
 use Rattle.jam_layout.specs.Readers.{reader_rules, pointers_at}
-use Rattle.jam_layout.proofs.Kept.{with_front, regroup, step_fails}
+use Rattle.jam_layout.proofs.KeptRules.{with_front, regroup, step_fails}
 
 -- the step of a reader
 abbrev pub step : ℕ → ℕ → ℕ → Reader → List ℕ → Result ℕ Damage

@@ -1,12 +1,12 @@
-ghost use Rattle.std.specs.Prelude.{◌≡◌, ◌+◌, ◌≤◌, ◌<◌, ◌^◌, length, take, IfOk};
+ghost use Rattle.std.specs.Prelude.{◌≡◌, ◌+◌, ◌≤◌, ◌<◌, ◌^◌, length, take, IfOk, OnOk};
 ghost use Rattle.jam_layout.specs.Rules.{Gives, by_rules};
 ghost use Rattle.jam_layout.specs.Places.{jdt_file};
-ghost use Rattle.jam_layout.specs.Bodies.{body_rules, with_body as body_put, bodies_at};
+ghost use Rattle.jam_layout.specs.Bodies.{body_rules, with_body, bodies_at};
 
 use crate::entry::Entry;
 use crate::error::BaseError;
 use crate::places::{damaged, jdt};
-use byte_lists::{Bytes, Duplicate, List};
+use byte_lists::{Bytes, List};
 use jam_records::DamageRule;
 use std::alloc::{AllocError, Global};
 
@@ -25,39 +25,34 @@ fn body_of(place: u8, item: u32, text_len: u32, bytes: &[u8]) -> Result<&[u8], B
     Ok(&bytes[..len])
 }
 
-/// The entry with this body.
-fn with_body(alloc: Global, entry: &Entry, body: &[u8]) -> Result<Entry, AllocError>
-    ensures { IfOk result (λ made. made ≡ body_put entry.now body.now) }
+/// Gives an entry this body.
+fn put_body(alloc: Global, entry: &mut Entry, body: &[u8]) -> Result<(), AllocError>
+    ensures { OnOk result (entry.new ≡ with_body entry.old body.now) }
 {
-    let mut message = entry.message.duplicate(alloc)?;
-    message.body = Bytes::from_slice(alloc, body)?;
-    Ok(Entry {
-        number: entry.number,
-        text_len: entry.text_len,
-        link: entry.link,
-        message,
-    })
+    entry.message.body = Bytes::from_slice(alloc, body)?;
+    Ok(())
 }
 
 /// The entries with their bodies.
 pub fn bodies_of(
     alloc: Global,
     place: u8,
-    entries: &[Entry],
+    entries: List<Entry>,
     bytes: &[u8],
 ) -> Result<List<Entry>, BaseError>
-    requires { length entries.now < 2 ^ 31 }
-    ensures { Gives (λ x. x) result (bodies_at place 1 entries.now bytes.now) }
+    requires { length entries < 2 ^ 31 }
+    ensures { Gives (λ x. x) result (bodies_at place 1 entries bytes.now) }
 {
-    let mut made = List::new(alloc);
+    let mut items = entries.into_vec();
     let mut rest = bytes;
-    for (i, entry) in entries.iter().enumerate() {
-        let body = body_of(place, i as u32 + 1, entry.text_len, rest)?;
-        made.add(with_body(alloc, entry, body)?)?;
-        rest = &rest[entry.text_len as usize..];
+    for i in 0..items.len() {
+        let text_len = items[i].text_len;
+        let body = body_of(place, i as u32 + 1, text_len, rest)?;
+        put_body(alloc, &mut items[i], body)?;
+        rest = &rest[text_len as usize..];
     }
     if !rest.is_empty() {
-        return Err(damaged(jdt(place), entries.len() as u32 + 1, DamageRule::Rest));
+        return Err(damaged(jdt(place), items.len() as u32 + 1, DamageRule::Rest));
     }
-    Ok(made)
+    Ok(List::from_vec(items))
 }

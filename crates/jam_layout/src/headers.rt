@@ -67,7 +67,7 @@ fn wrong_crc(header: &MessageHeader, values: &Values) -> bool
 }
 
 /// The fixed part at the front, or the first rule that it breaks up to its revision.
-#[tactic(auto, using(crate::proofs::FrontLaws::front_short, crate::proofs::FrontLaws::front_unsigned, crate::proofs::FrontLaws::front_revised, crate::proofs::FrontLaws::front_reserved, crate::proofs::FrontLaws::front_passes))]
+#[tactic(auto, using(crate::proofs::HeaderFrontTests::front_short, crate::proofs::HeaderFrontTests::front_unsigned, crate::proofs::HeaderFrontTests::front_revised, crate::proofs::HeaderFrontTests::front_reserved, crate::proofs::HeaderFrontTests::front_passes))]
 fn read_fixed(bytes: &[u8]) -> Result<MessageHeader, DamageRule>
     ensures fields { IfOk result (λ header. header ≡ message_header_at bytes.now) }
     ensures ok { IfOk result (λ _. first_broken (front_rules bytes.now) ≡ None) }
@@ -177,7 +177,7 @@ fn entry_of(alloc: Global, header: &MessageHeader, values: Values) -> Entry
 }
 
 /// The fixed part of the header at the front.
-#[tactic(auto, using(crate::proofs::Kept::both_pass))]
+#[tactic(auto, using(crate::proofs::KeptRules::both_pass))]
 fn fixed_of(place: u8, kind: Kind, front: Front, bytes: &[u8]) -> Result<MessageHeader, BaseError>
     ensures gives { Gives (λ x. x) result (by_rules (jhr_file place) front.item (front_rules bytes.now ++ field_rules kind front (message_header_at bytes.now)) (message_header_at bytes.now)) }
     ensures long { IfOk result (λ _. 76 ≤ length bytes.now) }

@@ -1,6 +1,6 @@
 use Rattle.std.proofs.Common.{◌∙◌, ap}
 use Rattle.jam_layout.specs.Readers.{last_reads}
-use Rattle.jam_base.proofs.MemberLaws.{empty_layout}
+use Rattle.jam_base.proofs.ReaderLaws.{empty_layout}
 use Rattle.jam_base.proofs.new_files.empty_files.Goals as goal
 
 pub returns : goal.returns

@@ -3,7 +3,7 @@ use Rattle.std.specs.Iterator.Adapters.{zip_first, zip_second}
 use Rattle.std.specs.Slice.Iter.{iter_rest}
 use Rattle.std.proofs.lemmas.Slice.Zip.{zip_turn, Zip-so_far, either_empty_from_Zip}
 use Rattle.jam_records.specs.LastReads.{last_text}
-use Rattle.jam_base.proofs.LayoutLoop.{record_added, all_added, none_left}
+use Rattle.jam_base.proofs.LastReadLoop.{record_added, all_added, none_left}
 use Rattle.jam_base.proofs.new_files.jlr_of.Goals as goal
 
 pub loop-reader-preserved : goal.loop-reader-preserved

@@ -1,8 +1,8 @@
 use Rattle.jam_layout.specs.Places.{jhr_file}
 use Rattle.jam_layout.specs.Headers.{front_rules, field_rules}
 use Rattle.jam_records.specs.MessageHeaders.{message_header_at}
-use Rattle.jam_layout.proofs.Kept.{part_fails}
-use Rattle.jam_layout.proofs.HeaderCode.{fixed_fails}
+use Rattle.jam_layout.proofs.KeptRules.{part_fails}
+use Rattle.jam_layout.proofs.HeaderTests.{fixed_fails}
 use Rattle.jam_layout.proofs.headers.fixed_of.Goals as goal
 
 pub returns-in-Err-clause-gives : goal.returns-in-Err-clause-gives

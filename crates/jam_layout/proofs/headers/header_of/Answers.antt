@@ -1,5 +1,5 @@
 use Rattle.std.proofs.lemmas.Result.{err_from_is_err_and}
-use Rattle.jam_layout.proofs.HeaderCode.{fixed_stops, values_stop, header_read, header_bounds}
+use Rattle.jam_layout.proofs.HeaderTests.{fixed_stops, values_stop, header_read, header_bounds}
 use Rattle.jam_layout.proofs.headers.header_of.Goals as goal
 
 pub returns-in_err-header-clause-gives : goal.returns-in_err-header-clause-gives

@@ -1,6 +1,6 @@
 use Rattle.std.proofs.Common.{sym}
 use Rattle.jam_layout.specs.Places.{jhr_file}
-use Rattle.jam_layout.proofs.HeaderCode.{too_long, wrong_value, right_value}
+use Rattle.jam_layout.proofs.HeaderTests.{too_long, wrong_value, right_value}
 use Rattle.jam_layout.proofs.headers.values_behind.Goals as goal
 
 pub returns-then-bytes-end-clause-gives : goal.returns-then-bytes-end-clause-gives

@@ -1,6 +1,6 @@
 use Rattle.std.proofs.Common.{◌∙◌, ap}
 use Rattle.name_crc.specs.JamCrc.{jam_crc}
-use Rattle.jam_layout.proofs.IndexCode.{held_read}
+use Rattle.jam_layout.proofs.IndexTests.{held_read}
 use Rattle.jam_layout.proofs.index.slot_of.Goals as goal
 
 pub returns-then-entry-item-clause-gives : goal.returns-then-entry-item-clause-gives

@@ -3,7 +3,7 @@ use Rattle.std.specs.Prelude.{sum_by}
 use Rattle.jam_layout.specs.Headers.{header_size}
 use Rattle.jam_layout.specs.Walk.{walk}
 use Rattle.jam_layout.specs.Index.{slot_at}
-use Rattle.jam_layout.proofs.Walks.{walk_behind}
+use Rattle.jam_layout.proofs.RecordWalks.{walk_behind}
 use Rattle.jam_layout.proofs.index.slots_in.Given as goal
 
 -- the slots so far, and those that are still read, are those of the file

@@ -1,4 +1,4 @@
-use Rattle.jam_layout.proofs.Chain.{undamaged, unique}
+use Rattle.jam_layout.proofs.ConferenceLayout.{undamaged, unique}
 use Rattle.jam_layout.proofs.laws.unique_conference.Goals as goal
 
 pub returns : goal.returns

@@ -1,7 +1,7 @@
-use Rattle.std.proofs.Common.{◌∙◌, sym, arith}
+use Rattle.std.proofs.Common.{◌∙◌, refl, sym, arith}
 use Rattle.std.proofs.lemmas.Result.{err_from_is_err_and}
 use Rattle.jam_layout.proofs.NumberedLaws.{few_entries}
-use Rattle.jam_layout.proofs.Reading.{failed, base_is, headers_is, second_is, bodies_is, slots_is, pointers_is, numbered_list, room, few, counter_fails, headers_fail, second_fails, bodies_fail, slots_fail, pointers_fail, all_read}
+use Rattle.jam_layout.proofs.ReadingSteps.{failed, base_is, headers_is, second_is, bodies_is, slots_is, pointers_is, numbered_list, room, few, counter_fails, headers_fail, second_fails, bodies_fail, slots_fail, pointers_fail, all_read}
 use Rattle.jam_layout.proofs.read.conference_in.Goals as goal
 
 pub returns-in_err-counter-clause-gives : goal.returns-in_err-counter-clause-gives
@@ -31,7 +31,7 @@ returns-in_err-check-clause-gives c =
 pub bodies_of-requires : goal.bodies_of-requires
 bodies_of-requires c =
     let headers = sym (headers_is c.args.shape.now c.args.files.now c.as_slice-headers.result.now c.as_slice-headers.ensures.same) ∙ c.in_ok-entries.ensures in
-    few_entries c.as_slice-2.result.now (numbered_list c.args.shape.now c.args.files.now c.as_slice-2.result.now c.in_ok-entries.entries c.as_slice-headers.ensures.bytes c.requires.jhr c.as_slice-2.ensures headers)
+    few_entries c.in_ok-entries.entries (numbered_list c.args.shape.now c.args.files.now c.in_ok-entries.entries c.in_ok-entries.entries c.as_slice-headers.ensures.bytes c.requires.jhr refl headers)
 
 pub returns-in_err-entries-2-clause-gives : goal.returns-in_err-entries-2-clause-gives
 returns-in_err-entries-2-clause-gives c =
@@ -40,13 +40,13 @@ returns-in_err-entries-2-clause-gives c =
     let headers = sym (headers_is c.args.shape.now c.args.files.now c.as_slice-headers.result.now c.as_slice-headers.ensures.same) ∙ c.in_ok-entries.ensures in
     let second = sym (second_is c.args.shape.now c.args.files.now c.as_slice-headers.result.now c.u32_at.result c.as_slice.result.now c.in_ok-entries.entries c.as_slice-headers.ensures.same c.u32_at.ensures c.as_slice.ensures) ∙ c.in_ok-check.ensures in
     rw (p.1, p.2) (bodies_fail c.args.shape.now c.args.files.now c.in_err-entries-2.field-0.0 c.in_ok-counter.counter c.in_ok-entries.entries _ base headers second
-    (failed c.in_err-entries-2.field-0.0 _ _ (bodies_is c.args.shape.now c.args.files.now c.as_slice-3.result.now c.as_slice-2.result.now c.in_ok-entries.entries c.as_slice-3.ensures.same c.as_slice-2.ensures) c.in_err-entries-2.ensures))
+    (failed c.in_err-entries-2.field-0.0 _ _ (bodies_is c.args.shape.now c.args.files.now c.as_slice-2.result.now c.in_ok-entries.entries c.in_ok-entries.entries c.as_slice-2.ensures.same refl) c.in_err-entries-2.ensures))
 
 pub slots_in-requires : goal.slots_in-requires
 slots_in-requires c =
     let headers = sym (headers_is c.args.shape.now c.args.files.now c.as_slice-headers.result.now c.as_slice-headers.ensures.same) ∙ c.in_ok-entries.ensures in
-    let bodies = sym (bodies_is c.args.shape.now c.args.files.now c.as_slice-3.result.now c.as_slice-2.result.now c.in_ok-entries.entries c.as_slice-3.ensures.same c.as_slice-2.ensures) ∙ c.in_ok-entries-2.ensures in
-    room c.args.shape.now c.args.files.now c.as_slice-headers.result.now c.as_slice-4.result.now c.in_ok-entries.entries c.in_ok-entries-2.entries c.as_slice-headers.ensures.bytes c.requires.jhr c.as_slice-headers.ensures.same c.in_ok-counter.ensures.long c.as_slice-4.ensures headers bodies
+    let bodies = sym (bodies_is c.args.shape.now c.args.files.now c.as_slice-2.result.now c.in_ok-entries.entries c.in_ok-entries.entries c.as_slice-2.ensures.same refl) ∙ c.in_ok-entries-2.ensures in
+    room c.args.shape.now c.args.files.now c.as_slice-headers.result.now c.as_slice-3.result.now c.in_ok-entries.entries c.in_ok-entries-2.entries c.as_slice-headers.ensures.bytes c.requires.jhr c.as_slice-headers.ensures.same c.in_ok-counter.ensures.long c.as_slice-3.ensures headers bodies
 
 pub returns-in_err-slots-clause-gives : goal.returns-in_err-slots-clause-gives
 returns-in_err-slots-clause-gives c =
@@ -54,17 +54,17 @@ returns-in_err-slots-clause-gives c =
     let base = sym (base_is c.args.shape.now c.args.files.now c.as_slice-headers.result.now c.as_slice-headers.ensures.same) ∙ c.in_ok-counter.ensures.gives in
     let headers = sym (headers_is c.args.shape.now c.args.files.now c.as_slice-headers.result.now c.as_slice-headers.ensures.same) ∙ c.in_ok-entries.ensures in
     let second = sym (second_is c.args.shape.now c.args.files.now c.as_slice-headers.result.now c.u32_at.result c.as_slice.result.now c.in_ok-entries.entries c.as_slice-headers.ensures.same c.u32_at.ensures c.as_slice.ensures) ∙ c.in_ok-check.ensures in
-    let bodies = sym (bodies_is c.args.shape.now c.args.files.now c.as_slice-3.result.now c.as_slice-2.result.now c.in_ok-entries.entries c.as_slice-3.ensures.same c.as_slice-2.ensures) ∙ c.in_ok-entries-2.ensures in
+    let bodies = sym (bodies_is c.args.shape.now c.args.files.now c.as_slice-2.result.now c.in_ok-entries.entries c.in_ok-entries.entries c.as_slice-2.ensures.same refl) ∙ c.in_ok-entries-2.ensures in
     rw (p.1, p.2) (slots_fail c.args.shape.now c.args.files.now c.in_err-slots.field-0.0 c.in_ok-counter.counter c.in_ok-entries.entries c.in_ok-entries-2.entries _ base headers second bodies
-    (failed c.in_err-slots.field-0.0 _ _ (slots_is c.args.shape.now c.args.files.now c.as_slice-5.result.now c.as_slice-4.result.now c.in_ok-entries-2.entries c.as_slice-5.ensures.same c.as_slice-4.ensures) c.in_err-slots.ensures))
+    (failed c.in_err-slots.field-0.0 _ _ (slots_is c.args.shape.now c.args.files.now c.as_slice-4.result.now c.as_slice-3.result.now c.in_ok-entries-2.entries c.as_slice-4.ensures.same c.as_slice-3.ensures) c.in_err-slots.ensures))
 
 pub overflow_cast-count : goal.overflow_cast-count
 overflow_cast-count c =
     let headers = sym (headers_is c.args.shape.now c.args.files.now c.as_slice-headers.result.now c.as_slice-headers.ensures.same) ∙ c.in_ok-entries.ensures in
     let second = sym (second_is c.args.shape.now c.args.files.now c.as_slice-headers.result.now c.u32_at.result c.as_slice.result.now c.in_ok-entries.entries c.as_slice-headers.ensures.same c.u32_at.ensures c.as_slice.ensures) ∙ c.in_ok-check.ensures in
-    let bodies = sym (bodies_is c.args.shape.now c.args.files.now c.as_slice-3.result.now c.as_slice-2.result.now c.in_ok-entries.entries c.as_slice-3.ensures.same c.as_slice-2.ensures) ∙ c.in_ok-entries-2.ensures in
-    let index = sym (slots_is c.args.shape.now c.args.files.now c.as_slice-5.result.now c.as_slice-4.result.now c.in_ok-entries-2.entries c.as_slice-5.ensures.same c.as_slice-4.ensures) ∙ c.in_ok-slots.ensures in
-    let most = few c.args.shape.now c.args.files.now c.in_ok-entries.entries c.in_ok-entries-2.entries c.in_ok-slots.slots _ c.as_slice-headers.ensures.bytes c.requires.jhr c.as_slice-5.ensures.bytes headers second bodies index in
+    let bodies = sym (bodies_is c.args.shape.now c.args.files.now c.as_slice-2.result.now c.in_ok-entries.entries c.in_ok-entries.entries c.as_slice-2.ensures.same refl) ∙ c.in_ok-entries-2.ensures in
+    let index = sym (slots_is c.args.shape.now c.args.files.now c.as_slice-4.result.now c.as_slice-3.result.now c.in_ok-entries-2.entries c.as_slice-4.ensures.same c.as_slice-3.ensures) ∙ c.in_ok-slots.ensures in
+    let most = few c.args.shape.now c.args.files.now c.in_ok-entries.entries c.in_ok-entries-2.entries c.in_ok-slots.slots _ c.as_slice-headers.ensures.bytes c.requires.jhr c.as_slice-4.ensures.bytes headers second bodies index in
     omega (arith, c.len-count.ensures, most)
 
 pub returns-in_err-pointers-clause-gives : goal.returns-in_err-pointers-clause-gives
@@ -73,17 +73,17 @@ returns-in_err-pointers-clause-gives c =
     let base = sym (base_is c.args.shape.now c.args.files.now c.as_slice-headers.result.now c.as_slice-headers.ensures.same) ∙ c.in_ok-counter.ensures.gives in
     let headers = sym (headers_is c.args.shape.now c.args.files.now c.as_slice-headers.result.now c.as_slice-headers.ensures.same) ∙ c.in_ok-entries.ensures in
     let second = sym (second_is c.args.shape.now c.args.files.now c.as_slice-headers.result.now c.u32_at.result c.as_slice.result.now c.in_ok-entries.entries c.as_slice-headers.ensures.same c.u32_at.ensures c.as_slice.ensures) ∙ c.in_ok-check.ensures in
-    let bodies = sym (bodies_is c.args.shape.now c.args.files.now c.as_slice-3.result.now c.as_slice-2.result.now c.in_ok-entries.entries c.as_slice-3.ensures.same c.as_slice-2.ensures) ∙ c.in_ok-entries-2.ensures in
-    let index = sym (slots_is c.args.shape.now c.args.files.now c.as_slice-5.result.now c.as_slice-4.result.now c.in_ok-entries-2.entries c.as_slice-5.ensures.same c.as_slice-4.ensures) ∙ c.in_ok-slots.ensures in
+    let bodies = sym (bodies_is c.args.shape.now c.args.files.now c.as_slice-2.result.now c.in_ok-entries.entries c.in_ok-entries.entries c.as_slice-2.ensures.same refl) ∙ c.in_ok-entries-2.ensures in
+    let index = sym (slots_is c.args.shape.now c.args.files.now c.as_slice-4.result.now c.as_slice-3.result.now c.in_ok-entries-2.entries c.as_slice-4.ensures.same c.as_slice-3.ensures) ∙ c.in_ok-slots.ensures in
     rw (p.1, p.2) (pointers_fail c.args.shape.now c.args.files.now c.in_err-pointers.field-0.0 c.in_ok-counter.counter c.in_ok-entries.entries c.in_ok-entries-2.entries c.in_ok-slots.slots _ base headers second bodies index
-    (failed c.in_err-pointers.field-0.0 _ _ (pointers_is c.args.shape.now c.args.files.now c.as_slice-6.result.now c.reader_slice-readers.result.now c.len-count.result c.in_ok-slots.slots c.as_slice-6.ensures.same c.reader_slice-readers.ensures.same c.len-count.ensures) c.in_err-pointers.ensures))
+    (failed c.in_err-pointers.field-0.0 _ _ (pointers_is c.args.shape.now c.args.files.now c.as_slice-5.result.now c.reader_slice-readers.result.now c.len-count.result c.in_ok-slots.slots c.as_slice-5.ensures.same c.reader_slice-readers.ensures.same c.len-count.ensures) c.in_err-pointers.ensures))
 
 pub returns-clause-gives : goal.returns-clause-gives
 returns-clause-gives c =
     let base = sym (base_is c.args.shape.now c.args.files.now c.as_slice-headers.result.now c.as_slice-headers.ensures.same) ∙ c.in_ok-counter.ensures.gives in
     let headers = sym (headers_is c.args.shape.now c.args.files.now c.as_slice-headers.result.now c.as_slice-headers.ensures.same) ∙ c.in_ok-entries.ensures in
     let second = sym (second_is c.args.shape.now c.args.files.now c.as_slice-headers.result.now c.u32_at.result c.as_slice.result.now c.in_ok-entries.entries c.as_slice-headers.ensures.same c.u32_at.ensures c.as_slice.ensures) ∙ c.in_ok-check.ensures in
-    let bodies = sym (bodies_is c.args.shape.now c.args.files.now c.as_slice-3.result.now c.as_slice-2.result.now c.in_ok-entries.entries c.as_slice-3.ensures.same c.as_slice-2.ensures) ∙ c.in_ok-entries-2.ensures in
-    let index = sym (slots_is c.args.shape.now c.args.files.now c.as_slice-5.result.now c.as_slice-4.result.now c.in_ok-entries-2.entries c.as_slice-5.ensures.same c.as_slice-4.ensures) ∙ c.in_ok-slots.ensures in
-    let last = sym (pointers_is c.args.shape.now c.args.files.now c.as_slice-6.result.now c.reader_slice-readers.result.now c.len-count.result c.in_ok-slots.slots c.as_slice-6.ensures.same c.reader_slice-readers.ensures.same c.len-count.ensures) ∙ c.in_ok-pointers.ensures in
+    let bodies = sym (bodies_is c.args.shape.now c.args.files.now c.as_slice-2.result.now c.in_ok-entries.entries c.in_ok-entries.entries c.as_slice-2.ensures.same refl) ∙ c.in_ok-entries-2.ensures in
+    let index = sym (slots_is c.args.shape.now c.args.files.now c.as_slice-4.result.now c.as_slice-3.result.now c.in_ok-entries-2.entries c.as_slice-4.ensures.same c.as_slice-3.ensures) ∙ c.in_ok-slots.ensures in
+    let last = sym (pointers_is c.args.shape.now c.args.files.now c.as_slice-5.result.now c.reader_slice-readers.result.now c.len-count.result c.in_ok-slots.slots c.as_slice-5.ensures.same c.reader_slice-readers.ensures.same c.len-count.ensures) ∙ c.in_ok-pointers.ensures in
     all_read c.args.shape.now c.args.files.now c.in_ok-counter.counter c.in_ok-entries.entries c.in_ok-entries-2.entries c.in_ok-slots.slots c.in_ok-pointers.pointers _ base headers second bodies index last

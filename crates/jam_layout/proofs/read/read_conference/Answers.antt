@@ -2,8 +2,8 @@ use Rattle.std.proofs.Common.{◌≡◌, ◌∙◌, ap}
 use Rattle.jam_layout.specs.Layout.{layout, conference_of}
 use Rattle.jam_layout.specs.Valid.{FilesFit, IsConference}
 use Rattle.jam_layout.specs.declared.conference.Conference.{Conference}
-use Rattle.jam_layout.proofs.Chain.{is_layout, layout_is}
-use Rattle.jam_layout.proofs.Sides.{if_read, only_ok, is_damage, only_damage}
+use Rattle.jam_layout.proofs.ConferenceLayout.{is_layout, layout_is}
+use Rattle.jam_layout.proofs.ReadingClauses.{if_read, only_ok, is_damage, only_damage}
 use Rattle.jam_layout.proofs.read.read_conference.Goals as goal
 
 pub returns-clause-ok : goal.returns-clause-ok

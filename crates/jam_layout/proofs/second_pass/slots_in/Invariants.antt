@@ -1,4 +1,4 @@
-use Rattle.jam_layout.proofs.FillLaws.{SoFar}
+use Rattle.jam_layout.proofs.SecondPassLoops.{SoFar}
 use Rattle.jam_layout.proofs.second_pass.slots_in.Given as goal
 
 abbrev pub invariant-loop-entry : goal.invariant-loop-entry

@@ -4,8 +4,8 @@ use Rattle.jam_base.specs.Change.{whole_files}
 use Rattle.jam_base.specs.Contents.{no_slots}
 use Rattle.jam_layout.specs.Valid.{IsShape}
 use Rattle.jam_layout.specs.declared.shape.Shape.{Shape}
-use Rattle.jam_base.proofs.ChangeLaws.{whole_turns, whole_small}
-use Rattle.jam_base.proofs.MemberLaws.{fresh_made, no_links}
+use Rattle.jam_base.proofs.PatchLaws.{whole_turns, whole_small}
+use Rattle.jam_base.proofs.ReaderLaws.{fresh_made, no_links}
 use Rattle.jam_base.proofs.base.Base.fresh.Goals as goal
 
 pub empty_files-requires : goal.empty_files-requires

@@ -7,8 +7,8 @@ use Rattle.jam_layout.specs.Valid.{IsShape, IsConference}
 use Rattle.jam_layout.specs.declared.conference.Conference.{Conference}
 use Rattle.jam_layout.specs.declared.files.BaseFiles.{BaseFiles}
 use Rattle.jam_layout.specs.declared.shape.Shape.{Shape}
-use Rattle.jam_base.proofs.ChangeLaws.{jlr_turns, jlr_small}
-use Rattle.jam_base.proofs.MemberLaws.{same_links, joined_made, joined_layout, shape_more, conference_more}
+use Rattle.jam_base.proofs.PatchLaws.{jlr_turns, jlr_small}
+use Rattle.jam_base.proofs.ReaderLaws.{same_links, joined_made, joined_layout, shape_more, conference_more}
 use Rattle.jam_base.proofs.base.Base.joined.Goals as goal
 
 old_shape : (c : goal.In_ok-patches) → c.in_ok-shape.shape ≡ c.args.self.now.shape

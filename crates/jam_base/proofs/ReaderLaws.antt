@@ -1,4 +1,4 @@
--- The readers of a conference, and the conferences that a change makes.
+-- What `fresh` and `joined` make is a conference of its shape, with its layout and links.
 use Rattle.std.proofs.Common.{◌≡◌, ℕ, ◌+◌, ◌≤◌, ◌<◌, List, [], ◌∷◌, ◌++◌, length, sym, ap, ◌∙◌, subst, arith, length-append}
 use Rattle.std.specs.Prelude.{All, replicate}
 use Rattle.std.proofs.Math.ListN.{length-replicate}

@@ -1,4 +1,4 @@
--- Records at the front of bytes, field by field.
+-- Bytes that are long enough begin with the record that is read of them.
 use Rattle.std.proofs.Common.{◌≡◌, ℕ, ◌≤◌, List, ◌++◌, length, take, drop, sym, ap, ◌∙◌, arith}
 use Rattle.std.specs.Prelude.{All}
 use Rattle.std.proofs.lemmas.List.{take-append-drop}

@@ -1,4 +1,4 @@
--- Tests that fail, and what that says.
+-- What it says that a test of a rule fails.
 use Rattle.std.proofs.Common.{◌≡◌, ℕ, Bool, true, false, not, ◌||◌, eqb, refl, ap}
 use Rattle.std.proofs.lemmas.Bool.{eqb-true, eq-eqb}
 

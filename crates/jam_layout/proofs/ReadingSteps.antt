@@ -1,4 +1,4 @@
--- Reading the four files step by step, as the code does.
+-- What each step of `conference_in` requires, and what it answers where a step fails.
 use Rattle.std.proofs.Common.{◌≡◌, ℕ, ◌+◌, ◌-◌, ◌^◌, ◌≤◌, ◌<◌, List, [], ◌∷◌, length, take, drop, map, Result, Ok, refl, sym, ap, ◌∙◌, subst, arith, length-append}
 use Rattle.std.specs.Prelude.{All, sum_by}
 use Rattle.std.proofs.lemmas.List.{length-drop, take_rest}
@@ -25,12 +25,12 @@ use Rattle.jam_layout.specs.declared.error.BaseError.{BaseError}
 use Rattle.jam_layout.specs.declared.files.BaseFiles.{BaseFiles}
 use Rattle.jam_layout.specs.declared.reader.Reader.{Reader}
 use Rattle.jam_layout.specs.declared.shape.Shape.{Shape}
-use Rattle.jam_layout.proofs.Kept.{step_fails}
+use Rattle.jam_layout.proofs.KeptRules.{step_fails}
 use Rattle.jam_layout.proofs.EntryLaws.{HeadersFit, entry_length}
 use Rattle.jam_layout.proofs.BodyLaws.{bare, bodies_take}
 use Rattle.jam_layout.proofs.LinkLaws.{LinksFit}
-use Rattle.jam_layout.proofs.ConferenceLaws.{headers_bare, bodiless_of, linked_of}
-use Rattle.jam_layout.proofs.Chain.{after_slots, after_bodies, after_second, after_headers, after_counter, jhr_take, second_take, jdx_take}
+use Rattle.jam_layout.proofs.SlotLaws.{headers_bare, bodiless_of, linked_of}
+use Rattle.jam_layout.proofs.ConferenceLayout.{after_slots, after_bodies, after_second, after_headers, after_counter, jhr_take, second_take, jdx_take}
 
 -- ---- what the steps leave
 numbered_of : (kind : Kind) (f : Front) (hs : List Entry) → HeadersFit kind f hs → Numbered f.last hs

@@ -1,4 +1,4 @@
--- From the laws on each file to the law on the four.
+-- Four files are read as a conference exactly where they are its layout, from the laws on each of the files.
 use Rattle.std.proofs.Common.{◌≡◌, ◌↔◌, ℕ, suc, ◌+◌, ◌*◌, ◌/◌, ◌^◌, ◌≤◌, ◌<◌, not, eqb, ltb, false, List, [], ◌∷◌, ◌++◌, length, drop, map, None, Result, Ok, Err, refl, sym, ap, ◌∙◌, subst, arith, length-append}
 use Rattle.std.specs.Prelude.{All}
 use Rattle.std.proofs.lemmas.Bool.{ltb-false, le-ltb, eq-eqb}
@@ -30,7 +30,7 @@ use Rattle.jam_layout.specs.Valid.{IsShape, ShapeFits, FilesFit, IsConference}
 use Rattle.jam_layout.specs.declared.entry.Entry.{Entry}
 use Rattle.jam_layout.specs.declared.files.BaseFiles.{BaseFiles}
 use Rattle.jam_layout.specs.declared.shape.Shape.{Shape}
-use Rattle.jam_layout.proofs.Kept.{rules_kept, kept_rules, bind_ok, ok_is}
+use Rattle.jam_layout.proofs.KeptRules.{rules_kept, kept_rules, bind_ok, ok_is}
 use Rattle.record_numbers.proofs.NumberFronts.{u32_small}
 use Rattle.jam_layout.proofs.EntryLaws.{HeadersFit, headers_take, headers_again}
 use Rattle.jam_layout.proofs.BodyLaws.{bare, BodiesFit, bodies_take, bodies_again}
@@ -40,7 +40,7 @@ use Rattle.jam_layout.proofs.LinkLaws.{strip, slots_bare, LinksFit, links_same, 
 use Rattle.jam_layout.proofs.LinkBounds.{LinkBound, link_bound}
 use Rattle.jam_layout.proofs.BaseLaws.{base_length, header_of, base_takes, BaseAgain, base_again}
 use Rattle.jam_layout.proofs.LayoutBounds.{layout_fits}
-use Rattle.jam_layout.proofs.ConferenceLaws.{headers_bare, Fits, conference_fits, slots_fit, rising_of, bodiless_of, linked_of, links_of, index_length}
+use Rattle.jam_layout.proofs.SlotLaws.{headers_bare, Fits, conference_fits, slots_fit, rising_of, bodiless_of, linked_of, links_of, index_length}
 
 -- ---- .JHR
 pub jhr_take : (place : ℕ) (kind : Kind) (bytes : List ℕ) (hs : List Entry) → All IsByte bytes → length bytes < 2 ^ 31 → entries_at place kind bytes ≡ Ok hs → (bytes ≡ headers_text kind 0 hs) × HeadersFit kind start hs

@@ -1,4 +1,4 @@
--- Rules that are kept, and reading step by step.
+-- What it says that no rule is broken, and steps that stop at the first broken one.
 use Rattle.std.proofs.Common.{◌≡◌, ℕ, Bool, true, false, cond, List, [], ◌∷◌, ◌++◌, Option, Some, None, Result, Ok, Err, refl, sym, ap, ◌∙◌, append_assoc}
 use Rattle.jam_records.specs.declared.damage.Damage.{Damage}
 use Rattle.jam_records.specs.declared.damage.DamageRule.{DamageRule}

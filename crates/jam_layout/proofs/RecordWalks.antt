@@ -1,11 +1,11 @@
--- Records one after the other.
+-- Reading records one after the other: one more, the first that fails, and the end.
 use Rattle.std.proofs.Common.{◌≡◌, ℕ, zero, suc, ◌-◌, ◌<◌, List, [], ◌∷◌, ◌++◌, length, drop, Result, Ok, Err, refl, sym, ap, ◌∙◌, subst, arith, append_assoc}
 use Rattle.std.proofs.lemmas.List.{append-nil}
 use Rattle.jam_records.specs.declared.damage.Damage.{Damage}
 use Rattle.jam_layout.specs.declared.error.BaseError.{BaseError}
 use Rattle.jam_layout.specs.Rules.{◌>>=◌, Fails}
 use Rattle.jam_layout.specs.Walk.{Step, walk_from, walk}
-use Rattle.jam_layout.proofs.Kept.{step_fails}
+use Rattle.jam_layout.proofs.KeptRules.{step_fails}
 
 -- bytes that belong to the record before are passed over
 pub passed : {S A : Type 0} (step : S → List ℕ → Result (Step S A) Damage) (left : ℕ) (s : S) (bytes : List ℕ) → walk_from step left s bytes ≡ walk step s (drop left bytes)

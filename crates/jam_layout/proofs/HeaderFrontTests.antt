@@ -1,4 +1,4 @@
--- The rules of the front of a header, as the code tests them.
+-- The tests of a header's length, signature and revision in the code find the first broken rule of these.
 use Rattle.std.proofs.Common.{◌≡◌, ℕ, ◌≤◌, ◌<◌, Bool, true, false, cond, not, ◌||◌, eqb, ltb, List, length, take, Option, Some, None, refl, ap, ◌∙◌, arith}
 use Rattle.std.specs.Str.{bytes_eq}
 use Rattle.std.proofs.lemmas.Bool.{le-ltb}

@@ -1,4 +1,4 @@
--- A record of the index, as the code reads it.
+-- The test of a record of the index in the code finds its first broken rule.
 use Rattle.std.proofs.Common.{◌≡◌, ℕ, ◌+◌, ◌-◌, ◌≤◌, List, [], ◌∷◌, length, get_or, take, drop, Result, Ok, sym, ap, ◌∙◌, subst, arith}
 use Rattle.std.proofs.lemmas.List.{take_all}
 use Rattle.name_crc.specs.JamCrc.{jam_crc}
@@ -13,7 +13,7 @@ use Rattle.jam_layout.specs.Walk.{Step}
 use Rattle.jam_layout.specs.Headers.{header_size}
 use Rattle.jam_layout.specs.Index.{pair_of, Pending, Expected, index_rules, slot_at}
 use Rattle.jam_layout.specs.declared.entry.Entry.{Entry}
-use Rattle.jam_layout.proofs.Kept.{Kept, rules_kept, kept_rules}
+use Rattle.jam_layout.proofs.KeptRules.{Kept, rules_kept, kept_rules}
 use Rattle.jam_layout.proofs.IndexLaws.{expected_held}
 
 abbrev pair : ℕ → ℕ → IndexRecord

@@ -1,4 +1,4 @@
--- The rules of a header's values, as the code tests them.
+-- The tests of a header's parts in the code find the first broken rule of the whole header.
 use Rattle.std.proofs.Common.{◌≡◌, ℕ, ◌+◌, ◌-◌, ◌≤◌, ◌<◌, true, cond, ltb, List, ◌++◌, length, take, drop, Option, Some, None, Result, Ok, Err, sym, ap, ◌∙◌, subst, arith, append_assoc}
 use Rattle.std.proofs.lemmas.Bool.{le-ltb}
 use Rattle.std.proofs.lemmas.Bool.Decides.{nat_tests}
@@ -18,7 +18,7 @@ use Rattle.jam_layout.specs.Fields.{values_at}
 use Rattle.jam_layout.specs.Headers.{front_rules, field_rules, length_rules, value_rules, header_rules, values_of, entry_of, step_of, header_at}
 use Rattle.jam_layout.specs.declared.fields.Values.{Values}
 use Rattle.jam_layout.proofs.HeaderLaws.{keep}
-use Rattle.jam_layout.proofs.Kept.{part_fails, then_fails, both_pass, in_parts, step_fails, rules_kept, kept_rules}
+use Rattle.jam_layout.proofs.KeptRules.{part_fails, then_fails, both_pass, in_parts, step_fails, rules_kept, kept_rules}
 
 long_fails : (h : MessageHeader) (bytes : List ℕ) → length bytes < 76 + h.subfield_len → first_broken (length_rules h bytes) ≡ Some Subfields
 unfolding length_rules
