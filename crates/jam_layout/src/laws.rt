@@ -12,10 +12,12 @@ ghost use Rattle.jam_layout.specs.declared.files.BaseFiles.{BaseFiles};
 ghost use Rattle.jam_layout.specs.declared.shape.Shape.{Shape};
 
 /// Four files have no damage exactly where they are the layout of a conference of that shape, and that
-/// conference is unique. Shapes and files are those that the types and the conditions of `read_base` allow.
+/// conference is unique. Shapes and files are those that the types and the conditions of `read_conference`
+/// allow, and each conference has a layout that these allow.
 pub fn unique_conference()
     ensures undamaged { (shape : Shape) (files : BaseFiles) → IsShape shape → ShapeFits shape → FilesFit files → (base_damage shape files ≡ None) ↔ ((c : Conference) × IsConference shape c × (files ≡ layout shape c)) }
     ensures unique { (shape : Shape) (a b : Conference) → IsShape shape → ShapeFits shape → IsConference shape a → IsConference shape b → layout shape a ≡ layout shape b → a ≡ b }
+    ensures fit { (shape : Shape) (c : Conference) → IsConference shape c → FilesFit (layout shape c) }
 {}
 
 /// Bytes are subfields of the ids 0 to 6, with HiID 0, in rising order and nothing else, exactly where the
