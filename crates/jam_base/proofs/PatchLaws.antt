@@ -7,7 +7,7 @@ use Rattle.intent_journal.specs.Patches.{Files, file_of, apply, is_once}
 use Rattle.intent_journal.specs.Journal.{patch_text, patches_text}
 use Rattle.intent_journal.specs.declared.patch.Patch.{Patch}
 use Rattle.intent_journal.specs.declared.patch.Patch.TheVariants.{Whole}
-use Rattle.jam_layout.specs.Places.{jhr_file, jdt_file, jdx_file, jlr_file}
+use Rattle.door_outside.specs.File.{jhr_file, jdt_file, jdx_file, jlr_file}
 use Rattle.jam_base.specs.Change.{whole_files, IsOfPlace, IsElsewhere, Turns, SuitsIntent}
 use Rattle.jam_layout.specs.declared.files.BaseFiles.{BaseFiles}
 

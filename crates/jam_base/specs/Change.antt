@@ -4,7 +4,7 @@ use Rattle.intent_journal.specs.Patches.{Files, file_of, patched, is_once}
 use Rattle.intent_journal.specs.Journal.{patches_text}
 use Rattle.intent_journal.specs.declared.patch.Patch.{Patch}
 use Rattle.intent_journal.specs.declared.patch.Patch.TheVariants.{Whole}
-use Rattle.jam_layout.specs.Places.{jhr_file, jdt_file, jdx_file, jlr_file}
+use Rattle.door_outside.specs.File.{jhr_file, jdt_file, jdx_file, jlr_file}
 use Rattle.jam_layout.specs.Layout.{files_size}
 use Rattle.jam_layout.specs.declared.files.BaseFiles.{BaseFiles}
 

@@ -5,7 +5,6 @@ pub use Rattle.jam_layout.specs.Fields
 pub use Rattle.jam_layout.specs.InOrder
 pub use Rattle.jam_layout.specs.Layout
 pub use Rattle.jam_layout.specs.Messages
-pub use Rattle.jam_layout.specs.Places
 pub use Rattle.jam_layout.specs.Reader
 pub use Rattle.jam_layout.specs.Readers
 pub use Rattle.jam_layout.specs.Rules

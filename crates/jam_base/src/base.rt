@@ -103,7 +103,11 @@ impl Base {
         let mut conference = self.conference.duplicate(alloc)?;
         conference.pointers.add(0)?;
         let links = self.links.copy(alloc)?;
-        let jlr = jlr_of(alloc, shape.readers.as_slice(), conference.pointers.as_slice())?;
+        let jlr = jlr_of(
+            alloc,
+            shape.readers.as_slice(),
+            conference.pointers.as_slice(),
+        )?;
         let patches = whole_jlr(alloc, shape.place, jlr)?;
         Ok(BaseChange {
             base: Base {

@@ -1,13 +1,13 @@
 ghost use Rattle.std.specs.Prelude.{◌≡◌, ◌<◌, [], ◌∷◌, IfOk};
 ghost use Rattle.intent_journal.specs.declared.patch.Patch.TheVariants.{Whole};
-ghost use Rattle.jam_layout.specs.Places.{jlr_file};
+ghost use Rattle.door_outside.specs.File.{jlr_file};
 ghost use Rattle.jam_base.specs.Change.{whole_files};
 
 use crate::base::Base;
 use byte_lists::Bytes;
 use door_outside::FileId;
 use intent_journal::{Patch, Patches};
-use jam_layout::{BaseFiles, jdt, jdx, jhr, jlr};
+use jam_layout::BaseFiles;
 use std::alloc::{AllocError, Global};
 
 /// A base after a change, and the change of its files.
@@ -19,24 +19,16 @@ pub struct BaseChange {
     pub patches: Patches,
 }
 
-/// The patch that gives a file these bytes.
-fn whole(file: u16, bytes: Bytes) -> Patch
-    requires { file < 258 }
-    ensures { result ≡ Whole file bytes }
-{
-    let Some(file) = FileId::new(file) else {
-        unreachable!()
-    };
-    Patch::Whole { file, bytes }
-}
-
 /// The patch that gives a place's .JLR these bytes.
 pub fn whole_jlr(alloc: Global, place: u8, bytes: Bytes) -> Result<Patches, AllocError>
     requires { place < 64 }
     ensures { IfOk result (λ patches. patches ≡ Whole (jlr_file place) bytes ∷ []) }
 {
     let mut patches = Patches::new(alloc);
-    patches.add(whole(jlr(place), bytes))?;
+    patches.add(Patch::Whole {
+        file: FileId::jlr(place),
+        bytes,
+    })?;
     Ok(patches)
 }
 
@@ -46,9 +38,21 @@ pub fn whole_files(alloc: Global, place: u8, files: BaseFiles) -> Result<Patches
     ensures { IfOk result (λ patches. patches ≡ whole_files place files) }
 {
     let mut patches = Patches::new(alloc);
-    patches.add(whole(jhr(place), files.jhr))?;
-    patches.add(whole(jdt(place), files.jdt))?;
-    patches.add(whole(jdx(place), files.jdx))?;
-    patches.add(whole(jlr(place), files.jlr))?;
+    patches.add(Patch::Whole {
+        file: FileId::jhr(place),
+        bytes: files.jhr,
+    })?;
+    patches.add(Patch::Whole {
+        file: FileId::jdt(place),
+        bytes: files.jdt,
+    })?;
+    patches.add(Patch::Whole {
+        file: FileId::jdx(place),
+        bytes: files.jdx,
+    })?;
+    patches.add(Patch::Whole {
+        file: FileId::jlr(place),
+        bytes: files.jlr,
+    })?;
     Ok(patches)
 }

@@ -38,11 +38,7 @@ fn last_read(reader: &Reader, pointer: u32) -> LastRead
 }
 
 /// The .JLR of readers with these pointers.
-pub fn jlr_of(
-    alloc: Global,
-    readers: &[Reader],
-    pointers: &[u32],
-) -> Result<Bytes, AllocError>
+pub fn jlr_of(alloc: Global, readers: &[Reader], pointers: &[u32]) -> Result<Bytes, AllocError>
     ensures { IfOk result (λ text. text ≡ last_reads readers.now pointers.now) }
 {
     let mut text = Bytes::new(alloc);

@@ -59,11 +59,7 @@ fn files(alloc: Global) -> Result<BaseFiles, AllocError> {
 }
 
 /// Reads files whose lengths `read_base` allows.
-fn read(
-    alloc: Global,
-    files: &BaseFiles,
-    shape: &Shape,
-) -> Option<Result<Base, BaseError>>
+fn read(alloc: Global, files: &BaseFiles, shape: &Shape) -> Option<Result<Base, BaseError>>
     requires { IsShape shape.now }
 {
     let most = 1usize << 31;
@@ -152,7 +148,9 @@ fn message(base: &Base, number: u32) -> Option<&Message> {
 /// The number of the file that a patch replaces, and its bytes.
 fn parts(patch: &Patch) -> (u16, &[u8]) {
     match patch {
-        Patch::Whole { file, bytes } => (file.number(), bytes.as_slice()),
+        Patch::Whole { file, bytes } | Patch::Put { file, bytes, .. } => {
+            (file.number(), bytes.as_slice())
+        }
     }
 }
 

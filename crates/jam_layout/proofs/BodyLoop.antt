@@ -7,7 +7,7 @@ use Rattle.jam_records.specs.declared.damage.DamageRule.TheVariants.{Rest}
 use Rattle.jam_layout.specs.declared.error.BaseError.{BaseError}
 use Rattle.jam_layout.specs.declared.entry.Entry.{Entry}
 use Rattle.jam_layout.specs.Rules.{by_rules, Fails}
-use Rattle.jam_layout.specs.Places.{jdt_file}
+use Rattle.door_outside.specs.File.{jdt_file}
 use Rattle.jam_layout.specs.Bodies.{body_rules, with_body, bodies_at}
 use Rattle.jam_layout.proofs.KeptRules.{with_front, one_more, one_fails}
 

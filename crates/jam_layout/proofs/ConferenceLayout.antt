@@ -16,7 +16,7 @@ use Rattle.jam_records.specs.declared.message.Slot.{Slot}
 use Rattle.jam_threads.specs.Links.{link_of}
 use Rattle.jam_threads.specs.declared.link.Link.{Link}
 use Rattle.jam_layout.specs.Rules.{by_rules, ◌>>=◌}
-use Rattle.jam_layout.specs.Places.{jhr_file, jdx_file}
+use Rattle.door_outside.specs.File.{jhr_file, jdx_file}
 use Rattle.jam_layout.specs.Walk.{walk}
 use Rattle.jam_layout.specs.Headers.{header_at, entries_at, headers_text, start}
 use Rattle.jam_layout.specs.SecondPass.{slots_of, active_in, links_at, second_pass}
@@ -179,7 +179,7 @@ layout_is shape files c fits e =
       counter = subst (λ (n : ℕ). n < 2 ^ 32) k0.1 (u32_small 8 files.jhr fits.jhr.0);
       few = index.2;
       slots = slots_fit links kind 1 0 start slots (subst (HeadersFit kind start) hs_is headers.1) (subst BodiesFit (sym index.1) bodies.2)
-        (subst (All IsByte) (headers.0 ∙ text) (All-drop IsByte 1024 files.jhr fits.jhr.0)) (subst (All IsByte) jdt fits.jdt.0);
+          (subst (All IsByte) (headers.0 ∙ text) (All-drop IsByte 1024 files.jhr fits.jhr.0)) (subst (All IsByte) jdt fits.jdt.0);
       pointers = pointers.1;
     } in
     subst (λ (y : Conference). (files ≡ layout shape y) × IsConference shape y) (ok_is d c x5.2) (same, ok)

@@ -13,7 +13,7 @@ use Rattle.jam_records.specs.declared.message.Message.{Message}
 use Rattle.jam_records.specs.declared.message_header.MessageHeader.{MessageHeader}
 use Rattle.jam_records.proofs.HeaderLemmas.{header_stands}
 use Rattle.jam_layout.specs.Rules.{◌>>=◌}
-use Rattle.jam_layout.specs.Places.{jhr_file}
+use Rattle.door_outside.specs.File.{jhr_file}
 use Rattle.jam_layout.specs.Walk.{Step, walk_from, walk}
 use Rattle.jam_layout.specs.Fields.{subfields_of, values_at}
 use Rattle.jam_layout.specs.Marks.{attribute_of, is_net}

@@ -7,7 +7,7 @@ use Rattle.jam_records.specs.declared.damage.DamageRule.{DamageRule}
 use Rattle.jam_records.specs.declared.damage.DamageRule.TheVariants.{Subfields}
 use Rattle.jam_records.specs.declared.message_header.MessageHeader.{MessageHeader}
 use Rattle.jam_layout.specs.Rules.{Rules, first_broken, unless_broken, by_rules, ◌>>=◌, Fails}
-use Rattle.jam_layout.specs.Places.{jhr_file}
+use Rattle.door_outside.specs.File.{jhr_file}
 use Rattle.jam_layout.specs.declared.error.BaseError.{BaseError}
 use Rattle.jam_layout.specs.declared.error.BaseError.TheVariants.{Damaged, OutOfMemory}
 use Rattle.jam_records.specs.MessageHeaders.{message_header_at}

@@ -15,7 +15,7 @@ use Rattle.jam_records.specs.declared.message.Slot.TheVariants.{Gone, Held}
 use Rattle.jam_records.proofs.HeaderLemmas.{index_stands}
 use Rattle.jam_threads.specs.declared.link.Link.{Link}
 use Rattle.jam_layout.specs.Rules.{by_rules, ◌>>=◌}
-use Rattle.jam_layout.specs.Places.{jdx_file}
+use Rattle.door_outside.specs.File.{jdx_file}
 use Rattle.jam_layout.specs.Walk.{Step, walk_from, walk}
 use Rattle.jam_layout.specs.Headers.{header_size}
 use Rattle.jam_layout.specs.Layout.{entries_of}

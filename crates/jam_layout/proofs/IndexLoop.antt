@@ -8,7 +8,7 @@ use Rattle.jam_layout.specs.declared.error.BaseError.{BaseError}
 use Rattle.jam_layout.specs.declared.entry.Entry.{Entry}
 use Rattle.jam_records.specs.declared.message.Slot.{Slot}
 use Rattle.jam_layout.specs.Rules.{by_rules, ◌>>=◌, Fails}
-use Rattle.jam_layout.specs.Places.{jdx_file}
+use Rattle.door_outside.specs.File.{jdx_file}
 use Rattle.jam_layout.specs.Walk.{walk}
 use Rattle.jam_layout.specs.Index.{Pending, slot_at, slots_at}
 use Rattle.jam_layout.proofs.KeptRules.{kept_rules, step_fails}

@@ -8,7 +8,7 @@ use Rattle.jam_records.specs.declared.message.Message.{Message}
 use Rattle.jam_records.specs.declared.message.Slot.{Slot}
 use Rattle.jam_records.specs.declared.message.Slot.TheVariants.{Held}
 use Rattle.jam_layout.specs.Rules.{by_rules}
-use Rattle.jam_layout.specs.Places.{jdx_file}
+use Rattle.door_outside.specs.File.{jdx_file}
 use Rattle.jam_layout.specs.Walk.{Step}
 use Rattle.jam_layout.specs.Headers.{header_size}
 use Rattle.jam_layout.specs.Index.{pair_of, Pending, Expected, index_rules, slot_at}

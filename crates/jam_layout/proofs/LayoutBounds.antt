@@ -135,8 +135,17 @@ address_at_most text (inr ok) =
     let node : List ℕ = decimal a.node ++ point_text a.point in
     let net : List ℕ = decimal a.net ++ (47 ∷ node) in
     let whole : length text ≡ length (decimal a.zone ++ (58 ∷ net)) = λ i. length (a.whole i) in
-    omega (arith, whole, length-append (decimal a.zone) (58 ∷ net), length-append (decimal a.net) (47 ∷ node), length-append (decimal a.node) (point_text a.point),
-      part_at_most a.zone a.small.0, part_at_most a.net a.small.1, part_at_most a.node a.small.2, point_at_most a.point a.small.3)
+    omega (
+      arith,
+      whole,
+      length-append (decimal a.zone) (58 ∷ net),
+      length-append (decimal a.net) (47 ∷ node),
+      length-append (decimal a.node) (point_text a.point),
+      part_at_most a.zone a.small.0,
+      part_at_most a.net a.small.1,
+      part_at_most a.node a.small.2,
+      point_at_most a.point a.small.3,
+    )
 
 field_at_most : (id most : ℕ) (value : List ℕ) → length value ≤ most → length (subfields_text (field id value)) ≤ 8 + most
 field_at_most id most [] le = omega arith
@@ -145,9 +154,17 @@ field_at_most id most (b ∷ value) le = omega (arith, field_length id (b ∷ va
 pub size_at_most : (kind : Kind) (m : Message) → IsMessage kind m → header_size m ≤ 482
 unfolding header_size
 size_at_most kind m ok =
-    omega (arith, whole_length m, field_at_most 0 23 m.origin (address_at_most m.origin ok.origin), field_at_most 1 23 m.destination (address_at_most m.destination ok.destination),
-      field_at_most 2 36 m.from (text_at_most 36 m.from ok.from), field_at_most 3 36 m.to (text_at_most 36 m.to ok.to), field_at_most 4 80 m.msgid (text_at_most 80 m.msgid ok.msgid),
-      field_at_most 5 80 m.replyid (maybe_at_most 80 m.replyid ok.replyid), field_at_most 6 72 m.subject (maybe_at_most 72 m.subject ok.subject))
+    omega (
+      arith,
+      whole_length m,
+      field_at_most 0 23 m.origin (address_at_most m.origin ok.origin),
+      field_at_most 1 23 m.destination (address_at_most m.destination ok.destination),
+      field_at_most 2 36 m.from (text_at_most 36 m.from ok.from),
+      field_at_most 3 36 m.to (text_at_most 36 m.to ok.to),
+      field_at_most 4 80 m.msgid (text_at_most 80 m.msgid ok.msgid),
+      field_at_most 5 80 m.replyid (maybe_at_most 80 m.replyid ok.replyid),
+      field_at_most 6 72 m.subject (maybe_at_most 72 m.subject ok.subject),
+    )
 
 -- ---- the texts of slots
 abbrev entry_at : (ℕ → Link) → ℕ → Message → Entry

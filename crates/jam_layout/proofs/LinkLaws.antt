@@ -14,7 +14,7 @@ use Rattle.jam_threads.specs.Links.{first_in, following, link_of}
 use Rattle.jam_threads.specs.declared.link.Link.{Link}
 use Rattle.jam_threads.proofs.ChildrenLemmas.{link_same}
 use Rattle.jam_layout.specs.Rules.{by_rules, ◌>>=◌}
-use Rattle.jam_layout.specs.Places.{jhr_file}
+use Rattle.door_outside.specs.File.{jhr_file}
 use Rattle.jam_layout.specs.Layout.{entries_of}
 use Rattle.jam_layout.specs.Bodies.{message_with}
 use Rattle.jam_layout.specs.Conference.{is_live, live_count}

@@ -13,7 +13,7 @@ use Rattle.jam_records.specs.declared.damage.DamageRule.TheVariants.{Rest}
 use Rattle.jam_records.specs.declared.last_read.LastRead.{LastRead}
 use Rattle.jam_records.proofs.HeaderLemmas.{last_stands}
 use Rattle.jam_layout.specs.Rules.{by_rules, ◌>>=◌}
-use Rattle.jam_layout.specs.Places.{jlr_file}
+use Rattle.door_outside.specs.File.{jlr_file}
 use Rattle.jam_layout.specs.declared.reader.Reader.{Reader}
 use Rattle.jam_layout.specs.Reader.{IsReader}
 use Rattle.jam_layout.specs.Readers.{last_read, last_reads, reader_rules, pointers_at}

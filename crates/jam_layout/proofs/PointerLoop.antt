@@ -6,7 +6,7 @@ use Rattle.jam_records.specs.declared.damage.DamageRule.TheVariants.{Rest}
 use Rattle.jam_layout.specs.declared.error.BaseError.{BaseError}
 use Rattle.jam_layout.specs.Rules.{by_rules, ◌>>=◌, Fails}
 use Rattle.record_numbers.specs.Numbers.{u32_at}
-use Rattle.jam_layout.specs.Places.{jlr_file}
+use Rattle.door_outside.specs.File.{jlr_file}
 use Rattle.jam_layout.specs.declared.reader.Reader.{Reader}
 use Rattle.jam_layout.specs.Readers.{reader_rules, pointers_at}
 use Rattle.jam_layout.proofs.KeptRules.{with_front, regroup, step_fails}

@@ -12,7 +12,7 @@ use Rattle.jam_records.specs.declared.message.Slot.{Slot}
 use Rattle.jam_threads.specs.Links.{link_of}
 use Rattle.jam_threads.specs.declared.link.Link.{Link}
 use Rattle.jam_layout.specs.Rules.{by_rules, ◌>>=◌, Fails}
-use Rattle.jam_layout.specs.Places.{jhr_file}
+use Rattle.door_outside.specs.File.{jhr_file}
 use Rattle.jam_layout.specs.Headers.{entries_at, headers_text, header_size, entry_text, start, behind}
 use Rattle.jam_layout.specs.SecondPass.{slots_of, second_pass, Numbered}
 use Rattle.jam_layout.specs.Bodies.{bodies_at}

@@ -4,7 +4,7 @@ use Rattle.jam_records.specs.declared.damage.Damage.{Damage}
 use Rattle.jam_records.specs.declared.damage.DamageRule.TheVariants.{Short, Line, Rest}
 use Rattle.jam_records.specs.declared.message.Message.{Message}
 use Rattle.jam_layout.specs.Rules.{Rules, by_rules, ◌>>=◌}
-use Rattle.jam_layout.specs.Places.{jdt_file}
+use Rattle.door_outside.specs.File.{jdt_file}
 use Rattle.jam_layout.specs.declared.entry.Entry.{Entry}
 
 -- the rules of a body of this length, at the front of what is left

@@ -13,7 +13,7 @@ use Rattle.jam_records.specs.declared.message.Slot.TheVariants.{Gone, Held}
 use Rattle.jam_threads.specs.Links.{link_of}
 use Rattle.jam_threads.specs.declared.link.Link.{Link}
 use Rattle.jam_layout.specs.Rules.{Rules, by_rules, ◌>>=◌}
-use Rattle.jam_layout.specs.Places.{jhr_file}
+use Rattle.door_outside.specs.File.{jhr_file}
 use Rattle.jam_layout.specs.Headers.{entries_at, headers_text}
 use Rattle.jam_layout.specs.SecondPass.{second_pass}
 use Rattle.jam_layout.specs.Bodies.{bodies_at, bodies_text}

@@ -8,7 +8,6 @@ pub mod Index
 pub mod Layout
 pub mod Marks
 pub mod Messages
-pub mod Places
 pub mod Reader
 pub mod Readers
 pub mod Rules

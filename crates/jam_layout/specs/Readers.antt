@@ -7,7 +7,7 @@ use Rattle.jam_records.specs.declared.last_read.LastRead.{LastRead}
 use Rattle.jam_records.specs.declared.damage.Damage.{Damage}
 use Rattle.jam_records.specs.declared.damage.DamageRule.TheVariants.{Short, Reader as WrongReader, Pointer, Rest}
 use Rattle.jam_layout.specs.Rules.{Rules, by_rules, ◌>>=◌}
-use Rattle.jam_layout.specs.Places.{jlr_file}
+use Rattle.door_outside.specs.File.{jlr_file}
 use Rattle.jam_layout.specs.declared.reader.Reader.{Reader}
 
 -- the record of a reader with this pointer

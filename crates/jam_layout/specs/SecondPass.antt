@@ -7,7 +7,7 @@ use Rattle.jam_records.specs.declared.message.Slot.TheVariants.{Gone, Held}
 use Rattle.jam_threads.specs.Links.{link_of}
 use Rattle.jam_threads.specs.declared.link.Link.{Link}
 use Rattle.jam_layout.specs.Rules.{by_rules, ◌>>=◌}
-use Rattle.jam_layout.specs.Places.{jhr_file}
+use Rattle.door_outside.specs.File.{jhr_file}
 use Rattle.jam_layout.specs.declared.entry.Entry.{Entry}
 
 -- the slots of messages in rising number, of which the first slot has number n, up to the last message

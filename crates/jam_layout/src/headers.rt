@@ -2,15 +2,16 @@ ghost use Rattle.std.specs.Prelude.{◌≡◌, ◌+◌, ◌≤◌, ◌<◌, ◌^
 ghost use Rattle.name_crc.specs.JamCrc.{jam_crc};
 ghost use Rattle.jam_records.specs.MessageHeaders.{message_header_at};
 ghost use Rattle.jam_layout.specs.Rules.{Gives, first_broken, by_rules};
-ghost use Rattle.jam_layout.specs.Places.{jhr_file};
+ghost use Rattle.door_outside.specs.File.{jhr_file};
 ghost use Rattle.jam_layout.specs.Headers.{wrong_fields as fields_wrong, wrong_number as number_wrong, wrong_text as text_wrong, wrong_crc as crc_wrong, values_of, front_rules, field_rules, length_rules, value_rules, message_of as message_in, entry_of as entry_in, behind, header_at, entries_at};
 
 use crate::entry::{Entry, Front};
 use crate::error::BaseError;
 use crate::fields::{Values, read_values, right_values};
 use crate::marks::{Marks, wrong_attribute};
-use crate::places::{damaged, jhr};
+use crate::places::damaged;
 use byte_lists::{Bytes, List};
+use door_outside::FileId;
 use jam_records::{DamageRule, Kind, Message, MessageHeader, RecordError, read_message_header};
 use jam_threads::Link;
 use name_crc::name_crc;
@@ -179,13 +180,14 @@ fn entry_of(alloc: Global, header: &MessageHeader, values: Values) -> Entry
 /// The fixed part of the header at the front.
 #[tactic(auto, using(crate::proofs::KeptRules::both_pass))]
 fn fixed_of(place: u8, kind: Kind, front: Front, bytes: &[u8]) -> Result<MessageHeader, BaseError>
+    requires { place < 64 }
     ensures gives { Gives (λ x. x) result (by_rules (jhr_file place) front.item (front_rules bytes.now ++ field_rules kind front (message_header_at bytes.now)) (message_header_at bytes.now)) }
     ensures long { IfOk result (λ _. 76 ≤ length bytes.now) }
 {
     match read_fixed(bytes) {
-        Err(rule) => Err(damaged(jhr(place), front.item, rule)),
+        Err(rule) => Err(damaged(FileId::jhr(place), front.item, rule)),
         Ok(header) => match broken_field(kind, &front, &header) {
-            Some(rule) => Err(damaged(jhr(place), front.item, rule)),
+            Some(rule) => Err(damaged(FileId::jhr(place), front.item, rule)),
             None => Ok(header),
         },
     }
@@ -199,17 +201,18 @@ fn values_behind(
     header: &MessageHeader,
     bytes: &[u8],
 ) -> Result<Values, BaseError>
-    requires { 76 ≤ length bytes.now }
+    requires place { place < 64 }
+    requires fixed { 76 ≤ length bytes.now }
     ensures gives { Gives (λ x. x) result (by_rules (jhr_file place) item (length_rules header.now bytes.now ++ value_rules header.now (values_of header.now bytes.now)) (values_of header.now bytes.now)) }
     ensures long { IfOk result (λ _. 76 + header.now.subfield_len ≤ length bytes.now) }
 {
     let end = HEADER + header.subfield_len as usize;
     if bytes.len() < end {
-        return Err(damaged(jhr(place), item, DamageRule::Subfields));
+        return Err(damaged(FileId::jhr(place), item, DamageRule::Subfields));
     }
     let values = read_values(alloc, &bytes[HEADER..end])?;
     match broken_value(header, &values) {
-        Some(rule) => Err(damaged(jhr(place), item, rule)),
+        Some(rule) => Err(damaged(FileId::jhr(place), item, rule)),
         None => Ok(values),
     }
 }
@@ -223,6 +226,7 @@ fn header_of(
     front: Front,
     bytes: &[u8],
 ) -> Result<(Entry, usize), BaseError>
+    requires { place < 64 }
     ensures gives { Gives (λ x. record { value = x.0; size = x.1; next = behind front x.0 }) result (header_at place kind front bytes.now) }
     ensures size { IfOk result (λ x. (76 ≤ x.1) × (x.1 ≤ length bytes.now)) }
     ensures bounds { IfOk result (λ x. (front.last < x.0.number) × (x.0.number ≤ 9999) × (x.0.text_len ≤ 16384)) }
@@ -240,7 +244,8 @@ pub fn entries_of(
     kind: Kind,
     bytes: &[u8],
 ) -> Result<List<Entry>, BaseError>
-    requires { length bytes.now < 2 ^ 31 }
+    requires place { place < 64 }
+    requires short { length bytes.now < 2 ^ 31 }
     ensures { Gives (λ x. x) result (entries_at place kind bytes.now) }
 {
     let mut entries = List::new(alloc);

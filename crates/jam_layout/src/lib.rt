@@ -26,7 +26,6 @@ mod tests;
 pub use conference::Conference;
 pub use error::BaseError;
 pub use files::BaseFiles;
-pub use places::{jdt, jdx, jhr, jlr};
 pub use read::read_conference;
 pub use reader::Reader;
 pub use reader_list::Readers;

@@ -1,13 +1,14 @@
 ghost use Rattle.std.specs.Prelude.{◌≡◌, ◌+◌, ◌≤◌, ◌<◌, ◌^◌, length, IfOk};
 ghost use Rattle.record_numbers.specs.Numbers.{u32_at as u32_of};
 ghost use Rattle.jam_layout.specs.Rules.{Gives, by_rules};
-ghost use Rattle.jam_layout.specs.Places.{jlr_file};
+ghost use Rattle.door_outside.specs.File.{jlr_file};
 ghost use Rattle.jam_layout.specs.Readers.{reader_rules, pointers_at};
 
 use crate::error::BaseError;
-use crate::places::{damaged, jlr};
+use crate::places::damaged;
 use crate::reader::Reader;
 use byte_lists::List;
+use door_outside::FileId;
 use jam_records::DamageRule;
 use name_crc::name_crc;
 use record_numbers::u32_at;
@@ -21,18 +22,19 @@ fn pointer_of(
     reader: &Reader,
     bytes: &[u8],
 ) -> Result<u32, BaseError>
+    requires { place < 64 }
     ensures gives { Gives (λ x. x) result (by_rules (jlr_file place) item (reader_rules count reader.now bytes.now) (u32_of 8 bytes.now)) }
     ensures long { IfOk result (λ _. 16 ≤ length bytes.now) }
 {
     if bytes.len() < 16 {
-        return Err(damaged(jlr(place), item, DamageRule::Short));
+        return Err(damaged(FileId::jlr(place), item, DamageRule::Short));
     }
     if u32_at(bytes, 0) != name_crc(reader.name.as_slice()) || u32_at(bytes, 4) != reader.id {
-        return Err(damaged(jlr(place), item, DamageRule::Reader));
+        return Err(damaged(FileId::jlr(place), item, DamageRule::Reader));
     }
     let pointer = u32_at(bytes, 8);
     if pointer != u32_at(bytes, 12) || pointer > count {
-        return Err(damaged(jlr(place), item, DamageRule::Pointer));
+        return Err(damaged(FileId::jlr(place), item, DamageRule::Pointer));
     }
     Ok(pointer)
 }
@@ -45,7 +47,8 @@ pub fn pointers_of(
     readers: &[Reader],
     bytes: &[u8],
 ) -> Result<List<u32>, BaseError>
-    requires { length bytes.now < 2 ^ 31 }
+    requires place { place < 64 }
+    requires short { length bytes.now < 2 ^ 31 }
     ensures { Gives (λ x. x) result (pointers_at place count 0 readers.now bytes.now) }
 {
     let mut pointers = List::new(alloc);
@@ -56,7 +59,7 @@ pub fn pointers_of(
         rest = &rest[16..];
     }
     if !rest.is_empty() {
-        return Err(damaged(jlr(place), readers.len() as u32, DamageRule::Rest));
+        return Err(damaged(FileId::jlr(place), readers.len() as u32, DamageRule::Rest));
     }
     Ok(pointers)
 }

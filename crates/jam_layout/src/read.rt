@@ -3,7 +3,7 @@ ghost use Rattle.std.specs.List.{list_all};
 ghost use Rattle.record_numbers.specs.Numbers.{u32_at as u32_of};
 ghost use Rattle.jam_records.specs.declared.damage.Damage.{Damage};
 ghost use Rattle.jam_layout.specs.Rules.{Gives, UnlessMemory, by_rules};
-ghost use Rattle.jam_layout.specs.Places.{jhr_file};
+ghost use Rattle.door_outside.specs.File.{jhr_file};
 ghost use Rattle.jam_layout.specs.declared.conference.Conference.{Conference};
 ghost use Rattle.jam_layout.specs.Layout.{wrong_base as base_wrong, base_rules, conference_of, layout, base_damage};
 ghost use Rattle.jam_layout.specs.Valid.{IsShape, ShapeFits, FilesFit, IsConference};
@@ -14,10 +14,11 @@ use crate::error::BaseError;
 use crate::files::BaseFiles;
 use crate::headers::entries_of;
 use crate::index::slots_in;
-use crate::places::{damaged, jhr};
+use crate::places::damaged;
 use crate::pointers::pointers_of;
 use crate::second_pass::check;
 use crate::shape::Shape;
+use door_outside::FileId;
 use jam_records::DamageRule;
 use record_numbers::u32_at;
 use std::alloc::Global;
@@ -45,26 +46,28 @@ fn wrong_base(bytes: &[u8]) -> bool
 /// The change counter of the base header.
 #[tactic(auto, unfolding(crate::specs::Layout::base_rules))]
 fn counter_of(shape: &Shape, bytes: &[u8]) -> Result<u32, BaseError>
+    requires { shape.now.place < 64 }
     ensures gives { Gives (λ x. x) result (by_rules (jhr_file shape.now.place) 0 (base_rules shape.now bytes.now) (u32_of 8 bytes.now)) }
     ensures long { IfOk result (λ _. 1024 ≤ length bytes.now) }
 {
     if bytes.len() < BASE_HEADER {
-        return Err(damaged(jhr(shape.place), 0, DamageRule::Short));
+        return Err(damaged(FileId::jhr(shape.place), 0, DamageRule::Short));
     }
     if &bytes[..4] != b"JAM\0".as_slice() {
-        return Err(damaged(jhr(shape.place), 0, DamageRule::Signature));
+        return Err(damaged(FileId::jhr(shape.place), 0, DamageRule::Signature));
     }
     if u32_at(bytes, 4) != shape.created {
-        return Err(damaged(jhr(shape.place), 0, DamageRule::Created));
+        return Err(damaged(FileId::jhr(shape.place), 0, DamageRule::Created));
     }
     if wrong_base(bytes) {
-        return Err(damaged(jhr(shape.place), 0, DamageRule::Fields));
+        return Err(damaged(FileId::jhr(shape.place), 0, DamageRule::Fields));
     }
     Ok(u32_at(bytes, 8))
 }
 
 /// The conference of the files, or the first rule that they break.
 fn conference_in(alloc: Global, files: &BaseFiles, shape: &Shape) -> Result<Conference, BaseError>
+    requires place { shape.now.place < 64 }
     requires jhr { length files.now.jhr < 2 ^ 31 }
     requires jdt { length files.now.jdt < 2 ^ 31 }
     requires jdx { length files.now.jdx < 2 ^ 31 }

@@ -3,13 +3,14 @@ ghost use Rattle.jam_records.specs.declared.damage.DamageRule.TheVariants.{Links
 ghost use Rattle.jam_records.specs.declared.message.Slot.TheVariants.{Gone};
 ghost use Rattle.jam_threads.specs.Links.{link_of, AreLinks};
 ghost use Rattle.jam_layout.specs.Rules.{Gives, by_rules};
-ghost use Rattle.jam_layout.specs.Places.{jhr_file};
+ghost use Rattle.door_outside.specs.File.{jhr_file};
 ghost use Rattle.jam_layout.specs.SecondPass.{slots_of, active_in, same_link as is_same_link, links_at, second_pass, Numbered};
 
 use crate::entry::Entry;
 use crate::error::BaseError;
-use crate::places::{damaged, jhr};
+use crate::places::damaged;
 use byte_lists::Duplicate;
+use door_outside::FileId;
 use jam_records::{DamageRule, Slot, Slots};
 use jam_threads::{Link, Links, links};
 use std::alloc::{AllocError, Global};
@@ -59,6 +60,7 @@ fn has_links(entry: &Entry, links: &Links, slots: &Slots) -> bool
 
 /// Tests the links of each header.
 fn check_links(alloc: Global, place: u8, slots: &Slots, entries: &[Entry]) -> Result<(), BaseError>
+    requires place { place < 64 }
     requires count { length entries.now < 2 ^ 31 }
     requires few { length slots.now < 2 ^ 31 }
     requires within { All (λ e. (1 ≤ e.number) × (e.number ≤ length slots.now)) entries.now }
@@ -67,7 +69,7 @@ fn check_links(alloc: Global, place: u8, slots: &Slots, entries: &[Entry]) -> Re
     let links = links(alloc, slots)?;
     for (i, entry) in entries.iter().enumerate() {
         if !has_links(entry, &links, slots) {
-            return Err(damaged(jhr(place), i as u32 + 1, DamageRule::Links));
+            return Err(damaged(FileId::jhr(place), i as u32 + 1, DamageRule::Links));
         }
     }
     Ok(())
@@ -76,11 +78,12 @@ fn check_links(alloc: Global, place: u8, slots: &Slots, entries: &[Entry]) -> Re
 /// Tests the count of messages that aren't deleted, and the links of each header.
 #[tactic(auto, unfolding(crate::specs::SecondPass::second_pass))]
 pub fn check(alloc: Global, place: u8, stated: u32, entries: &[Entry]) -> Result<(), BaseError>
-    requires { Numbered 0 entries.now }
+    requires place { place < 64 }
+    requires numbered { Numbered 0 entries.now }
     ensures { Gives (λ x. x) result (second_pass place stated entries.now) }
 {
     if stated as usize != active(entries) {
-        return Err(damaged(jhr(place), 0, DamageRule::Active));
+        return Err(damaged(FileId::jhr(place), 0, DamageRule::Active));
     }
     let slots = slots_in(alloc, entries)?;
     check_links(alloc, place, &slots, entries)

@@ -113,11 +113,7 @@ fn files(alloc: Global, file: u16, change: Change) -> Result<BaseFiles, AllocErr
 }
 
 /// Reads files whose lengths `read_conference` allows.
-fn read(
-    alloc: Global,
-    files: &BaseFiles,
-    shape: &Shape,
-) -> Option<Result<Conference, BaseError>>
+fn read(alloc: Global, files: &BaseFiles, shape: &Shape) -> Option<Result<Conference, BaseError>>
     requires { IsShape shape.now }
 {
     let most = 1usize << 31;
@@ -251,7 +247,10 @@ fn a_private_message_between_addresses_is_read(rt: HostRuntime) -> Result<(), Fa
     for (text, wanted) in texts {
         assert_eq!(rt; text.as_slice(), wanted);
     }
-    assert_eq!(rt; (message.written, message.received, message.processed), (1_100_000_000, 1_200_000_000, 1_100_000_060));
+    assert_eq!(rt;
+        (message.written, message.received, message.processed),
+        (1_100_000_000, 1_200_000_000, 1_100_000_060)
+    );
     assert_eq!(rt; marks(message), [false, true, true, false]);
     Ok(())
 }

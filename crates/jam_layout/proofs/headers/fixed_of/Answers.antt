@@ -1,4 +1,4 @@
-use Rattle.jam_layout.specs.Places.{jhr_file}
+use Rattle.door_outside.specs.File.{jhr_file}
 use Rattle.jam_layout.specs.Headers.{front_rules, field_rules}
 use Rattle.jam_records.specs.MessageHeaders.{message_header_at}
 use Rattle.jam_layout.proofs.KeptRules.{part_fails}

@@ -1,5 +1,5 @@
 use Rattle.std.proofs.Common.{sym}
-use Rattle.jam_layout.specs.Places.{jhr_file}
+use Rattle.door_outside.specs.File.{jhr_file}
 use Rattle.jam_layout.proofs.HeaderTests.{too_long, wrong_value, right_value}
 use Rattle.jam_layout.proofs.headers.values_behind.Goals as goal
 

@@ -15,8 +15,8 @@ returns-in_err-entries-clause-gives c =
     let base = sym (base_is c.args.shape.now c.args.files.now c.as_slice-headers.result.now c.as_slice-headers.ensures.same) ∙ c.in_ok-counter.ensures.gives in
     rw (p.1, p.2) (headers_fail c.args.shape.now c.args.files.now c.in_err-entries.field-0.0 c.in_ok-counter.counter base (failed c.in_err-entries.field-0.0 _ _ (headers_is c.args.shape.now c.args.files.now c.as_slice-headers.result.now c.as_slice-headers.ensures.same) c.in_err-entries.ensures))
 
-pub check-requires : goal.check-requires
-check-requires c =
+pub check-requires-clause-numbered : goal.check-requires-clause-numbered
+check-requires-clause-numbered c =
     let headers = sym (headers_is c.args.shape.now c.args.files.now c.as_slice-headers.result.now c.as_slice-headers.ensures.same) ∙ c.in_ok-entries.ensures in
     numbered_list c.args.shape.now c.args.files.now c.as_slice.result.now c.in_ok-entries.entries c.as_slice-headers.ensures.bytes c.requires.jhr c.as_slice.ensures headers
 
@@ -28,8 +28,8 @@ returns-in_err-check-clause-gives c =
     rw (p.1, p.2) (second_fails c.args.shape.now c.args.files.now c.in_err-check.field-0.0 c.in_ok-counter.counter c.in_ok-entries.entries base headers
     (failed c.in_err-check.field-0.0 _ _ (second_is c.args.shape.now c.args.files.now c.as_slice-headers.result.now c.u32_at.result c.as_slice.result.now c.in_ok-entries.entries c.as_slice-headers.ensures.same c.u32_at.ensures c.as_slice.ensures) c.in_err-check.ensures))
 
-pub bodies_of-requires : goal.bodies_of-requires
-bodies_of-requires c =
+pub bodies_of-requires-clause-few : goal.bodies_of-requires-clause-few
+bodies_of-requires-clause-few c =
     let headers = sym (headers_is c.args.shape.now c.args.files.now c.as_slice-headers.result.now c.as_slice-headers.ensures.same) ∙ c.in_ok-entries.ensures in
     few_entries c.in_ok-entries.entries (numbered_list c.args.shape.now c.args.files.now c.in_ok-entries.entries c.in_ok-entries.entries c.as_slice-headers.ensures.bytes c.requires.jhr refl headers)
 
@@ -42,8 +42,8 @@ returns-in_err-entries-2-clause-gives c =
     rw (p.1, p.2) (bodies_fail c.args.shape.now c.args.files.now c.in_err-entries-2.field-0.0 c.in_ok-counter.counter c.in_ok-entries.entries _ base headers second
     (failed c.in_err-entries-2.field-0.0 _ _ (bodies_is c.args.shape.now c.args.files.now c.as_slice-2.result.now c.in_ok-entries.entries c.in_ok-entries.entries c.as_slice-2.ensures.same refl) c.in_err-entries-2.ensures))
 
-pub slots_in-requires : goal.slots_in-requires
-slots_in-requires c =
+pub slots_in-requires-clause-small : goal.slots_in-requires-clause-small
+slots_in-requires-clause-small c =
     let headers = sym (headers_is c.args.shape.now c.args.files.now c.as_slice-headers.result.now c.as_slice-headers.ensures.same) ∙ c.in_ok-entries.ensures in
     let bodies = sym (bodies_is c.args.shape.now c.args.files.now c.as_slice-2.result.now c.in_ok-entries.entries c.in_ok-entries.entries c.as_slice-2.ensures.same refl) ∙ c.in_ok-entries-2.ensures in
     room c.args.shape.now c.args.files.now c.as_slice-headers.result.now c.as_slice-3.result.now c.in_ok-entries.entries c.in_ok-entries-2.entries c.as_slice-headers.ensures.bytes c.requires.jhr c.as_slice-headers.ensures.same c.in_ok-counter.ensures.long c.as_slice-3.ensures headers bodies
