@@ -60,7 +60,7 @@ failed x d = Err d
 same_damage : {A : Type 0} (a d : Damage) (x : A) → failed x a ≡ failed x d → a ≡ d
 same_damage a d x e = cc
 
-value_free : {A B : Type 0} (e : BaseError) (file item : ℕ) (o : Option DamageRule) (x : A) (y : B) → Fails e (unless_broken file item o x) → Fails e (unless_broken file item o y)
+pub value_free : {A B : Type 0} (e : BaseError) (file item : ℕ) (o : Option DamageRule) (x : A) (y : B) → Fails e (unless_broken file item o x) → Fails e (unless_broken file item o y)
 value_free OutOfMemory file item o x y h = tt
 value_free (Damaged d) file item None x y h = absurd cc
 value_free (Damaged d) file item (Some r) x y h = ap (λ k. Err k) (same_damage (record { file = file; item = item; rule = r }) d x h)

@@ -1,5 +1,5 @@
 -- .JDX: one record for each slot.
-use Rattle.std.specs.Prelude.{ℕ, ◌+◌, ◌/◌, List, [], ◌∷◌, ◌++◌, length, Result, not, ◌||◌, ◌==◌, nat_lt, if◌then◌else◌}
+use Rattle.std.specs.Prelude.{ℕ, ◌+◌, ◌/◌, List, [], ◌∷◌, ◌++◌, length, Result, Bool, false, not, ◌||◌, ◌==◌, nat_lt, if◌then◌else◌}
 use Rattle.name_crc.specs.JamCrc.{jam_crc}
 use Rattle.record_numbers.specs.Numbers.{u32_at}
 use Rattle.jam_records.specs.IndexRecords.{index_text}
@@ -50,6 +50,11 @@ one_here j at e entries = record {
   slot = Held e.message;
   next = record { item = j + 1; at = at + header_size e.message; entries = entries };
 }
+
+-- the first of the messages has this number
+abbrev pub is_next : ℕ → List Entry → Bool
+is_next number [] = false
+is_next number (e ∷ entries) = e.number == number
 
 -- record j is that of the message of number j + 1, if there is one
 unfoldable pub expected_of : ℕ → ℕ → List Entry → Expected

@@ -1,19 +1,21 @@
-ghost use Rattle.std.specs.Prelude.{◌≡◌, ◌+◌, ◌≤◌, ◌<◌, ◌^◌, length, sum_by, IfOk};
+ghost use Rattle.std.specs.Prelude.{◌≡◌, ◌==◌, ◌+◌, ◌≤◌, ◌<◌, ◌^◌, ◌∷◌, false, length, sum_by, None, IfOk, IfSome};
 ghost use Rattle.jam_layout.specs.Rules.{Gives, by_rules};
 ghost use Rattle.door_outside.specs.File.{jdx_file};
 ghost use Rattle.jam_layout.specs.Headers.{header_size as size_of_header};
-ghost use Rattle.jam_layout.specs.Index.{index_rules, slot_at, slots_at};
+ghost use Rattle.jam_layout.specs.Index.{index_rules, is_next, slot_at, slots_at};
+ghost use Rattle.jam_layout.specs.declared.entry.Entry.{Entry};
 
 use crate::entry::Entry;
 use crate::error::BaseError;
 use crate::header_size::header_size;
 use crate::places::damaged;
-use byte_lists::Duplicate;
+use byte_lists::List;
 use door_outside::FileId;
-use jam_records::{DamageRule, IndexRecord, Slot, Slots};
+use jam_records::{DamageRule, IndexRecord, Message, Slot, Slots};
 use name_crc::name_crc;
 use record_numbers::u32_at;
 use std::alloc::Global;
+use std::collections::VecDeque;
 
 /// Both fields of the record of a number that no message has.
 const NONE: u32 = 0xFFFF_FFFF;
@@ -33,59 +35,84 @@ fn check_pair(place: u8, item: u32, pair: IndexRecord, bytes: &[u8]) -> Result<(
     Ok(())
 }
 
-/// A slot, where the next header stands, and the messages from it on.
-type Behind<'a> = (Slot, u32, &'a [Entry]);
+/// Whether the first entry has this number.
+fn starts_with(pending: &VecDeque<Entry>, number: u32) -> bool
+    ensures { result ≡ is_next number pending.now.items }
+{
+    match pending.front() {
+        Some(entry) => entry.number == number,
+        None => false,
+    }
+}
 
-/// The slot of the record at the front, and what is behind it.
-#[tactic(auto, unfolding(crate::specs::Index::slot_at, crate::specs::Index::expected_of))]
-fn slot_of<'a>(
-    alloc: Global,
+/// Takes the message of the first entry out, where that has this number.
+fn take_next(pending: &mut VecDeque<Entry>, number: u32) -> Option<Message>
+    ensures some { IfSome result (λ m. (e : Entry) × (pending.old.items ≡ e ∷ pending.new.items) × (e.number ≡ number) × (m ≡ e.message)) }
+    ensures none { result ≡ None → (pending.new.items ≡ pending.old.items) × (is_next number pending.old.items ≡ false) }
+{
+    if !starts_with(pending, number) {
+        return None;
+    }
+    match pending.pop_front() {
+        Some(entry) => Some(entry.message),
+        None => None,
+    }
+}
+
+/// The slot of the record at the front, and where the next header stands. Its message is taken out of the
+/// entries.
+fn slot_of(
     place: u8,
     item: u32,
     at: u32,
-    pending: &'a [Entry],
+    pending: &mut VecDeque<Entry>,
     bytes: &[u8],
-) -> Result<Behind<'a>, BaseError>
+) -> Result<(Slot, u32), BaseError>
     requires place { place < 64 }
-    requires small { at + sum_by (λ e. size_of_header e.message) pending.now < 2 ^ 31 }
+    requires small { at + sum_by (λ e. size_of_header e.message) pending.old.items < 2 ^ 31 }
     requires few { item < 2 ^ 31 }
-    ensures gives { Gives (λ x. record { value = x.0; size = 8; next = record { item = item + 1; at = x.1; entries = x.2.now } }) result (slot_at place (record { item = item; at = at; entries = pending.now }) bytes.now) }
+    ensures gives { Gives (λ x. record { value = x.0; size = 8; next = record { item = item + 1; at = x.1; entries = pending.new.items } }) result (slot_at place (record { item = item; at = at; entries = pending.old.items }) bytes.now) }
     ensures long { IfOk result (λ _. 8 ≤ length bytes.now) }
-    ensures small { IfOk result (λ x. x.1 + sum_by (λ e. size_of_header e.message) x.2.now ≡ at + sum_by (λ e. size_of_header e.message) pending.now) }
+    ensures small { IfOk result (λ x. x.1 + sum_by (λ e. size_of_header e.message) pending.new.items ≡ at + sum_by (λ e. size_of_header e.message) pending.old.items) }
 {
-    if let [entry, others @ ..] = pending {
-        if entry.number == item + 1 {
+    match take_next(pending, item + 1) {
+        None => {
             let pair = IndexRecord {
-                to_crc: name_crc(entry.message.to.as_slice()),
+                to_crc: NONE,
+                offset: NONE,
+            };
+            check_pair(place, item, pair, bytes)?;
+            Ok((Slot::Gone, at))
+        }
+        Some(message) => {
+            let pair = IndexRecord {
+                to_crc: name_crc(message.to.as_slice()),
                 offset: at,
             };
             check_pair(place, item, pair, bytes)?;
-            let message = entry.message.duplicate(alloc)?;
-            return Ok((
-                Slot::Held(message),
-                at + header_size(&entry.message),
-                others,
-            ));
+            let behind = at + header_size(&message);
+            Ok((Slot::Held(message), behind))
         }
     }
-    let pair = IndexRecord {
-        to_crc: NONE,
-        offset: NONE,
-    };
-    check_pair(place, item, pair, bytes)?;
-    Ok((Slot::Gone, at, pending))
 }
 
-/// The slots that hold the messages.
-pub fn slots_in(
+/// Whether no entry is left.
+fn is_done(pending: &VecDeque<Entry>) -> bool
+    ensures { result ≡ (length pending.now.items == 0) }
+{
+    pending.is_empty()
+}
+
+/// The slots that hold the messages of these entries, which are taken out.
+fn slots_from(
     alloc: Global,
     place: u8,
-    entries: &[Entry],
+    pending: &mut VecDeque<Entry>,
     bytes: &[u8],
 ) -> Result<Slots, BaseError>
     requires place { place < 64 }
-    requires small { 1024 + sum_by (λ e. size_of_header e.message) entries.now < 2 ^ 31 }
-    ensures { Gives (λ x. x) result (slots_at place 1024 entries.now bytes.now) }
+    requires small { 1024 + sum_by (λ e. size_of_header e.message) pending.old.items < 2 ^ 31 }
+    ensures { Gives (λ x. x) result (slots_at place 1024 pending.old.items bytes.now) }
 {
     if bytes.len() / 8 > 9999 {
         return Err(damaged(FileId::jdx(place), 0, DamageRule::Count));
@@ -93,18 +120,31 @@ pub fn slots_in(
     let mut slots = Slots::new(alloc);
     let mut item = 0u32;
     let mut at = 1024u32;
-    let mut pending = entries;
     let mut rest = bytes;
     while !rest.is_empty() {
-        let (slot, behind, others) = slot_of(alloc, place, item, at, pending, rest)?;
+        let (slot, behind) = slot_of(place, item, at, pending, rest)?;
         slots.add(slot)?;
         item += 1;
         at = behind;
-        pending = others;
         rest = &rest[8..];
     }
-    if !pending.is_empty() {
+    if !is_done(pending) {
         return Err(damaged(FileId::jdx(place), item, DamageRule::Missing));
     }
     Ok(slots)
+}
+
+/// The slots that hold the messages. They are moved out of the entries.
+pub fn slots_in(
+    alloc: Global,
+    place: u8,
+    entries: List<Entry>,
+    bytes: &[u8],
+) -> Result<Slots, BaseError>
+    requires place { place < 64 }
+    requires small { 1024 + sum_by (λ e. size_of_header e.message) entries < 2 ^ 31 }
+    ensures { Gives (λ x. x) result (slots_at place 1024 entries bytes.now) }
+{
+    let mut pending = VecDeque::from_vec(entries.into_vec());
+    slots_from(alloc, place, &mut pending, bytes)
 }

@@ -82,7 +82,7 @@ fn conference_in(alloc: Global, files: &BaseFiles, shape: &Shape) -> Result<Conf
     let entries = entries_of(alloc, shape.place, shape.kind, &headers[BASE_HEADER..])?;
     check(alloc, shape.place, u32_at(headers, 12), entries.as_slice())?;
     let entries = bodies_of(alloc, shape.place, entries, files.jdt.as_slice())?;
-    let slots = slots_in(alloc, shape.place, entries.as_slice(), files.jdx.as_slice())?;
+    let slots = slots_in(alloc, shape.place, entries, files.jdx.as_slice())?;
     let count = slots.len() as u32;
     let pointers = pointers_of(alloc, shape.place, count, readers, files.jlr.as_slice())?;
     Ok(Conference {

@@ -46,7 +46,7 @@ pub slots_in-requires-clause-small : goal.slots_in-requires-clause-small
 slots_in-requires-clause-small c =
     let headers = sym (headers_is c.args.shape.now c.args.files.now c.as_slice-headers.result.now c.as_slice-headers.ensures.same) ∙ c.in_ok-entries.ensures in
     let bodies = sym (bodies_is c.args.shape.now c.args.files.now c.as_slice-2.result.now c.in_ok-entries.entries c.in_ok-entries.entries c.as_slice-2.ensures.same refl) ∙ c.in_ok-entries-2.ensures in
-    room c.args.shape.now c.args.files.now c.as_slice-headers.result.now c.as_slice-3.result.now c.in_ok-entries.entries c.in_ok-entries-2.entries c.as_slice-headers.ensures.bytes c.requires.jhr c.as_slice-headers.ensures.same c.in_ok-counter.ensures.long c.as_slice-3.ensures headers bodies
+    room c.args.shape.now c.args.files.now c.as_slice-headers.result.now c.in_ok-entries-2.entries c.in_ok-entries.entries c.in_ok-entries-2.entries c.as_slice-headers.ensures.bytes c.requires.jhr c.as_slice-headers.ensures.same c.in_ok-counter.ensures.long refl headers bodies
 
 pub returns-in_err-slots-clause-gives : goal.returns-in_err-slots-clause-gives
 returns-in_err-slots-clause-gives c =
@@ -56,15 +56,15 @@ returns-in_err-slots-clause-gives c =
     let second = sym (second_is c.args.shape.now c.args.files.now c.as_slice-headers.result.now c.u32_at.result c.as_slice.result.now c.in_ok-entries.entries c.as_slice-headers.ensures.same c.u32_at.ensures c.as_slice.ensures) ∙ c.in_ok-check.ensures in
     let bodies = sym (bodies_is c.args.shape.now c.args.files.now c.as_slice-2.result.now c.in_ok-entries.entries c.in_ok-entries.entries c.as_slice-2.ensures.same refl) ∙ c.in_ok-entries-2.ensures in
     rw (p.1, p.2) (slots_fail c.args.shape.now c.args.files.now c.in_err-slots.field-0.0 c.in_ok-counter.counter c.in_ok-entries.entries c.in_ok-entries-2.entries _ base headers second bodies
-    (failed c.in_err-slots.field-0.0 _ _ (slots_is c.args.shape.now c.args.files.now c.as_slice-4.result.now c.as_slice-3.result.now c.in_ok-entries-2.entries c.as_slice-4.ensures.same c.as_slice-3.ensures) c.in_err-slots.ensures))
+    (failed c.in_err-slots.field-0.0 _ _ (slots_is c.args.shape.now c.args.files.now c.as_slice-3.result.now c.in_ok-entries-2.entries c.in_ok-entries-2.entries c.as_slice-3.ensures.same refl) c.in_err-slots.ensures))
 
 pub overflow_cast-count : goal.overflow_cast-count
 overflow_cast-count c =
     let headers = sym (headers_is c.args.shape.now c.args.files.now c.as_slice-headers.result.now c.as_slice-headers.ensures.same) ∙ c.in_ok-entries.ensures in
     let second = sym (second_is c.args.shape.now c.args.files.now c.as_slice-headers.result.now c.u32_at.result c.as_slice.result.now c.in_ok-entries.entries c.as_slice-headers.ensures.same c.u32_at.ensures c.as_slice.ensures) ∙ c.in_ok-check.ensures in
     let bodies = sym (bodies_is c.args.shape.now c.args.files.now c.as_slice-2.result.now c.in_ok-entries.entries c.in_ok-entries.entries c.as_slice-2.ensures.same refl) ∙ c.in_ok-entries-2.ensures in
-    let index = sym (slots_is c.args.shape.now c.args.files.now c.as_slice-4.result.now c.as_slice-3.result.now c.in_ok-entries-2.entries c.as_slice-4.ensures.same c.as_slice-3.ensures) ∙ c.in_ok-slots.ensures in
-    let most = few c.args.shape.now c.args.files.now c.in_ok-entries.entries c.in_ok-entries-2.entries c.in_ok-slots.slots _ c.as_slice-headers.ensures.bytes c.requires.jhr c.as_slice-4.ensures.bytes headers second bodies index in
+    let index = sym (slots_is c.args.shape.now c.args.files.now c.as_slice-3.result.now c.in_ok-entries-2.entries c.in_ok-entries-2.entries c.as_slice-3.ensures.same refl) ∙ c.in_ok-slots.ensures in
+    let most = few c.args.shape.now c.args.files.now c.in_ok-entries.entries c.in_ok-entries-2.entries c.in_ok-slots.slots _ c.as_slice-headers.ensures.bytes c.requires.jhr c.as_slice-3.ensures.bytes headers second bodies index in
     omega (arith, c.len-count.ensures, most)
 
 pub returns-in_err-pointers-clause-gives : goal.returns-in_err-pointers-clause-gives
@@ -74,9 +74,9 @@ returns-in_err-pointers-clause-gives c =
     let headers = sym (headers_is c.args.shape.now c.args.files.now c.as_slice-headers.result.now c.as_slice-headers.ensures.same) ∙ c.in_ok-entries.ensures in
     let second = sym (second_is c.args.shape.now c.args.files.now c.as_slice-headers.result.now c.u32_at.result c.as_slice.result.now c.in_ok-entries.entries c.as_slice-headers.ensures.same c.u32_at.ensures c.as_slice.ensures) ∙ c.in_ok-check.ensures in
     let bodies = sym (bodies_is c.args.shape.now c.args.files.now c.as_slice-2.result.now c.in_ok-entries.entries c.in_ok-entries.entries c.as_slice-2.ensures.same refl) ∙ c.in_ok-entries-2.ensures in
-    let index = sym (slots_is c.args.shape.now c.args.files.now c.as_slice-4.result.now c.as_slice-3.result.now c.in_ok-entries-2.entries c.as_slice-4.ensures.same c.as_slice-3.ensures) ∙ c.in_ok-slots.ensures in
+    let index = sym (slots_is c.args.shape.now c.args.files.now c.as_slice-3.result.now c.in_ok-entries-2.entries c.in_ok-entries-2.entries c.as_slice-3.ensures.same refl) ∙ c.in_ok-slots.ensures in
     rw (p.1, p.2) (pointers_fail c.args.shape.now c.args.files.now c.in_err-pointers.field-0.0 c.in_ok-counter.counter c.in_ok-entries.entries c.in_ok-entries-2.entries c.in_ok-slots.slots _ base headers second bodies index
-    (failed c.in_err-pointers.field-0.0 _ _ (pointers_is c.args.shape.now c.args.files.now c.as_slice-5.result.now c.reader_slice-readers.result.now c.len-count.result c.in_ok-slots.slots c.as_slice-5.ensures.same c.reader_slice-readers.ensures.same c.len-count.ensures) c.in_err-pointers.ensures))
+    (failed c.in_err-pointers.field-0.0 _ _ (pointers_is c.args.shape.now c.args.files.now c.as_slice-4.result.now c.reader_slice-readers.result.now c.len-count.result c.in_ok-slots.slots c.as_slice-4.ensures.same c.reader_slice-readers.ensures.same c.len-count.ensures) c.in_err-pointers.ensures))
 
 pub returns-clause-gives : goal.returns-clause-gives
 returns-clause-gives c =
@@ -84,6 +84,6 @@ returns-clause-gives c =
     let headers = sym (headers_is c.args.shape.now c.args.files.now c.as_slice-headers.result.now c.as_slice-headers.ensures.same) ∙ c.in_ok-entries.ensures in
     let second = sym (second_is c.args.shape.now c.args.files.now c.as_slice-headers.result.now c.u32_at.result c.as_slice.result.now c.in_ok-entries.entries c.as_slice-headers.ensures.same c.u32_at.ensures c.as_slice.ensures) ∙ c.in_ok-check.ensures in
     let bodies = sym (bodies_is c.args.shape.now c.args.files.now c.as_slice-2.result.now c.in_ok-entries.entries c.in_ok-entries.entries c.as_slice-2.ensures.same refl) ∙ c.in_ok-entries-2.ensures in
-    let index = sym (slots_is c.args.shape.now c.args.files.now c.as_slice-4.result.now c.as_slice-3.result.now c.in_ok-entries-2.entries c.as_slice-4.ensures.same c.as_slice-3.ensures) ∙ c.in_ok-slots.ensures in
-    let last = sym (pointers_is c.args.shape.now c.args.files.now c.as_slice-5.result.now c.reader_slice-readers.result.now c.len-count.result c.in_ok-slots.slots c.as_slice-5.ensures.same c.reader_slice-readers.ensures.same c.len-count.ensures) ∙ c.in_ok-pointers.ensures in
+    let index = sym (slots_is c.args.shape.now c.args.files.now c.as_slice-3.result.now c.in_ok-entries-2.entries c.in_ok-entries-2.entries c.as_slice-3.ensures.same refl) ∙ c.in_ok-slots.ensures in
+    let last = sym (pointers_is c.args.shape.now c.args.files.now c.as_slice-4.result.now c.reader_slice-readers.result.now c.len-count.result c.in_ok-slots.slots c.as_slice-4.ensures.same c.reader_slice-readers.ensures.same c.len-count.ensures) ∙ c.in_ok-pointers.ensures in
     all_read c.args.shape.now c.args.files.now c.in_ok-counter.counter c.in_ok-entries.entries c.in_ok-entries-2.entries c.in_ok-slots.slots c.in_ok-pointers.pointers _ base headers second bodies index last

@@ -5,15 +5,15 @@ use Rattle.jam_layout.specs.Index.{slot_at}
 use Rattle.jam_layout.proofs.HeaderLoop.{not_empty}
 use Rattle.jam_layout.proofs.RecordWalks.{goes_on}
 use Rattle.jam_layout.proofs.IndexLoop.{too_many, slots_fail, slots_done, slots_missing, is_nothing}
-use Rattle.jam_layout.proofs.index.slots_in.Goals as goal
+use Rattle.jam_layout.proofs.index.slots_from.Goals as goal
 
 pub returns-then-bytes-gt9999 : goal.returns-then-bytes-gt9999
-returns-then-bytes-gt9999 c = rw (c.damaged.ensures, c.jdx.ensures) (too_many c.args.place 1024 c.args.entries.now c.args.bytes.now c.if-bytes-gt9999.true)
+returns-then-bytes-gt9999 c = rw (c.damaged.ensures, c.jdx.ensures) (too_many c.args.place 1024 c.args.pending.now.items c.args.bytes.now c.if-bytes-gt9999.true)
 
 pub returns-in_err-slot : goal.returns-in_err-slot
 returns-in_err-slot c =
     let p = err_from_is_err_and c.from_residual.result c.from_residual.ensures.1 in
-    rw (p.1, p.2) (slots_fail c.args.place 1024 c.args.entries.now c.args.bytes.now c.loop-rest.slots _ c.loop-rest.rest.now c.in_err-slot.field-0.0 c.if-bytes-gt9999.false
+    rw (p.1, p.2) (slots_fail c.args.place 1024 c.args.pending.now.items c.args.bytes.now c.loop-rest.slots (record { item = c.loop-rest.item; at = c.loop-rest.at; entries = c.loop-rest.pending.items }) c.loop-rest.rest.now c.in_err-slot.field-0.0 c.if-bytes-gt9999.false
     (not_empty c.loop-rest.rest.now c.is_empty.result c.is_empty.ensures c.loop-rest-test.true) c.in_err-slot.ensures.gives c.loop-rest.invariant.read)
 
 pub loop-rest-preserved : goal.loop-rest-preserved
@@ -26,10 +26,10 @@ loop-rest-preserved c =
       small = omega (arith, c.in_ok-slot.ensures.small, c.loop-rest.invariant.small);
     }
 
-pub returns-then-not-is_empty : goal.returns-then-not-is_empty
-returns-then-not-is_empty c = rw (c.damaged-then-not-is_empty.ensures, c.jdx-then-not-is_empty.ensures) (slots_missing c.args.place 1024 c.args.entries.now c.args.bytes.now c.loop-rest.slots _ c.loop-rest.rest.now c.if-bytes-gt9999.false
-    (is_nothing c.loop-rest.rest.now c.is_empty.result c.is_empty.ensures c.loop-rest-test.false) (sym c.if-not-is_empty.ensures) c.loop-rest.invariant.read)
+pub returns-then-not-is_done : goal.returns-then-not-is_done
+returns-then-not-is_done c = rw (c.damaged-then-not-is_done.ensures, c.jdx-then-not-is_done.ensures) (slots_missing c.args.place 1024 c.args.pending.now.items c.args.bytes.now c.loop-rest.slots (record { item = c.loop-rest.item; at = c.loop-rest.at; entries = c.loop-rest.pending.items }) c.loop-rest.rest.now c.if-bytes-gt9999.false
+    (is_nothing c.loop-rest.rest.now c.is_empty.result c.is_empty.ensures c.loop-rest-test.false) (sym c.if-not-is_done.ensures) c.loop-rest.invariant.read)
 
 pub returns : goal.returns
-returns c = slots_done c.args.place 1024 c.args.entries.now c.args.bytes.now c.loop-rest.slots _ c.loop-rest.rest.now c.if-bytes-gt9999.false
-    (is_nothing c.loop-rest.rest.now c.is_empty.result c.is_empty.ensures c.loop-rest-test.false) (sym c.if-not-is_empty.ensures) c.loop-rest.invariant.read
+returns c = slots_done c.args.place 1024 c.args.pending.now.items c.args.bytes.now c.loop-rest.slots (record { item = c.loop-rest.item; at = c.loop-rest.at; entries = c.loop-rest.pending.items }) c.loop-rest.rest.now c.if-bytes-gt9999.false
+    (is_nothing c.loop-rest.rest.now c.is_empty.result c.is_empty.ensures c.loop-rest-test.false) (sym c.if-not-is_done.ensures) c.loop-rest.invariant.read
