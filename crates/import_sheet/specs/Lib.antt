@@ -1,0 +1,4 @@
+pub mod Header
+pub mod Sheet
+pub mod Fault
+pub mod State

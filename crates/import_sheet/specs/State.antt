@@ -1,0 +1,77 @@
+-- What the reader knows between two lines.
+use Rattle.std.specs.Prelude.{◌≡◌, ◌≢◌, ℕ, ◌+◌, ◌<◌, ◌^◌, List, [], ◌∷◌, ◌++◌, length, Option, Some, None, MatchOption}
+use Rattle.std.specs.Borrow.{Bor}
+use Rattle.import_sheet.specs.Sheet.{HasNone, Gives, BodyLines, SheetIs, body_text, dot}
+use Rattle.import_sheet.specs.Fault.{WholeHeaders, BodyBreaks, MessageFault}
+use Rattle.import_sheet.specs.declared.fault.SheetError.{SheetError}
+use Rattle.import_sheet.specs.declared.fault.SheetError.TheVariants.{Line, OutOfMemory}
+use Rattle.import_sheet.specs.declared.fault.SheetRule.{SheetRule}
+use Rattle.import_sheet.specs.declared.field.Field.{Field}
+use Rattle.import_sheet.specs.declared.field.Field.TheVariants.{From, To, Subject, Date, Msgid, Reply, Private}
+use Rattle.import_sheet.specs.declared.found.Found.{Found}
+use Rattle.import_sheet.specs.declared.sheet.Sheet.{Sheet}
+
+-- the lines have numbers of 32 bits, one past the last too
+abbrev pub IsNumbered : List (List ℕ) → ℕ → Type 0
+IsNumbered all number = number + length all < 2 ^ 32
+
+-- these lines were taken from the first, and the others are left; each with the number of its first line
+pub record Ahead (all : List (List ℕ)) (number : ℕ) (left : List (List ℕ)) (at : ℕ) (taken : List (List ℕ)) : Type 0 where
+  pub whole : all ≡ taken ++ left
+  pub count : at ≡ number + length taken
+
+-- the first line isn't empty
+abbrev pub StartsWithText : List (List ℕ) → Type 0
+StartsWithText all = (line : List ℕ) × (more : List (List ℕ)) × (all ≡ line ∷ more) × (line ≢ [])
+
+abbrev pub value_of : Found → Field → Option (Bor (List ℕ))
+value_of found From = found.from
+value_of found To = found.to
+value_of found Subject = found.subject
+value_of found Date = found.date
+value_of found Msgid = found.msgid
+value_of found Reply = found.reply
+value_of found Private = found.private
+
+abbrev pub with_value : Found → Field → Bor (List ℕ) → Found
+with_value found From value = record found { from = Some value }
+with_value found To value = record found { to = Some value }
+with_value found Subject value = record found { subject = Some value }
+with_value found Date value = record found { date = Some value }
+with_value found Msgid value = record found { msgid = Some value }
+with_value found Reply value = record found { reply = Some value }
+with_value found Private value = record found { private = Some value }
+
+-- for each field the value that one of the lines gives, or none
+abbrev pub Holds : List (List ℕ) → Found → Type 0
+Holds headers found = (field : Field) → MatchOption (value_of found field) (HasNone headers field) (λ value. Gives headers field value.now)
+
+-- the text of a value, or the empty one
+abbrev pub text_of : Option (Bor (List ℕ)) → List ℕ
+text_of None = []
+text_of (Some value) = value.now
+
+-- a line with a number breaks a rule so, or there was no memory
+abbrev pub FaultOrMemory : (ℕ → SheetRule → Type 0) → SheetError → Type 0
+FaultOrMemory P (Line number rule) = P number rule
+FaultOrMemory P OutOfMemory = Unit {0}
+
+-- in lines of which the first has this number, the line of this number breaks this rule
+abbrev pub FaultAt : List (List ℕ) → ℕ → ℕ → SheetRule → Type 0
+FaultAt all number line rule = (place : ℕ) × (line ≡ number + place) × MessageFault all place rule
+
+-- header lines with these values, and the empty line behind them
+abbrev pub HeadersTaken : List (List ℕ) → ℕ → Found → List (List ℕ) → ℕ → Type 0
+HeadersTaken all number found left at = (headers : List (List ℕ)) × WholeHeaders headers × Holds headers found × Ahead all number left at (headers ++ [] ∷ [])
+
+-- body lines of this text, and the line of one dot behind them
+abbrev pub BodyTaken : List (List ℕ) → ℕ → List ℕ → List (List ℕ) → ℕ → Type 0
+BodyTaken all number text left at = (body : List (List ℕ)) × BodyLines body × (text ≡ body_text body) × Ahead all number left at (body ++ dot ∷ [])
+
+-- behind body lines, a line breaks this rule or isn't there
+abbrev pub BodyFaultAt : List (List ℕ) → ℕ → ℕ → SheetRule → Type 0
+BodyFaultAt all number line rule = (body rest : List (List ℕ)) × (all ≡ body ++ rest) × BodyLines body × BodyBreaks body rest rule × (line ≡ number + length body)
+
+-- the lines of this message
+abbrev pub SheetTaken : List (List ℕ) → ℕ → Sheet → List (List ℕ) → ℕ → Type 0
+SheetTaken all number sheet left at = (own : List (List ℕ)) × SheetIs own sheet × Ahead all number left at own
