@@ -5,7 +5,7 @@ use Rattle.std.proofs.lemmas.Grind.{flat_map-append}
 use Rattle.std.proofs.lemmas.List.{append-nil}
 use Rattle.std.proofs.lemmas.List.Elements.{All-nil, All-cons, All-push}
 use Rattle.text_fields.specs.Split.{Lacks}
-use Rattle.import_sheet.specs.Sheet.{BodyLines, body_text, without_dot, dot}
+use Rattle.import_sheet.specs.Sheet.{BodyLines, stored_body, without_dot, dot}
 use Rattle.import_sheet.specs.Fault.{BodyBreaks, with_return, too_long, no_dot}
 use Rattle.import_sheet.specs.State.{Ahead, BodyFaultAt}
 use Rattle.import_sheet.specs.declared.fault.SheetRule.{SheetRule}
@@ -14,16 +14,16 @@ use Rattle.import_sheet.proofs.Lines.{All_front, All_last, Hereditary}
 abbrev line_text : List ℕ → List ℕ
 line_text line = without_dot line ++ 13 ∷ []
 
-pub body_text_push : (body : List (List ℕ)) (line : List ℕ) → body_text (body ++ line ∷ []) ≡ body_text body ++ (without_dot line ++ 13 ∷ [])
-body_text_push body line = flat_map-append line_text body (line ∷ []) ∙ ap (λ t. body_text body ++ t) (append-nil (line_text line))
+pub body_text_push : (body : List (List ℕ)) (line : List ℕ) → stored_body (body ++ line ∷ []) ≡ stored_body body ++ (without_dot line ++ 13 ∷ [])
+body_text_push body line = flat_map-append line_text body (line ∷ []) ∙ ap (λ t. stored_body body ++ t) (append-nil (line_text line))
 
-text_length : (body : List (List ℕ)) (line : List ℕ) → length (body_text (body ++ line ∷ [])) ≡ length (body_text body) + length (without_dot line) + 1
-text_length body line = ap length (body_text_push body line) ∙ omega (arith, length-append (body_text body) (line_text line), length-append (without_dot line) (13 ∷ []))
+text_length : (body : List (List ℕ)) (line : List ℕ) → length (stored_body (body ++ line ∷ [])) ≡ length (stored_body body) + length (without_dot line) + 1
+text_length body line = ap length (body_text_push body line) ∙ omega (arith, length-append (stored_body body) (line_text line), length-append (without_dot line) (13 ∷ []))
 
 pub no_lines : BodyLines []
 no_lines = record { no_end = All-nil (λ line. line ≢ dot); no_return = All-nil (Lacks 13); short = omega arith }
 
-pub body_push : (body : List (List ℕ)) (line : List ℕ) → BodyLines body → line ≢ dot → Lacks 13 line → length (body_text body) + length (without_dot line) < 16384 → BodyLines (body ++ line ∷ [])
+pub body_push : (body : List (List ℕ)) (line : List ℕ) → BodyLines body → line ≢ dot → Lacks 13 line → length (stored_body body) + length (without_dot line) < 16384 → BodyLines (body ++ line ∷ [])
 body_push body line h other clear fits = record {
   no_end = All-push (λ line. line ≢ dot) body line h.no_end other;
   no_return = All-push (Lacks 13) body line h.no_return clear;
@@ -36,14 +36,14 @@ no_room n b full room = elim (cases_lt n 16384) [
   | inr ge ↦ ge
 ]
 
-pub over : (body : List (List ℕ)) (line : List ℕ) → 16384 ≤ length (body_text body) + length (without_dot line) → 16384 < length (body_text (body ++ line ∷ []))
+pub over : (body : List (List ℕ)) (line : List ℕ) → 16384 ≤ length (stored_body body) + length (without_dot line) → 16384 < length (stored_body (body ++ line ∷ []))
 over body line many = omega (arith, text_length body line)
 
 pub body_front : Hereditary BodyLines
 body_front a b h = record {
   no_end = All_front (λ line. line ≢ dot) a b h.no_end;
   no_return = All_front (Lacks 13) a b h.no_return;
-  short = omega (arith, h.short, ap length (flat_map-append line_text a b), length-append (body_text a) (body_text b));
+  short = omega (arith, h.short, ap length (flat_map-append line_text a b), length-append (stored_body a) (stored_body b));
 }
 
 -- body lines stop at the line of one dot
@@ -62,7 +62,7 @@ breaks_body body rest more line rule (with_return line' e next bad) is h =
     bad (subst (Lacks 13) (first_line rest more next.0 line line' is next.1) (All_last (Lacks 13) body line h.no_return))
 breaks_body body rest more line rule (too_long line' e next other clear long) is h =
     let same : line' ≡ line = first_line rest next.0 more line' line next.1 is in
-    omega (arith, h.short, subst (λ (l : List ℕ). 16384 < length (body_text (body ++ l ∷ []))) same long)
+    omega (arith, h.short, subst (λ (l : List ℕ). 16384 < length (stored_body (body ++ l ∷ []))) same long)
 breaks_body body rest more line rule (no_dot e none) is h = no_first rest more line is none
 
 dot_clear : Lacks 13 dot

@@ -4,10 +4,10 @@ use Rattle.std.proofs.lemmas.List.Elements.{All-nil, All-cons, All-head, All-tai
 use Rattle.std.specs.List.{Contains}
 use Rattle.std.specs.Option.{MatchOption}
 use Rattle.std.specs.Borrow.{Bor}
-use Rattle.import_sheet.specs.Header.{Begins, HeaderReads, ValueFits, rule_of}
-use Rattle.import_sheet.specs.Sheet.{Has, HasNone, Headers, Gives}
+use Rattle.import_sheet.specs.Header.{BeginsWithWord, HeaderReads, ValueFits, rule_of}
+use Rattle.import_sheet.specs.Sheet.{Has, HasNone, Headers, HeaderGives}
 use Rattle.import_sheet.specs.Fault.{LineBreaks, no_word, word_again, bad_value, too_soon}
-use Rattle.import_sheet.specs.State.{Holds, value_of, with_value}
+use Rattle.import_sheet.specs.State.{HoldsValues, value_in, with_value}
 use Rattle.import_sheet.specs.declared.fault.SheetRule.{SheetRule}
 use Rattle.import_sheet.specs.declared.field.Field.{Field}
 use Rattle.import_sheet.specs.declared.field.Field.TheVariants.{From, To, Subject, Date, Msgid, Reply, Private}
@@ -16,7 +16,7 @@ use Rattle.import_sheet.proofs.Lines.{All_front, All_last, Hereditary}
 use Rattle.import_sheet.proofs.Words.{word_once, empty_begins, begins, value_once}
 
 abbrev NotOf : Field → List ℕ → Type 0
-NotOf field line = Begins field line → ⊥
+NotOf field line = BeginsWithWord field line → ⊥
 
 -- one header line more
 pub header_push : (hs : List (List ℕ)) (line value : List ℕ) (field : Field) → Headers hs → HasNone hs field → HeaderReads line field value → ValueFits field value → Headers (hs ++ line ∷ [])
@@ -28,7 +28,7 @@ header_push (x ∷ hs) line value field h none reads fits = (
   h.3,
   All-push (NotOf h.0) hs line h.4 (λ b.
       let same : h.0 ≡ field = word_once h.0 field line b (begins field line value reads) in
-      All-head (NotOf field) x hs none (subst (λ (f : Field). Begins f x) same (begins h.0 x h.1 h.2))),
+      All-head (NotOf field) x hs none (subst (λ (f : Field). BeginsWithWord f x) same (begins h.0 x h.1 h.2))),
   header_push hs line value field h.5 (All-tail (NotOf field) x hs none) reads fits,
 )
 
@@ -52,7 +52,7 @@ last_header (x ∷ hs) line h =
       none = All-cons (NotOf r.field) x hs
           (λ b.
           let same : h.0 ≡ r.field = word_once h.0 r.field x (begins h.0 x h.1 h.2) b in
-          All_last (NotOf h.0) hs line h.4 (subst (λ (f : Field). Begins f line) (sym same) (begins r.field line r.value r.reads)))
+          All_last (NotOf h.0) hs line h.4 (subst (λ (f : Field). BeginsWithWord f line) (sym same) (begins r.field line r.value r.reads)))
           r.none;
     }
 
@@ -63,7 +63,7 @@ headers_front (x ∷ a) b h = (h.0, h.1, h.2, h.3, All_front (NotOf h.0) a b h.4
 pub has_not_none : (hs : List (List ℕ)) (field : Field) → Has hs field → HasNone hs field → ⊥
 has_not_none hs field has none = All-contains (NotOf field) hs has.0 none has.1 has.2
 
-pub given_has : (hs : List (List ℕ)) (field : Field) (value : List ℕ) → Gives hs field value → Has hs field
+pub given_has : (hs : List (List ℕ)) (field : Field) (value : List ℕ) → HeaderGives hs field value → Has hs field
 given_has hs field value g = (g.0, g.1, begins field g.0 value g.2)
 
 -- header lines stop at the empty line
@@ -90,8 +90,8 @@ breaks_headers hs line rule (bad_value field value e none reads bad) h =
 breaks_headers hs line rule (too_soon e some empty missing) h = no_empty_header hs (subst (λ (l : List ℕ). Headers (hs ++ l ∷ [])) empty h)
 
 -- a line that begins with a word isn't empty
-pub begins_some : (field : Field) (line : List ℕ) → Begins field line → line ≡ [] → ⊥
-begins_some field line b e = empty_begins field (subst (Begins field) e b)
+pub begins_some : (field : Field) (line : List ℕ) → BeginsWithWord field line → line ≡ [] → ⊥
+begins_some field line b e = empty_begins field (subst (BeginsWithWord field) e b)
 
 -- a line breaks one rule
 pub breaks_once : (hs : List (List ℕ)) (line : List ℕ) (q r : SheetRule) → LineBreaks hs line q → LineBreaks hs line r → q ≡ r
@@ -124,13 +124,13 @@ contains_cases x xs y (zero, lt, e) = inl e
 contains_cases x xs y (suc k, lt, e) = inr (k, omega arith, e)
 
 -- a field that the first line gives is given by no other
-not_again : (l : List ℕ) (hs : List (List ℕ)) (field : Field) (a b : List ℕ) → Headers (l ∷ hs) → HeaderReads l field a → Gives hs field b → ⊥
+not_again : (l : List ℕ) (hs : List (List ℕ)) (field : Field) (a b : List ℕ) → Headers (l ∷ hs) → HeaderReads l field a → HeaderGives hs field b → ⊥
 not_again l hs field a b h reads g =
     let same : h.0 ≡ field = word_once h.0 field l (begins h.0 l h.1 h.2) (begins field l a reads) in
     has_not_none hs field (given_has hs field b g) (subst (HasNone hs) same h.4)
 
 -- header lines give a field one value at most
-pub gives_once : (hs : List (List ℕ)) (field : Field) (a b : List ℕ) → Headers hs → Gives hs field a → Gives hs field b → a ≡ b
+pub gives_once : (hs : List (List ℕ)) (field : Field) (a b : List ℕ) → Headers hs → HeaderGives hs field a → HeaderGives hs field b → a ≡ b
 gives_once [] field a b h x y = absurd (omega (arith, x.1.1))
 gives_once (l ∷ hs) field a b h x y = elim (contains_cases l hs x.0 x.1) [
   | inl e ↦ elim (contains_cases l hs y.0 y.1) [
@@ -144,7 +144,7 @@ gives_once (l ∷ hs) field a b h x y = elim (contains_cases l hs x.0 x.1) [
 ]
 
 -- a value that is given fits
-pub gives_fits : (hs : List (List ℕ)) (field : Field) (value : List ℕ) → Headers hs → Gives hs field value → ValueFits field value
+pub gives_fits : (hs : List (List ℕ)) (field : Field) (value : List ℕ) → Headers hs → HeaderGives hs field value → ValueFits field value
 gives_fits [] field value h x = absurd (omega (arith, x.1.1))
 gives_fits (l ∷ hs) field value h x = elim (contains_cases l hs x.0 x.1) [
   | inl e ↦
@@ -157,28 +157,28 @@ gives_fits (l ∷ hs) field value h x = elim (contains_cases l hs x.0 x.1) [
 ]
 
 -- the values that are held go on to be, and the new one is
-pub gives_push : (hs : List (List ℕ)) (line value : List ℕ) (field : Field) → HeaderReads line field value → Gives (hs ++ line ∷ []) field value
+pub gives_push : (hs : List (List ℕ)) (line value : List ℕ) (field : Field) → HeaderReads line field value → HeaderGives (hs ++ line ∷ []) field value
 gives_push hs line value field reads = (line, Contains-push hs line, reads)
 
-keeps : (hs : List (List ℕ)) (line : List ℕ) (field : Field) (o : Option (Bor (List ℕ))) → (Begins field line → ⊥) → MatchOption o (HasNone hs field) (λ v. Gives hs field v.now) → MatchOption o (HasNone (hs ++ line ∷ []) field) (λ v. Gives (hs ++ line ∷ []) field v.now)
+keeps : (hs : List (List ℕ)) (line : List ℕ) (field : Field) (o : Option (Bor (List ℕ))) → (BeginsWithWord field line → ⊥) → MatchOption o (HasNone hs field) (λ v. HeaderGives hs field v.now) → MatchOption o (HasNone (hs ++ line ∷ []) field) (λ v. HeaderGives (hs ++ line ∷ []) field v.now)
 keeps hs line field None other h = All-push (NotOf field) hs line h other
 keeps hs line field (Some v) other h = (h.0, Contains-append_left hs (line ∷ []) h.0 h.1, h.2)
 
-not_other : (f g : Field) (line value : List ℕ) → HeaderReads line f value → (f ≡ g → ⊥) → Begins g line → ⊥
+not_other : (f g : Field) (line value : List ℕ) → HeaderReads line f value → (f ≡ g → ⊥) → BeginsWithWord g line → ⊥
 not_other f g line value reads other b = other (word_once f g line (begins f line value reads) b)
 
-pub holds_push : (hs : List (List ℕ)) (line : List ℕ) (found : Found) (value : Bor (List ℕ)) (f : Field) → HeaderReads line f value.now → Holds hs found → Holds (hs ++ line ∷ []) (with_value found f value)
+pub holds_push : (hs : List (List ℕ)) (line : List ℕ) (found : Found) (value : Bor (List ℕ)) (f : Field) → HeaderReads line f value.now → HoldsValues hs found → HoldsValues (hs ++ line ∷ []) (with_value found f value)
 holds_push hs line found value From reads h From = gives_push hs line value.now From reads
-holds_push hs line found value From reads h g = keeps hs line g (value_of found g) (not_other From g line value.now reads (λ e. cc)) (h g)
+holds_push hs line found value From reads h g = keeps hs line g (value_in found g) (not_other From g line value.now reads (λ e. cc)) (h g)
 holds_push hs line found value To reads h To = gives_push hs line value.now To reads
-holds_push hs line found value To reads h g = keeps hs line g (value_of found g) (not_other To g line value.now reads (λ e. cc)) (h g)
+holds_push hs line found value To reads h g = keeps hs line g (value_in found g) (not_other To g line value.now reads (λ e. cc)) (h g)
 holds_push hs line found value Subject reads h Subject = gives_push hs line value.now Subject reads
-holds_push hs line found value Subject reads h g = keeps hs line g (value_of found g) (not_other Subject g line value.now reads (λ e. cc)) (h g)
+holds_push hs line found value Subject reads h g = keeps hs line g (value_in found g) (not_other Subject g line value.now reads (λ e. cc)) (h g)
 holds_push hs line found value Date reads h Date = gives_push hs line value.now Date reads
-holds_push hs line found value Date reads h g = keeps hs line g (value_of found g) (not_other Date g line value.now reads (λ e. cc)) (h g)
+holds_push hs line found value Date reads h g = keeps hs line g (value_in found g) (not_other Date g line value.now reads (λ e. cc)) (h g)
 holds_push hs line found value Msgid reads h Msgid = gives_push hs line value.now Msgid reads
-holds_push hs line found value Msgid reads h g = keeps hs line g (value_of found g) (not_other Msgid g line value.now reads (λ e. cc)) (h g)
+holds_push hs line found value Msgid reads h g = keeps hs line g (value_in found g) (not_other Msgid g line value.now reads (λ e. cc)) (h g)
 holds_push hs line found value Reply reads h Reply = gives_push hs line value.now Reply reads
-holds_push hs line found value Reply reads h g = keeps hs line g (value_of found g) (not_other Reply g line value.now reads (λ e. cc)) (h g)
+holds_push hs line found value Reply reads h g = keeps hs line g (value_in found g) (not_other Reply g line value.now reads (λ e. cc)) (h g)
 holds_push hs line found value Private reads h Private = gives_push hs line value.now Private reads
-holds_push hs line found value Private reads h g = keeps hs line g (value_of found g) (not_other Private g line value.now reads (λ e. cc)) (h g)
+holds_push hs line found value Private reads h g = keeps hs line g (value_in found g) (not_other Private g line value.now reads (λ e. cc)) (h g)

@@ -2,7 +2,7 @@
 use Rattle.std.proofs.Common.{◌≡◌, ◌≢◌, ◌↔◌, ℕ, Bool, true, false, List, [], ◌∷◌, ◌++◌, Option, Some, None, IsTrue, length, refl, sym, ap, ◌∙◌, subst, inl, inr, arith, codes, append_assoc}
 use Rattle.text_fields.proofs.Numbers.{digits_unique}
 use Rattle.import_sheet.specs.Header.{HeaderReads, DateIs}
-use Rattle.import_sheet.specs.Sheet.{Has, Headers, Gives, GivesOrEmpty, GivesDate, FieldsAre, BodyLines, SheetIs, body_text, dot}
+use Rattle.import_sheet.specs.Sheet.{Has, Headers, HeaderGives, HeaderGivesOrEmpty, HeaderGivesDate, FieldsAre, BodyLines, SheetIs, stored_body, dot}
 use Rattle.import_sheet.specs.Fault.{WholeHeaders, LineBreaks, no_word, word_again, bad_value, too_soon, HeaderBreaks, by_line, no_line, BodyBreaks, MessageFault, in_headers, in_body}
 use Rattle.import_sheet.specs.State.{StartsWithText}
 use Rattle.import_sheet.specs.declared.fault.SheetRule.{SheetRule}
@@ -15,13 +15,13 @@ use Rattle.import_sheet.proofs.Heads.{headers_front, has_not_none, given_has, no
 use Rattle.import_sheet.proofs.Bodies.{body_front, dot_ends, breaks_body, dot_is_right, body_breaks_once}
 
 -- the headers of a message give one value to each of its fields
-text_once : (hs : List (List ℕ)) (field : Field) (a b : List ℕ) → Headers hs → GivesOrEmpty hs field a → GivesOrEmpty hs field b → a ≡ b
+text_once : (hs : List (List ℕ)) (field : Field) (a b : List ℕ) → Headers hs → HeaderGivesOrEmpty hs field a → HeaderGivesOrEmpty hs field b → a ≡ b
 text_once hs field a b h x y = elim x [
   | inl g ↦ elim y [ inl k ↦ gives_once hs field a b h g k | inr n ↦ absurd (has_not_none hs field (given_has hs field a g) n.0) ]
   | inr m ↦ elim y [ inl k ↦ absurd (has_not_none hs field (given_has hs field b k) m.0) | inr n ↦ m.1 ∙ sym n.1 ]
 ]
 
-date_once : (hs : List (List ℕ)) (a b : Option ℕ) → Headers hs → GivesDate hs a → GivesDate hs b → a ≡ b
+date_once : (hs : List (List ℕ)) (a b : Option ℕ) → Headers hs → HeaderGivesDate hs a → HeaderGivesDate hs b → a ≡ b
 date_once hs None None h x y = refl
 date_once hs None (Some n) h x y = absurd (has_not_none hs Date (given_has hs Date y.0 y.1) x)
 date_once hs (Some m) None h x y = absurd (has_not_none hs Date (given_has hs Date x.0 x.1) y)
@@ -60,7 +60,7 @@ fields_once hs a b h x y body =
     let date : a.date ≡ b.date = date_once hs a.date b.date h x.date y.date in
     let msgid : a.msgid ≡ b.msgid = text_once hs Msgid a.msgid b.msgid h x.msgid y.msgid in
     let reply : a.reply ≡ b.reply = text_once hs Reply a.reply b.reply h x.reply y.reply in
-    let private : a.private ≡ b.private = truth_once (Gives hs Private (codes "yes")) a.private b.private x.private y.private in
+    let private : a.private ≡ b.private = truth_once (HeaderGives hs Private (codes "yes")) a.private b.private x.private y.private in
     let p : a ≡ made a.from a.to a.subject a.date a.msgid a.reply a.private a.body = made_is a in
     let q : b ≡ made b.from b.to b.subject b.date b.msgid b.reply b.private b.body = made_is b in
     cc
@@ -181,7 +181,7 @@ sheet_once all own own' more more' s t e f x y =
     let u : (x.headers ≡ y.headers) × (x.body ≡ y.body) × (dot ∷ more ≡ dot ∷ more') = in_body_once all x.headers y.headers x.body y.body (dot ∷ more) (dot ∷ more') (sheet_in all own more s e x) (sheet_in all own' more' t f y) in
     let ends : dot ∷ more ≡ dot ∷ more' = u.2 in
     let left : more ≡ more' = cc in
-    let body : s.body ≡ t.body = x.text ∙ (ap body_text u.1 ∙ sym y.text) in
+    let body : s.body ≡ t.body = x.text ∙ (ap stored_body u.1 ∙ sym y.text) in
     (fields_once y.headers s t y.headed (subst (λ (hs : List (List ℕ)). FieldsAre hs s) u.0 x.fields) y.fields body, left)
 
 -- a message begins with a line that isn't empty

@@ -6,7 +6,7 @@ use Rattle.std.specs.Result.{MatchResult, IfOk}
 use Rattle.std.specs.Str.Lines.{lines}
 use Rattle.import_sheet.specs.Sheet.{HasNone, Headers, FieldsAre, SheetIs, SheetsAre, AllEmpty, dot}
 use Rattle.import_sheet.specs.Fault.{WholeHeaders, LineBreaks, too_soon, by_line, no_line, in_headers, in_body, LinesFault}
-use Rattle.import_sheet.specs.State.{Ahead, StartsWithText, Holds, FaultAt, HeadersTaken, BodyTaken, BodyFaultAt, SheetTaken, FaultOrMemory}
+use Rattle.import_sheet.specs.State.{Ahead, StartsWithText, HoldsValues, FaultAt, HeadersTaken, BodyTaken, BodyFaultAt, SheetTaken, FaultOrMemory}
 use Rattle.import_sheet.specs.declared.fault.SheetError.{SheetError}
 use Rattle.import_sheet.specs.declared.fault.SheetError.TheVariants.{Line, OutOfMemory}
 use Rattle.import_sheet.specs.declared.fault.SheetRule.{SheetRule}
@@ -42,7 +42,7 @@ line_fault all left after headers line number at n rule h x e f =
 
 -- the empty line ends the headers, or comes too soon
 pub ended_cases : (all left headers : List (List ℕ)) (number at : ℕ) (found : Found) (after : Unread) (r : Result (Found × Unread) SheetError)
-    → StartsWithText all → Headers headers → Holds headers found → Ahead all number left at headers → Ahead left at (lines after.text.now) after.line ([] ∷ [])
+    → StartsWithText all → Headers headers → HoldsValues headers found → Ahead all number left at headers → Ahead left at (lines after.text.now) after.line ([] ∷ [])
     → IfOk r (λ taken. (taken.0 ≡ found) × (taken.1 ≡ after))
     → MatchResult r (λ _. WholeHeaders headers) (FaultOrMemory (λ n broken. (n ≡ at) × (broken ≡ Missing) × (HasNone headers From ⊎ HasNone headers To)))
     → MatchResult r (λ taken. HeadersTaken all number taken.0 (lines taken.1.text.now) taken.1.line) (FaultOrMemory (FaultAt all number))

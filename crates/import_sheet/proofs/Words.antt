@@ -5,7 +5,7 @@ use Rattle.text_fields.specs.Blank.{IsBlank}
 use Rattle.text_fields.specs.Trim.{Trimmed}
 use Rattle.text_fields.specs.declared.blank.Blank.TheVariants.{Spaces}
 use Rattle.text_fields.proofs.Trimming.{trimmed_unique, same_rest}
-use Rattle.import_sheet.specs.Header.{word_of, Begins, HeaderReads}
+use Rattle.import_sheet.specs.Header.{word_of, BeginsWithWord, HeaderReads}
 use Rattle.import_sheet.specs.declared.field.Field.{Field}
 use Rattle.import_sheet.specs.declared.field.Field.TheVariants.{From, To, Subject, Date, Msgid, Reply, Private}
 
@@ -19,7 +19,7 @@ letter Msgid = 77
 letter Reply = 82
 letter Private = 80
 
-first_letter : (field : Field) (line : List ℕ) → Begins field line → get_or line 0 0 ≡ letter field
+first_letter : (field : Field) (line : List ℕ) → BeginsWithWord field line → get_or line 0 0 ≡ letter field
 unfolding letter
 first_letter From line b = ap (λ xs. get_or xs 0 0) b.1
 first_letter To line b = ap (λ xs. get_or xs 0 0) b.1
@@ -47,11 +47,11 @@ letter_once Private Private e = refl
 letter_once Private b e = absurd (omega arith)
 
 -- a line begins with one word at most
-pub word_once : (a b : Field) (line : List ℕ) → Begins a line → Begins b line → a ≡ b
+pub word_once : (a b : Field) (line : List ℕ) → BeginsWithWord a line → BeginsWithWord b line → a ≡ b
 word_once a b line x y = letter_once a b (sym (first_letter a line x) ∙ first_letter b line y)
 
 -- the empty line begins with no word
-pub empty_begins : (field : Field) → Begins field [] → ⊥
+pub empty_begins : (field : Field) → BeginsWithWord field [] → ⊥
 unfolding letter
 empty_begins From b = omega (arith, first_letter From [] b)
 empty_begins To b = omega (arith, first_letter To [] b)
@@ -61,7 +61,7 @@ empty_begins Msgid b = omega (arith, first_letter Msgid [] b)
 empty_begins Reply b = omega (arith, first_letter Reply [] b)
 empty_begins Private b = omega (arith, first_letter Private [] b)
 
-pub begins : (field : Field) (line value : List ℕ) → HeaderReads line field value → Begins field line
+pub begins : (field : Field) (line value : List ℕ) → HeaderReads line field value → BeginsWithWord field line
 begins field line value h = (h.rest, h.whole)
 
 -- a line gives a field one value at most
@@ -71,7 +71,7 @@ value_once field line a b x y =
     trimmed_unique (IsBlank Spaces) y.rest a b (subst (λ (r : List ℕ). Trimmed (IsBlank Spaces) r a) r x.trimmed) y.trimmed
 
 -- a line that begins with none of the seven words begins with no word
-pub no_word_of : (line : List ℕ) → All (λ field. Begins field line → ⊥) (From ∷ To ∷ Subject ∷ Date ∷ Msgid ∷ Reply ∷ Private ∷ []) → (field : Field) → Begins field line → ⊥
+pub no_word_of : (line : List ℕ) → All (λ field. BeginsWithWord field line → ⊥) (From ∷ To ∷ Subject ∷ Date ∷ Msgid ∷ Reply ∷ Private ∷ []) → (field : Field) → BeginsWithWord field line → ⊥
 no_word_of line h From = h 0 From (omega arith)
 no_word_of line h To = h 1 From (omega arith)
 no_word_of line h Subject = h 2 From (omega arith)

@@ -2,8 +2,8 @@
 use Rattle.std.specs.Prelude.{◌≡◌, ◌≢◌, ◌⊎◌, ℕ, ◌+◌, ◌<◌, List, [], ◌∷◌, ◌++◌, length, Result, Err}
 use Rattle.std.specs.Str.Lines.{lines}
 use Rattle.text_fields.specs.Split.{Lacks}
-use Rattle.import_sheet.specs.Header.{Begins, HeaderReads, ValueFits, rule_of}
-use Rattle.import_sheet.specs.Sheet.{Has, HasNone, Headers, BodyLines, SheetsAre, body_text, dot}
+use Rattle.import_sheet.specs.Header.{BeginsWithWord, HeaderReads, ValueFits, rule_of}
+use Rattle.import_sheet.specs.Sheet.{Has, HasNone, Headers, BodyLines, SheetsAre, stored_body, dot}
 use Rattle.import_sheet.specs.declared.fault.SheetError.{SheetError}
 use Rattle.import_sheet.specs.declared.fault.SheetError.TheVariants.{OutOfMemory}
 use Rattle.import_sheet.specs.declared.fault.SheetRule.{SheetRule}
@@ -25,9 +25,9 @@ pub record WholeHeaders (all : List (List ℕ)) : Type 0 where
 -- behind these headers a line breaks this rule
 pub data LineBreaks (headers : List (List ℕ)) (line : List ℕ) (rule : SheetRule) : Type 0 where
   -- it begins with no word
-  no_word : rule ≡ Header → line ≢ [] → ((field : Field) → ¬ Begins field line) → LineBreaks headers line rule
+  no_word : rule ≡ Header → line ≢ [] → ((field : Field) → ¬ BeginsWithWord field line) → LineBreaks headers line rule
   -- it begins with a word that was there before
-  word_again : (field : Field) → rule ≡ Twice → Begins field line → Has headers field → LineBreaks headers line rule
+  word_again : (field : Field) → rule ≡ Twice → BeginsWithWord field line → Has headers field → LineBreaks headers line rule
   -- its word is new, and its value doesn't fit
   bad_value : (field : Field) (value : List ℕ) → rule ≡ rule_of field → HasNone headers field → HeaderReads line field value → ¬ ValueFits field value → LineBreaks headers line rule
   -- it is the empty line, and From or To wasn't there
@@ -44,7 +44,7 @@ pub data BodyBreaks (body rest : List (List ℕ)) (rule : SheetRule) : Type 0 wh
   -- a line that holds a carriage return
   with_return : (line : List ℕ) → rule ≡ Byte → Next rest line → ¬ Lacks 13 line → BodyBreaks body rest rule
   -- a line with which the body is too long
-  too_long : (line : List ℕ) → rule ≡ Length → Next rest line → line ≢ dot → Lacks 13 line → 16384 < length (body_text (body ++ line ∷ [])) → BodyBreaks body rest rule
+  too_long : (line : List ℕ) → rule ≡ Length → Next rest line → line ≢ dot → Lacks 13 line → 16384 < length (stored_body (body ++ line ∷ [])) → BodyBreaks body rest rule
   -- nothing follows
   no_dot : rule ≡ End → rest ≡ [] → BodyBreaks body rest rule
 

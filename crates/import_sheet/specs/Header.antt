@@ -29,8 +29,8 @@ rule_of Reply = rule.Reply
 rule_of Private = rule.Private
 
 -- the line is the field's word, and what follows
-abbrev pub Begins : Field → List ℕ → Type 0
-Begins field line = (rest : List ℕ) × (line ≡ word_of field ++ rest)
+abbrev pub BeginsWithWord : Field → List ℕ → Type 0
+BeginsWithWord field line = (rest : List ℕ) × (line ≡ word_of field ++ rest)
 
 -- the line is the field's word, and what follows is, without the spaces at its ends, the value
 pub record HeaderReads (line : List ℕ) (field : Field) (value : List ℕ) : Type 0 where
@@ -39,7 +39,7 @@ pub record HeaderReads (line : List ℕ) (field : Field) (value : List ℕ) : Ty
   pub trimmed : Trimmed (IsBlank Spaces) rest value
 
 -- so many bytes at least and at most, none below 20h
-pub record TextFits (least most : ℕ) (value : List ℕ) : Type 0 where
+pub record IsPlainText (least most : ℕ) (value : List ℕ) : Type 0 where
   pub some : least ≤ length value
   pub short : length value ≤ most
   pub plain : All (λ b. 0x20 ≤ b) value
@@ -51,10 +51,10 @@ pub record DateIs (value : List ℕ) (n : ℕ) : Type 0 where
   pub fits : n ≤ 4294967295
 
 abbrev pub ValueFits : Field → List ℕ → Type 0
-ValueFits From value = TextFits 1 36 value
-ValueFits To value = TextFits 1 36 value
-ValueFits Subject value = TextFits 0 72 value
+ValueFits From value = IsPlainText 1 36 value
+ValueFits To value = IsPlainText 1 36 value
+ValueFits Subject value = IsPlainText 0 72 value
 ValueFits Date value = (n : ℕ) × DateIs value n
-ValueFits Msgid value = TextFits 1 80 value
-ValueFits Reply value = TextFits 1 80 value
+ValueFits Msgid value = IsPlainText 1 80 value
+ValueFits Reply value = IsPlainText 1 80 value
 ValueFits Private value = (value ≡ codes "yes") ⊎ (value ≡ codes "no")

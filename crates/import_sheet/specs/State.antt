@@ -1,7 +1,7 @@
 -- What the reader knows between two lines.
 use Rattle.std.specs.Prelude.{◌≡◌, ◌≢◌, ℕ, ◌+◌, ◌<◌, ◌^◌, List, [], ◌∷◌, ◌++◌, length, Option, Some, None, MatchOption}
 use Rattle.std.specs.Borrow.{Bor}
-use Rattle.import_sheet.specs.Sheet.{HasNone, Gives, BodyLines, SheetIs, body_text, dot}
+use Rattle.import_sheet.specs.Sheet.{HasNone, HeaderGives, BodyLines, SheetIs, stored_body, dot}
 use Rattle.import_sheet.specs.Fault.{WholeHeaders, BodyBreaks, MessageFault}
 use Rattle.import_sheet.specs.declared.fault.SheetError.{SheetError}
 use Rattle.import_sheet.specs.declared.fault.SheetError.TheVariants.{Line, OutOfMemory}
@@ -24,14 +24,14 @@ pub record Ahead (all : List (List ℕ)) (number : ℕ) (left : List (List ℕ))
 abbrev pub StartsWithText : List (List ℕ) → Type 0
 StartsWithText all = (line : List ℕ) × (more : List (List ℕ)) × (all ≡ line ∷ more) × (line ≢ [])
 
-abbrev pub value_of : Found → Field → Option (Bor (List ℕ))
-value_of found From = found.from
-value_of found To = found.to
-value_of found Subject = found.subject
-value_of found Date = found.date
-value_of found Msgid = found.msgid
-value_of found Reply = found.reply
-value_of found Private = found.private
+abbrev pub value_in : Found → Field → Option (Bor (List ℕ))
+value_in found From = found.from
+value_in found To = found.to
+value_in found Subject = found.subject
+value_in found Date = found.date
+value_in found Msgid = found.msgid
+value_in found Reply = found.reply
+value_in found Private = found.private
 
 abbrev pub with_value : Found → Field → Bor (List ℕ) → Found
 with_value found From value = record found { from = Some value }
@@ -43,13 +43,13 @@ with_value found Reply value = record found { reply = Some value }
 with_value found Private value = record found { private = Some value }
 
 -- for each field the value that one of the lines gives, or none
-abbrev pub Holds : List (List ℕ) → Found → Type 0
-Holds headers found = (field : Field) → MatchOption (value_of found field) (HasNone headers field) (λ value. Gives headers field value.now)
+abbrev pub HoldsValues : List (List ℕ) → Found → Type 0
+HoldsValues headers found = (field : Field) → MatchOption (value_in found field) (HasNone headers field) (λ value. HeaderGives headers field value.now)
 
 -- the text of a value, or the empty one
-abbrev pub text_of : Option (Bor (List ℕ)) → List ℕ
-text_of None = []
-text_of (Some value) = value.now
+abbrev pub text_or_empty : Option (Bor (List ℕ)) → List ℕ
+text_or_empty None = []
+text_or_empty (Some value) = value.now
 
 -- a line with a number breaks a rule so, or there was no memory
 abbrev pub FaultOrMemory : (ℕ → SheetRule → Type 0) → SheetError → Type 0
@@ -62,11 +62,11 @@ FaultAt all number line rule = (place : ℕ) × (line ≡ number + place) × Mes
 
 -- header lines with these values, and the empty line behind them
 abbrev pub HeadersTaken : List (List ℕ) → ℕ → Found → List (List ℕ) → ℕ → Type 0
-HeadersTaken all number found left at = (headers : List (List ℕ)) × WholeHeaders headers × Holds headers found × Ahead all number left at (headers ++ [] ∷ [])
+HeadersTaken all number found left at = (headers : List (List ℕ)) × WholeHeaders headers × HoldsValues headers found × Ahead all number left at (headers ++ [] ∷ [])
 
 -- body lines of this text, and the line of one dot behind them
 abbrev pub BodyTaken : List (List ℕ) → ℕ → List ℕ → List (List ℕ) → ℕ → Type 0
-BodyTaken all number text left at = (body : List (List ℕ)) × BodyLines body × (text ≡ body_text body) × Ahead all number left at (body ++ dot ∷ [])
+BodyTaken all number text left at = (body : List (List ℕ)) × BodyLines body × (text ≡ stored_body body) × Ahead all number left at (body ++ dot ∷ [])
 
 -- behind body lines, a line breaks this rule or isn't there
 abbrev pub BodyFaultAt : List (List ℕ) → ℕ → ℕ → SheetRule → Type 0

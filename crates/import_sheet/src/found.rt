@@ -1,7 +1,7 @@
 ghost use Rattle.std.specs.Prelude.{◌≡◌, ◌≢◌, [], ◌++◌, ◌∷◌, ℕ, List, MatchResult, IfOk, IsTrue, ◌↔◌, codes};
-ghost use Rattle.import_sheet.specs.Sheet.{Headers, FieldsAre, Gives, GivesDate, Has};
+ghost use Rattle.import_sheet.specs.Sheet.{Headers, FieldsAre, HeaderGives, HeaderGivesDate, Has};
 ghost use Rattle.import_sheet.specs.Fault.{LineBreaks, WholeHeaders};
-ghost use Rattle.import_sheet.specs.State.{value_of, with_value, Holds, text_of};
+ghost use Rattle.import_sheet.specs.State.{value_in, with_value, HoldsValues, text_or_empty};
 ghost use Rattle.import_sheet.specs.declared.field.Field.TheVariants as field;
 
 use crate::fault::SheetRule;
@@ -25,7 +25,7 @@ pub struct Found<'a> {
 
 /// A copy of the value, or an empty text where there is none.
 fn text(alloc: Global, value: Option<&[u8]>) -> Result<Bytes, AllocError>
-    ensures { IfOk result (λ made. made ≡ text_of value.entry) }
+    ensures { IfOk result (λ made. made ≡ text_or_empty value.entry) }
 {
     match value {
         Some(value) => Bytes::from_slice(alloc, value),
@@ -36,7 +36,7 @@ fn text(alloc: Global, value: Option<&[u8]>) -> Result<Bytes, AllocError>
 impl<'a> Found<'a> {
     /// No values.
     pub fn none() -> Found<'a>
-        ensures { Holds [] result }
+        ensures { HoldsValues [] result }
     {
         Found {
             from: None,
@@ -51,7 +51,7 @@ impl<'a> Found<'a> {
 
     /// The value of a field, where its line was there.
     fn get(self, field: Field) -> Option<&'a [u8]>
-        ensures { result ≡ value_of self.entry field }
+        ensures { result ≡ value_in self.entry field }
     {
         match field {
             Field::From => self.from,
@@ -84,7 +84,7 @@ impl<'a> Found<'a> {
     /// The values with those of one header line more, or the rule that the line breaks. It isn't empty.
     pub fn with_line(self, line: &'a [u8]) -> Result<Found<'a>, SheetRule>
         requires { line.now ≢ [] }
-        ensures { (headers : List (List ℕ)) → Headers headers → Holds headers self.entry → MatchResult result (λ found. Headers (headers ++ line.now ∷ []) × Holds (headers ++ line.now ∷ []) found) (LineBreaks headers line.now) }
+        ensures { (headers : List (List ℕ)) → Headers headers → HoldsValues headers self.entry → MatchResult result (λ found. Headers (headers ++ line.now ∷ []) × HoldsValues (headers ++ line.now ∷ []) found) (LineBreaks headers line.now) }
     {
         let Some((field, value)) = field_of(line) else {
             return Err(SheetRule::Header);
@@ -100,14 +100,14 @@ impl<'a> Found<'a> {
 
     /// Whether From and To were there.
     pub fn is_whole(self) -> bool
-        ensures { (headers : List (List ℕ)) → Holds headers self.entry → (IsTrue result ↔ Has headers field.From × Has headers field.To) }
+        ensures { (headers : List (List ℕ)) → HoldsValues headers self.entry → (IsTrue result ↔ Has headers field.From × Has headers field.To) }
     {
         self.from.is_some() && self.to.is_some()
     }
 
     /// The date, where its line was there.
     fn date(self) -> Option<u32>
-        ensures { (headers : List (List ℕ)) → Headers headers → Holds headers self.entry → GivesDate headers result }
+        ensures { (headers : List (List ℕ)) → Headers headers → HoldsValues headers self.entry → HeaderGivesDate headers result }
     {
         match self.date {
             Some(value) => date_of(value),
@@ -117,7 +117,7 @@ impl<'a> Found<'a> {
 
     /// Whether a line said `yes`.
     fn private(self) -> bool
-        ensures { (headers : List (List ℕ)) → Headers headers → Holds headers self.entry → (IsTrue result ↔ Gives headers field.Private (codes "yes")) }
+        ensures { (headers : List (List ℕ)) → Headers headers → HoldsValues headers self.entry → (IsTrue result ↔ HeaderGives headers field.Private (codes "yes")) }
     {
         match self.private {
             Some(value) => says_yes(value),
@@ -127,7 +127,7 @@ impl<'a> Found<'a> {
 
     /// The message of these headers and this body.
     pub fn sheet(self, alloc: Global, body: Bytes) -> Result<Sheet, AllocError>
-        ensures fields { (headers : List (List ℕ)) → WholeHeaders headers → Holds headers self.entry → IfOk result (FieldsAre headers) }
+        ensures fields { (headers : List (List ℕ)) → WholeHeaders headers → HoldsValues headers self.entry → IfOk result (FieldsAre headers) }
         ensures text { IfOk result (λ sheet. sheet.body ≡ body) }
     {
         Ok(Sheet {

@@ -1,4 +1,5 @@
-use byte_lists::{Bytes, List};
+use byte_lists::{Bytes, Duplicate, List};
+use std::alloc::{AllocError, Global};
 
 /// The messages of a file, in its order.
 pub type Sheets = List<Sheet>;
@@ -22,4 +23,19 @@ pub struct Sheet {
     pub private: bool,
     /// The text, each line with a carriage return behind it, at most 16,384 bytes.
     pub body: Bytes,
+}
+
+impl Duplicate for Sheet {
+    fn duplicate(&self, alloc: Global) -> Result<Sheet, AllocError> {
+        Ok(Sheet {
+            from: self.from.copy(alloc)?,
+            to: self.to.copy(alloc)?,
+            subject: self.subject.copy(alloc)?,
+            date: self.date,
+            msgid: self.msgid.copy(alloc)?,
+            reply: self.reply.copy(alloc)?,
+            private: self.private,
+            body: self.body.copy(alloc)?,
+        })
+    }
 }

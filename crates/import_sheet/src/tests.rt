@@ -65,7 +65,8 @@ fn reads_the_example_once_and_twice(rt: HostRuntime) -> Result<(), Fail> {
     text.add(HELLO)?;
     let sheets = read(rt.alloc(), text.as_slice())?;
     assert_eq!(&rt; sheets.len(), 2);
-    assert_hello(&rt, sheets.get(1).ok_or("no second sheet")?);
+    let copy = sheets.copy(rt.alloc())?;
+    assert_hello(&rt, copy.get(1).ok_or("no second sheet")?);
     Ok(())
 }
 

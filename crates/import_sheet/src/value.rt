@@ -1,5 +1,5 @@
 ghost use Rattle.std.specs.Prelude.{◌≡◌, ◌⊎◌, ◌≤◌, ◌↔◌, ℕ, All, IsTrue, MatchOption, codes};
-ghost use Rattle.import_sheet.specs.Header.{TextFits, DateIs, ValueFits};
+ghost use Rattle.import_sheet.specs.Header.{IsPlainText, DateIs, ValueFits};
 
 use crate::field::Field;
 use text_fields::digits_of;
@@ -13,7 +13,7 @@ fn is_plain(value: &[u8]) -> bool
 
 /// Whether a text has so many bytes at least and at most, and none below 20h.
 fn text_fits(value: &[u8], least: usize, most: usize) -> bool
-    ensures { IsTrue result ↔ TextFits least most value.now }
+    ensures { IsTrue result ↔ IsPlainText least most value.now }
 {
     if value.len() < least {
         return false;

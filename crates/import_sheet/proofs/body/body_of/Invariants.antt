@@ -1,6 +1,6 @@
 use Rattle.std.proofs.Common.{◌≡◌, ℕ, List, length}
 use Rattle.std.specs.Str.Lines.{lines}
-use Rattle.import_sheet.specs.Sheet.{BodyLines, body_text}
+use Rattle.import_sheet.specs.Sheet.{BodyLines, stored_body}
 use Rattle.import_sheet.specs.State.{IsNumbered, Ahead}
 use Rattle.import_sheet.proofs.body.body_of.Given as goal
 
@@ -9,7 +9,7 @@ abbrev pub invariant-loop-line : goal.invariant-loop-line
 invariant-loop-line l = record {
   taken : List (List ℕ);
   bodied : BodyLines taken;
-  text : l.body ≡ body_text taken;
+  text : l.body ≡ stored_body taken;
   ahead : Ahead (lines l.start.text.now) l.start.line (lines l.here.text.now) l.here.line taken;
   numbered : IsNumbered (lines l.here.text.now) l.here.line;
 }
