@@ -148,6 +148,31 @@ fn names_the_first_failing_line(rt: HostRuntime) -> Result<(), Fail> {
 }
 
 #[test]
+fn names_the_first_of_two_lines_that_break_a_rule(rt: HostRuntime) -> Result<(), Fail> {
+    for (text, wanted) in [
+        (b"x\ny\n".as_slice(), (1, SheetRule::Header)),
+        (b"From: A\nFrom: B\nFrom: C\n", (2, SheetRule::Twice)),
+        (b"From:\nTo: B\n\n.\nFrom:\n", (1, SheetRule::From)),
+        (b"From: A\nTo:\nTo:\n", (2, SheetRule::To)),
+        (b"Subject: \x01\nSubject: \x02\n", (1, SheetRule::Subject)),
+        (b"Date: x\nDate: y\n", (1, SheetRule::Date)),
+        (b"Msgid:\nMsgid:\n", (1, SheetRule::Msgid)),
+        (b"Reply:\nReply:\n", (1, SheetRule::Reply)),
+        (b"Private: x\nPrivate: y\n", (1, SheetRule::Private)),
+        (b"From: A\n\nTo: B\n\n", (2, SheetRule::Missing)),
+        (b"From: A\nTo: B\n\na\rb\nc\rd\n", (4, SheetRule::Byte)),
+    ] {
+        assert_eq!(&rt; fault(rt.alloc(), text), Some(wanted));
+    }
+    let text = around(rt.alloc(), HEADS, b'\n', 16_400, b"")?;
+    assert_eq!(&rt;
+        fault(rt.alloc(), text.as_slice()),
+        Some((16_388, SheetRule::Length))
+    );
+    Ok(())
+}
+
+#[test]
 fn keeps_the_limits(rt: HostRuntime) -> Result<(), Fail> {
     for (front, most, rule) in [
         (b"From: ".as_slice(), 36, SheetRule::From),
