@@ -51,7 +51,8 @@ pub data BodyBreaks (body rest : List (List ℕ)) (rule : SheetRule) : Type 0 wh
 -- the lines begin a message rightly, and the line in this place, from 0, breaks this rule, or isn't there
 pub data MessageFault (all : List (List ℕ)) (place : ℕ) (rule : SheetRule) : Type 0 where
   in_headers : (headers rest : List (List ℕ)) → all ≡ headers ++ rest → Headers headers → HeaderBreaks headers rest rule → place ≡ length headers → MessageFault all place rule
-  in_body : (headers body rest : List (List ℕ)) → all ≡ headers ++ [] ∷ (body ++ rest) → WholeHeaders headers → BodyLines body → BodyBreaks body rest rule → place ≡ length headers + 1 + length body → MessageFault all place rule
+  in_body : (headers body rest : List (List ℕ)) → all ≡ headers ++ [] ∷ (body ++ rest)
+      → WholeHeaders headers → BodyLines body → BodyBreaks body rest rule → place ≡ length headers + 1 + length body → MessageFault all place rule
 
 -- the first lines are whole messages and empty lines, and the message that then begins has this fault
 pub record LinesFault (all : List (List ℕ)) (number : ℕ) (rule : SheetRule) : Type 0 where
