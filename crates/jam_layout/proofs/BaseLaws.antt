@@ -15,7 +15,7 @@ use Rattle.jam_records.specs.declared.base_header.BaseHeader.{BaseHeader}
 use Rattle.jam_records.proofs.HeaderLemmas.{base_stands}
 use Rattle.jam_layout.specs.Layout.{wrong_base, base_rules}
 use Rattle.jam_layout.specs.declared.shape.Shape.{Shape}
-use Rattle.jam_layout.proofs.KeptRules.{Kept}
+use Rattle.damage_rules.proofs.KeptRules.{Kept}
 use Rattle.record_numbers.proofs.NumberFronts.{numbers_front}
 use Rattle.jam_layout.proofs.BoolTests.{or_false, not_not, both_false, equal, unequal}
 

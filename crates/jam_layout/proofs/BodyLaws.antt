@@ -4,12 +4,12 @@ use Rattle.std.proofs.lemmas.Bool.{ltb-false, le-ltb, cases_lt}
 use Rattle.std.proofs.lemmas.Bool.Decides.{nat_tests}
 use Rattle.std.proofs.lemmas.List.{drop_at, take_at, take-append-drop, nil_from_length, length-take, get_or-take, get_or_append_left}
 use Rattle.jam_records.specs.declared.damage.DamageRule.TheVariants.{Rest}
-use Rattle.jam_layout.specs.Rules.{by_rules, ◌>>=◌}
+use Rattle.damage_rules.specs.Rules.{by_rules, ◌>>=◌}
 use Rattle.door_outside.specs.File.{jdt_file}
 use Rattle.jam_layout.specs.Bodies.{body_rules, with_body, message_with, bodies_at, bodies_text}
 use Rattle.jam_layout.specs.Messages.{IsBody}
 use Rattle.jam_layout.specs.declared.entry.Entry.{Entry}
-use Rattle.jam_layout.proofs.KeptRules.{Kept, rules_kept, kept_rules, bind_ok, ok_is}
+use Rattle.damage_rules.proofs.KeptRules.{Kept, rules_kept, kept_rules, bind_ok, ok_is}
 
 -- an entry as its header alone shows it
 abbrev pub bare : Entry → Entry

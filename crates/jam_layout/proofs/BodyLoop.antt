@@ -6,10 +6,11 @@ use Rattle.jam_records.specs.declared.damage.Damage.{Damage}
 use Rattle.jam_records.specs.declared.damage.DamageRule.TheVariants.{Rest}
 use Rattle.jam_layout.specs.declared.error.BaseError.{BaseError}
 use Rattle.jam_layout.specs.declared.entry.Entry.{Entry}
-use Rattle.jam_layout.specs.Rules.{by_rules, Fails}
+use Rattle.damage_rules.specs.Rules.{by_rules}
+use Rattle.jam_layout.specs.Rules.{told, Fails}
 use Rattle.door_outside.specs.File.{jdt_file}
 use Rattle.jam_layout.specs.Bodies.{body_rules, with_body, bodies_at}
-use Rattle.jam_layout.proofs.KeptRules.{with_front, one_more, one_fails}
+use Rattle.damage_rules.proofs.KeptRules.{with_front, one_more, one_fails}
 
 abbrev pub step : ℕ → ℕ → Entry → List ℕ → Result (List ℕ) Damage
 step place i h bytes = by_rules (jdt_file place) i (body_rules h.text_len bytes) (take h.text_len bytes)
@@ -35,7 +36,7 @@ pub fails : (place i j : ℕ) (headers : List Entry) (h : Entry) (front : List E
     → drop j headers ≡ h ∷ drop (j + 1) headers → Fails e (step place i h bytes)
     → with_front front (bodies_at place i (drop j headers) bytes) ≡ total → Fails e total
 fails place i j headers h front bytes e total is one so_far =
-    one_fails front (bodies_at place i (drop j headers) bytes) (bodies_at place (i + 1) (drop (j + 1) headers) (drop h.text_len bytes)) total (step place i h bytes) (with_body h) e (ap (λ hs. bodies_at place i hs bytes) is) one so_far
+    one_fails front (bodies_at place i (drop j headers) bytes) (bodies_at place (i + 1) (drop (j + 1) headers) (drop h.text_len bytes)) total (step place i h bytes) (with_body h) (told e) (ap (λ hs. bodies_at place i hs bytes) is) one so_far
 
 at_end : (place i j : ℕ) (headers : List Entry) (front : List Entry) (bytes : List ℕ) (total : Result (List Entry) Damage) (b : Bool) → length headers ≤ j → eqb (length bytes) 0 ≡ b
     → with_front front (bodies_at place i (drop j headers) bytes) ≡ total → total ≡ with_front front (by_rules (jdt_file place) i ((Rest, not b) ∷ []) [])

@@ -15,9 +15,9 @@ use Rattle.jam_records.specs.declared.message.Kind.{Kind}
 use Rattle.jam_records.specs.declared.message.Slot.{Slot}
 use Rattle.jam_threads.specs.Links.{link_of}
 use Rattle.jam_threads.specs.declared.link.Link.{Link}
-use Rattle.jam_layout.specs.Rules.{by_rules, ◌>>=◌}
+use Rattle.damage_rules.specs.Rules.{by_rules, ◌>>=◌, damage_of}
 use Rattle.door_outside.specs.File.{jhr_file, jdx_file}
-use Rattle.jam_layout.specs.Walk.{walk}
+use Rattle.damage_rules.specs.Walk.{walk}
 use Rattle.jam_layout.specs.Headers.{header_at, entries_at, headers_text, start}
 use Rattle.jam_layout.specs.SecondPass.{slots_of, active_in, links_at, second_pass}
 use Rattle.jam_layout.specs.Bodies.{bodies_at, bodies_text}
@@ -25,12 +25,12 @@ use Rattle.jam_layout.specs.Index.{Pending, slot_at, slots_at, index_records}
 use Rattle.jam_layout.specs.Readers.{pointers_at}
 use Rattle.jam_layout.specs.Conference.{is_live, live_count}
 use Rattle.jam_layout.specs.declared.conference.Conference.{Conference}
-use Rattle.jam_layout.specs.Layout.{entries_of, base_rules, layout, conference_of, damage_of, base_damage}
+use Rattle.jam_layout.specs.Layout.{entries_of, base_rules, layout, conference_of, base_damage}
 use Rattle.jam_layout.specs.Valid.{IsShape, ShapeFits, FilesFit, IsConference}
 use Rattle.jam_layout.specs.declared.entry.Entry.{Entry}
 use Rattle.jam_layout.specs.declared.files.BaseFiles.{BaseFiles}
 use Rattle.jam_layout.specs.declared.shape.Shape.{Shape}
-use Rattle.jam_layout.proofs.KeptRules.{rules_kept, kept_rules, bind_ok, ok_is}
+use Rattle.damage_rules.proofs.KeptRules.{rules_kept, kept_rules, bind_ok, ok_is}
 use Rattle.record_numbers.proofs.NumberFronts.{u32_small}
 use Rattle.jam_layout.proofs.EntryLaws.{HeadersFit, headers_take, headers_again}
 use Rattle.jam_layout.proofs.BodyLaws.{bare, BodiesFit, bodies_take, bodies_again}

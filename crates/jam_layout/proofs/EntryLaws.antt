@@ -12,17 +12,17 @@ use Rattle.jam_records.specs.declared.message.Kind.{Kind}
 use Rattle.jam_records.specs.declared.message.Message.{Message}
 use Rattle.jam_records.specs.declared.message_header.MessageHeader.{MessageHeader}
 use Rattle.jam_records.proofs.HeaderLemmas.{header_stands}
-use Rattle.jam_layout.specs.Rules.{◌>>=◌}
+use Rattle.damage_rules.specs.Rules.{◌>>=◌}
 use Rattle.door_outside.specs.File.{jhr_file}
-use Rattle.jam_layout.specs.Walk.{Step, walk_from, walk}
+use Rattle.damage_rules.specs.Walk.{Step, walk_from, walk}
 use Rattle.jam_layout.specs.Fields.{subfields_of, values_at}
 use Rattle.jam_layout.specs.Marks.{attribute_of, is_net}
 use Rattle.jam_layout.specs.Headers.{values_of, header_rules, message_of, entry_of, behind, step_of, header_at, marks_in, message_header, entry_text, headers_text, header_size}
 use Rattle.jam_layout.specs.declared.entry.Entry.{Entry}
 use Rattle.jam_layout.specs.declared.entry.Front.{Front}
 use Rattle.jam_layout.specs.declared.fields.Values.{Values}
-use Rattle.jam_layout.proofs.KeptRules.{Kept, rules_kept, kept_rules, bind_ok, ok_is}
-use Rattle.jam_layout.proofs.RecordWalks.{walk_more, walk_done, behind_first, drop_one}
+use Rattle.damage_rules.proofs.KeptRules.{Kept, rules_kept, kept_rules, bind_ok, ok_is}
+use Rattle.damage_rules.proofs.RecordWalks.{walk_more, walk_done, behind_first, drop_one}
 use Rattle.record_numbers.proofs.NumberFronts.{u32_small}
 use Rattle.jam_layout.proofs.RecordFronts.{header_front}
 use Rattle.jam_layout.proofs.ValueLaws.{HasValues, RightTexts, right_texts, values_take, values_again, message_values, maybe_back, right_by_texts}

@@ -8,7 +8,7 @@ use Rattle.record_numbers.specs.Numbers.{u16_at}
 use Rattle.jam_records.specs.Signature.{signature}
 use Rattle.jam_records.specs.declared.damage.DamageRule.{DamageRule}
 use Rattle.jam_records.specs.declared.damage.DamageRule.TheVariants.{Short, Signature, Revision}
-use Rattle.jam_layout.specs.Rules.{first_broken}
+use Rattle.damage_rules.specs.Rules.{first_broken}
 use Rattle.jam_layout.specs.Headers.{front_rules}
 
 named : Bool → Bool → Bool → Option DamageRule

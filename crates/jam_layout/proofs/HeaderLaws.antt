@@ -14,7 +14,7 @@ use Rattle.jam_layout.specs.Marks.{wrong_attribute}
 use Rattle.jam_layout.specs.Headers.{wrong_fields, wrong_number, wrong_text, wrong_crc, values_of, front_rules, field_rules, length_rules, value_rules, header_rules}
 use Rattle.jam_layout.specs.declared.entry.Front.{Front}
 use Rattle.jam_layout.specs.declared.fields.Values.{Values}
-use Rattle.jam_layout.proofs.KeptRules.{Kept, kept_both, both_kept}
+use Rattle.damage_rules.proofs.KeptRules.{Kept, kept_both, both_kept}
 use Rattle.jam_layout.proofs.BoolTests.{or_false, not_not, both_false, equal, unequal}
 
 -- ---- the rules of a header as facts

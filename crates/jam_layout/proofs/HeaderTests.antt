@@ -6,7 +6,8 @@ use Rattle.jam_records.specs.declared.damage.Damage.{Damage}
 use Rattle.jam_records.specs.declared.damage.DamageRule.{DamageRule}
 use Rattle.jam_records.specs.declared.damage.DamageRule.TheVariants.{Subfields}
 use Rattle.jam_records.specs.declared.message_header.MessageHeader.{MessageHeader}
-use Rattle.jam_layout.specs.Rules.{Rules, first_broken, unless_broken, by_rules, ◌>>=◌, Fails}
+use Rattle.damage_rules.specs.Rules.{Rules, first_broken, unless_broken, by_rules, ◌>>=◌}
+use Rattle.jam_layout.specs.Rules.{told, Fails}
 use Rattle.door_outside.specs.File.{jhr_file}
 use Rattle.jam_layout.specs.declared.error.BaseError.{BaseError}
 use Rattle.jam_layout.specs.declared.error.BaseError.TheVariants.{Damaged, OutOfMemory}
@@ -18,7 +19,7 @@ use Rattle.jam_layout.specs.Fields.{values_at}
 use Rattle.jam_layout.specs.Headers.{front_rules, field_rules, length_rules, value_rules, header_rules, values_of, entry_of, step_of, header_at}
 use Rattle.jam_layout.specs.declared.fields.Values.{Values}
 use Rattle.jam_layout.proofs.HeaderLaws.{keep}
-use Rattle.jam_layout.proofs.KeptRules.{part_fails, then_fails, both_pass, in_parts, step_fails, rules_kept, kept_rules}
+use Rattle.damage_rules.proofs.KeptRules.{part_fails, then_fails, both_pass, in_parts, step_fails, rules_kept, kept_rules}
 
 long_fails : (h : MessageHeader) (bytes : List ℕ) → length bytes < 76 + h.subfield_len → first_broken (length_rules h bytes) ≡ Some Subfields
 unfolding length_rules
@@ -84,7 +85,7 @@ split place kind f bytes =
 pub fixed_stops : (place : ℕ) (kind : Kind) (f : Front) (bytes : List ℕ) (e : BaseError) → Fails e (fixed place kind f bytes) → Fails e (header_at place kind f bytes)
 fixed_stops place kind f bytes e h =
     let x : MessageHeader = message_header_at bytes in
-    rw (split place kind f bytes) (step_fails e (fixed place kind f bytes) (λ y. by_rules (jhr_file place) f.item (length_rules x bytes ++ value_rules x (values_of x bytes)) (step_of f x (values_of x bytes))) h)
+    rw (split place kind f bytes) (step_fails (told e) (fixed place kind f bytes) (λ y. by_rules (jhr_file place) f.item (length_rules x bytes ++ value_rules x (values_of x bytes)) (step_of f x (values_of x bytes))) h)
 
 fixed_is : (place : ℕ) (kind : Kind) (f : Front) (bytes : List ℕ) (h : MessageHeader) → fixed place kind f bytes ≡ Ok h → message_header_at bytes ≡ h
 fixed_is place kind f bytes h e = (rules_kept (jhr_file place) f.item (front_rules bytes ++ field_rules kind f (message_header_at bytes)) (message_header_at bytes) h e).1

@@ -14,15 +14,15 @@ use Rattle.jam_records.specs.declared.message.Slot.{Slot}
 use Rattle.jam_records.specs.declared.message.Slot.TheVariants.{Gone, Held}
 use Rattle.jam_records.proofs.HeaderLemmas.{index_stands}
 use Rattle.jam_threads.specs.declared.link.Link.{Link}
-use Rattle.jam_layout.specs.Rules.{by_rules, ◌>>=◌}
+use Rattle.damage_rules.specs.Rules.{by_rules, ◌>>=◌}
 use Rattle.door_outside.specs.File.{jdx_file}
-use Rattle.jam_layout.specs.Walk.{Step, walk_from, walk}
+use Rattle.damage_rules.specs.Walk.{Step, walk_from, walk}
 use Rattle.jam_layout.specs.Headers.{header_size}
 use Rattle.jam_layout.specs.Layout.{entries_of}
 use Rattle.jam_layout.specs.Index.{index_records, Pending, Expected, none_here, one_here, expected_of, expected, index_rules, slot_at}
 use Rattle.jam_layout.specs.declared.entry.Entry.{Entry}
-use Rattle.jam_layout.proofs.KeptRules.{Kept, rules_kept, kept_rules, bind_ok, ok_is}
-use Rattle.jam_layout.proofs.RecordWalks.{walk_more, walk_done, behind_first, drop_one}
+use Rattle.damage_rules.proofs.KeptRules.{Kept, rules_kept, kept_rules, bind_ok, ok_is}
+use Rattle.damage_rules.proofs.RecordWalks.{walk_more, walk_done, behind_first, drop_one}
 use Rattle.jam_layout.proofs.RecordFronts.{index_front}
 use Rattle.jam_layout.proofs.BoolTests.{or_false, both_false, equal, unequal}
 

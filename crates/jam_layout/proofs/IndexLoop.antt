@@ -7,12 +7,13 @@ use Rattle.jam_records.specs.declared.damage.DamageRule.TheVariants.{Count, Miss
 use Rattle.jam_layout.specs.declared.error.BaseError.{BaseError}
 use Rattle.jam_layout.specs.declared.entry.Entry.{Entry}
 use Rattle.jam_records.specs.declared.message.Slot.{Slot}
-use Rattle.jam_layout.specs.Rules.{by_rules, ◌>>=◌, Fails}
+use Rattle.damage_rules.specs.Rules.{by_rules, ◌>>=◌}
+use Rattle.jam_layout.specs.Rules.{told, Fails}
 use Rattle.door_outside.specs.File.{jdx_file}
-use Rattle.jam_layout.specs.Walk.{walk}
+use Rattle.damage_rules.specs.Walk.{walk}
 use Rattle.jam_layout.specs.Index.{Pending, slot_at, slots_at}
-use Rattle.jam_layout.proofs.KeptRules.{kept_rules, step_fails}
-use Rattle.jam_layout.proofs.RecordWalks.{walk_behind, ends, is_done}
+use Rattle.damage_rules.proofs.KeptRules.{kept_rules, step_fails}
+use Rattle.damage_rules.proofs.RecordWalks.{walk_behind, ends, is_done}
 
 abbrev begin : ℕ → List Entry → Pending
 begin at entries = record { item = 0; at = at; entries = entries }
@@ -26,7 +27,7 @@ opened place at entries bytes few = ap (λ x. x >>= λ k. walk (slot_at place) (
 
 pub slots_fail : (place at : ℕ) (entries : List Entry) (bytes : List ℕ) (front : List Slot) (s : Pending) (rest : List ℕ) (e : BaseError) → length bytes / 8 ≤ 9999 → 0 < length rest → Fails e (slot_at place s rest)
     → walk_behind front (walk (slot_at place) s rest) ≡ walk (slot_at place) (begin at entries) bytes → Fails e (slots_at place at entries bytes)
-slots_fail place at entries bytes front s rest e few some h so_far = rw (opened place at entries bytes few) (step_fails e (walk (slot_at place) (begin at entries) bytes) (last_rule place) (ends (slot_at place) s rest front e (walk (slot_at place) (begin at entries) bytes) some h so_far))
+slots_fail place at entries bytes front s rest e few some h so_far = rw (opened place at entries bytes few) (step_fails (told e) (walk (slot_at place) (begin at entries) bytes) (last_rule place) (ends (slot_at place) s rest front (told e) (walk (slot_at place) (begin at entries) bytes) some h so_far))
 
 ended : (place at : ℕ) (entries : List Entry) (bytes : List ℕ) (front : List Slot) (s : Pending) (rest : List ℕ) (b : Bool) → length bytes / 8 ≤ 9999 → length rest ≡ 0 → eqb (length s.entries) 0 ≡ b
     → walk_behind front (walk (slot_at place) s rest) ≡ walk (slot_at place) (begin at entries) bytes → slots_at place at entries bytes ≡ by_rules (jdx_file place) s.item ((Missing, not b) ∷ []) front

@@ -9,15 +9,16 @@ use Rattle.jam_records.specs.declared.damage.Damage.{Damage}
 use Rattle.jam_records.specs.declared.message.Message.{Message}
 use Rattle.jam_records.specs.declared.message.Slot.{Slot}
 use Rattle.jam_records.specs.declared.message.Slot.TheVariants.{Gone, Held}
-use Rattle.jam_layout.specs.Rules.{first_broken, by_rules, Fails}
+use Rattle.damage_rules.specs.Rules.{first_broken, by_rules}
+use Rattle.jam_layout.specs.Rules.{Fails}
 use Rattle.door_outside.specs.File.{jdx_file}
-use Rattle.jam_layout.specs.Walk.{Step}
+use Rattle.damage_rules.specs.Walk.{Step}
 use Rattle.jam_layout.specs.Headers.{header_size}
 use Rattle.jam_layout.specs.Index.{no_pair, pair_of, Pending, Expected, none_here, one_here, is_next, expected_of, index_rules, slot_at}
 use Rattle.jam_layout.specs.declared.entry.Entry.{Entry}
 use Rattle.jam_layout.specs.declared.error.BaseError.{BaseError}
 use Rattle.jam_layout.proofs.HeaderTests.{value_free}
-use Rattle.jam_layout.proofs.KeptRules.{Kept, rules_kept, kept_rules}
+use Rattle.damage_rules.proofs.KeptRules.{Kept, rules_kept, kept_rules}
 use Rattle.jam_layout.proofs.IndexLaws.{expected_held}
 
 abbrev pair : ℕ → ℕ → IndexRecord

@@ -1,5 +1,3 @@
-pub mod KeptRules
-pub mod RecordWalks
 pub mod RecordFronts
 pub mod FieldLaws
 pub mod InOrderLaws

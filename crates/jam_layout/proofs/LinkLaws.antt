@@ -13,14 +13,14 @@ use Rattle.jam_threads.specs.Children.{has_msgid, first_of_id, number_at, origin
 use Rattle.jam_threads.specs.Links.{first_in, following, link_of}
 use Rattle.jam_threads.specs.declared.link.Link.{Link}
 use Rattle.jam_threads.proofs.ChildrenLemmas.{link_same}
-use Rattle.jam_layout.specs.Rules.{by_rules, ◌>>=◌}
+use Rattle.damage_rules.specs.Rules.{by_rules, ◌>>=◌}
 use Rattle.door_outside.specs.File.{jhr_file}
 use Rattle.jam_layout.specs.Layout.{entries_of}
 use Rattle.jam_layout.specs.Bodies.{message_with}
 use Rattle.jam_layout.specs.Conference.{is_live, live_count}
 use Rattle.jam_layout.specs.SecondPass.{slots_of, active_in, same_link, links_at}
 use Rattle.jam_layout.specs.declared.entry.Entry.{Entry}
-use Rattle.jam_layout.proofs.KeptRules.{rules_kept, kept_rules, bind_ok}
+use Rattle.damage_rules.proofs.KeptRules.{rules_kept, kept_rules, bind_ok}
 use Rattle.jam_layout.proofs.BodyLaws.{bare}
 use Rattle.jam_layout.proofs.IndexLaws.{first_number}
 use Rattle.jam_layout.proofs.BoolTests.{not_not}

@@ -12,13 +12,13 @@ use Rattle.jam_records.specs.LastReads.{last_read_at, last_text, IsLastRead}
 use Rattle.jam_records.specs.declared.damage.DamageRule.TheVariants.{Rest}
 use Rattle.jam_records.specs.declared.last_read.LastRead.{LastRead}
 use Rattle.jam_records.proofs.HeaderLemmas.{last_stands}
-use Rattle.jam_layout.specs.Rules.{by_rules, ◌>>=◌}
+use Rattle.damage_rules.specs.Rules.{by_rules, ◌>>=◌}
 use Rattle.door_outside.specs.File.{jlr_file}
 use Rattle.jam_layout.specs.declared.reader.Reader.{Reader}
 use Rattle.jam_layout.specs.Reader.{IsReader}
 use Rattle.jam_layout.specs.Readers.{last_read, last_reads, reader_rules, pointers_at}
 use Rattle.jam_layout.specs.Valid.{PointersFit}
-use Rattle.jam_layout.proofs.KeptRules.{Kept, rules_kept, kept_rules, bind_ok, ok_is}
+use Rattle.damage_rules.proofs.KeptRules.{Kept, rules_kept, kept_rules, bind_ok, ok_is}
 use Rattle.jam_layout.proofs.RecordFronts.{last_front}
 use Rattle.jam_layout.proofs.CrcLaws.{crc_small}
 use Rattle.jam_layout.proofs.BoolTests.{or_false, both_false, equal, unequal}

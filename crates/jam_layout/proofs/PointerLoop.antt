@@ -4,12 +4,13 @@ use Rattle.std.proofs.lemmas.List.{append-nil, drop_all, drop_more}
 use Rattle.jam_records.specs.declared.damage.Damage.{Damage}
 use Rattle.jam_records.specs.declared.damage.DamageRule.TheVariants.{Rest}
 use Rattle.jam_layout.specs.declared.error.BaseError.{BaseError}
-use Rattle.jam_layout.specs.Rules.{by_rules, ◌>>=◌, Fails}
+use Rattle.damage_rules.specs.Rules.{by_rules, ◌>>=◌}
+use Rattle.jam_layout.specs.Rules.{told, Fails}
 use Rattle.record_numbers.specs.Numbers.{u32_at}
 use Rattle.door_outside.specs.File.{jlr_file}
 use Rattle.jam_layout.specs.declared.reader.Reader.{Reader}
 use Rattle.jam_layout.specs.Readers.{reader_rules, pointers_at}
-use Rattle.jam_layout.proofs.KeptRules.{with_front, regroup, step_fails}
+use Rattle.damage_rules.proofs.KeptRules.{with_front, regroup, step_fails}
 
 -- the step of a reader
 abbrev pub step : ℕ → ℕ → ℕ → Reader → List ℕ → Result ℕ Damage
@@ -31,7 +32,7 @@ fails place count j readers r front bytes e total is one so_far =
     let others : Result (List ℕ) Damage = pointers_at place count (j + 1) (drop (j + 1) readers) (drop 16 bytes) in
     let a : pointers_at place count j (drop j readers) bytes ≡ (step place count j r bytes >>= λ q. others >>= λ ps. Ok (q ∷ ps)) = ap (λ rs. pointers_at place count j rs bytes) is in
     let b : with_front front (pointers_at place count j (drop j readers) bytes) ≡ ((step place count j r bytes >>= λ q. others >>= λ ps. Ok (q ∷ ps)) >>= λ ps. Ok (front ++ ps)) = ap (with_front front) a in
-    rw (sym so_far ∙ b) (step_fails e (step place count j r bytes >>= λ q. others >>= λ ps. Ok (q ∷ ps)) (λ ps. Ok (front ++ ps)) (step_fails e (step place count j r bytes) (λ q. others >>= λ ps. Ok (q ∷ ps)) one))
+    rw (sym so_far ∙ b) (step_fails (told e) (step place count j r bytes >>= λ q. others >>= λ ps. Ok (q ∷ ps)) (λ ps. Ok (front ++ ps)) (step_fails (told e) (step place count j r bytes) (λ q. others >>= λ ps. Ok (q ∷ ps)) one))
 
 pub at_end : (place count j : ℕ) (readers : List Reader) (front bytes : List ℕ) (total : Result (List ℕ) Damage) → length readers ≤ j
     → with_front front (pointers_at place count j (drop j readers) bytes) ≡ total → total ≡ with_front front (by_rules (jlr_file place) j ((Rest, not (eqb (length bytes) 0)) ∷ []) [])

@@ -5,7 +5,7 @@ use Rattle.jam_records.specs.declared.damage.Damage.{Damage}
 use Rattle.jam_layout.specs.declared.error.BaseError.{BaseError}
 use Rattle.jam_layout.specs.declared.error.BaseError.TheVariants.{Damaged, OutOfMemory}
 use Rattle.jam_layout.specs.Rules.{Gives, UnlessMemory}
-use Rattle.jam_layout.specs.Layout.{damage_of}
+use Rattle.damage_rules.specs.Rules.{damage_of}
 
 abbrev ok : {X : Type 0} → X → Result X BaseError
 ok x = Ok x

@@ -11,7 +11,8 @@ use Rattle.jam_records.specs.declared.message.Kind.{Kind}
 use Rattle.jam_records.specs.declared.message.Slot.{Slot}
 use Rattle.jam_threads.specs.Links.{link_of}
 use Rattle.jam_threads.specs.declared.link.Link.{Link}
-use Rattle.jam_layout.specs.Rules.{by_rules, ◌>>=◌, Fails}
+use Rattle.damage_rules.specs.Rules.{by_rules, ◌>>=◌}
+use Rattle.jam_layout.specs.Rules.{told, Fails}
 use Rattle.door_outside.specs.File.{jhr_file}
 use Rattle.jam_layout.specs.Headers.{entries_at, headers_text, header_size, entry_text, start, behind}
 use Rattle.jam_layout.specs.SecondPass.{slots_of, second_pass, Numbered}
@@ -25,7 +26,7 @@ use Rattle.jam_layout.specs.declared.error.BaseError.{BaseError}
 use Rattle.jam_layout.specs.declared.files.BaseFiles.{BaseFiles}
 use Rattle.jam_layout.specs.declared.reader.Reader.{Reader}
 use Rattle.jam_layout.specs.declared.shape.Shape.{Shape}
-use Rattle.jam_layout.proofs.KeptRules.{step_fails}
+use Rattle.damage_rules.proofs.KeptRules.{step_fails}
 use Rattle.jam_layout.proofs.EntryLaws.{HeadersFit, entry_length}
 use Rattle.jam_layout.proofs.BodyLaws.{bare, bodies_take}
 use Rattle.jam_layout.proofs.LinkLaws.{LinksFit}
@@ -78,7 +79,7 @@ second_at shape files hs = second_pass shape.place (u32_at 12 files.jhr) hs
 
 pub counter_fails : (shape : Shape) (files : BaseFiles) (e : BaseError) → Fails e (base_at shape files) → Fails e (conference_of shape files)
 unfolding conference_of after_slots after_bodies after_second after_headers after_counter
-counter_fails shape files e h = step_fails e (base_at shape files) (after_counter shape files) h
+counter_fails shape files e h = step_fails (told e) (base_at shape files) (after_counter shape files) h
 
 after_base : (shape : Shape) (files : BaseFiles) (e : BaseError) (counter : ℕ) → base_at shape files ≡ Ok counter → Fails e (after_counter shape files counter) → Fails e (conference_of shape files)
 unfolding conference_of after_slots after_bodies after_second after_headers after_counter
@@ -86,7 +87,7 @@ after_base shape files e counter is h = pass e (base_at shape files) counter (af
 
 pub headers_fail : (shape : Shape) (files : BaseFiles) (e : BaseError) (counter : ℕ) → base_at shape files ≡ Ok counter → Fails e (headers_at shape files) → Fails e (conference_of shape files)
 unfolding after_counter
-headers_fail shape files e counter is h = after_base shape files e counter is (step_fails e (headers_at shape files) (after_headers shape files counter) h)
+headers_fail shape files e counter is h = after_base shape files e counter is (step_fails (told e) (headers_at shape files) (after_headers shape files counter) h)
 
 after_entries : (shape : Shape) (files : BaseFiles) (e : BaseError) (counter : ℕ) (hs : List Entry) → base_at shape files ≡ Ok counter → headers_at shape files ≡ Ok hs → Fails e (after_headers shape files counter hs) → Fails e (conference_of shape files)
 unfolding after_counter
@@ -94,7 +95,7 @@ after_entries shape files e counter hs is headers h = after_base shape files e c
 
 pub second_fails : (shape : Shape) (files : BaseFiles) (e : BaseError) (counter : ℕ) (hs : List Entry) → base_at shape files ≡ Ok counter → headers_at shape files ≡ Ok hs → Fails e (second_at shape files hs) → Fails e (conference_of shape files)
 unfolding after_headers
-second_fails shape files e counter hs is headers h = after_entries shape files e counter hs is headers (step_fails e (second_at shape files hs) (λ linked. after_second shape files counter hs) h)
+second_fails shape files e counter hs is headers h = after_entries shape files e counter hs is headers (step_fails (told e) (second_at shape files hs) (λ linked. after_second shape files counter hs) h)
 
 after_links : (shape : Shape) (files : BaseFiles) (e : BaseError) (counter : ℕ) (hs : List Entry) (u : Unit {0}) → base_at shape files ≡ Ok counter → headers_at shape files ≡ Ok hs → second_at shape files hs ≡ Ok u
     → Fails e (after_second shape files counter hs) → Fails e (conference_of shape files)
@@ -104,7 +105,7 @@ after_links shape files e counter hs u is headers second h = after_entries shape
 pub bodies_fail : (shape : Shape) (files : BaseFiles) (e : BaseError) (counter : ℕ) (hs : List Entry) (u : Unit {0}) → base_at shape files ≡ Ok counter → headers_at shape files ≡ Ok hs → second_at shape files hs ≡ Ok u
     → Fails e (bodies_at shape.place 1 hs files.jdt) → Fails e (conference_of shape files)
 unfolding after_second
-bodies_fail shape files e counter hs u is headers second h = after_links shape files e counter hs u is headers second (step_fails e (bodies_at shape.place 1 hs files.jdt) (after_bodies shape files counter) h)
+bodies_fail shape files e counter hs u is headers second h = after_links shape files e counter hs u is headers second (step_fails (told e) (bodies_at shape.place 1 hs files.jdt) (after_bodies shape files counter) h)
 
 after_texts : (shape : Shape) (files : BaseFiles) (e : BaseError) (counter : ℕ) (hs es : List Entry) (u : Unit {0}) → base_at shape files ≡ Ok counter → headers_at shape files ≡ Ok hs → second_at shape files hs ≡ Ok u → bodies_at shape.place 1 hs files.jdt ≡ Ok es
     → Fails e (after_bodies shape files counter es) → Fails e (conference_of shape files)
@@ -114,7 +115,7 @@ after_texts shape files e counter hs es u is headers second bodies h = after_lin
 pub slots_fail : (shape : Shape) (files : BaseFiles) (e : BaseError) (counter : ℕ) (hs es : List Entry) (u : Unit {0}) → base_at shape files ≡ Ok counter → headers_at shape files ≡ Ok hs → second_at shape files hs ≡ Ok u → bodies_at shape.place 1 hs files.jdt ≡ Ok es
     → Fails e (slots_at shape.place 1024 es files.jdx) → Fails e (conference_of shape files)
 unfolding after_bodies
-slots_fail shape files e counter hs es u is headers second bodies h = after_texts shape files e counter hs es u is headers second bodies (step_fails e (slots_at shape.place 1024 es files.jdx) (after_slots shape files counter) h)
+slots_fail shape files e counter hs es u is headers second bodies h = after_texts shape files e counter hs es u is headers second bodies (step_fails (told e) (slots_at shape.place 1024 es files.jdx) (after_slots shape files counter) h)
 
 pub pointers_fail : (shape : Shape) (files : BaseFiles) (e : BaseError) (counter : ℕ) (hs es : List Entry) (slots : List Slot) (u : Unit {0}) → base_at shape files ≡ Ok counter → headers_at shape files ≡ Ok hs → second_at shape files hs ≡ Ok u
     → bodies_at shape.place 1 hs files.jdt ≡ Ok es → slots_at shape.place 1024 es files.jdx ≡ Ok slots → Fails e (pointers_at shape.place (length slots) 0 shape.readers files.jlr) → Fails e (conference_of shape files)
@@ -122,7 +123,7 @@ unfolding after_bodies after_slots
 pointers_fail shape files e counter hs es slots u is headers second bodies index h =
     after_texts shape files e counter hs es u is headers second bodies
     (pass e (slots_at shape.place 1024 es files.jdx) slots (after_slots shape files counter) index
-    (step_fails e (pointers_at shape.place (length slots) 0 shape.readers files.jlr) (λ pointers. Ok (record { counter = counter; slots = slots; pointers = pointers })) h))
+    (step_fails (told e) (pointers_at shape.place (length slots) 0 shape.readers files.jlr) (λ pointers. Ok (record { counter = counter; slots = slots; pointers = pointers })) h))
 
 -- ---- all steps
 pub all_read : (shape : Shape) (files : BaseFiles) (counter : ℕ) (hs es : List Entry) (slots : List Slot) (pointers : List ℕ) (u : Unit {0}) → base_at shape files ≡ Ok counter → headers_at shape files ≡ Ok hs → second_at shape files hs ≡ Ok u

@@ -8,7 +8,7 @@ use Rattle.jam_records.specs.declared.message.Slot.{Slot}
 use Rattle.jam_records.specs.declared.message.Slot.TheVariants.{Gone, Held}
 use Rattle.jam_records.specs.declared.message.Message.{Message}
 use Rattle.jam_threads.specs.Links.{link_of}
-use Rattle.jam_layout.specs.Rules.{by_rules, ◌>>=◌}
+use Rattle.damage_rules.specs.Rules.{by_rules, ◌>>=◌}
 use Rattle.door_outside.specs.File.{jhr_file}
 use Rattle.jam_layout.specs.SecondPass.{same_link, links_at, slots_of, Numbered}
 use Rattle.jam_layout.specs.declared.entry.Entry.{Entry}

@@ -3,7 +3,7 @@ use Rattle.std.specs.Prelude.{ℕ, ◌+◌, ◌-◌, List, [], ◌∷◌, ◌++�
 use Rattle.jam_records.specs.declared.damage.Damage.{Damage}
 use Rattle.jam_records.specs.declared.damage.DamageRule.TheVariants.{Short, Line, Rest}
 use Rattle.jam_records.specs.declared.message.Message.{Message}
-use Rattle.jam_layout.specs.Rules.{Rules, by_rules, ◌>>=◌}
+use Rattle.damage_rules.specs.Rules.{Rules, by_rules, ◌>>=◌}
 use Rattle.door_outside.specs.File.{jdt_file}
 use Rattle.jam_layout.specs.declared.entry.Entry.{Entry}
 

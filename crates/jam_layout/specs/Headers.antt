@@ -11,9 +11,9 @@ use Rattle.jam_records.specs.declared.damage.DamageRule.TheVariants.{Short, Sign
 use Rattle.jam_records.specs.declared.message.Kind.{Kind}
 use Rattle.jam_records.specs.declared.message.Message.{Message}
 use Rattle.jam_records.specs.declared.message_header.MessageHeader.{MessageHeader}
-use Rattle.jam_layout.specs.Rules.{Rules, by_rules, ◌>>=◌}
+use Rattle.damage_rules.specs.Rules.{Rules, by_rules, ◌>>=◌}
 use Rattle.door_outside.specs.File.{jhr_file}
-use Rattle.jam_layout.specs.Walk.{Step, walk}
+use Rattle.damage_rules.specs.Walk.{Step, walk}
 use Rattle.jam_layout.specs.Fields.{values_at, right_values, subfields_of}
 use Rattle.jam_layout.specs.Marks.{attribute_of, marks_of, wrong_attribute}
 use Rattle.jam_layout.specs.declared.entry.Entry.{Entry}

@@ -9,9 +9,9 @@ use Rattle.jam_records.specs.declared.damage.DamageRule.TheVariants.{Short, Coun
 use Rattle.jam_records.specs.declared.message.Message.{Message}
 use Rattle.jam_records.specs.declared.message.Slot.{Slot}
 use Rattle.jam_records.specs.declared.message.Slot.TheVariants.{Gone, Held}
-use Rattle.jam_layout.specs.Rules.{Rules, by_rules, ◌>>=◌}
+use Rattle.damage_rules.specs.Rules.{Rules, by_rules, ◌>>=◌}
 use Rattle.door_outside.specs.File.{jdx_file}
-use Rattle.jam_layout.specs.Walk.{Step, walk}
+use Rattle.damage_rules.specs.Walk.{Step, walk}
 use Rattle.jam_layout.specs.Headers.{header_size}
 use Rattle.jam_layout.specs.declared.entry.Entry.{Entry}
 

@@ -1,5 +1,5 @@
 -- The four files of a conference: the layout, and the first damage.
-use Rattle.std.specs.Prelude.{ℕ, ◌+◌, List, [], ◌∷◌, ◌++◌, length, take, drop, Option, Some, None, Bool, Result, Ok, Err, not, ◌||◌, ◌==◌, nat_lt}
+use Rattle.std.specs.Prelude.{ℕ, ◌+◌, List, [], ◌∷◌, ◌++◌, length, take, drop, Option, Bool, Result, Ok, not, ◌||◌, ◌==◌, nat_lt}
 use Rattle.std.specs.List.{list_all}
 use Rattle.std.specs.Str.{bytes_eq}
 use Rattle.record_numbers.specs.Numbers.{u32_at}
@@ -12,7 +12,7 @@ use Rattle.jam_records.specs.declared.message.Slot.{Slot}
 use Rattle.jam_records.specs.declared.message.Slot.TheVariants.{Gone, Held}
 use Rattle.jam_threads.specs.Links.{link_of}
 use Rattle.jam_threads.specs.declared.link.Link.{Link}
-use Rattle.jam_layout.specs.Rules.{Rules, by_rules, ◌>>=◌}
+use Rattle.damage_rules.specs.Rules.{Rules, by_rules, ◌>>=◌, damage_of}
 use Rattle.door_outside.specs.File.{jhr_file}
 use Rattle.jam_layout.specs.Headers.{entries_at, headers_text}
 use Rattle.jam_layout.specs.SecondPass.{second_pass}
@@ -81,10 +81,6 @@ conference_of shape files = do
   slots ← slots_at shape.place 1024 entries files.jdx
   pointers ← pointers_at shape.place (length slots) 0 shape.readers files.jlr
   Ok (record { counter = counter; slots = slots; pointers = pointers })
-
-abbrev pub damage_of : {A : Type 0} → Result A Damage → Option Damage
-damage_of (Ok x) = None
-damage_of (Err d) = Some d
 
 -- the first damage, or none
 abbrev pub base_damage : Shape → BaseFiles → Option Damage

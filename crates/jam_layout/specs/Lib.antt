@@ -14,4 +14,3 @@ pub mod Rules
 pub mod SecondPass
 pub mod Sizes
 pub mod Valid
-pub mod Walk

@@ -6,7 +6,7 @@ use Rattle.jam_records.specs.LastReads.{last_text}
 use Rattle.jam_records.specs.declared.last_read.LastRead.{LastRead}
 use Rattle.jam_records.specs.declared.damage.Damage.{Damage}
 use Rattle.jam_records.specs.declared.damage.DamageRule.TheVariants.{Short, Reader as WrongReader, Pointer, Rest}
-use Rattle.jam_layout.specs.Rules.{Rules, by_rules, ◌>>=◌}
+use Rattle.damage_rules.specs.Rules.{Rules, by_rules, ◌>>=◌}
 use Rattle.door_outside.specs.File.{jlr_file}
 use Rattle.jam_layout.specs.declared.reader.Reader.{Reader}
 

@@ -1,5 +1,6 @@
 ghost use Rattle.std.specs.Prelude.{◌≡◌, ◌+◌, ◌≤◌, ◌<◌, ◌^◌, length, take, IfOk, OnOk};
-ghost use Rattle.jam_layout.specs.Rules.{Gives, by_rules};
+ghost use Rattle.damage_rules.specs.Rules.{by_rules};
+ghost use Rattle.jam_layout.specs.Rules.{Gives};
 ghost use Rattle.door_outside.specs.File.{jdt_file};
 ghost use Rattle.jam_layout.specs.Bodies.{body_rules, with_body, bodies_at};
 

@@ -1,7 +1,8 @@
 ghost use Rattle.std.specs.Prelude.{◌≡◌, ◌+◌, ◌≤◌, ◌<◌, ◌^◌, ◌++◌, ◌==◌, not, [], length, unwrap_or, IfOk, IfErr, Some, None};
 ghost use Rattle.name_crc.specs.JamCrc.{jam_crc};
 ghost use Rattle.jam_records.specs.MessageHeaders.{message_header_at};
-ghost use Rattle.jam_layout.specs.Rules.{Gives, first_broken, by_rules};
+ghost use Rattle.damage_rules.specs.Rules.{first_broken, by_rules};
+ghost use Rattle.jam_layout.specs.Rules.{Gives};
 ghost use Rattle.door_outside.specs.File.{jhr_file};
 ghost use Rattle.jam_layout.specs.Headers.{wrong_fields as fields_wrong, wrong_number as number_wrong, wrong_text as text_wrong, wrong_crc as crc_wrong, values_of, front_rules, field_rules, length_rules, value_rules, message_of as message_in, entry_of as entry_in, behind, header_at, entries_at};
 
@@ -178,7 +179,7 @@ fn entry_of(alloc: Global, header: &MessageHeader, values: Values) -> Entry
 }
 
 /// The fixed part of the header at the front.
-#[tactic(auto, using(crate::proofs::KeptRules::both_pass))]
+#[tactic(auto, using(damage_rules::proofs::KeptRules::both_pass))]
 fn fixed_of(place: u8, kind: Kind, front: Front, bytes: &[u8]) -> Result<MessageHeader, BaseError>
     requires { place < 64 }
     ensures gives { Gives (λ x. x) result (by_rules (jhr_file place) front.item (front_rules bytes.now ++ field_rules kind front (message_header_at bytes.now)) (message_header_at bytes.now)) }

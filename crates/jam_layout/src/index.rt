@@ -1,5 +1,6 @@
 ghost use Rattle.std.specs.Prelude.{◌≡◌, ◌==◌, ◌+◌, ◌≤◌, ◌<◌, ◌^◌, ◌∷◌, false, length, sum_by, None, IfOk, IfSome};
-ghost use Rattle.jam_layout.specs.Rules.{Gives, by_rules};
+ghost use Rattle.damage_rules.specs.Rules.{by_rules};
+ghost use Rattle.jam_layout.specs.Rules.{Gives};
 ghost use Rattle.door_outside.specs.File.{jdx_file};
 ghost use Rattle.jam_layout.specs.Headers.{header_size as size_of_header};
 ghost use Rattle.jam_layout.specs.Index.{index_rules, is_next, slot_at, slots_at};

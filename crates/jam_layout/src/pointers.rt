@@ -1,6 +1,7 @@
 ghost use Rattle.std.specs.Prelude.{◌≡◌, ◌+◌, ◌≤◌, ◌<◌, ◌^◌, length, IfOk};
 ghost use Rattle.record_numbers.specs.Numbers.{u32_at as u32_of};
-ghost use Rattle.jam_layout.specs.Rules.{Gives, by_rules};
+ghost use Rattle.damage_rules.specs.Rules.{by_rules};
+ghost use Rattle.jam_layout.specs.Rules.{Gives};
 ghost use Rattle.door_outside.specs.File.{jlr_file};
 ghost use Rattle.jam_layout.specs.Readers.{reader_rules, pointers_at};
 

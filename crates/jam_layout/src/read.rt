@@ -2,7 +2,8 @@ ghost use Rattle.std.specs.Prelude.{◌≡◌, ◌+◌, ◌≤◌, ◌<◌, ◌^
 ghost use Rattle.std.specs.List.{list_all};
 ghost use Rattle.record_numbers.specs.Numbers.{u32_at as u32_of};
 ghost use Rattle.jam_records.specs.declared.damage.Damage.{Damage};
-ghost use Rattle.jam_layout.specs.Rules.{Gives, UnlessMemory, by_rules};
+ghost use Rattle.damage_rules.specs.Rules.{by_rules};
+ghost use Rattle.jam_layout.specs.Rules.{Gives, UnlessMemory};
 ghost use Rattle.door_outside.specs.File.{jhr_file};
 ghost use Rattle.jam_layout.specs.declared.conference.Conference.{Conference};
 ghost use Rattle.jam_layout.specs.Layout.{wrong_base as base_wrong, base_rules, conference_of, layout, base_damage};

@@ -1,6 +1,6 @@
 use Rattle.std.proofs.Common.{◌≡◌, ◌+◌, length, take, drop}
 use Rattle.jam_layout.specs.Bodies.{bodies_at}
-use Rattle.jam_layout.proofs.KeptRules.{with_front}
+use Rattle.damage_rules.proofs.KeptRules.{with_front}
 use Rattle.jam_layout.proofs.bodies.bodies_of.Given as goal
 
 -- the entries so far have their bodies, and with those that are still read they are those of the file

@@ -3,7 +3,7 @@ use Rattle.std.proofs.lemmas.Bool.{eqb-true}
 use Rattle.std.proofs.lemmas.List.{take_rest, length-drop}
 use Rattle.std.proofs.lemmas.Result.{err_from_is_err_and}
 use Rattle.jam_layout.specs.Headers.{header_at}
-use Rattle.jam_layout.proofs.RecordWalks.{goes_on}
+use Rattle.damage_rules.proofs.RecordWalks.{goes_on}
 use Rattle.jam_layout.proofs.HeaderLoop.{not_empty, headers_fail, headers_end}
 use Rattle.jam_layout.proofs.headers.entries_of.Goals as goal
 

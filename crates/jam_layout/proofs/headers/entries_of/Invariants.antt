@@ -1,7 +1,7 @@
 use Rattle.std.proofs.Common.{◌≡◌, ◌+◌, ◌*◌, ◌^◌, ◌<◌, ◌≤◌, length}
-use Rattle.jam_layout.specs.Walk.{walk}
+use Rattle.damage_rules.specs.Walk.{walk}
 use Rattle.jam_layout.specs.Headers.{header_at, start}
-use Rattle.jam_layout.proofs.RecordWalks.{walk_behind}
+use Rattle.damage_rules.proofs.RecordWalks.{walk_behind}
 use Rattle.jam_layout.proofs.headers.entries_of.Given as goal
 
 -- the entries so far, and those that are still read, are those of the file

@@ -1,7 +1,7 @@
 use Rattle.door_outside.specs.File.{jhr_file}
 use Rattle.jam_layout.specs.Headers.{front_rules, field_rules}
 use Rattle.jam_records.specs.MessageHeaders.{message_header_at}
-use Rattle.jam_layout.proofs.KeptRules.{part_fails}
+use Rattle.damage_rules.proofs.KeptRules.{part_fails}
 use Rattle.jam_layout.proofs.HeaderTests.{fixed_fails}
 use Rattle.jam_layout.proofs.headers.fixed_of.Goals as goal
 

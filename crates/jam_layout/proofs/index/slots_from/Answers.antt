@@ -3,7 +3,7 @@ use Rattle.std.proofs.lemmas.List.{take_rest, length-drop}
 use Rattle.std.proofs.lemmas.Result.{err_from_is_err_and}
 use Rattle.jam_layout.specs.Index.{slot_at}
 use Rattle.jam_layout.proofs.HeaderLoop.{not_empty}
-use Rattle.jam_layout.proofs.RecordWalks.{goes_on}
+use Rattle.damage_rules.proofs.RecordWalks.{goes_on}
 use Rattle.jam_layout.proofs.IndexLoop.{too_many, slots_fail, slots_done, slots_missing, is_nothing}
 use Rattle.jam_layout.proofs.index.slots_from.Goals as goal
 

@@ -1,9 +1,9 @@
 use Rattle.std.proofs.Common.{◌≡◌, ◌+◌, ◌*◌, ◌^◌, ◌<◌, length}
 use Rattle.std.specs.Prelude.{sum_by}
 use Rattle.jam_layout.specs.Headers.{header_size}
-use Rattle.jam_layout.specs.Walk.{walk}
+use Rattle.damage_rules.specs.Walk.{walk}
 use Rattle.jam_layout.specs.Index.{slot_at}
-use Rattle.jam_layout.proofs.RecordWalks.{walk_behind}
+use Rattle.damage_rules.proofs.RecordWalks.{walk_behind}
 use Rattle.jam_layout.proofs.index.slots_from.Given as goal
 
 -- the slots so far, and those that are still read, are those of the file

@@ -1,6 +1,6 @@
 use Rattle.std.proofs.Common.{◌≡◌, ◌+◌, ◌*◌, drop, length}
 use Rattle.jam_layout.specs.Readers.{pointers_at}
-use Rattle.jam_layout.proofs.KeptRules.{with_front}
+use Rattle.damage_rules.proofs.KeptRules.{with_front}
 use Rattle.jam_layout.proofs.pointers.pointers_of.Given as goal
 
 -- the pointers so far, and those that are still read, are those of the file, and each record has 16 bytes

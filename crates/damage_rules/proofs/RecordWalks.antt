@@ -1,11 +1,10 @@
 -- Reading records one after the other: one more, the first that fails, and the end.
-use Rattle.std.proofs.Common.{◌≡◌, ℕ, zero, suc, ◌-◌, ◌<◌, List, [], ◌∷◌, ◌++◌, length, drop, Result, Ok, Err, refl, sym, ap, ◌∙◌, subst, arith, append_assoc}
+use Rattle.std.proofs.Common.{◌≡◌, ℕ, zero, suc, ◌-◌, ◌<◌, List, [], ◌∷◌, ◌++◌, length, drop, Option, Result, Ok, Err, refl, sym, ap, ◌∙◌, subst, arith, append_assoc}
 use Rattle.std.proofs.lemmas.List.{append-nil}
 use Rattle.jam_records.specs.declared.damage.Damage.{Damage}
-use Rattle.jam_layout.specs.declared.error.BaseError.{BaseError}
-use Rattle.jam_layout.specs.Rules.{◌>>=◌, Fails}
-use Rattle.jam_layout.specs.Walk.{Step, walk_from, walk}
-use Rattle.jam_layout.proofs.KeptRules.{step_fails}
+use Rattle.damage_rules.specs.Rules.{◌>>=◌, Stops}
+use Rattle.damage_rules.specs.Walk.{Step, walk_from, walk}
+use Rattle.damage_rules.proofs.KeptRules.{step_fails}
 
 -- bytes that belong to the record before are passed over
 pub passed : {S A : Type 0} (step : S → List ℕ → Result (Step S A) Damage) (left : ℕ) (s : S) (bytes : List ℕ) → walk_from step left s bytes ≡ walk step s (drop left bytes)
@@ -31,7 +30,7 @@ walk_more step s (b ∷ bytes) x some is size =
     ap (λ r. r >>= λ first. walk_from step (first.size - 1) first.next bytes >>= λ others. Ok (first.value ∷ others.0, others.1)) is
     ∙ ap (behind_first x.value) (passed step (x.size - 1) x.next bytes ∙ ap (walk step x.next) (drop_one x.size b bytes size))
 
-pub walk_fails : {S A : Type 0} (step : S → List ℕ → Result (Step S A) Damage) (s : S) (bytes : List ℕ) (e : BaseError) → 0 < length bytes → Fails e (step s bytes) → Fails e (walk step s bytes)
+pub walk_fails : {S A : Type 0} (step : S → List ℕ → Result (Step S A) Damage) (s : S) (bytes : List ℕ) (e : Option Damage) → 0 < length bytes → Stops e (step s bytes) → Stops e (walk step s bytes)
 unfolding walk_from
 walk_fails step s [] e some h = absurd (omega arith)
 walk_fails step s (b ∷ bytes) e some h = step_fails e (step s (b ∷ bytes)) (λ first. walk_from step (first.size - 1) first.next bytes >>= λ others. Ok (first.value ∷ others.0, others.1)) h
@@ -56,9 +55,9 @@ goes_on step s bytes rest front new x total some is size r n so_far =
     let a : walk_behind front (walk step s bytes) ≡ walk_behind (front ++ x.value ∷ []) (walk step x.next (drop x.size bytes)) = ap (walk_behind front) (walk_more step s bytes x some is size) ∙ regroup front x.value (walk step x.next (drop x.size bytes)) in
     rw (r, n) (sym a ∙ so_far)
 
-pub ends : {S A : Type 0} (step : S → List ℕ → Result (Step S A) Damage) (s : S) (bytes : List ℕ) (front : List A) (e : BaseError) (total : Result (List A × S) Damage)
-    → 0 < length bytes → Fails e (step s bytes) → walk_behind front (walk step s bytes) ≡ total → Fails e total
-ends step s bytes front e total some h so_far = subst (Fails e) so_far (step_fails e (walk step s bytes) (λ found. Ok (front ++ found.0, found.1)) (walk_fails step s bytes e some h))
+pub ends : {S A : Type 0} (step : S → List ℕ → Result (Step S A) Damage) (s : S) (bytes : List ℕ) (front : List A) (e : Option Damage) (total : Result (List A × S) Damage)
+    → 0 < length bytes → Stops e (step s bytes) → walk_behind front (walk step s bytes) ≡ total → Stops e total
+ends step s bytes front e total some h so_far = subst (Stops e) so_far (step_fails e (walk step s bytes) (λ found. Ok (front ++ found.0, found.1)) (walk_fails step s bytes e some h))
 
 pub is_done : {S A : Type 0} (step : S → List ℕ → Result (Step S A) Damage) (s : S) (bytes : List ℕ) (front : List A) (total : Result (List A × S) Damage)
     → length bytes ≡ 0 → walk_behind front (walk step s bytes) ≡ total → total ≡ Ok (front, s)

@@ -1,6 +1,6 @@
 -- Records one after the other.
 use Rattle.std.specs.Prelude.{ℕ, zero, suc, ◌-◌, List, [], ◌∷◌, Result, Ok}
-use Rattle.jam_layout.specs.Rules.{◌>>=◌}
+use Rattle.damage_rules.specs.Rules.{◌>>=◌}
 use Rattle.jam_records.specs.declared.damage.Damage.{Damage}
 
 -- What a step reads at the front: a value, the size of its record, and the state behind it.

@@ -2,9 +2,7 @@
 use Rattle.std.proofs.Common.{◌≡◌, ℕ, Bool, true, false, cond, List, [], ◌∷◌, ◌++◌, Option, Some, None, Result, Ok, Err, refl, sym, ap, ◌∙◌, append_assoc}
 use Rattle.jam_records.specs.declared.damage.Damage.{Damage}
 use Rattle.jam_records.specs.declared.damage.DamageRule.{DamageRule}
-use Rattle.jam_layout.specs.declared.error.BaseError.{BaseError}
-use Rattle.jam_layout.specs.declared.error.BaseError.TheVariants.{Damaged, OutOfMemory}
-use Rattle.jam_layout.specs.Rules.{Rules, first_broken, unless_broken, by_rules, ◌>>=◌, Fails}
+use Rattle.damage_rules.specs.Rules.{Rules, first_broken, unless_broken, by_rules, ◌>>=◌, Stops}
 
 -- no r is broken
 abbrev pub Kept : Rules → Type 0
@@ -84,9 +82,9 @@ regroup front x (Ok xs) = ap (λ ys. Ok ys) (sym (append_assoc front (x ∷ []) 
 regroup front x (Err f) = refl
 
 -- a step that fails, or wants memory, ends the reading
-pub step_fails : {A B : Type 0} (e : BaseError) (r : Result A Damage) (f : A → Result B Damage) → Fails e r → Fails e (r >>= f)
-step_fails OutOfMemory r f h = tt
-step_fails (Damaged d) r f h = ap (λ k. k >>= f) h
+pub step_fails : {A B : Type 0} (e : Option Damage) (r : Result A Damage) (f : A → Result B Damage) → Stops e r → Stops e (r >>= f)
+step_fails None r f h = tt
+step_fails (Some d) r f h = ap (λ k. k >>= f) h
 
 -- one item more
 pub one_more : {A B : Type 0} (front new : List A) (here others total : Result (List A) Damage) (one : Result B Damage) (b : B) (value : B → A)
@@ -95,8 +93,8 @@ one_more front new here others total one b value is ok n so_far =
     let a : here ≡ (others >>= λ xs. Ok (value b ∷ xs)) = is ∙ ap (λ r. r >>= λ x. others >>= λ xs. Ok (value x ∷ xs)) ok in
     rw n (sym (ap (with_front front) a ∙ regroup front (value b) others) ∙ so_far)
 
-pub one_fails : {A B : Type 0} (front : List A) (here others total : Result (List A) Damage) (one : Result B Damage) (value : B → A) (e : BaseError)
-    → here ≡ (one >>= λ x. others >>= λ xs. Ok (value x ∷ xs)) → Fails e one → with_front front here ≡ total → Fails e total
+pub one_fails : {A B : Type 0} (front : List A) (here others total : Result (List A) Damage) (one : Result B Damage) (value : B → A) (e : Option Damage)
+    → here ≡ (one >>= λ x. others >>= λ xs. Ok (value x ∷ xs)) → Stops e one → with_front front here ≡ total → Stops e total
 one_fails front here others total one value e is h so_far =
     rw (sym so_far ∙ ap (with_front front) is) (step_fails e (one >>= λ x. others >>= λ xs. Ok (value x ∷ xs)) (λ xs. Ok (front ++ xs)) (step_fails e one (λ x. others >>= λ xs. Ok (value x ∷ xs)) h))
 
