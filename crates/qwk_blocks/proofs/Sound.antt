@@ -10,7 +10,7 @@ use Rattle.std.specs.Result.{IfOk}
 use Rattle.qwk_blocks.specs.Header.{IsPad, HasText, HasNumber, HeaderReads}
 use Rattle.text_fields.specs.Trim.{TrimmedEnd}
 use Rattle.qwk_blocks.specs.Packet.{MessageReads, MessagesRead}
-use Rattle.qwk_blocks.specs.Answer.{Gives}
+use Rattle.qwk_blocks.specs.Answer.{ReadsOrFaults}
 use Rattle.qwk_blocks.specs.Text.{ended, IsLine, if_any, TextReads}
 use Rattle.qwk_blocks.specs.Written.{TextFits, HeaderFits, Writable}
 use Rattle.qwk_blocks.specs.declared.message.Header.{Header}
@@ -98,6 +98,6 @@ messages_fit bytes (m ∷ ms) is small p =
     let len : length bytes ≡ length p.0 + length p.1 = ap length p.2 ∙ length-append p.0 p.1 in
     All-cons Writable m ms (message_fits p.0 m (bytes_front p.0 p.1 is') (omega arith) p.3) (messages_fit p.1 ms (bytes_rest p.0 p.1 is') (omega arith) p.4)
 
-pub reads_writable : (bytes : List ℕ) (r : Result (List QwkMessage) QwkError) → IsBytes bytes → Gives bytes r → length bytes ≤ 1048576 → IfOk r (All Writable)
+pub reads_writable : (bytes : List ℕ) (r : Result (List QwkMessage) QwkError) → IsBytes bytes → ReadsOrFaults bytes r → length bytes ≤ 1048576 → IfOk r (All Writable)
 reads_writable bytes (Ok ms) is h small = messages_fit h.rest ms (bytes_rest h.notice h.rest (subst IsBytes h.whole is)) (omega (arith, ap length h.whole, length-append h.notice h.rest)) h.each
 reads_writable bytes (Err e) is h small = tt

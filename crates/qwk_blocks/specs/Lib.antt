@@ -3,3 +3,4 @@ pub mod Text
 pub mod Packet
 pub mod Answer
 pub mod Written
+pub mod Reader

@@ -1,5 +1,6 @@
 ghost use Rattle.std.specs.Prelude.{◌≡◌};
-ghost use Rattle.qwk_blocks.specs.declared.fault.QwkError.TheVariants.{OutOfMemory};
+ghost use Rattle.qwk_blocks.specs.declared.fault.QwkError.TheVariants.{Fault, OutOfMemory};
+ghost use Rattle.qwk_blocks.specs.declared.fault.QwkFault.TheVariants.{BadBlocks};
 
 use std::alloc::AllocError;
 use thiserror::Error;
@@ -14,6 +15,14 @@ pub enum QwkFault {
     /// The header block that begins here has a count of blocks that is no number or is 0.
     #[error("the header at byte {at} has no count of blocks")]
     BadBlocks { at: u32 },
+}
+
+/// A header block with a count of blocks that is no number or is 0, which a reader of blocks came upon.
+#[derive(Clone, Copy, Debug, PartialEq, Eq, Error)]
+#[error("the header at byte {at} has no count of blocks")]
+pub struct BlocksFault {
+    /// The byte, from 0, at which the header begins.
+    pub at: u32,
 }
 
 /// Why there are no messages.
@@ -32,5 +41,21 @@ impl From<AllocError> for QwkError {
 
     fn from(_error: AllocError) -> QwkError {
         QwkError::OutOfMemory
+    }
+}
+
+impl From<BlocksFault> for QwkError {
+    ghost from_gives = { λ fault e. e ≡ Fault (BadBlocks fault.at) };
+
+    fn from(fault: BlocksFault) -> QwkError {
+        QwkError::Fault(QwkFault::BadBlocks { at: fault.at })
+    }
+}
+
+impl From<QwkFault> for QwkError {
+    ghost from_gives = { λ fault e. e ≡ Fault fault };
+
+    fn from(fault: QwkFault) -> QwkError {
+        QwkError::Fault(fault)
     }
 }

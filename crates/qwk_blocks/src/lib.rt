@@ -2,18 +2,23 @@
 //! written.
 #![tactic(auto)]
 
+mod event;
 mod fault;
 mod header;
 pub mod laws;
 mod message;
 mod packet;
+mod progress;
+mod reader;
 #[cfg(test)]
 mod tests;
 mod text;
 mod writable;
 mod write;
 
-pub use fault::{QwkError, QwkFault};
+pub use event::{Event, Fed};
+pub use fault::{BlocksFault, QwkError, QwkFault};
 pub use message::{Header, QwkMessage, QwkMessages};
 pub use packet::read_messages;
+pub use reader::BlockReader;
 pub use write::write_messages;

@@ -1,51 +1,53 @@
-ghost use Rattle.std.specs.Prelude.{◌≡◌, ◌≤◌, ◌<◌, ◌^◌, List, length, Err, IfOk, All};
-ghost use Rattle.qwk_blocks.specs.Packet.{PacketReads, FirstFault};
+ghost use Rattle.std.specs.Prelude.{◌≡◌, ◌≤◌, ◌<◌, ◌*◌, ◌^◌, ℕ, List, length, Err, IfOk, All};
+ghost use Rattle.qwk_blocks.specs.Header.{CountReads};
+ghost use Rattle.qwk_blocks.specs.Packet.{MessageReads, PacketReads, FirstFault};
 ghost use Rattle.qwk_blocks.specs.Written.{Writable};
-ghost use Rattle.qwk_blocks.specs.Answer.{FirstGives, Gives, UnlessMemory};
+ghost use Rattle.qwk_blocks.specs.Answer.{ReadsOrFaults, UnlessMemory};
 ghost use Rattle.qwk_blocks.specs.declared.message.QwkMessage.{QwkMessage};
 ghost use Rattle.qwk_blocks.specs.declared.fault.QwkFault.{QwkFault};
 
+use crate::event::Event;
 use crate::fault::{QwkError, QwkFault};
-use crate::header::{BLOCK, count_of, header_of};
+use crate::header::{BLOCK, header_of};
 use crate::message::{QwkMessage, QwkMessages};
+use crate::reader::BlockReader;
 use crate::text::lines_of;
-use std::alloc::Global;
+use std::alloc::{AllocError, Global};
 
-/// The message at the front of the bytes that are left at a place, and how many of them it takes.
-fn message_at(alloc: Global, at: u32, rest: &[u8]) -> Result<(QwkMessage, usize), QwkError>
-    requires { length rest.now < 2 ^ 31 }
-    ensures { FirstGives at rest.now result }
+/// The message in its blocks, a header and its text.
+fn message_of(alloc: Global, blocks: &[u8]) -> Result<QwkMessage, AllocError>
+    requires { 128 ≤ length blocks.now }
+    ensures { IfOk result (λ message. (count : ℕ) → CountReads blocks.now count → length blocks.now ≡ 128 * count → MessageReads blocks.now message) }
 {
-    if rest.len() < BLOCK {
-        return Err(QwkError::Fault(QwkFault::Truncated { at }));
-    }
-    let Some(count) = count_of(rest) else {
-        return Err(QwkError::Fault(QwkFault::BadBlocks { at }));
-    };
-    let size = BLOCK * count as usize;
-    if rest.len() < size {
-        return Err(QwkError::Fault(QwkFault::Truncated { at }));
-    }
-    let header = header_of(alloc, &rest[..BLOCK])?;
-    let lines = lines_of(alloc, &rest[BLOCK..size])?;
-    Ok((QwkMessage { header, lines }, size))
+    Ok(QwkMessage {
+        header: header_of(alloc, &blocks[..BLOCK])?,
+        lines: lines_of(alloc, &blocks[BLOCK..])?,
+    })
 }
 
 /// The messages of a file, or its first fault.
 fn messages_of(alloc: Global, bytes: &[u8]) -> Result<QwkMessages, QwkError>
     requires { length bytes.now < 2 ^ 31 }
-    ensures { Gives bytes.now result }
+    ensures { ReadsOrFaults bytes.now result }
 {
-    if bytes.len() < BLOCK {
-        return Err(QwkError::Fault(QwkFault::Truncated { at: 0 }));
-    }
+    let mut reader = BlockReader::new();
     let mut messages = QwkMessages::new(alloc);
-    let mut at = BLOCK;
+    let (mut start, mut at) = (0, 0);
     while at < bytes.len() {
-        let (message, size) = message_at(alloc, at as u32, &bytes[at..])?;
-        messages.add(message)?;
-        at += size;
+        let fed = reader.feed(&bytes[at..])?;
+        at += fed.used;
+        match fed.event {
+            None => (),
+            Some(Event::Notice) => start = at,
+            Some(event) => {
+                if event.ends_message() {
+                    messages.add(message_of(alloc, &bytes[start..at])?)?;
+                    start = at;
+                }
+            }
+        }
     }
+    reader.finish()?;
     Ok(messages)
 }
 

@@ -1,4 +1,6 @@
 //! Files from worked examples.
+mod pieces;
+
 use crate::{Header, QwkError, QwkFault, QwkMessage, QwkMessages, read_messages, write_messages};
 use byte_lists::{Bytes, Lines};
 use std::alloc::{AllocError, Global};
