@@ -1,15 +1,12 @@
--- The message at the front of some bytes, and how a loop goes on from it.
+-- The message at the front of some bytes, and the packet with one more.
 use Rattle.std.proofs.Common.{◌≡◌, ℕ, ◌+◌, ◌-◌, ◌*◌, ◌<◌, ◌≤◌, List, [], ◌∷◌, ◌++◌, length, take, drop, Err, sym, ap, ◌∙◌, subst, inr, arith, refl}
 use Rattle.std.proofs.lemmas.List.{take_at, take-take, drop-take, length-take-le, length-drop, append-nil}
 use Rattle.qwk_blocks.specs.Header.{field, CountReads, HeaderReads}
 use Rattle.qwk_blocks.specs.Text.{TextReads}
 use Rattle.qwk_blocks.specs.Packet.{MessageReads, PacketReads}
-use Rattle.qwk_blocks.specs.Answer.{Gives, FirstGives}
 use Rattle.qwk_blocks.specs.declared.message.Header.{Header}
 use Rattle.qwk_blocks.specs.declared.message.QwkMessage.{QwkMessage}
-use Rattle.qwk_blocks.specs.declared.fault.QwkError.{QwkError}
-use Rattle.qwk_blocks.specs.declared.fault.QwkError.TheVariants.{Fault, OutOfMemory}
-use Rattle.qwk_blocks.proofs.Messages.{length_message, count_unique, longest, packet_push, split_take}
+use Rattle.qwk_blocks.proofs.Messages.{length_message, count_unique, packet_push, split_take}
 
 -- the count field lies in the first block
 count_field : (n : ℕ) (xs : List ℕ) → 128 ≤ n → field 117 6 (take n xs) ≡ field 117 6 xs
@@ -23,7 +20,7 @@ count_of_front n xs count le x = record {
   positive = x.positive;
 }
 
-count_of_whole : (n : ℕ) (xs : List ℕ) (count : ℕ) → 128 ≤ n → CountReads (take n xs) count → CountReads xs count
+pub count_of_whole : (n : ℕ) (xs : List ℕ) (count : ℕ) → 128 ≤ n → CountReads (take n xs) count → CountReads xs count
 count_of_whole n xs count le x = record {
   number = rw (sym (count_field n xs le)) x.number;
   positive = x.positive;
@@ -75,10 +72,6 @@ notice_alone bytes ms le e = subst (PacketReads (take 128 bytes)) (sym e) record
   size = length-take-le 128 bytes le;
   each = refl;
 }
-
-pub fails : (bytes : List ℕ) (at : ℕ) (ms : List QwkMessage) (e : QwkError) → at < length bytes → PacketReads (take at bytes) ms → FirstGives at (drop at bytes) (Err e) → Gives bytes (Err e)
-fails bytes at ms (Fault f) lt p h = inr (at, (omega arith, (ms, p)), longest bytes at ms (omega arith) p h.1, lt, h.0)
-fails bytes at ms OutOfMemory lt p h = tt
 
 pub size_some : (rest : List ℕ) (n : ℕ) (m : QwkMessage) → n ≤ length rest → MessageReads (take n rest) m → 0 < n
 size_some rest n m le x =

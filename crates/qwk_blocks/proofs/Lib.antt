@@ -5,3 +5,7 @@ pub mod Sound
 pub mod Written
 pub mod Sizes
 pub mod OneFault
+pub mod Exists
+pub mod Stream
+pub mod Steps
+pub mod Feeding

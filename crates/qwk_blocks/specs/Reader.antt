@@ -83,7 +83,7 @@ AwaitsText old blocks end new =
 -- what one more full block gives, which ends the stream: the progress and its event, or none where its count is faulty
 abbrev pub GoesOn : Progress → List ℕ → Option (Progress × Event) → Type 0
 GoesOn old stream None = IsProgress (record old { awaited = awaited.Nothing }) 0 stream
-GoesOn old stream (Some next) = IsProgress next.0 0 stream × IsEvent old.front stream next.1
+GoesOn old stream (Some next) = IsProgress next.0 0 stream × (¬ (next.0.awaited ≡ awaited.Nothing)) × IsEvent old.front stream next.1
 
 -- what contracts see of a reader
 pub record ReaderState : Type 0 where

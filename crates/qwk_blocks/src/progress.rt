@@ -1,5 +1,5 @@
 //! How far a reader of blocks has come.
-ghost use Rattle.std.specs.Prelude.{◌≡◌, ◌≤◌, ◌<◌, ◌+◌, ◌-◌, ◌^◌, ℕ, List, length, drop, IfSome, MatchResult};
+ghost use Rattle.std.specs.Prelude.{◌≡◌, ◌≤◌, ◌<◌, ◌+◌, ◌-◌, ◌^◌, ℕ, List, length, drop, IfSome, IsTrue, MatchResult, ◌↔◌};
 ghost use Rattle.qwk_blocks.specs.Packet.{FirstFault};
 ghost use Rattle.qwk_blocks.specs.Reader.{CountsMessages, IsProgress, AwaitsText, GoesOn, Moves};
 
@@ -32,6 +32,13 @@ pub struct Progress {
 }
 
 impl Progress {
+    /// Whether the last header had a faulty count.
+    pub fn is_stopped(self) -> bool
+        ensures { IsTrue result ↔ (self.awaited ≡ Awaited.Nothing) }
+    {
+        matches!(self.awaited, Awaited::Nothing)
+    }
+
     /// The progress behind a block that ends at a place, where so many text blocks of its message are to
     /// come.
     fn with_text(self, blocks: u32, end: u32) -> Progress
@@ -85,11 +92,10 @@ impl Progress {
     {
         let at = self.front;
         match self.awaited {
-            Awaited::Header if at == end => Ok(self.messages),
+            Awaited::Notice | Awaited::Text { .. } => Err(QwkFault::Truncated { at }),
+            Awaited::Header if at < end => Err(QwkFault::Truncated { at }),
+            Awaited::Header => Ok(self.messages),
             Awaited::Nothing => Err(QwkFault::BadBlocks { at }),
-            Awaited::Notice | Awaited::Header | Awaited::Text { .. } => {
-                Err(QwkFault::Truncated { at })
-            }
         }
     }
 }

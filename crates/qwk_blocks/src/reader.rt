@@ -76,7 +76,7 @@ impl BlockReader {
         ensures fault { (stream : List ℕ) → HoldsStream self.old stream → ¬ HasBadCount stream → (at : ℕ) → (result ≡ Err (record { at = at })) ↔ FirstFault (stream ++ next_bytes stream piece.now) (BadBlocks at) }
         ensures later { (stream : List ℕ) → HoldsStream self.old stream → (at : ℕ) → FirstFault stream (BadBlocks at) → (result ≡ Err (record { at = at })) × (self.new ≡ self.old) }
     {
-        if self.progress.awaited == Awaited::Nothing {
+        if self.progress.is_stopped() {
             return Err(BlocksFault {
                 at: self.progress.front,
             });
