@@ -58,18 +58,23 @@ cut_one f x rest c pad = record {
 }
 
 front_trimmed : (f text : List ℕ) → CutBoth IsPad f text → (shorter : List ℕ) × Trimmed IsPad f shorter
-front_trimmed f [] c = ([], record {
-  before = c.before;
-  after = c.after;
-  whole = c.whole;
-  blank_before = c.blank_before;
-  blank_after = c.blank_after;
-  begins = nothing_begins IsPad;
-  ends = c.ends;
-})
+front_trimmed f [] c = (
+  [],
+  record {
+    before = c.before;
+    after = c.after;
+    whole = c.whole;
+    blank_before = c.blank_before;
+    blank_after = c.blank_after;
+    begins = nothing_begins IsPad;
+    ends = c.ends;
+  },
+)
 front_trimmed f (x ∷ rest) c = elim (pad_or_not x) [
   | inl pad ↦ front_trimmed f rest (cut_one f x rest c pad)
-  | inr other ↦ (x ∷ rest, record {
+  | inr other ↦ (
+    x ∷ rest,
+    record {
       before = c.before;
       after = c.after;
       whole = c.whole;
@@ -77,7 +82,8 @@ front_trimmed f (x ∷ rest) c = elim (pad_or_not x) [
       blank_after = c.blank_after;
       begins = λ first more e b. let h : x ≡ first = cc in other (subst IsPad (sym h) b);
       ends = c.ends;
-    })
+    },
+  )
 ]
 
 some_trimmed : (f : List ℕ) → (text : List ℕ) × Trimmed IsPad f text
@@ -146,8 +152,7 @@ some_header block count len c =
     let to : (text : List ℕ) × TrimmedEnd IsPad (field 22 25 block) text = some_trimmed_end (field 22 25 block) in
     let from : (text : List ℕ) × TrimmedEnd IsPad (field 47 25 block) text = some_trimmed_end (field 47 25 block) in
     let subject : (text : List ℕ) × TrimmedEnd IsPad (field 72 25 block) text = some_trimmed_end (field 72 25 block) in
-    let password : (text : List ℕ) × TrimmedEnd IsPad (field 97 12 block) text = some_trimmed_end (field 97 12 block) in
-    (
+    let password : (text : List ℕ) × TrimmedEnd IsPad (field 97 12 block) text = some_trimmed_end (field 97 12 block) in (
       record {
         status = byte 1 block;
         number = number.0;

@@ -9,3 +9,4 @@ pub mod Exists
 pub mod Stream
 pub mod Steps
 pub mod Feeding
+pub mod Reading

@@ -87,9 +87,9 @@ GoesOn old stream (Some next) = IsProgress next.0 0 stream × (¬ (next.0.awaite
 
 -- what contracts see of a reader
 pub record ReaderState : Type 0 where
-  pub block : List ℕ -- the last full one
-  pub part : List ℕ -- the bytes behind it
-  pub taken : ℕ -- how many bytes were taken
+  pub block : List ℕ  -- the last full one
+  pub part : List ℕ  -- the bytes behind it
+  pub taken : ℕ  -- how many bytes were taken
   pub progress : Progress
 
 -- the reader holds the stream

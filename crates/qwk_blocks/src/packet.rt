@@ -1,10 +1,12 @@
-ghost use Rattle.std.specs.Prelude.{◌≡◌, ◌≤◌, ◌<◌, ◌*◌, ◌^◌, ℕ, List, length, Err, IfOk, All};
+ghost use Rattle.std.specs.Prelude.{◌≡◌, ◌≤◌, ◌<◌, ◌*◌, ◌^◌, ℕ, List, length, Err, IfOk, IfSome, All};
 ghost use Rattle.qwk_blocks.specs.Header.{CountReads};
 ghost use Rattle.qwk_blocks.specs.Packet.{MessageReads, PacketReads, FirstFault};
+ghost use Rattle.qwk_blocks.specs.Reader.{IsEvent, Moves};
 ghost use Rattle.qwk_blocks.specs.Written.{Writable};
-ghost use Rattle.qwk_blocks.specs.Answer.{ReadsOrFaults, UnlessMemory};
+ghost use Rattle.qwk_blocks.specs.Answer.{HasRead, ReadsOrFaults, UnlessMemory};
 ghost use Rattle.qwk_blocks.specs.declared.message.QwkMessage.{QwkMessage};
 ghost use Rattle.qwk_blocks.specs.declared.fault.QwkFault.{QwkFault};
+ghost use Rattle.qwk_blocks.specs.declared.progress.Progress.{Progress};
 
 use crate::event::Event;
 use crate::fault::{QwkError, QwkFault};
@@ -25,6 +27,47 @@ fn message_of(alloc: Global, blocks: &[u8]) -> Result<QwkMessage, AllocError>
     })
 }
 
+/// Adds the message that ends with the stream, if its last block ends one, and answers where the next
+/// message begins, or the one at hand.
+fn add_ended(
+    alloc: Global,
+    messages: &mut QwkMessages,
+    stream: &[u8],
+    start: usize,
+    event: Event,
+) -> Result<usize, AllocError>
+    requires { IsEvent start stream.now event }
+    ensures reads { IfOk result (λ next. HasRead start stream.now messages.old → HasRead next stream.now messages.new) }
+    ensures front { IfOk result (λ next. (old new : Progress) → old.front ≡ start → Moves old (length stream.now) (Some event) new → new.front ≡ next) }
+{
+    if event.ends_message() {
+        messages.add(message_of(alloc, &stream[start..])?)?;
+        return Ok(stream.len());
+    }
+    match event {
+        Event::Notice => Ok(stream.len()),
+        Event::Head { .. } | Event::Text { .. } => Ok(start),
+    }
+}
+
+/// The same where the last block of the stream may not be full.
+fn add_fed(
+    alloc: Global,
+    messages: &mut QwkMessages,
+    stream: &[u8],
+    start: usize,
+    event: Option<Event>,
+) -> Result<usize, AllocError>
+    requires { IfSome event (IsEvent start stream.now) }
+    ensures reads { IfOk result (λ next. HasRead start stream.now messages.old → HasRead next stream.now messages.new) }
+    ensures front { IfOk result (λ next. (old new : Progress) → old.front ≡ start → Moves old (length stream.now) event new → new.front ≡ next) }
+{
+    match event {
+        None => Ok(start),
+        Some(event) => add_ended(alloc, messages, stream, start, event),
+    }
+}
+
 /// The messages of a file, or its first fault.
 fn messages_of(alloc: Global, bytes: &[u8]) -> Result<QwkMessages, QwkError>
     requires { length bytes.now < 2 ^ 31 }
@@ -32,20 +75,12 @@ fn messages_of(alloc: Global, bytes: &[u8]) -> Result<QwkMessages, QwkError>
 {
     let mut reader = BlockReader::new();
     let mut messages = QwkMessages::new(alloc);
-    let (mut start, mut at) = (0, 0);
+    let mut start = 0;
+    let mut at = 0;
     while at < bytes.len() {
         let fed = reader.feed(&bytes[at..])?;
         at += fed.used;
-        match fed.event {
-            None => (),
-            Some(Event::Notice) => start = at,
-            Some(event) => {
-                if event.ends_message() {
-                    messages.add(message_of(alloc, &bytes[start..at])?)?;
-                    start = at;
-                }
-            }
-        }
+        start = add_fed(alloc, &mut messages, &bytes[..at], start, fed.event)?;
     }
     reader.finish()?;
     Ok(messages)

@@ -61,7 +61,13 @@ fn feeds_one_message_byte_by_byte(rt: HostRuntime) -> Result<(), Fail> {
 }
 
 /// Whether two messages of two blocks, of which the last byte is cut, are found so.
-fn assert_cut(rt: &impl Abort, alloc: Global, bytes: &[u8], cut: usize, most: usize) -> Result<(), Fail> {
+fn assert_cut(
+    rt: &impl Abort,
+    alloc: Global,
+    bytes: &[u8],
+    cut: usize,
+    most: usize,
+) -> Result<(), Fail> {
     let (reader, events) = feed(rt, alloc, bytes, cut, most)?;
     let wanted = [
         (128, Event::Notice),
