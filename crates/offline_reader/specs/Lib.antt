@@ -1,3 +1,4 @@
 pub mod Letter
 pub mod Listing
 pub mod Printed
+pub mod Scan

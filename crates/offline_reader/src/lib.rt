@@ -5,9 +5,11 @@ mod folder;
 mod letter;
 mod listing;
 mod print;
+mod scan;
 #[cfg(test)]
 mod tests;
 
 pub use folder::list_folder;
 pub use letter::{ShowError, show_message};
 pub use listing::list_packet;
+pub use scan::{Scanned, scan_packet};

@@ -1,4 +1,6 @@
 //! Texts of messages with fields that the examples of the commands don't have.
+mod scans;
+
 use crate::{ShowError, list_folder, list_packet, show_message};
 use byte_lists::{Bytes, Lines};
 use qwk_blocks::{Header, QwkMessage, QwkMessages};

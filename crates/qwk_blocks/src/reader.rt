@@ -31,7 +31,7 @@ impl Model for BlockReader {
 }
 
 impl BlockReader {
-    ghost use Rattle.std.specs.Prelude.{◌≡◌, ◌↔◌, ℕ, ◌+◌, ◌<◌, ◌≤◌, ◌^◌, ◌++◌, List, [], length, Ok, Err, IfOk, IfSome, IsNone, IsSome};
+    ghost use Rattle.std.specs.Prelude.{◌≡◌, ◌↔◌, ℕ, ◌+◌, ◌<◌, ◌≤◌, ◌^◌, ◌++◌, List, [], length, Ok, Err, IfOk, IfSome, IsSome, MatchResult};
     ghost use Rattle.qwk_blocks.specs.Packet.{FirstFault};
     ghost use Rattle.qwk_blocks.specs.Reader.{HoldsStream, HasBadCount, CountsMessages, IsLastBlock, FillsBlock, IsEvent, Moves, next_bytes};
     ghost use Rattle.qwk_blocks.specs.declared.fault.QwkFault.{QwkFault};
@@ -64,7 +64,8 @@ impl BlockReader {
 
         // The bytes that are taken are the next ones of the stream, unless it had a fault before.
         ensures holds { (stream : List ℕ) → HoldsStream self.old stream → ¬ HasBadCount stream → HoldsStream self.new (stream ++ next_bytes stream piece.now) }
-        ensures taken { IfOk result (λ fed. (fed.used ≤ length piece.now) × (self.new.taken ≡ self.old.taken + fed.used)) }
+        ensures bound { IfOk result (λ fed. (fed.used ≤ length piece.now) × (1 ≤ length piece.now → 1 ≤ fed.used)) }
+        ensures taken { MatchResult result (λ fed. self.new.taken ≡ self.old.taken + fed.used) (λ _. self.new.taken ≤ self.old.taken + length piece.now) }
         ensures used { (stream : List ℕ) → HoldsStream self.old stream → IfOk result (λ fed. fed.used ≡ length (next_bytes stream piece.now)) }
 
         // An event is that of a block that became full.
