@@ -102,10 +102,9 @@ impl BlockReader {
                 })
             }
             None => {
+                let at = self.progress.front;
                 self.progress.awaited = Awaited::Nothing;
-                Err(BlocksFault {
-                    at: self.progress.front,
-                })
+                Err(BlocksFault { at })
             }
         }
     }
