@@ -6,7 +6,7 @@ use Rattle.std.proofs.lemmas.List.{append_assoc, take-append-drop, take_all, tak
 use Rattle.qwk_blocks.specs.Header.{CountReads}
 use Rattle.qwk_blocks.specs.Packet.{MessageReads, PacketReads, PacketAt, StopsWith, FirstFault}
 use Rattle.qwk_blocks.specs.Answer.{HasRead}
-use Rattle.qwk_blocks.specs.Reader.{CountsMessages, HasBadCount, EndsMessage, IsEvent, Moves, PacketBefore, Awaits, IsProgress, ReaderState, HoldsStream, next_bytes}
+use Rattle.qwk_blocks.specs.Reader.{CountsMessages, HasBadCount, EndsMessage, IsEvent, MovesFront, PacketBefore, Awaits, IsProgress, ReaderState, HoldsStream, next_bytes}
 use Rattle.qwk_blocks.specs.declared.event.Event.{Event}
 use Rattle.qwk_blocks.specs.declared.event.Event.TheVariants as event
 use Rattle.qwk_blocks.specs.declared.event.Fed.{Fed}
@@ -107,7 +107,7 @@ has_read_more front at more bytes ms le further (inr packet) =
     inr (subst (λ (l : List ℕ). PacketReads l ms) (take-take front at bytes le ∙ sym (take-take front more bytes (omega arith))) packet)
 
 -- where a message ends, the front moves to the end
-pub ended_front : (old new : Progress) (end : ℕ) (e : Event) → EndsMessage e → Moves old end (Some e) new → new.front ≡ end
+pub ended_front : (old new : Progress) (end : ℕ) (e : Event) → EndsMessage e → MovesFront old end (Some e) new → new.front ≡ end
 ended_front old new end event.Notice ends moves = absurd ends
 ended_front old new end (event.Head blocks) ends (inl moved) = moved.1
 ended_front old new end (event.Head blocks) ends (inr stays) = absurd (stays.0 ends)

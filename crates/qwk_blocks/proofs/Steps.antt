@@ -3,7 +3,7 @@ use Rattle.std.proofs.Common.{◌≡◌, ℕ, ◌+◌, ◌-◌, ◌*◌, ◌<◌
 use Rattle.std.proofs.lemmas.List.{take_all, length-drop}
 use Rattle.qwk_blocks.specs.Header.{CountReads}
 use Rattle.qwk_blocks.specs.Packet.{MessageReads, PacketReads, PacketAt}
-use Rattle.qwk_blocks.specs.Reader.{PacketBefore, Awaits, AwaitsText, IsProgress, GoesOn}
+use Rattle.qwk_blocks.specs.Reader.{PacketBefore, Awaits, AwaitsText, IsProgress, FollowsBlock}
 use Rattle.qwk_blocks.specs.declared.event.Event.{Event}
 use Rattle.qwk_blocks.specs.declared.event.Event.TheVariants as event
 use Rattle.qwk_blocks.specs.declared.message.QwkMessage.{QwkMessage}
@@ -38,7 +38,7 @@ packet_at : (front messages : ℕ) (s : List ℕ) → PacketBefore front message
 packet_at front messages s p = (p.0, (p.1.0, p.1.1))
 
 pub after_notice : (old : Progress) (end : ℕ) (s : List ℕ) → length s ≡ end → Awaits Notice old.front old.messages 128 s
-    → GoesOn old s (Some (record { front = end; messages = old.messages; awaited = Header }, event.Notice))
+    → FollowsBlock old s (Some (record { front = end; messages = old.messages; awaited = Header }, event.Notice))
 after_notice old end s is h =
     let e : 128 ≡ end = omega (arith, h.0) in
     let reads : PacketReads (take end s) [] = subst (λ (n : ℕ). PacketReads (take n s) []) e (notice_alone s [] (omega (arith, h.0)) refl) in
@@ -49,18 +49,18 @@ front_block : (old : Progress) (end : ℕ) (s block : List ℕ) → length s ≡
 front_block old end s block is at len = let e : old.front ≡ end - 128 = omega arith in ap (λ n. drop n s) e ∙ at
 
 pub after_header : (old new : Progress) (blocks end : ℕ) (s block : List ℕ) → length s ≡ end → drop (end - 128) s ≡ block → Awaits Header old.front old.messages 128 s
-    → CountReads block blocks → AwaitsText old (blocks - 1) end new → GoesOn old s (Some (new, event.Head blocks))
+    → CountReads block blocks → AwaitsText old (blocks - 1) end new → FollowsBlock old s (Some (new, event.Head blocks))
 after_header old new blocks end s block is at h c more =
     let c' : CountReads (drop old.front s) blocks = subst (λ (l : List ℕ). CountReads l blocks) (sym (front_block old end s block is at h.1)) c in
     (text_on old new (blocks - 1) end blocks s h.0 c' (omega (arith, c.positive)) is (omega (arith, c.positive, h.1)) more, awaits_some old new (blocks - 1) end more, (packet_at old.front old.messages s h.0, h.1, c'))
 
 pub after_text : (old new : Progress) (left end : ℕ) (s : List ℕ) → length s ≡ end → Awaits (Text left) old.front old.messages 128 s
-    → AwaitsText old left end new → GoesOn old s (Some (new, event.Text left))
+    → AwaitsText old left end new → FollowsBlock old s (Some (new, event.Text left))
 after_text old new left end s is h more =
     let len : length s + 128 * left ≡ old.front + 128 * h.1.0 = omega (arith, h.1.3) in
     (text_on old new left end h.1.0 s h.0 h.1.1 (omega (arith, h.1.2)) is len more, awaits_some old new left end more, (packet_at old.front old.messages s h.0, omega (arith, h.1.2), (h.1.0, h.1.1, len)))
 
 pub after_bad : (old : Progress) (end : ℕ) (s block : List ℕ) → length s ≡ end → drop (end - 128) s ≡ block → Awaits Header old.front old.messages 128 s
-    → ((n : ℕ) → CountReads block n → ⊥) → GoesOn old s None
+    → ((n : ℕ) → CountReads block n → ⊥) → FollowsBlock old s None
 after_bad old end s block is at h none =
     (h.0, h.1, refl, λ n c. none n (subst (λ (l : List ℕ). CountReads l n) (front_block old end s block is at h.1) c))

@@ -47,13 +47,13 @@ EndsMessage (Head blocks) = blocks ≡ 1
 EndsMessage (Text left) = left ≡ 0
 
 -- Where the message at hand begins, and how many are whole: the event that ends a message ends it at a place.
-abbrev pub Moves : Progress → ℕ → Option Event → Progress → Type 0
-Moves old end None new = new ≡ old
-Moves old end (Some Notice) new = (new.front ≡ end) × (new.messages ≡ old.messages)
-Moves old end (Some (Head blocks)) new =
+abbrev pub MovesFront : Progress → ℕ → Option Event → Progress → Type 0
+MovesFront old end None new = new ≡ old
+MovesFront old end (Some Notice) new = (new.front ≡ end) × (new.messages ≡ old.messages)
+MovesFront old end (Some (Head blocks)) new =
     (EndsMessage (Head blocks) × (new.front ≡ end) × (new.messages ≡ old.messages + 1))
     ⊎ ((¬ EndsMessage (Head blocks)) × (new.front ≡ old.front) × (new.messages ≡ old.messages))
-Moves old end (Some (Text left)) new =
+MovesFront old end (Some (Text left)) new =
     (EndsMessage (Text left) × (new.front ≡ end) × (new.messages ≡ old.messages + 1))
     ⊎ ((¬ EndsMessage (Text left)) × (new.front ≡ old.front) × (new.messages ≡ old.messages))
 
@@ -81,9 +81,9 @@ AwaitsText old blocks end new =
     ⊎ ((left : ℕ) × (blocks ≡ left + 1) × (new ≡ record old { awaited = awaited.Text left }))
 
 -- what one more full block gives, which ends the stream: the progress and its event, or none where its count is faulty
-abbrev pub GoesOn : Progress → List ℕ → Option (Progress × Event) → Type 0
-GoesOn old stream None = IsProgress (record old { awaited = awaited.Nothing }) 0 stream
-GoesOn old stream (Some next) = IsProgress next.0 0 stream × (¬ (next.0.awaited ≡ awaited.Nothing)) × IsEvent old.front stream next.1
+abbrev pub FollowsBlock : Progress → List ℕ → Option (Progress × Event) → Type 0
+FollowsBlock old stream None = IsProgress (record old { awaited = awaited.Nothing }) 0 stream
+FollowsBlock old stream (Some next) = IsProgress next.0 0 stream × (¬ (next.0.awaited ≡ awaited.Nothing)) × IsEvent old.front stream next.1
 
 -- what contracts see of a reader
 pub record ReaderState : Type 0 where

@@ -1,7 +1,7 @@
 ghost use Rattle.std.specs.Prelude.{◌≡◌, ◌≤◌, ◌<◌, ◌*◌, ◌^◌, ℕ, List, length, Err, IfOk, IfSome, All};
 ghost use Rattle.qwk_blocks.specs.Header.{CountReads};
 ghost use Rattle.qwk_blocks.specs.Packet.{MessageReads, PacketReads, FirstFault};
-ghost use Rattle.qwk_blocks.specs.Reader.{IsEvent, Moves};
+ghost use Rattle.qwk_blocks.specs.Reader.{IsEvent, MovesFront};
 ghost use Rattle.qwk_blocks.specs.Written.{Writable};
 ghost use Rattle.qwk_blocks.specs.Answer.{HasRead, ReadsOrFaults, UnlessMemory};
 ghost use Rattle.qwk_blocks.specs.declared.message.QwkMessage.{QwkMessage};
@@ -38,7 +38,7 @@ fn add_ended(
 ) -> Result<usize, AllocError>
     requires { IsEvent start stream.now event }
     ensures reads { IfOk result (λ next. HasRead start stream.now messages.old → HasRead next stream.now messages.new) }
-    ensures front { IfOk result (λ next. (old new : Progress) → old.front ≡ start → Moves old (length stream.now) (Some event) new → new.front ≡ next) }
+    ensures front { IfOk result (λ next. (old new : Progress) → old.front ≡ start → MovesFront old (length stream.now) (Some event) new → new.front ≡ next) }
 {
     if event.ends_message() {
         messages.add(message_of(alloc, &stream[start..])?)?;
@@ -60,7 +60,7 @@ fn add_fed(
 ) -> Result<usize, AllocError>
     requires { IfSome event (IsEvent start stream.now) }
     ensures reads { IfOk result (λ next. HasRead start stream.now messages.old → HasRead next stream.now messages.new) }
-    ensures front { IfOk result (λ next. (old new : Progress) → old.front ≡ start → Moves old (length stream.now) event new → new.front ≡ next) }
+    ensures front { IfOk result (λ next. (old new : Progress) → old.front ≡ start → MovesFront old (length stream.now) event new → new.front ≡ next) }
 {
     match event {
         None => Ok(start),

@@ -1,7 +1,7 @@
 //! How far a reader of blocks has come.
 ghost use Rattle.std.specs.Prelude.{◌≡◌, ◌≤◌, ◌<◌, ◌+◌, ◌-◌, ◌^◌, ℕ, List, length, drop, IfSome, IsTrue, MatchResult, ◌↔◌};
 ghost use Rattle.qwk_blocks.specs.Packet.{FirstFault};
-ghost use Rattle.qwk_blocks.specs.Reader.{CountsMessages, IsProgress, AwaitsText, GoesOn, Moves};
+ghost use Rattle.qwk_blocks.specs.Reader.{CountsMessages, IsProgress, AwaitsText, FollowsBlock, MovesFront};
 
 use crate::event::Event;
 use crate::fault::QwkFault;
@@ -65,8 +65,8 @@ impl Progress {
         requires block { length block.now ≡ 128 }
         requires messages { self.messages ≤ self.front }
         requires end { self.front < end }
-        ensures goes_on { (stream : List ℕ) → length stream ≡ end → drop (end - 128) stream ≡ block.now → IsProgress self 128 stream → GoesOn self stream result }
-        ensures moves { IfSome result (λ next. Moves self end (Some next.1) next.0) }
+        ensures goes_on { (stream : List ℕ) → length stream ≡ end → drop (end - 128) stream ≡ block.now → IsProgress self 128 stream → FollowsBlock self stream result }
+        ensures moves { IfSome result (λ next. MovesFront self end (Some next.1) next.0) }
     {
         match self.awaited {
             Awaited::Notice => {

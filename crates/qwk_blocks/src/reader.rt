@@ -33,7 +33,7 @@ impl Model for BlockReader {
 impl BlockReader {
     ghost use Rattle.std.specs.Prelude.{◌≡◌, ◌↔◌, ℕ, ◌+◌, ◌<◌, ◌≤◌, ◌^◌, ◌++◌, List, [], length, Ok, Err, IfOk, IfSome, IsSome, MatchResult};
     ghost use Rattle.qwk_blocks.specs.Packet.{FirstFault};
-    ghost use Rattle.qwk_blocks.specs.Reader.{HoldsStream, HasBadCount, CountsMessages, IsLastBlock, FillsBlock, IsEvent, Moves, next_bytes};
+    ghost use Rattle.qwk_blocks.specs.Reader.{HoldsStream, HasBadCount, CountsMessages, IsLastBlock, FillsBlock, IsEvent, MovesFront, next_bytes};
     ghost use Rattle.qwk_blocks.specs.declared.fault.QwkFault.{QwkFault};
     ghost use Rattle.qwk_blocks.specs.declared.fault.QwkFault.TheVariants.{BadBlocks};
 
@@ -71,7 +71,7 @@ impl BlockReader {
         // An event is that of a block that became full.
         ensures full { (stream : List ℕ) → HoldsStream self.old stream → IfOk result (λ fed. IsSome fed.event ↔ FillsBlock stream (next_bytes stream piece.now)) }
         ensures event { (stream : List ℕ) → HoldsStream self.old stream → IfOk result (λ fed. IfSome fed.event (IsEvent self.old.progress.front (stream ++ next_bytes stream piece.now))) }
-        ensures moves { IfOk result (λ fed. Moves self.old.progress self.new.taken fed.event self.new.progress) }
+        ensures moves { IfOk result (λ fed. MovesFront self.old.progress self.new.taken fed.event self.new.progress) }
 
         // A fault is the first one of the stream with the taken bytes.
         ensures fault { (stream : List ℕ) → HoldsStream self.old stream → ¬ HasBadCount stream → (at : ℕ) → (result ≡ Err (record { at = at })) ↔ FirstFault (stream ++ next_bytes stream piece.now) (BadBlocks at) }
