@@ -1,5 +1,6 @@
 pub mod Change
 pub mod Contents
+pub mod Slots
 pub use Rattle.jam_layout.specs.Conference
 pub use Rattle.jam_layout.specs.Fields
 pub use Rattle.jam_layout.specs.InOrder

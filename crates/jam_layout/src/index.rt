@@ -8,8 +8,8 @@ ghost use Rattle.jam_layout.specs.declared.entry.Entry.{Entry};
 
 use crate::entry::Entry;
 use crate::error::BaseError;
-use crate::header_size::header_size;
 use crate::places::damaged;
+use crate::sizes::header_size;
 use byte_lists::List;
 use door_outside::FileId;
 use jam_records::{DamageRule, IndexRecord, Message, Slot, Slots};

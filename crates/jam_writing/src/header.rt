@@ -1,0 +1,87 @@
+ghost use Rattle.std.specs.Prelude.{◌≡◌, ◌++◌, ◌<◌, ◌^◌, length, OnOk};
+ghost use Rattle.jam_records.specs.Subfields.{subfields_text};
+ghost use Rattle.jam_layout.specs.Fields.{subfields_of};
+ghost use Rattle.jam_layout.specs.Headers.{entry_text, header_size, marks_in, message_header};
+ghost use Rattle.jam_writing.specs.Pieces.{entry_with};
+
+use crate::message_subfields::subfields;
+use byte_lists::Bytes;
+use jam_layout::Marks;
+use jam_records::{Kind, Message, MessageHeader, write_message_header, write_subfields};
+use jam_threads::Link;
+use name_crc::name_crc;
+use std::alloc::{AllocError, Global};
+
+/// PasswordCRC without a password.
+const NO_PASSWORD: u32 = 0xFFFF_FFFF;
+
+/// The marks of a message.
+fn marks(message: &Message) -> Marks
+    ensures { result ≡ marks_in message.now }
+{
+    Marks {
+        local: message.local,
+        private: message.private,
+        seen: message.seen,
+        deleted: message.deleted,
+    }
+}
+
+/// The header of a message, whose subfields have this length.
+#[tactic(auto, unfolding(jam_layout::specs::Headers::message_header))]
+fn header(
+    kind: Kind,
+    number: u32,
+    offset: u32,
+    link: Link,
+    message: &Message,
+    subfield_len: u32,
+) -> MessageHeader
+    requires subfields { subfield_len ≡ length (subfields_text (subfields_of message.now)) }
+    requires body { length message.now.body < 2 ^ 31 }
+    ensures { result ≡ message_header kind offset (entry_with number link message.now) }
+{
+    MessageHeader {
+        subfield_len,
+        times_read: 0,
+        msgid_crc: name_crc(message.msgid.as_slice()),
+        reply_crc: name_crc(message.replyid.as_slice()),
+        reply_to: link.to,
+        reply1st: link.first,
+        reply_next: link.next,
+        written: message.written,
+        received: message.received,
+        processed: message.processed,
+        number,
+        attribute: marks(message).attribute(kind),
+        attribute2: 0,
+        offset,
+        text_len: message.body.as_slice().len() as u32,
+        password_crc: NO_PASSWORD,
+        cost: 0,
+    }
+}
+
+/// Adds the header of a message with its subfields (JAM message base proposal, revision 1, .JHR). Its number
+/// is from 1, its body begins at the offset in .JDT, in bytes. Header and body have fewer than 2^31 bytes each.
+///
+/// The error comes where there is no memory. The bytes may then have a part of it more.
+pub fn add_header(
+    alloc: Global,
+    jhr: &mut Bytes,
+    kind: Kind,
+    number: u32,
+    offset: u32,
+    link: Link,
+    message: &Message,
+) -> Result<(), AllocError>
+    requires header { header_size message.now < 2 ^ 31 }
+    requires body { length message.now.body < 2 ^ 31 }
+    ensures { OnOk result (jhr.new ≡ jhr.old ++ entry_text kind offset (entry_with number link message.now)) }
+{
+    let fields = write_subfields(alloc, &subfields(alloc, message)?)?;
+    let len = fields.as_slice().len() as u32;
+    let header = header(kind, number, offset, link, message, len);
+    jhr.add(&write_message_header(&header))?;
+    jhr.add(fields.as_slice())
+}

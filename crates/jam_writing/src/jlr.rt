@@ -1,0 +1,37 @@
+ghost use Rattle.std.specs.Prelude.{◌≡◌, IfOk};
+ghost use Rattle.jam_layout.specs.Readers.{last_read as record_of, last_reads};
+
+use byte_lists::Bytes;
+use jam_layout::Reader;
+use jam_records::{LastRead, write_last};
+use name_crc::name_crc;
+use std::alloc::{AllocError, Global};
+
+/// The last-read record of a reader with this pointer.
+fn last_read(reader: &Reader, pointer: u32) -> LastRead
+    ensures { result ≡ record_of reader.now pointer }
+{
+    LastRead {
+        user_crc: name_crc(reader.name.as_slice()),
+        user_id: reader.id,
+        last: pointer,
+        high: pointer,
+    }
+}
+
+/// The bytes of .JLR: the records of readers with these pointers.
+///
+/// The error comes where there is no memory.
+pub fn write_jlr(
+    alloc: Global,
+    readers: &[Reader],
+    pointers: &[u32],
+) -> Result<Bytes, AllocError>
+    ensures { IfOk result (λ jlr. jlr ≡ last_reads readers.now pointers.now) }
+{
+    let mut jlr = Bytes::new(alloc);
+    for (reader, pointer) in readers.iter().zip(pointers) {
+        jlr.add(&write_last(&last_read(reader, *pointer)))?;
+    }
+    Ok(jlr)
+}

@@ -1,0 +1,17 @@
+//! The four JAM files of one conference, written: each is the one that `jam_layout` reads as it.
+#![tactic(auto)]
+
+mod files;
+mod header;
+mod jdt;
+mod jdx;
+mod jhr;
+mod jlr;
+mod message_subfields;
+
+pub use files::write_files;
+pub use header::add_header;
+pub use jdt::write_jdt;
+pub use jdx::write_jdx;
+pub use jhr::write_jhr;
+pub use jlr::write_jlr;
