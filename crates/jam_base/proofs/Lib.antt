@@ -1,3 +1,4 @@
 pub mod PatchLaws
 pub mod ReaderLaws
-pub mod LastReadLoop
+pub mod SlotChanges
+pub mod MarkedSlots

@@ -1,4 +1,4 @@
--- What whole patches do to the files of a place.
+-- What whole patches do to the files of a place, and what an intent asks of them.
 use Rattle.std.proofs.Common.{◌≡◌, ◌≢◌, inl, inr, false, ℕ, ◌+◌, ◌<◌, ◌≤◌, List, [], ◌∷◌, ◌++◌, length, refl, ap, ◌∙◌, arith, length-append}
 use Rattle.std.specs.Prelude.{IsTrue, ◌==◌}
 use Rattle.std.proofs.lemmas.Bool.{eq-eqb, ne_eqb, cond-true, cond-false}
@@ -8,7 +8,7 @@ use Rattle.intent_journal.specs.Journal.{patch_text, patches_text}
 use Rattle.intent_journal.specs.declared.patch.Patch.{Patch}
 use Rattle.intent_journal.specs.declared.patch.Patch.TheVariants.{Whole}
 use Rattle.door_outside.specs.File.{jhr_file, jdt_file, jdx_file, jlr_file}
-use Rattle.jam_base.specs.Change.{whole_files, IsOfPlace, IsElsewhere, Turns, SuitsIntent}
+use Rattle.jam_base.specs.Change.{whole_jhr, whole_jlr, whole_messages, whole_files, IsOfPlace, IsElsewhere, Turns, SuitsIntent}
 use Rattle.jam_layout.specs.declared.files.BaseFiles.{BaseFiles}
 
 -- ---- one patch
@@ -28,7 +28,49 @@ not_here : (place file : ℕ) → IsElsewhere place file → (k : ℕ) → IsOfP
 not_here place file (inl below) k within = λ e. omega (arith, e, below, within.0)
 not_here place file (inr above) k within = λ e. omega (arith, e, above, within.1)
 
--- ---- .JLR alone
+-- ---- one file of a place
+alone : (place : ℕ) (old : BaseFiles) (patch : Patch) → IsOfPlace place (file_of patch) → (files : Files) (file : ℕ) → IsElsewhere place file → apply patch files file ≡ files file
+alone place old patch within files file away = elsewhere patch files file (not_here place file away (file_of patch) within)
+
+pub jhr_turns : (place : ℕ) (old : BaseFiles) (jhr : List ℕ) → Turns place old (record old { jhr = jhr }) (Whole (jhr_file place) jhr ∷ [])
+jhr_turns place old jhr =
+    let patch : Patch = Whole (jhr_file place) jhr in
+    record {
+      base = λ files e.
+          let first : apply patch files (jhr_file place) ≡ jhr = here (jhr_file place) jhr files in
+          let jdt : apply patch files (jdt_file place) ≡ old.jdt = elsewhere patch files (jdt_file place) (λ same. omega (arith, same)) ∙ ap (λ (four : BaseFiles). four.jdt) e in
+          let jdx : apply patch files (jdx_file place) ≡ old.jdx = elsewhere patch files (jdx_file place) (λ same. omega (arith, same)) ∙ ap (λ (four : BaseFiles). four.jdx) e in
+          let jlr : apply patch files (jlr_file place) ≡ old.jlr = elsewhere patch files (jlr_file place) (λ same. omega (arith, same)) ∙ ap (λ (four : BaseFiles). four.jlr) e in
+          λ i. record { jhr = first i; jdt = jdt i; jdx = jdx i; jlr = jlr i };
+      others = alone place old patch (omega arith, omega arith);
+    }
+
+pub jdt_turns : (place : ℕ) (old : BaseFiles) (jdt : List ℕ) → Turns place old (record old { jdt = jdt }) (Whole (jdt_file place) jdt ∷ [])
+jdt_turns place old jdt =
+    let patch : Patch = Whole (jdt_file place) jdt in
+    record {
+      base = λ files e.
+          let jhr : apply patch files (jhr_file place) ≡ old.jhr = elsewhere patch files (jhr_file place) (λ same. omega (arith, same)) ∙ ap (λ (four : BaseFiles). four.jhr) e in
+          let second : apply patch files (jdt_file place) ≡ jdt = here (jdt_file place) jdt files in
+          let jdx : apply patch files (jdx_file place) ≡ old.jdx = elsewhere patch files (jdx_file place) (λ same. omega (arith, same)) ∙ ap (λ (four : BaseFiles). four.jdx) e in
+          let jlr : apply patch files (jlr_file place) ≡ old.jlr = elsewhere patch files (jlr_file place) (λ same. omega (arith, same)) ∙ ap (λ (four : BaseFiles). four.jlr) e in
+          λ i. record { jhr = jhr i; jdt = second i; jdx = jdx i; jlr = jlr i };
+      others = alone place old patch (omega arith, omega arith);
+    }
+
+pub jdx_turns : (place : ℕ) (old : BaseFiles) (jdx : List ℕ) → Turns place old (record old { jdx = jdx }) (Whole (jdx_file place) jdx ∷ [])
+jdx_turns place old jdx =
+    let patch : Patch = Whole (jdx_file place) jdx in
+    record {
+      base = λ files e.
+          let jhr : apply patch files (jhr_file place) ≡ old.jhr = elsewhere patch files (jhr_file place) (λ same. omega (arith, same)) ∙ ap (λ (four : BaseFiles). four.jhr) e in
+          let jdt : apply patch files (jdt_file place) ≡ old.jdt = elsewhere patch files (jdt_file place) (λ same. omega (arith, same)) ∙ ap (λ (four : BaseFiles). four.jdt) e in
+          let third : apply patch files (jdx_file place) ≡ jdx = here (jdx_file place) jdx files in
+          let jlr : apply patch files (jlr_file place) ≡ old.jlr = elsewhere patch files (jlr_file place) (λ same. omega (arith, same)) ∙ ap (λ (four : BaseFiles). four.jlr) e in
+          λ i. record { jhr = jhr i; jdt = jdt i; jdx = third i; jlr = jlr i };
+      others = alone place old patch (omega arith, omega arith);
+    }
+
 pub jlr_turns : (place : ℕ) (old : BaseFiles) (jlr : List ℕ) → Turns place old (record old { jlr = jlr }) (Whole (jlr_file place) jlr ∷ [])
 jlr_turns place old jlr =
     let patch : Patch = Whole (jlr_file place) jlr in
@@ -39,54 +81,39 @@ jlr_turns place old jlr =
           let jdx : apply patch files (jdx_file place) ≡ old.jdx = elsewhere patch files (jdx_file place) (λ same. omega (arith, same)) ∙ ap (λ (four : BaseFiles). four.jdx) e in
           let last : apply patch files (jlr_file place) ≡ jlr = here (jlr_file place) jlr files in
           λ i. record { jhr = jhr i; jdt = jdt i; jdx = jdx i; jlr = last i };
-      others = λ files file away. elsewhere patch files file (not_here place file away (jlr_file place) (omega arith, omega arith));
+      others = alone place old patch (omega arith, omega arith);
     }
 
-pub jlr_small : (place : ℕ) (old : BaseFiles) (jlr : List ℕ) → SuitsIntent place (record old { jlr = jlr }) (Whole (jlr_file place) jlr ∷ [])
-jlr_small place old jlr = record {
-  within = All-cons (λ (patch : Patch). IsOfPlace place (file_of patch)) (Whole (jlr_file place) jlr) [] (omega arith, omega arith) (All-nil (λ (patch : Patch). IsOfPlace place (file_of patch)));
-  once = refl;
-  short = at_most _ _ _ (text_more (jlr_file place) jlr []) (omega arith);
+-- no patch, and one patch before others
+pub nothing_turns : (place : ℕ) (old : BaseFiles) → Turns place old old []
+nothing_turns place old = record { base = λ files e. e; others = λ files file away. refl }
+
+pub turns_then : (place : ℕ) (old between new : BaseFiles) (patch : Patch) (patches : List Patch) → Turns place old between (patch ∷ []) → Turns place between new patches → Turns place old new (patch ∷ patches)
+turns_then place old between new patch patches one others = record {
+  base = λ files e. others.base (apply patch files) (one.base files e);
+  others = λ files file away. others.others (apply patch files) file away ∙ one.others files file away;
 }
 
--- ---- all four
+-- ---- several files
+pub messages_turn : (place : ℕ) (old : BaseFiles) (jhr jdt jdx : List ℕ) → Turns place old (record old { jhr = jhr; jdt = jdt; jdx = jdx }) (Whole (jhr_file place) jhr ∷ Whole (jdt_file place) jdt ∷ Whole (jdx_file place) jdx ∷ [])
+messages_turn place old jhr jdt jdx =
+    let one : BaseFiles = record old { jhr = jhr } in
+    let two : BaseFiles = record one { jdt = jdt } in
+    let three : BaseFiles = record two { jdx = jdx } in
+    turns_then place old one three (Whole (jhr_file place) jhr) (Whole (jdt_file place) jdt ∷ Whole (jdx_file place) jdx ∷ []) (jhr_turns place old jhr)
+    (turns_then place one two three (Whole (jdt_file place) jdt) (Whole (jdx_file place) jdx ∷ []) (jdt_turns place one jdt) (jdx_turns place two jdx))
+
+pub whole_turns : (place : ℕ) (new old : BaseFiles) → Turns place old new (whole_files place new)
+whole_turns place new old =
+    let one : BaseFiles = record old { jhr = new.jhr } in
+    let two : BaseFiles = record one { jdt = new.jdt } in
+    let three : BaseFiles = record two { jdx = new.jdx } in
+    turns_then place old one new (Whole (jhr_file place) new.jhr) (Whole (jdt_file place) new.jdt ∷ Whole (jdx_file place) new.jdx ∷ Whole (jlr_file place) new.jlr ∷ []) (jhr_turns place old new.jhr)
+    (turns_then place one two new (Whole (jdt_file place) new.jdt) (Whole (jdx_file place) new.jdx ∷ Whole (jlr_file place) new.jlr ∷ []) (jdt_turns place one new.jdt)
+    (turns_then place two three new (Whole (jdx_file place) new.jdx) (Whole (jlr_file place) new.jlr ∷ []) (jdx_turns place two new.jdx) (jlr_turns place three new.jlr)))
+
+-- ---- what an intent asks
 module _ (place : ℕ) (new : BaseFiles) where
-  first : Patch
-  first = Whole (jhr_file place) new.jhr
-
-  second : Patch
-  second = Whole (jdt_file place) new.jdt
-
-  third : Patch
-  third = Whole (jdx_file place) new.jdx
-
-  fourth : Patch
-  fourth = Whole (jlr_file place) new.jlr
-
-  pub whole_turns : (old : BaseFiles) → Turns place old new (whole_files place new)
-  unfolding first second third fourth
-  whole_turns old = record {
-    base = λ files e.
-        let one : Files = apply first files in
-        let two : Files = apply second one in
-        let three : Files = apply third two in
-        let jhr : apply fourth three (jhr_file place) ≡ new.jhr =
-        elsewhere fourth three (jhr_file place) (λ same. omega (arith, same)) ∙ (elsewhere third two (jhr_file place) (λ same. omega (arith, same))
-        ∙ (elsewhere second one (jhr_file place) (λ same. omega (arith, same)) ∙ here (jhr_file place) new.jhr files)) in
-        let jdt : apply fourth three (jdt_file place) ≡ new.jdt =
-        elsewhere fourth three (jdt_file place) (λ same. omega (arith, same)) ∙ (elsewhere third two (jdt_file place) (λ same. omega (arith, same)) ∙ here (jdt_file place) new.jdt one) in
-        let jdx : apply fourth three (jdx_file place) ≡ new.jdx = elsewhere fourth three (jdx_file place) (λ same. omega (arith, same)) ∙ here (jdx_file place) new.jdx two in
-        let jlr : apply fourth three (jlr_file place) ≡ new.jlr = here (jlr_file place) new.jlr three in
-        λ i. record { jhr = jhr i; jdt = jdt i; jdx = jdx i; jlr = jlr i };
-    others = λ files file away.
-        let one : Files = apply first files in
-        let two : Files = apply second one in
-        let three : Files = apply third two in
-        let apart : (k : ℕ) → IsOfPlace place k → file ≢ k = not_here place file away in
-        elsewhere fourth three file (apart (jlr_file place) (omega arith, omega arith)) ∙ (elsewhere third two file (apart (jdx_file place) (omega arith, omega arith))
-        ∙ (elsewhere second one file (apart (jdt_file place) (omega arith, omega arith)) ∙ elsewhere first files file (apart (jhr_file place) (omega arith, omega arith))));
-  }
-
   differ : (a b : ℕ) → a < b → (b == a) ≡ false
   differ a b less = ne_eqb b a (λ e. omega (arith, e, less))
 
@@ -100,20 +127,66 @@ module _ (place : ℕ) (new : BaseFiles) where
     differ (jdx_file place) (jlr_file place) (omega arith),
   ) refl
 
-  texts_length : length (patches_text (whole_files place new)) ≡ 11 + (length new.jhr + (11 + (length new.jdt + (11 + (length new.jdx + (11 + (length new.jlr + 0)))))))
-  texts_length =
-      let last = text_more (jlr_file place) new.jlr [] in
-      let index = text_more (jdx_file place) new.jdx (patch_text (Whole (jlr_file place) new.jlr) ++ []) ∙ ap (λ n. 11 + (length new.jdx + n)) last in
-      let bodies = text_more (jdt_file place) new.jdt (patches_text (Whole (jdx_file place) new.jdx ∷ Whole (jlr_file place) new.jlr ∷ [])) ∙ ap (λ n. 11 + (length new.jdt + n)) index in
-      text_more (jhr_file place) new.jhr (patches_text (Whole (jdt_file place) new.jdt ∷ Whole (jdx_file place) new.jdx ∷ Whole (jlr_file place) new.jlr ∷ [])) ∙ ap (λ n. 11 + (length new.jhr + n)) bodies
+  once_three : IsTrue (is_once (whole_messages place new))
+  once_three = rw (differ (jhr_file place) (jdt_file place) (omega arith), differ (jhr_file place) (jdx_file place) (omega arith), differ (jdt_file place) (jdx_file place) (omega arith)) refl
+
+  jdx_length : (rest : List Patch) → length (patches_text (Whole (jdx_file place) new.jdx ∷ rest)) ≡ 11 + (length new.jdx + length (patches_text rest))
+  jdx_length rest = text_more (jdx_file place) new.jdx (patches_text rest)
+
+  texts_length : (rest : List Patch) → length (patches_text (Whole (jhr_file place) new.jhr ∷ Whole (jdt_file place) new.jdt ∷ Whole (jdx_file place) new.jdx ∷ rest))
+      ≡ 11 + (length new.jhr + (11 + (length new.jdt + (11 + (length new.jdx + length (patches_text rest))))))
+  texts_length rest =
+      let bodies = text_more (jdt_file place) new.jdt (patches_text (Whole (jdx_file place) new.jdx ∷ rest)) ∙ ap (λ n. 11 + (length new.jdt + n)) (jdx_length rest) in
+      text_more (jhr_file place) new.jhr (patches_text (Whole (jdt_file place) new.jdt ∷ Whole (jdx_file place) new.jdx ∷ rest)) ∙ ap (λ n. 11 + (length new.jhr + n)) bodies
+
+  -- each is one of the files of the place
+  OfPlace : Patch → Type 0
+  OfPlace patch = IsOfPlace place (file_of patch)
+
+  none : All OfPlace []
+  none = All-nil OfPlace
+
+  jhr_within : (rest : List Patch) → All OfPlace rest → All OfPlace (Whole (jhr_file place) new.jhr ∷ rest)
+  unfolding OfPlace
+  jhr_within rest all = All-cons OfPlace (Whole (jhr_file place) new.jhr) rest (omega arith, omega arith) all
+
+  jdt_within : (rest : List Patch) → All OfPlace rest → All OfPlace (Whole (jdt_file place) new.jdt ∷ rest)
+  unfolding OfPlace
+  jdt_within rest all = All-cons OfPlace (Whole (jdt_file place) new.jdt) rest (omega arith, omega arith) all
+
+  jdx_within : (rest : List Patch) → All OfPlace rest → All OfPlace (Whole (jdx_file place) new.jdx ∷ rest)
+  unfolding OfPlace
+  jdx_within rest all = All-cons OfPlace (Whole (jdx_file place) new.jdx) rest (omega arith, omega arith) all
+
+  jlr_within : (rest : List Patch) → All OfPlace rest → All OfPlace (Whole (jlr_file place) new.jlr ∷ rest)
+  unfolding OfPlace
+  jlr_within rest all = All-cons OfPlace (Whole (jlr_file place) new.jlr) rest (omega arith, omega arith) all
+
+  pub nothing_small : SuitsIntent place new []
+  nothing_small = record { within = All-nil (λ (patch : Patch). IsOfPlace place (file_of patch)); once = refl; short = omega arith }
+
+  pub jhr_small : SuitsIntent place new (whole_jhr place new)
+  unfolding OfPlace
+  jhr_small = record { within = jhr_within [] none; once = refl; short = at_most _ _ _ (text_more (jhr_file place) new.jhr []) (omega arith) }
+
+  pub jlr_small : SuitsIntent place new (whole_jlr place new)
+  unfolding OfPlace
+  jlr_small = record { within = jlr_within [] none; once = refl; short = at_most _ _ _ (text_more (jlr_file place) new.jlr []) (omega arith) }
+
+  pub messages_small : SuitsIntent place new (whole_messages place new)
+  unfolding OfPlace
+  messages_small = record {
+    within = jhr_within (Whole (jdt_file place) new.jdt ∷ Whole (jdx_file place) new.jdx ∷ []) (jdt_within (Whole (jdx_file place) new.jdx ∷ []) (jdx_within [] none));
+    once = once_three;
+    short = at_most _ _ _ (texts_length []) (omega arith);
+  }
 
   pub whole_small : SuitsIntent place new (whole_files place new)
+  unfolding OfPlace
   whole_small =
-      let P : Patch → Type 0 = λ patch. IsOfPlace place (file_of patch) in
+      let last : List Patch = Whole (jlr_file place) new.jlr ∷ [] in
       record {
-        within = All-cons P (Whole (jhr_file place) new.jhr) (Whole (jdt_file place) new.jdt ∷ Whole (jdx_file place) new.jdx ∷ Whole (jlr_file place) new.jlr ∷ []) (omega arith, omega arith)
-            (All-cons P (Whole (jdt_file place) new.jdt) (Whole (jdx_file place) new.jdx ∷ Whole (jlr_file place) new.jlr ∷ []) (omega arith, omega arith)
-            (All-cons P (Whole (jdx_file place) new.jdx) (Whole (jlr_file place) new.jlr ∷ []) (omega arith, omega arith) (All-cons P (Whole (jlr_file place) new.jlr) [] (omega arith, omega arith) (All-nil P))));
+        within = jhr_within (Whole (jdt_file place) new.jdt ∷ Whole (jdx_file place) new.jdx ∷ last) (jdt_within (Whole (jdx_file place) new.jdx ∷ last) (jdx_within last (jlr_within [] none)));
         once = once;
-        short = at_most _ _ _ texts_length (omega arith);
+        short = at_most _ _ _ (texts_length last ∙ ap (λ n. 11 + (length new.jhr + (11 + (length new.jdt + (11 + (length new.jdx + n)))))) (text_more (jlr_file place) new.jlr [])) (omega arith);
       }

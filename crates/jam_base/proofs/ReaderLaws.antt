@@ -51,12 +51,6 @@ fresh_made shape slots pointers none zeros =
     let same : made ≡ no_slots shape = λ i. record { counter = 0; slots = none i; pointers = zeros i } in
     subst (IsConference shape) (sym same) (fresh_is shape)
 
-pub no_links : (slots : List Slot) (links : List Link) → slots ≡ [] → links ≡ [] → AreLinks slots links
-no_links slots links none nothing = record { count = ap length nothing ∙ sym (ap length none); each = λ place within. absurd (omega (arith, within, ap length none)) }
-
-pub same_links : (slots old : List Slot) (links kept : List Link) → slots ≡ old → links ≡ kept → AreLinks old kept → AreLinks slots links
-same_links slots old links kept same is are = subst (λ (xs : List Link). AreLinks slots xs) (sym is) (subst (λ (xs : List Slot). AreLinks xs kept) (sym same) are)
-
 -- ---- a further reader
 one_zero : (count : ℕ) → All (λ p. p ≤ count) (0 ∷ [])
 one_zero count = All-cons (λ p. p ≤ count) 0 [] (omega arith) (All-nil (λ p. p ≤ count))

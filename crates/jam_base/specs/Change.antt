@@ -35,7 +35,16 @@ pub record SuitsIntent (place : ℕ) (new : BaseFiles) (patches : List Patch) : 
   pub once : IsTrue (is_once patches)
   pub short : length (patches_text patches) ≤ 4 * 11 + files_size new
 
--- a place's four files, whole
+-- some of a place's four files, whole, and all of them
+abbrev pub whole_jhr : ℕ → BaseFiles → List Patch
+whole_jhr place files = Whole (jhr_file place) files.jhr ∷ []
+
+abbrev pub whole_jlr : ℕ → BaseFiles → List Patch
+whole_jlr place files = Whole (jlr_file place) files.jlr ∷ []
+
+abbrev pub whole_messages : ℕ → BaseFiles → List Patch
+whole_messages place files = Whole (jhr_file place) files.jhr ∷ Whole (jdt_file place) files.jdt ∷ Whole (jdx_file place) files.jdx ∷ []
+
 abbrev pub whole_files : ℕ → BaseFiles → List Patch
 whole_files place files =
     Whole (jhr_file place) files.jhr ∷ Whole (jdt_file place) files.jdt ∷ Whole (jdx_file place) files.jdx ∷ Whole (jlr_file place) files.jlr ∷ []

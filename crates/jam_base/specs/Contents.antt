@@ -2,7 +2,8 @@
 use Rattle.std.specs.Prelude.{ℕ, ◌+◌, min, List, [], ◌∷◌, ◌++◌, length, replicate, position, slice_get, slice_set, Option, None, Some, option_and_then, ◌==◌, if◌then◌else◌}
 use Rattle.jam_records.specs.declared.message.Message.{Message}
 use Rattle.jam_records.specs.declared.message.Slot.{Slot}
-use Rattle.jam_base.specs.Slots.{Receipt, slots_with_all, slots_deleted, any_due, slots_received}
+use Rattle.jam_base.specs.Slots.{slots_with_all, slots_deleted, any_due, slots_received}
+use Rattle.jam_base.specs.declared.receipt.Receipt.{Receipt}
 use Rattle.jam_layout.specs.declared.conference.Conference.{Conference}
 use Rattle.jam_layout.specs.declared.reader.Reader.{Reader}
 use Rattle.jam_layout.specs.declared.shape.Shape.{Shape}
@@ -48,9 +49,10 @@ with_messages (m ∷ messages) base = with_slots (slots_with_all base.conference
 abbrev pub with_deleted : ℕ → Contents → Contents
 with_deleted number base = with_slots (slots_deleted number base.conference.slots) base
 
--- the messages that are due marked read, at their moment; where none is, nothing changes
-abbrev pub with_received : Receipt → Contents → Contents
-with_received r base = if any_due r 1 base.conference.slots then with_slots (slots_received r 1 base.conference.slots) base else base
+-- the messages to a name that are due marked read, at their moment; where none is, nothing changes
+abbrev pub with_received : List ℕ → Receipt → Contents → Contents
+with_received name r base =
+    if any_due name r 1 base.conference.slots then with_slots (slots_received name r 1 base.conference.slots) base else base
 
 -- the pointers with that of the reader in this place moved to a number
 abbrev pub pointers_with : Option ℕ → ℕ → List ℕ → List ℕ

@@ -5,6 +5,7 @@ use Rattle.jam_records.specs.declared.message.Message.{Message}
 use Rattle.jam_records.specs.declared.message.Slot.{Slot}
 use Rattle.jam_records.specs.declared.message.Slot.TheVariants.{Gone, Held}
 use Rattle.jam_layout.specs.Conference.{is_live}
+use Rattle.jam_base.specs.declared.receipt.Receipt.{Receipt}
 
 -- what a message number stands for, where it has a slot, and else Gone
 abbrev pub numbered : List Slot → ℕ → Slot
@@ -33,37 +34,30 @@ abbrev pub slots_deleted : ℕ → List Slot → List Slot
 slots_deleted number slots = slice_set slots (number - 1) (slot_deleted (numbered slots number))
 
 -- ---- messages received
--- whose messages are received, which numbers, and when
-pub record Receipt : Type 0 where
-  pub name : List ℕ
-  pub above : ℕ
-  pub upto : ℕ
-  pub now : ℕ
-
 -- a message to the name, ignoring case, that isn't deleted and isn't read, with a number above one bound and
 -- at most the other
-abbrev pub is_due : Receipt → ℕ → Message → Bool
-is_due r number message =
-    str_eq_ignore_ascii_case message.to r.name && ((not message.deleted && not message.seen) && (nat_lt r.above number && nat_le number r.upto))
+abbrev pub is_due : List ℕ → Receipt → ℕ → Message → Bool
+is_due name r number message =
+    str_eq_ignore_ascii_case message.to name && ((not message.deleted && not message.seen) && (nat_lt r.above number && nat_le number r.upto))
 
-abbrev pub has_due : Receipt → ℕ → Slot → Bool
-has_due r number Gone = false
-has_due r number (Held message) = is_due r number message
+abbrev pub has_due : List ℕ → Receipt → ℕ → Slot → Bool
+has_due name r number Gone = false
+has_due name r number (Held message) = is_due name r number message
 
 -- such a message gets the mark read and the moment
-abbrev pub message_received : Receipt → ℕ → Message → Message
-message_received r number message = if is_due r number message then record message { seen = true; received = r.now } else message
+abbrev pub message_received : List ℕ → Receipt → ℕ → Message → Message
+message_received name r number message = if is_due name r number message then record message { seen = true; received = r.now } else message
 
-abbrev pub slot_received : Receipt → ℕ → Slot → Slot
-slot_received r number Gone = Gone
-slot_received r number (Held message) = Held (message_received r number message)
+abbrev pub slot_received : List ℕ → Receipt → ℕ → Slot → Slot
+slot_received name r number Gone = Gone
+slot_received name r number (Held message) = Held (message_received name r number message)
 
 -- one of the slots, the first of which has this number, holds such a message
-abbrev pub any_due : Receipt → ℕ → List Slot → Bool
-any_due r number [] = false
-any_due r number (s ∷ slots) = has_due r number s || any_due r (number + 1) slots
+abbrev pub any_due : List ℕ → Receipt → ℕ → List Slot → Bool
+any_due name r number [] = false
+any_due name r number (s ∷ slots) = has_due name r number s || any_due name r (number + 1) slots
 
 -- the slots, the first of which has this number, with all such messages received
-abbrev pub slots_received : Receipt → ℕ → List Slot → List Slot
-slots_received r number [] = []
-slots_received r number (s ∷ slots) = slot_received r number s ∷ slots_received r (number + 1) slots
+abbrev pub slots_received : List ℕ → Receipt → ℕ → List Slot → List Slot
+slots_received name r number [] = []
+slots_received name r number (s ∷ slots) = slot_received name r number s ∷ slots_received name r (number + 1) slots

@@ -1,19 +1,25 @@
-ghost use Rattle.std.specs.Prelude.{◌≡◌, ◌-◌, ◌<◌, ◌==◌, length, slice_get, All, None, IfOk, if◌then◌else◌};
+ghost use Rattle.std.specs.Prelude.{◌≡◌, ◌↔◌, ◌+◌, ◌-◌, ◌≤◌, ◌<◌, ◌==◌, ℕ, [], length, slice_get, All, None, IfOk, IsSome, IsTrue, if◌then◌else◌};
 ghost use Rattle.std.specs.Option.{option_copied};
 ghost use Rattle.jam_threads.specs.Children.{original};
 ghost use Rattle.jam_layout.specs.Layout.{layout, files_size};
 ghost use Rattle.jam_base.specs.Change.{Turns, SuitsIntent};
-ghost use Rattle.jam_base.specs.Contents.{pointer_of, no_slots, with_reader};
+ghost use Rattle.jam_base.specs.Contents.{reader_place, pointer_of, no_slots, with_reader, with_slots, with_messages as with_messages_of, with_deleted as with_deleted_of, with_received, with_pointer};
+ghost use Rattle.jam_base.specs.Slots.{has_live as has_live_of};
+ghost use Rattle.jam_layout.specs.Messages.{IsMessage};
 ghost use Rattle.jam_layout.specs.Conference.{live_count};
 ghost use Rattle.jam_layout.specs.Valid.{IsShape, IsConference};
 ghost use Rattle.jam_layout.specs.declared.files.BaseFiles.{BaseFiles};
 
-use crate::change::{BaseChange, whole_files, whole_jlr};
-use crate::new_files::{empty_files, jlr_of, no_pointers};
+use crate::change::BaseChange;
+use crate::pointers::{moved, no_pointers};
+use crate::receipt::{Receipt, any_due, slots_received};
+use crate::refusal::{AppendRefusal, KillRefusal};
+use crate::slots::{has_live, with_deleted, with_messages};
 use byte_lists::{Bytes, Duplicate};
 use jam_layout::{Conference, Reader, Shape, files_size as size_of_files};
-use jam_records::{Slot, Slots};
+use jam_records::{Messages, Slot, Slots};
 use jam_threads::{Links, links};
+use jam_writing::{write_jdt, write_jdx, write_jhr, write_jlr};
 use std::alloc::{AllocError, Global};
 use std::marker::Model;
 
@@ -58,6 +64,77 @@ impl Base {
         })
     }
 
+    /// The conference and its shape, each as it has to be.
+    fn parts(&self) -> (&Shape, &Conference)
+        ensures shape { result.0.now ≡ self.now.shape }
+        ensures conference { result.1.now ≡ self.now.conference }
+        ensures is_shape { IsShape self.now.shape }
+        ensures is_conference { IsConference self.now.shape self.now.conference }
+    {
+        (&self.shape, &self.conference)
+    }
+
+    /// The base with other slots, by one change.
+    fn changed(&self, alloc: Global, slots: Slots) -> Result<Base, AllocError>
+        requires { IsConference self.now.shape (with_slots slots self.now).conference }
+        ensures { IfOk result (λ base. base ≡ with_slots slots self.now) }
+    {
+        let (shape, old) = self.parts();
+        let conference = Conference {
+            counter: old.counter.saturating_add(1),
+            slots,
+            pointers: old.pointers.copy(alloc)?,
+        };
+        Base::linked(alloc, shape, conference)
+    }
+
+    /// No change.
+    fn unchanged(&self, alloc: Global) -> Result<BaseChange, AllocError>
+        ensures base { IfOk result (λ change. change.base ≡ self.now) }
+        ensures patches { IfOk result (λ change. change.patches ≡ []) }
+    {
+        let (shape, conference) = self.parts();
+        let base = Base::linked(alloc, shape, conference.duplicate(alloc)?)?;
+        Ok(BaseChange::of_nothing(alloc, base))
+    }
+
+    /// Its place, from 0 to 63.
+    pub(crate) fn place(&self) -> u8
+        ensures place { result ≡ self.now.shape.place }
+        ensures bound { result < 64 }
+    {
+        self.shape.place
+    }
+
+    /// The bytes of its .JHR.
+    pub(crate) fn jhr(&self, alloc: Global) -> Result<Bytes, AllocError>
+        ensures { IfOk result (λ jhr. jhr ≡ (layout self.now.shape self.now.conference).jhr) }
+    {
+        write_jhr(alloc, &self.shape, &self.conference, &self.links)
+    }
+
+    /// The bytes of its .JDT.
+    pub(crate) fn jdt(&self, alloc: Global) -> Result<Bytes, AllocError>
+        ensures { IfOk result (λ jdt. jdt ≡ (layout self.now.shape self.now.conference).jdt) }
+    {
+        write_jdt(alloc, &self.conference)
+    }
+
+    /// The bytes of its .JDX.
+    pub(crate) fn jdx(&self, alloc: Global) -> Result<Bytes, AllocError>
+        ensures { IfOk result (λ jdx. jdx ≡ (layout self.now.shape self.now.conference).jdx) }
+    {
+        write_jdx(alloc, &self.conference)
+    }
+
+    /// The bytes of its .JLR.
+    pub(crate) fn jlr(&self, alloc: Global) -> Result<Bytes, AllocError>
+        ensures { IfOk result (λ jlr. jlr ≡ (layout self.now.shape self.now.conference).jlr) }
+    {
+        let pointers = self.conference.pointers.as_slice();
+        write_jlr(alloc, self.shape.readers.as_slice(), pointers)
+    }
+
     /// The base of a new conference: no slots, and the pointer of each reader 0. Its patches write its four
     /// files, whatever they were. The shape's place is at most 63, and the ids of its readers rise.
     ///
@@ -68,23 +145,12 @@ impl Base {
         ensures files { IfOk result (λ change. (old : BaseFiles) → Turns shape.now.place old (layout shape.now (no_slots shape.now)) change.patches) }
         ensures intent { IfOk result (λ change. SuitsIntent shape.now.place (layout shape.now (no_slots shape.now)) change.patches) }
     {
-        let shape = shape.duplicate(alloc)?;
-        let pointers = no_pointers(alloc, shape.readers.len())?;
-        let files = empty_files(alloc, &shape, pointers.as_slice())?;
-        let patches = whole_files(alloc, shape.place, files)?;
         let conference = Conference {
             counter: 0,
             slots: Slots::new(alloc),
-            pointers,
+            pointers: no_pointers(alloc, shape.readers.len())?,
         };
-        Ok(BaseChange {
-            base: Base {
-                shape,
-                conference,
-                links: Links::new(alloc),
-            },
-            patches,
-        })
+        BaseChange::of_files(alloc, Base::linked(alloc, shape, conference)?)
     }
 
     /// The base with a further reader, whose pointer is 0: the user of this id, above that of each reader, and
@@ -97,26 +163,110 @@ impl Base {
         ensures files { IfOk result (λ change. Turns self.now.shape.place (layout self.now.shape self.now.conference) (layout change.base.shape change.base.conference) change.patches) }
         ensures intent { IfOk result (λ change. SuitsIntent self.now.shape.place (layout change.base.shape change.base.conference) change.patches) }
     {
-        let mut shape = self.shape.duplicate(alloc)?;
+        let (shape, conference) = self.parts();
+        let mut shape = shape.duplicate(alloc)?;
         let name = Bytes::from_slice(alloc, name)?;
         shape.readers.add(Reader { id: user, name })?;
-        let mut conference = self.conference.duplicate(alloc)?;
+        let mut conference = conference.duplicate(alloc)?;
         conference.pointers.add(0)?;
-        let links = self.links.copy(alloc)?;
-        let jlr = jlr_of(
-            alloc,
-            shape.readers.as_slice(),
-            conference.pointers.as_slice(),
-        )?;
-        let patches = whole_jlr(alloc, shape.place, jlr)?;
-        Ok(BaseChange {
-            base: Base {
-                shape,
-                conference,
-                links,
-            },
-            patches,
-        })
+        BaseChange::of_jlr(alloc, Base::linked(alloc, &shape, conference)?)
+    }
+
+    /// The base with these messages at the end, one after the other. Its patches make its files of those of
+    /// this base. Where there are no messages, nothing changes; else the change counter rises by one, and stays
+    /// at 4,294,967,295. Each message is one that a conference of this kind may hold, with a msgid.
+    ///
+    /// `Slots` comes where more than 9,999 slots would stand, and says how many. `OutOfMemory` comes where there
+    /// is no memory.
+    pub fn appended(&self, alloc: Global, messages: &Messages) -> Result<BaseChange, AppendRefusal>
+        requires { All (IsMessage self.now.shape.kind) messages.now }
+        ensures base { IfOk result (λ change. change.base ≡ with_messages_of messages.now self.now) }
+        ensures files { IfOk result (λ change. Turns self.now.shape.place (layout self.now.shape self.now.conference) (layout change.base.shape change.base.conference) change.patches) }
+        ensures intent { IfOk result (λ change. SuitsIntent self.now.shape.place (layout change.base.shape change.base.conference) change.patches) }
+        ensures slots { (s : ℕ) → (result ≡ Err (AppendRefusal.Slots s)) ↔ ((s ≡ length self.now.conference.slots + length messages.now) × (9999 < s)) }
+    {
+        let (_, conference) = self.parts();
+        let count = conference.slots.len() as u64 + messages.as_slice().len() as u64;
+        if count > 9999 {
+            return Err(AppendRefusal::Slots(count));
+        }
+        if messages.as_slice().is_empty() {
+            return Ok(self.unchanged(alloc)?);
+        }
+        let slots = with_messages(alloc, &conference.slots, messages)?;
+        let base = self.changed(alloc, slots)?;
+        Ok(BaseChange::of_messages(alloc, base)?)
+    }
+
+    /// The base with the message of a number marked deleted. Its patches make its files of those of this base.
+    /// The change counter rises by one, and stays at 4,294,967,295.
+    ///
+    /// `NoMessage` comes where no message of that number is without the mark deleted. `OutOfMemory` comes where
+    /// there is no memory.
+    pub fn killed(&self, alloc: Global, number: u32) -> Result<BaseChange, KillRefusal>
+        ensures base { IfOk result (λ change. change.base ≡ with_deleted_of number self.now) }
+        ensures files { IfOk result (λ change. Turns self.now.shape.place (layout self.now.shape self.now.conference) (layout change.base.shape change.base.conference) change.patches) }
+        ensures intent { IfOk result (λ change. SuitsIntent self.now.shape.place (layout change.base.shape change.base.conference) change.patches) }
+        ensures none { (result ≡ Err KillRefusal.NoMessage) ↔ ¬ IsTrue (has_live_of number self.now.conference.slots) }
+    {
+        let (_, conference) = self.parts();
+        if !has_live(number, &conference.slots) {
+            return Err(KillRefusal::NoMessage);
+        }
+        let slots = with_deleted(alloc, number, &conference.slots)?;
+        let base = self.changed(alloc, slots)?;
+        Ok(BaseChange::of_jhr(alloc, base)?)
+    }
+
+    /// The base with each message to a name, ignoring case, marked read at a moment in Unix seconds that isn't
+    /// deleted, isn't read and has a number above one bound and at most the other. Its patches make its files
+    /// of those of this base. Where there is such a message, the change counter rises by one, and stays at
+    /// 4,294,967,295; else nothing changes.
+    ///
+    /// The error comes where there is no memory.
+    pub fn received(
+        &self,
+        alloc: Global,
+        name: &[u8],
+        above: u32,
+        upto: u32,
+        now: u32,
+    ) -> Result<BaseChange, AllocError>
+        ensures base { IfOk result (λ change. change.base ≡ with_received name.now (record { above = above; upto = upto; now = now }) self.now) }
+        ensures files { IfOk result (λ change. Turns self.now.shape.place (layout self.now.shape self.now.conference) (layout change.base.shape change.base.conference) change.patches) }
+        ensures intent { IfOk result (λ change. SuitsIntent self.now.shape.place (layout change.base.shape change.base.conference) change.patches) }
+    {
+        let receipt = Receipt { above, upto, now };
+        let (_, conference) = self.parts();
+        let slots = conference.slots.as_slice();
+        if !any_due(name, receipt, slots) {
+            return self.unchanged(alloc);
+        }
+        let slots = slots_received(alloc, name, receipt, slots)?;
+        BaseChange::of_jhr(alloc, self.changed(alloc, slots)?)
+    }
+
+    /// The base with the pointer of a reader, the user of this id, at a message number: 0, or one of a slot. Its
+    /// patches make its files of those of this base.
+    ///
+    /// The error comes where there is no memory.
+    pub fn pointed(&self, alloc: Global, user: u32, number: u32) -> Result<BaseChange, AllocError>
+        requires reader { IsSome (reader_place user self.now.shape.readers) }
+        requires within { number ≤ length self.now.conference.slots }
+        ensures base { IfOk result (λ change. change.base ≡ with_pointer user number self.now) }
+        ensures files { IfOk result (λ change. Turns self.now.shape.place (layout self.now.shape self.now.conference) (layout change.base.shape change.base.conference) change.patches) }
+        ensures intent { IfOk result (λ change. SuitsIntent self.now.shape.place (layout change.base.shape change.base.conference) change.patches) }
+    {
+        let (shape, old) = self.parts();
+        let Some(place) = shape.readers.position(user) else {
+            unreachable!()
+        };
+        let conference = Conference {
+            counter: old.counter,
+            slots: old.slots.copy(alloc)?,
+            pointers: moved(alloc, &old.pointers, place, number)?,
+        };
+        BaseChange::of_jlr(alloc, Base::linked(alloc, shape, conference)?)
     }
 
     /// How many slots the conference has, 0 to 9,999. It is the greatest message number.

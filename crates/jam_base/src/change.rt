@@ -1,13 +1,11 @@
-ghost use Rattle.std.specs.Prelude.{◌≡◌, ◌<◌, [], ◌∷◌, IfOk};
-ghost use Rattle.intent_journal.specs.declared.patch.Patch.TheVariants.{Whole};
-ghost use Rattle.door_outside.specs.File.{jlr_file};
-ghost use Rattle.jam_base.specs.Change.{whole_files};
+ghost use Rattle.std.specs.Prelude.{◌≡◌, [], IfOk};
+ghost use Rattle.jam_layout.specs.Layout.{layout};
+ghost use Rattle.jam_base.specs.Change.{whole_jhr, whole_messages, whole_jlr, whole_files};
 
 use crate::base::Base;
 use byte_lists::Bytes;
 use door_outside::FileId;
 use intent_journal::{Patch, Patches};
-use jam_layout::BaseFiles;
 use std::alloc::{AllocError, Global};
 
 /// A base after a change, and the change of its files.
@@ -19,40 +17,69 @@ pub struct BaseChange {
     pub patches: Patches,
 }
 
-/// The patch that gives a place's .JLR these bytes.
-pub fn whole_jlr(alloc: Global, place: u8, bytes: Bytes) -> Result<Patches, AllocError>
-    requires { place < 64 }
-    ensures { IfOk result (λ patches. patches ≡ Whole (jlr_file place) bytes ∷ []) }
-{
-    let mut patches = Patches::new(alloc);
-    patches.add(Patch::Whole {
-        file: FileId::jlr(place),
-        bytes,
-    })?;
-    Ok(patches)
+impl BaseChange {
+    /// The change to this base that touches no file.
+    pub(crate) fn of_nothing(alloc: Global, base: Base) -> BaseChange
+        ensures base { result.base ≡ base }
+        ensures patches { result.patches ≡ [] }
+    {
+        BaseChange {
+            base,
+            patches: Patches::new(alloc),
+        }
+    }
+
+    /// The change to this base that writes its .JHR.
+    pub(crate) fn of_jhr(alloc: Global, base: Base) -> Result<BaseChange, AllocError>
+        ensures base { IfOk result (λ change. change.base ≡ base) }
+        ensures patches { IfOk result (λ change. change.patches ≡ whole_jhr base.shape.place (layout base.shape base.conference)) }
+    {
+        let mut patches = Patches::new(alloc);
+        patches.add(whole(FileId::jhr(base.place()), base.jhr(alloc)?))?;
+        Ok(BaseChange { base, patches })
+    }
+
+    /// The change to this base that writes its .JLR.
+    pub(crate) fn of_jlr(alloc: Global, base: Base) -> Result<BaseChange, AllocError>
+        ensures base { IfOk result (λ change. change.base ≡ base) }
+        ensures patches { IfOk result (λ change. change.patches ≡ whole_jlr base.shape.place (layout base.shape base.conference)) }
+    {
+        let mut patches = Patches::new(alloc);
+        patches.add(whole(FileId::jlr(base.place()), base.jlr(alloc)?))?;
+        Ok(BaseChange { base, patches })
+    }
+
+    /// The change to this base that writes its .JHR, .JDT and .JDX.
+    pub(crate) fn of_messages(alloc: Global, base: Base) -> Result<BaseChange, AllocError>
+        ensures base { IfOk result (λ change. change.base ≡ base) }
+        ensures patches { IfOk result (λ change. change.patches ≡ whole_messages base.shape.place (layout base.shape base.conference)) }
+    {
+        let place = base.place();
+        let mut patches = Patches::new(alloc);
+        patches.add(whole(FileId::jhr(place), base.jhr(alloc)?))?;
+        patches.add(whole(FileId::jdt(place), base.jdt(alloc)?))?;
+        patches.add(whole(FileId::jdx(place), base.jdx(alloc)?))?;
+        Ok(BaseChange { base, patches })
+    }
+
+    /// The change to this base that writes its four files.
+    pub(crate) fn of_files(alloc: Global, base: Base) -> Result<BaseChange, AllocError>
+        ensures base { IfOk result (λ change. change.base ≡ base) }
+        ensures patches { IfOk result (λ change. change.patches ≡ whole_files base.shape.place (layout base.shape base.conference)) }
+    {
+        let place = base.place();
+        let mut patches = Patches::new(alloc);
+        patches.add(whole(FileId::jhr(place), base.jhr(alloc)?))?;
+        patches.add(whole(FileId::jdt(place), base.jdt(alloc)?))?;
+        patches.add(whole(FileId::jdx(place), base.jdx(alloc)?))?;
+        patches.add(whole(FileId::jlr(place), base.jlr(alloc)?))?;
+        Ok(BaseChange { base, patches })
+    }
 }
 
-/// The patches that give a place these four files.
-pub fn whole_files(alloc: Global, place: u8, files: BaseFiles) -> Result<Patches, AllocError>
-    requires { place < 64 }
-    ensures { IfOk result (λ patches. patches ≡ whole_files place files) }
+/// The patch that gives a file these bytes.
+fn whole(file: FileId, bytes: Bytes) -> Patch
+    ensures { result ≡ Patch.Whole file bytes }
 {
-    let mut patches = Patches::new(alloc);
-    patches.add(Patch::Whole {
-        file: FileId::jhr(place),
-        bytes: files.jhr,
-    })?;
-    patches.add(Patch::Whole {
-        file: FileId::jdt(place),
-        bytes: files.jdt,
-    })?;
-    patches.add(Patch::Whole {
-        file: FileId::jdx(place),
-        bytes: files.jdx,
-    })?;
-    patches.add(Patch::Whole {
-        file: FileId::jlr(place),
-        bytes: files.jlr,
-    })?;
-    Ok(patches)
+    Patch::Whole { file, bytes }
 }

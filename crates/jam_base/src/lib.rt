@@ -3,8 +3,11 @@
 
 mod base;
 mod change;
-mod new_files;
+mod pointers;
 mod read;
+mod receipt;
+mod refusal;
+mod slots;
 #[cfg(test)]
 mod tests;
 
@@ -12,3 +15,4 @@ pub use base::Base;
 pub use change::BaseChange;
 pub use jam_layout::{BaseError, BaseFiles, Conference, Reader, Readers, Shape, laws};
 pub use read::read_base;
+pub use refusal::{AppendRefusal, KillRefusal};

@@ -29,7 +29,7 @@ pub fn write_files(
     Ok(BaseFiles {
         jhr: write_jhr(alloc, shape, conference, links)?,
         jdt: write_jdt(alloc, conference)?,
-        jdx: write_jdx(alloc, shape, conference)?,
+        jdx: write_jdx(alloc, conference)?,
         jlr: write_jlr(alloc, shape.readers.as_slice(), pointers)?,
     })
 }

@@ -66,6 +66,7 @@ fn header(
 /// is from 1, its body begins at the offset in .JDT, in bytes. Header and body have fewer than 2^31 bytes each.
 ///
 /// The error comes where there is no memory. The bytes may then have a part of it more.
+#[tactic(auto, unfolding(jam_layout::specs::Headers::header_size))]
 pub fn add_header(
     alloc: Global,
     jhr: &mut Bytes,

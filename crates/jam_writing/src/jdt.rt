@@ -1,5 +1,4 @@
 ghost use Rattle.std.specs.Prelude.{◌≡◌, ◌++◌, IfOk, OnOk};
-ghost use Rattle.std.specs.List.{flat_map};
 ghost use Rattle.jam_layout.specs.Layout.{layout};
 ghost use Rattle.jam_layout.specs.declared.shape.Shape.{Shape};
 ghost use Rattle.jam_writing.specs.Pieces.{body_piece};
@@ -19,22 +18,16 @@ fn add_slot(jdt: &mut Bytes, slot: &Slot) -> Result<(), AllocError>
     }
 }
 
-/// The bodies of slots, one after the other.
-fn bodies(alloc: Global, slots: &[Slot]) -> Result<Bytes, AllocError>
-    ensures { IfOk result (λ jdt. jdt ≡ flat_map body_piece slots.now) }
-{
-    let mut jdt = Bytes::new(alloc);
-    for slot in slots {
-        add_slot(&mut jdt, slot)?;
-    }
-    Ok(jdt)
-}
-
-/// The bytes of .JDT: the bodies of the messages.
+/// The bytes of .JDT: the bodies of the messages, one after the other.
 ///
 /// The error comes where there is no memory.
 pub fn write_jdt(alloc: Global, conference: &Conference) -> Result<Bytes, AllocError>
     ensures { IfOk result (λ jdt. (shape : Shape) → jdt ≡ (layout shape conference.now).jdt) }
 {
-    bodies(alloc, conference.slots.as_slice())
+    let slots = conference.slots.as_slice();
+    let mut jdt = Bytes::new(alloc);
+    for slot in slots {
+        add_slot(&mut jdt, slot)?;
+    }
+    Ok(jdt)
 }

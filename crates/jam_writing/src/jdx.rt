@@ -2,7 +2,6 @@ ghost use Rattle.std.specs.Prelude.{◌≡◌, ◌+◌, ◌++◌, ◌<◌, ◌^�
 ghost use Rattle.jam_layout.specs.Index.{index_records, no_pair, pair_of};
 ghost use Rattle.jam_layout.specs.Layout.{layout};
 ghost use Rattle.jam_layout.specs.Sizes.{slot_header};
-ghost use Rattle.jam_layout.specs.Valid.{IsConference};
 ghost use Rattle.jam_layout.specs.declared.shape.Shape.{Shape};
 ghost use Rattle.jam_writing.specs.Pieces.{index_piece};
 
@@ -60,17 +59,13 @@ fn records(alloc: Global, slots: &[Slot]) -> Result<Bytes, AllocError>
     Ok(jdx)
 }
 
-/// The bytes of .JDX: a record for each slot.
+/// The bytes of .JDX: a record for each slot. The headers of its messages, with that of the base, have fewer
+/// than 2^31 bytes, as those of each conference do.
 ///
 /// The error comes where there is no memory.
-pub fn write_jdx(
-    alloc: Global,
-    shape: &Shape,
-    conference: &Conference,
-) -> Result<Bytes, AllocError>
-    requires { IsConference shape.now conference.now }
-    ensures { IfOk result (λ jdx. jdx ≡ (layout shape.now conference.now).jdx) }
+pub fn write_jdx(alloc: Global, conference: &Conference) -> Result<Bytes, AllocError>
+    requires { 1024 + sum_by slot_header conference.now.slots < 2 ^ 31 }
+    ensures { IfOk result (λ jdx. (shape : Shape) → jdx ≡ (layout shape conference.now).jdx) }
 {
-    let _shape = shape;
     records(alloc, conference.slots.as_slice())
 }

@@ -22,11 +22,7 @@ fn last_read(reader: &Reader, pointer: u32) -> LastRead
 /// The bytes of .JLR: the records of readers with these pointers.
 ///
 /// The error comes where there is no memory.
-pub fn write_jlr(
-    alloc: Global,
-    readers: &[Reader],
-    pointers: &[u32],
-) -> Result<Bytes, AllocError>
+pub fn write_jlr(alloc: Global, readers: &[Reader], pointers: &[u32]) -> Result<Bytes, AllocError>
     ensures { IfOk result (λ jlr. jlr ≡ last_reads readers.now pointers.now) }
 {
     let mut jlr = Bytes::new(alloc);

@@ -1,4 +1,4 @@
--- The loop of `jlr_of`: the records so far and those that are left are those of all readers.
+-- The loop of `write_jlr`: the records so far and those that are left are those of all readers.
 use Rattle.std.proofs.Common.{◌≡◌, inl, inr, ◌⊎◌, ℕ, ◌+◌, ◌≤◌, ◌<◌, List, [], ◌∷◌, ◌++◌, length, drop, get_or, refl, sym, ap, ◌∙◌, arith, append_assoc, append-nil}
 use Rattle.std.proofs.lemmas.List.{drop_all, drop_more, length-drop}
 use Rattle.jam_records.specs.LastReads.{last_text}

@@ -1,0 +1,90 @@
+ghost use Rattle.std.specs.Prelude.{◌≡◌, ◌+◌, ◌<◌, ◌^◌, length, IfOk};
+ghost use Rattle.jam_base.specs.Slots.{is_due as is_due_of, has_due as has_due_of, any_due as any_due_of, slot_received, slots_received as received_of};
+
+use byte_lists::Duplicate;
+use jam_records::{Message, Slot, Slots};
+use std::alloc::{AllocError, Global};
+
+/// Which messages to a name are received, and when.
+#[derive(Debug, Clone, Copy)]
+pub struct Receipt {
+    /// Their message numbers are above this one.
+    pub above: u32,
+    /// Their message numbers are at most this one.
+    pub upto: u32,
+    /// The moment, in Unix seconds.
+    pub now: u32,
+}
+
+/// Whether the message of a number is to the name, isn't deleted, isn't read and is within the bounds.
+fn is_due(name: &[u8], receipt: Receipt, number: u32, message: &Message) -> bool
+    ensures { result ≡ is_due_of name.now receipt number message.now }
+{
+    let to_name = message.to.as_slice().eq_ignore_ascii_case(name);
+    let within = receipt.above < number && number <= receipt.upto;
+    to_name && (!message.deleted && !message.seen) && within
+}
+
+/// Whether a slot holds such a message.
+fn has_due(name: &[u8], receipt: Receipt, number: u32, slot: &Slot) -> bool
+    ensures { result ≡ has_due_of name.now receipt number slot.now }
+{
+    match slot {
+        Slot::Gone => false,
+        Slot::Held(message) => is_due(name, receipt, number, message),
+    }
+}
+
+/// Whether one of the slots holds such a message.
+pub fn any_due(name: &[u8], receipt: Receipt, slots: &[Slot]) -> bool
+    requires { length slots.now + 1 < 2 ^ 32 }
+    ensures { result ≡ any_due_of name.now receipt 1 slots.now }
+{
+    for place in 0..slots.len() {
+        if has_due(name, receipt, place as u32 + 1, &slots[place]) {
+            return true;
+        }
+    }
+    false
+}
+
+/// A copy of a slot, in which such a message is marked read at the moment.
+fn received_slot(
+    alloc: Global,
+    name: &[u8],
+    receipt: Receipt,
+    number: u32,
+    slot: &Slot,
+) -> Result<Slot, AllocError>
+    ensures { IfOk result (λ new. new ≡ slot_received name.now receipt number slot.now) }
+{
+    match slot {
+        Slot::Gone => Ok(Slot::Gone),
+        Slot::Held(message) => {
+            let mut copy = message.duplicate(alloc)?;
+            if is_due(name, receipt, number, message) {
+                copy.seen = true;
+                copy.received = receipt.now;
+            }
+            Ok(Slot::Held(copy))
+        }
+    }
+}
+
+/// Copies of the slots, in which each such message is marked read at the moment.
+pub fn slots_received(
+    alloc: Global,
+    name: &[u8],
+    receipt: Receipt,
+    slots: &[Slot],
+) -> Result<Slots, AllocError>
+    requires { length slots.now + 1 < 2 ^ 32 }
+    ensures { IfOk result (λ new. new ≡ received_of name.now receipt 1 slots.now) }
+{
+    let mut copies = Slots::new(alloc);
+    for place in 0..slots.len() {
+        let number = place as u32 + 1;
+        copies.add(received_slot(alloc, name, receipt, number, &slots[place])?)?;
+    }
+    Ok(copies)
+}

@@ -1,0 +1,4 @@
+pub mod PieceLaws
+pub mod WritingLoops
+pub mod SubfieldList
+pub mod LastReadLoop

@@ -1,0 +1,83 @@
+-- The loops that write .JHR and .JDX: what is written, and the pieces of the slots that are left, are the whole.
+use Rattle.std.proofs.Common.{◌≡◌, ℕ, ◌+◌, ◌^◌, ◌≤◌, ◌<◌, List, [], ◌∷◌, ◌++◌, length, drop, get_or, refl, sym, ap, ◌∙◌, arith, append_assoc, append-nil}
+use Rattle.std.specs.Prelude.{sum_by}
+use Rattle.std.proofs.lemmas.List.{drop_all, drop_more}
+use Rattle.std.proofs.lemmas.List.Sums.{sum_by-cons, get_or-le-sum_by}
+use Rattle.jam_records.specs.declared.message.Kind.{Kind}
+use Rattle.jam_records.specs.declared.message.Slot.{Slot}
+use Rattle.jam_threads.specs.Links.{link_of}
+use Rattle.jam_layout.specs.Headers.{headers_text}
+use Rattle.jam_layout.specs.Index.{index_records}
+use Rattle.jam_layout.specs.Layout.{entries_of}
+use Rattle.jam_layout.specs.Sizes.{slot_header}
+use Rattle.jam_writing.specs.Pieces.{header_piece, body_size, index_piece}
+use Rattle.jam_writing.proofs.PieceLaws.{headers_more, index_more}
+
+-- what is left begins with the slot that was read
+left : (slots : List Slot) (place : ℕ) (s : Slot) → place < length slots → s ≡ get_or slots place s → drop place slots ≡ s ∷ drop (place + 1) slots
+left slots place s within item = drop_more slots place s within ∙ ap (λ (x : Slot). x ∷ drop (place + 1) slots) (sym item)
+
+-- a sum over what is left is that of the slot and of what is then left
+left_sum : (size : Slot → ℕ) (slots : List Slot) (place : ℕ) (s : Slot) → place < length slots → s ≡ get_or slots place s → sum_by size (drop place slots) ≡ size s + sum_by size (drop (place + 1) slots)
+left_sum size slots place s within item = ap (sum_by size) (left slots place s within item) ∙ sum_by-cons size s (drop (place + 1) slots)
+
+-- no slot has more than all
+pub part_small : (size : Slot → ℕ) (slots : List Slot) (place most : ℕ) (s : Slot) → place < length slots → s ≡ get_or slots place s → sum_by size slots < most → size s < most
+part_small size slots place most s within item small = omega (arith, get_or-le-sum_by size slots place s within, ap size item, small)
+
+-- ---- .JHR
+pub record HeadersSoFar (kind : Kind) (slots : List Slot) (place offset : ℕ) (text whole : List ℕ) : Type 0 where
+  pub text_is : text ++ headers_text kind offset (entries_of (link_of slots) (place + 1) (drop place slots)) ≡ whole
+  pub offset_is : offset + sum_by body_size (drop place slots) ≡ sum_by body_size slots
+
+pub headers_begin : (kind : Kind) (slots : List Slot) (text : List ℕ) → HeadersSoFar kind slots 0 0 text (text ++ headers_text kind 0 (entries_of (link_of slots) 1 slots))
+headers_begin kind slots text = record { text_is = refl; offset_is = omega arith }
+
+pub body_fits : (kind : Kind) (slots : List Slot) (place offset most : ℕ) (text whole : List ℕ) (s : Slot) → place < length slots → s ≡ get_or slots place s → sum_by body_size slots < most → HeadersSoFar kind slots place offset text whole → offset + body_size s < most
+body_fits kind slots place offset most text whole s within item small so_far = omega (arith, so_far.offset_is, left_sum body_size slots place s within item, small)
+
+pub header_added : (kind : Kind) (slots : List Slot) (place offset next : ℕ) (text new whole : List ℕ) (s : Slot) → place < length slots → s ≡ get_or slots place s
+    → new ≡ text ++ header_piece kind offset (place + 1) (link_of slots (place + 1)) s → next ≡ offset + body_size s
+    → HeadersSoFar kind slots place offset text whole → HeadersSoFar kind slots (place + 1) next new whole
+header_added kind slots place offset next text new whole s within item written moved so_far =
+    let rest : List Slot = drop (place + 1) slots in
+    let piece : List ℕ = header_piece kind offset (place + 1) (link_of slots (place + 1)) s in
+    let later : ℕ → List ℕ = λ at. headers_text kind at (entries_of (link_of slots) (place + 1 + 1) rest) in
+    let one : text ++ (piece ++ later (offset + body_size s)) ≡ whole =
+    ap (λ xs. text ++ xs) (sym (headers_more (link_of slots) kind offset (place + 1) s rest))
+    ∙ (ap (λ (xs : List Slot). text ++ headers_text kind offset (entries_of (link_of slots) (place + 1) xs)) (sym (left slots place s within item)) ∙ so_far.text_is) in
+    record {
+      text_is = ap (λ at. new ++ later at) moved ∙ (ap (λ xs. xs ++ later (offset + body_size s)) written ∙ (append_assoc text piece (later (offset + body_size s)) ∙ one));
+      offset_is = omega (arith, so_far.offset_is, left_sum body_size slots place s within item, moved);
+    }
+
+pub headers_end : (kind : Kind) (slots : List Slot) (place offset : ℕ) (text whole : List ℕ) → length slots ≤ place → HeadersSoFar kind slots place offset text whole → text ≡ whole
+headers_end kind slots place offset text whole none so_far =
+    sym (append-nil text) ∙ (ap (λ (xs : List Slot). text ++ headers_text kind offset (entries_of (link_of slots) (place + 1) xs)) (sym (drop_all place slots none)) ∙ so_far.text_is)
+
+-- ---- .JDX
+pub record IndexSoFar (slots : List Slot) (place first at : ℕ) (text whole : List ℕ) : Type 0 where
+  pub text_is : text ++ index_records at (drop place slots) ≡ whole
+  pub at_is : at + sum_by slot_header (drop place slots) ≡ first + sum_by slot_header slots
+
+pub index_begin : (slots : List Slot) (first : ℕ) → IndexSoFar slots 0 first first [] (index_records first slots)
+index_begin slots first = record { text_is = refl; at_is = refl }
+
+pub index_fits : (slots : List Slot) (place first at most : ℕ) (text whole : List ℕ) (s : Slot) → place < length slots → s ≡ get_or slots place s → first + sum_by slot_header slots < most → IndexSoFar slots place first at text whole → at + slot_header s < most
+index_fits slots place first at most text whole s within item small so_far = omega (arith, so_far.at_is, left_sum slot_header slots place s within item, small)
+
+pub record_added : (slots : List Slot) (place first at next : ℕ) (text new whole : List ℕ) (s : Slot) → place < length slots → s ≡ get_or slots place s
+    → new ≡ text ++ index_piece at s → next ≡ at + slot_header s → IndexSoFar slots place first at text whole → IndexSoFar slots (place + 1) first next new whole
+record_added slots place first at next text new whole s within item written moved so_far =
+    let rest : List Slot = drop (place + 1) slots in
+    let later : ℕ → List ℕ = λ n. index_records n rest in
+    let one : text ++ (index_piece at s ++ later (at + slot_header s)) ≡ whole =
+    ap (λ xs. text ++ xs) (sym (index_more at s rest)) ∙ (ap (λ (xs : List Slot). text ++ index_records at xs) (sym (left slots place s within item)) ∙ so_far.text_is) in
+    record {
+      text_is = ap (λ n. new ++ later n) moved ∙ (ap (λ xs. xs ++ later (at + slot_header s)) written ∙ (append_assoc text (index_piece at s) (later (at + slot_header s)) ∙ one));
+      at_is = omega (arith, so_far.at_is, left_sum slot_header slots place s within item, moved);
+    }
+
+pub index_end : (slots : List Slot) (place first at : ℕ) (text whole : List ℕ) → length slots ≤ place → IndexSoFar slots place first at text whole → text ≡ whole
+index_end slots place first at text whole none so_far =
+    sym (append-nil text) ∙ (ap (λ (xs : List Slot). text ++ index_records at xs) (sym (drop_all place slots none)) ∙ so_far.text_is)
