@@ -2,3 +2,4 @@ pub mod PatchLaws
 pub mod ReaderLaws
 pub mod SlotChanges
 pub mod MarkedSlots
+pub mod ChangeClauses

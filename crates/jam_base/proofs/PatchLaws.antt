@@ -1,6 +1,6 @@
 -- What whole patches do to the files of a place, and what an intent asks of them.
 use Rattle.std.proofs.Common.{◌≡◌, ◌≢◌, inl, inr, false, ℕ, ◌+◌, ◌<◌, ◌≤◌, List, [], ◌∷◌, ◌++◌, length, refl, ap, ◌∙◌, arith, length-append}
-use Rattle.std.specs.Prelude.{IsTrue, ◌==◌}
+use Rattle.std.specs.Prelude.{All, IsTrue, ◌==◌}
 use Rattle.std.proofs.lemmas.Bool.{eq-eqb, ne_eqb, cond-true, cond-false}
 use Rattle.std.proofs.lemmas.List.Elements.{All-cons, All-nil}
 use Rattle.intent_journal.specs.Patches.{Files, file_of, apply, is_once}

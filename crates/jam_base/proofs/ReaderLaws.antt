@@ -1,7 +1,7 @@
--- What `fresh` and `joined` make is a conference of its shape, with its layout and links.
+-- What `fresh`, `joined` and `pointed` make is a conference of its shape.
 use Rattle.std.proofs.Common.{◌≡◌, ℕ, ◌+◌, ◌≤◌, ◌<◌, List, [], ◌∷◌, ◌++◌, length, sym, ap, ◌∙◌, subst, arith, length-append}
-use Rattle.std.specs.Prelude.{All, replicate}
-use Rattle.std.proofs.Math.ListN.{length-replicate}
+use Rattle.std.specs.Prelude.{All, replicate, Some}
+use Rattle.std.proofs.Math.ListN.{set, length-replicate}
 use Rattle.std.proofs.lemmas.List.{append-nil, get_or-replicate}
 use Rattle.std.proofs.lemmas.List.Elements.{All-drop, All-append, All-cons, All-nil}
 use Rattle.jam_records.specs.BaseHeaders.{base_text}
@@ -9,7 +9,7 @@ use Rattle.jam_records.specs.declared.message.Slot.{Slot}
 use Rattle.jam_threads.specs.Links.{AreLinks}
 use Rattle.jam_threads.specs.declared.link.Link.{Link}
 use Rattle.jam_layout.specs.Layout.{base_header, layout}
-use Rattle.jam_base.specs.Contents.{Contents, no_slots, with_reader}
+use Rattle.jam_base.specs.Contents.{Contents, no_slots, with_reader, with_pointer, reader_place, pointers_with}
 use Rattle.jam_layout.specs.Messages.{IsSlot}
 use Rattle.jam_layout.specs.Readers.{last_reads}
 use Rattle.jam_layout.specs.Valid.{Rise, IsShape, IsConference}
@@ -29,14 +29,6 @@ zeros_within count n = λ k d within.
     let k_in : k < n = omega (arith, within, length-replicate {A = ℕ} n 0) in
     omega (arith, get_or-replicate n k 0 d k_in)
 
--- the files of a conference without messages
-pub empty_layout : (shape : Shape) (jhr jdt jdx jlr pointers : List ℕ) → jhr ≡ base_text (base_header shape (no_slots shape)) → jdt ≡ [] → jdx ≡ [] → jlr ≡ last_reads shape.readers pointers → pointers ≡ (no_slots shape).pointers
-    → record { jhr = jhr; jdt = jdt; jdx = jdx; jlr = jlr } ≡ layout shape (no_slots shape)
-empty_layout shape jhr jdt jdx jlr pointers header none nothing last is =
-    let header_is = header ∙ sym (append-nil (base_text (base_header shape (no_slots shape)))) in
-    let last_is = last ∙ ap (last_reads shape.readers) is in
-    λ i. record { jhr = header_is i; jdt = none i; jdx = nothing i; jlr = last_is i }
-
 fresh_is : (shape : Shape) → IsConference shape (no_slots shape)
 fresh_is shape = record {
   counter = omega arith;
@@ -44,6 +36,10 @@ fresh_is shape = record {
   slots = All-nil (IsSlot shape.kind);
   pointers = record { all = length-replicate {A = ℕ} (length shape.readers) 0; within = zeros_within 0 (length shape.readers) };
 }
+
+pub fresh_base : (shape : Shape) (made : Contents) (slots : List Slot) (pointers : List ℕ) → slots ≡ [] → pointers ≡ (no_slots shape).pointers → made ≡ record { shape = shape; conference = record { counter = 0; slots = slots; pointers = pointers } }
+    → made ≡ record { shape = shape; conference = no_slots shape }
+fresh_base shape made slots pointers none zeros is = is ∙ (λ i. record { shape = shape; conference = record { counter = 0; slots = none i; pointers = zeros i } })
 
 pub fresh_made : (shape : Shape) (slots : List Slot) (pointers : List ℕ) → slots ≡ [] → pointers ≡ (no_slots shape).pointers → IsConference shape (record { counter = 0; slots = slots; pointers = pointers })
 fresh_made shape slots pointers none zeros =
@@ -78,17 +74,20 @@ module _ (base : Contents) (user : ℕ) (name : List ℕ) where
       subst (λ (s : Shape). IsShape s × IsConference s conference) (sym shape_is)
       (subst (λ (c : Conference). IsShape (with_reader user name base).shape × IsConference (with_reader user name base).shape c) (sym conference_is) made)
 
-  pub joined_layout : (shape : Shape) (conference : Conference) (jlr : List ℕ) → shape ≡ (with_reader user name base).shape → conference ≡ (with_reader user name base).conference
-      → jlr ≡ last_reads shape.readers conference.pointers → record (layout base.shape base.conference) { jlr = jlr } ≡ layout shape conference
-  joined_layout shape conference jlr shape_is conference_is text =
-      let text_is : jlr ≡ last_reads (with_reader user name base).shape.readers (with_reader user name base).conference.pointers =
-      text ∙ (ap (λ (s : Shape). last_reads s.readers conference.pointers) shape_is ∙ ap (λ (c : Conference). last_reads (with_reader user name base).shape.readers c.pointers) conference_is) in
-      ap (λ (xs : List ℕ). record (layout base.shape base.conference) { jlr = xs }) text_is
-      ∙ (sym (ap (λ (c : Conference). layout (with_reader user name base).shape c) conference_is) ∙ sym (ap (λ (s : Shape). layout s conference) shape_is))
-
 pub shape_more : (s t : Shape) (readers : List Reader) (user : ℕ) (name : List ℕ) → s ≡ t → readers ≡ t.readers ++ record { id = user; name = name } ∷ []
     → record { place = s.place; created = s.created; kind = s.kind; readers = readers } ≡ record t { readers = t.readers ++ record { id = user; name = name } ∷ [] }
 shape_more s t readers user name same is = λ i. record { place = (same i).place; created = (same i).created; kind = (same i).kind; readers = is i }
 
 pub conference_more : (c d : Conference) (pointers : List ℕ) → c ≡ d → pointers ≡ d.pointers ++ 0 ∷ [] → record { counter = c.counter; slots = c.slots; pointers = pointers } ≡ record d { pointers = d.pointers ++ 0 ∷ [] }
 conference_more c d pointers same is = λ i. record { counter = (same i).counter; slots = (same i).slots; pointers = is i }
+
+-- ---- a pointer moved
+pub pointed_base : (base made : Contents) (shape : Shape) (old : Conference) (slots : List Slot) (pointers : List ℕ) (place user number : ℕ)
+    → made ≡ record { shape = shape; conference = record { counter = old.counter; slots = slots; pointers = pointers } } → shape ≡ base.shape → old ≡ base.conference → slots ≡ old.slots → pointers ≡ set old.pointers place number
+    → reader_place user shape.readers ≡ Some place → made ≡ with_pointer user number base
+pointed_base base made shape old slots pointers place user number is shape_is old_is slots_are pointers_are found =
+    let there : reader_place user base.shape.readers ≡ Some place = ap (λ (s : Shape). reader_place user s.readers) (sym shape_is) ∙ found in
+    let moved : pointers ≡ pointers_with (reader_place user base.shape.readers) number base.conference.pointers =
+    pointers_are ∙ (ap (λ (c : Conference). set c.pointers place number) old_is ∙ ap (λ p. pointers_with p number base.conference.pointers) (sym there)) in
+    let same : slots ≡ base.conference.slots = slots_are ∙ ap (λ (c : Conference). c.slots) old_is in
+    is ∙ (λ i. record { shape = shape_is i; conference = record { counter = (old_is i).counter; slots = same i; pointers = moved i } })

@@ -1,9 +1,10 @@
 -- A base with other slots is a conference of its shape: more messages, one deleted, some received.
-use Rattle.std.proofs.Common.{◌≡◌, ℕ, suc, zero, Bool, true, false, cond, ◌+◌, ◌-◌, ◌^◌, min, ◌≤◌, ◌<◌, List, [], ◌∷◌, ◌++◌, length, get_or, refl, sym, ap, ◌∙◌, subst, arith, length-append}
-use Rattle.std.specs.Prelude.{All, IsTrue, fold}
+use Rattle.std.proofs.Common.{◌≡◌, ◌⊎◌, ⊎_elim, ℕ, suc, zero, Bool, true, false, cond, ◌+◌, ◌-◌, ◌^◌, min, ◌≤◌, ◌<◌, List, [], ◌∷◌, ◌++◌, length, get_or, refl, sym, ap, ◌∙◌, subst, arith, length-append}
+use Rattle.std.specs.Prelude.{All, IsTrue, fold, ◌==◌}
+use Rattle.std.proofs.lemmas.Bool.{cases_lt, cond-false, ne_eqb}
+use Rattle.std.proofs.lemmas.List.{get_or_past}
 use Rattle.std.proofs.Math.ListN.{set, length-set}
 use Rattle.std.proofs.lemmas.List.Elements.{All-cons, All-nil, All-head, All-tail, All-push, All-set, All-get_or, All-weaker}
-use Rattle.record_numbers.specs.Numbers.{IsU32}
 use Rattle.jam_records.specs.declared.message.Kind.{Kind}
 use Rattle.jam_records.specs.declared.message.Message.{Message}
 use Rattle.jam_records.specs.declared.message.Slot.{Slot}
@@ -12,7 +13,8 @@ use Rattle.jam_layout.specs.Messages.{AreBytes, IsMessage, IsSlot}
 use Rattle.jam_layout.specs.Valid.{PointersFit, IsConference}
 use Rattle.jam_layout.specs.declared.shape.Shape.{Shape}
 use Rattle.jam_base.specs.Contents.{Contents, with_slots, counter_after}
-use Rattle.jam_base.specs.Slots.{numbered, slots_with, slots_with_all, slot_deleted, slots_deleted, is_due, message_received, slot_received, slots_received}
+use Rattle.jam_layout.specs.Conference.{is_live}
+use Rattle.jam_base.specs.Slots.{numbered, has_live, slots_with, slots_with_all, slot_deleted, slots_deleted, is_due, message_received, slot_received, slots_received}
 use Rattle.jam_base.specs.declared.receipt.Receipt.{Receipt}
 
 -- ---- other slots
@@ -71,7 +73,7 @@ message_deleted kind m ok = record {
 bytes_read : (m : Message) (now : ℕ) → AreBytes m → AreBytes (record m { seen = true; received = now })
 bytes_read m now ok = record { origin = ok.origin; destination = ok.destination; from = ok.from; to = ok.to; msgid = ok.msgid; replyid = ok.replyid; subject = ok.subject; body = ok.body }
 
-message_read : (kind : Kind) (m : Message) (now : ℕ) → IsU32 now → IsMessage kind m → IsMessage kind (record m { seen = true; received = now })
+message_read : (kind : Kind) (m : Message) (now : ℕ) → now < 2 ^ 32 → IsMessage kind m → IsMessage kind (record m { seen = true; received = now })
 message_read kind m now small ok = record {
   bytes = bytes_read m now ok.bytes;
   origin = ok.origin;
@@ -96,8 +98,22 @@ slot_ok kind (Held m) ok = message_deleted kind m ok
 
 -- what a number of the list stands for
 pub numbered_is : (slots : List Slot) (number : ℕ) → 0 < number → numbered slots number ≡ get_or slots (number - 1) Gone
-numbered_is slots zero above = absurd (omega (arith, above))
-numbered_is slots (suc place) above = refl
+numbered_is slots number above = cond-false (number == 0) _ _ (ne_eqb number 0 (λ e. omega (arith, e, above)))
+
+-- a number of a message that isn't deleted is that of a slot
+pub live_above : (number : ℕ) (slots : List Slot) → has_live number slots ≡ true → 0 < number
+live_above zero slots live = absurd (cc)
+live_above (suc n) slots live = omega arith
+
+live_past : (number : ℕ) (slots : List Slot) → has_live number slots ≡ true → length slots < number → ⊥
+live_past number slots live past =
+    let above = live_above number slots live in
+    let gone : numbered slots number ≡ Gone = numbered_is slots number above ∙ get_or_past slots (number - 1) Gone (omega (arith, past)) in
+    let none : false ≡ true = sym (ap is_live gone) ∙ live in
+    cc
+
+pub live_within : (number : ℕ) (slots : List Slot) → has_live number slots ≡ true → number ≤ length slots
+live_within number slots live = ⊎_elim (λ past. absurd (live_past number slots live past)) (λ le. le) (cases_lt (length slots) number)
 
 pub deleted_is : (base : Contents) (slots : List Slot) (number : ℕ) → slots ≡ slots_deleted number base.conference.slots → 0 < number → number ≤ length base.conference.slots → IsConference base.shape base.conference
     → IsConference base.shape (with_slots slots base).conference
@@ -112,15 +128,15 @@ deleted_is base slots number is above within ok =
     subst (λ (xs : List Slot). IsConference base.shape (with_slots xs base).conference) (sym (is ∙ made_is)) (slots_are base made ok (omega (arith, len)) (omega (arith, len, few)) all)
 
 -- ---- messages received
-received_one : (kind : Kind) (name : List ℕ) (r : Receipt) (n : ℕ) (m : Message) (due : Bool) → IsU32 r.now → IsMessage kind m → IsMessage kind (cond due (record m { seen = true; received = r.now }) m)
+received_one : (kind : Kind) (name : List ℕ) (r : Receipt) (n : ℕ) (m : Message) (due : Bool) → r.now < 2 ^ 32 → IsMessage kind m → IsMessage kind (cond due (record m { seen = true; received = r.now }) m)
 received_one kind name r n m true small ok = message_read kind m r.now small ok
 received_one kind name r n m false small ok = ok
 
-received_slot : (kind : Kind) (name : List ℕ) (r : Receipt) (n : ℕ) (s : Slot) → IsU32 r.now → IsSlot kind s → IsSlot kind (slot_received name r n s)
+received_slot : (kind : Kind) (name : List ℕ) (r : Receipt) (n : ℕ) (s : Slot) → r.now < 2 ^ 32 → IsSlot kind s → IsSlot kind (slot_received name r n s)
 received_slot kind name r n Gone small ok = ok
 received_slot kind name r n (Held m) small ok = received_one kind name r n m (is_due name r n m) small ok
 
-received_all : (kind : Kind) (name : List ℕ) (r : Receipt) (n : ℕ) (slots : List Slot) → IsU32 r.now → All (IsSlot kind) slots → All (IsSlot kind) (slots_received name r n slots)
+received_all : (kind : Kind) (name : List ℕ) (r : Receipt) (n : ℕ) (slots : List Slot) → r.now < 2 ^ 32 → All (IsSlot kind) slots → All (IsSlot kind) (slots_received name r n slots)
 received_all kind name r n [] small all = All-nil (IsSlot kind)
 received_all kind name r n (s ∷ slots) small all =
     All-cons (IsSlot kind) (slot_received name r n s) (slots_received name r (n + 1) slots) (received_slot kind name r n s small (All-head (IsSlot kind) s slots all))
@@ -130,7 +146,7 @@ received_length : (name : List ℕ) (r : Receipt) (n : ℕ) (slots : List Slot) 
 received_length name r n [] = refl
 received_length name r n (s ∷ slots) = ap suc (received_length name r (n + 1) slots)
 
-pub received_is : (base : Contents) (slots : List Slot) (name : List ℕ) (r : Receipt) → slots ≡ slots_received name r 1 base.conference.slots → IsU32 r.now → IsConference base.shape base.conference
+pub received_is : (base : Contents) (slots : List Slot) (name : List ℕ) (r : Receipt) → slots ≡ slots_received name r 1 base.conference.slots → r.now < 2 ^ 32 → IsConference base.shape base.conference
     → IsConference base.shape (with_slots slots base).conference
 received_is base slots name r is small ok =
     let made : List Slot = slots_received name r 1 base.conference.slots in

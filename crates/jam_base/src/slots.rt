@@ -10,11 +10,12 @@ use std::alloc::{AllocError, Global};
 pub fn with_messages(alloc: Global, slots: &Slots, messages: &Messages) -> Result<Slots, AllocError>
     ensures { IfOk result (λ new. new ≡ slots_with_all slots.now messages.now) }
 {
-    let mut slots = slots.copy(alloc)?;
-    for message in messages.as_slice() {
-        slots.add(Slot::Held(message.duplicate(alloc)?))?;
+    let messages = messages.as_slice();
+    let mut longer = slots.copy(alloc)?;
+    for message in messages {
+        longer.add(Slot::Held(message.duplicate(alloc)?))?;
     }
-    Ok(slots)
+    Ok(longer)
 }
 
 /// Whether a message number is that of a message that isn't deleted.
@@ -26,7 +27,8 @@ pub fn has_live(number: u32, slots: &Slots) -> bool
     }
     match slots.get(number as usize - 1) {
         Some(Slot::Held(message)) => !message.deleted,
-        Some(Slot::Gone) | None => false,
+        Some(Slot::Gone) => false,
+        None => false,
     }
 }
 
