@@ -3,6 +3,8 @@
 
 mod base;
 mod change;
+#[cfg(test)]
+mod change_tests;
 mod pointers;
 mod read;
 mod receipt;

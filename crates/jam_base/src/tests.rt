@@ -1,4 +1,4 @@
-ghost use Rattle.std.specs.Prelude.{◌<◌, All, IfOk};
+ghost use Rattle.std.specs.Prelude.{◌≡◌, ◌<◌, All, IfOk};
 ghost use Rattle.jam_layout.specs.Valid.{IsShape};
 
 use crate::{Base, BaseChange, BaseError, BaseFiles, Reader, Readers, Shape, read_base};
@@ -10,34 +10,34 @@ use std::test::Fail;
 
 /// The first 24 bytes of the .JHR of a message and three answers to it, of which the second was deleted.
 /// 1000 zeros follow.
-const BASE: [u8; 24] = *b"JAM\0\0\xCA\x9A;\x03\0\0\0\x03\0\0\0\xFF\xFF\xFF\xFF\x01\0\0\0";
+pub const BASE: [u8; 24] = *b"JAM\0\0\xCA\x9A;\x03\0\0\0\x03\0\0\0\xFF\xFF\xFF\xFF\x01\0\0\0";
 
 /// The headers of the messages.
-const ORIGINAL: [u8; 134] =
+pub const ORIGINAL: [u8; 134] =
     *b"JAM\0\x01\0\0\0:\0\0\0\0\0\0\0qc\x95\xF7\xFF\xFF\xFF\xFF\0\0\0\0\x02\0\0\0\0\0\0\0\0\xCA\x9A;\0\0\0\0\0\xCA\x9A;\x01\0\0\0\x01\0\x80\0\0\0\0\0\0\0\0\0\x0B\0\0\0\xFF\xFF\xFF\xFF\0\0\0\0\x02\0\0\0\x07\0\0\0Bob Ray\x03\0\0\0\x03\0\0\0All\x04\0\0\0\x0B\0\0\00.1.TESTBBS\x06\0\0\0\x05\0\0\0Hello";
 
-const FIRST_ANSWER: [u8; 153] =
+pub const FIRST_ANSWER: [u8; 153] =
     *b"JAM\0\x01\0\0\0M\0\0\0\0\0\0\0\xB4_\x18\xCEqc\x95\xF7\x01\0\0\0\0\0\0\0\x03\0\0\0\0\xCA\x9A;\0\0\0\0\0\xCA\x9A;\x02\0\0\0\x01\0\x80\0\0\0\0\0\x0B\0\0\0\x0B\0\0\0\xFF\xFF\xFF\xFF\0\0\0\0\x02\0\0\0\x07\0\0\0Bob Ray\x03\0\0\0\x03\0\0\0All\x04\0\0\0\x0B\0\0\00.2.TESTBBS\x05\0\0\0\x0B\0\0\00.1.TESTBBS\x06\0\0\0\x05\0\0\0Hello";
 
-const SECOND_ANSWER: [u8; 153] =
+pub const SECOND_ANSWER: [u8; 153] =
     *b"JAM\0\x01\0\0\0M\0\0\0\0\0\0\0\xF7Kc\xD9qc\x95\xF7\x01\0\0\0\0\0\0\0\x04\0\0\0\0\xCA\x9A;\0\0\0\0\0\xCA\x9A;\x03\0\0\0\x01\0\x80\x80\0\0\0\0\x16\0\0\0\x0B\0\0\0\xFF\xFF\xFF\xFF\0\0\0\0\x02\0\0\0\x07\0\0\0Bob Ray\x03\0\0\0\x03\0\0\0All\x04\0\0\0\x0B\0\0\00.3.TESTBBS\x05\0\0\0\x0B\0\0\00.1.TESTBBS\x06\0\0\0\x05\0\0\0Hello";
 
-const THIRD_ANSWER: [u8; 153] =
+pub const THIRD_ANSWER: [u8; 153] =
     *b"JAM\0\x01\0\0\0M\0\0\0\0\0\0\0>&\x02\xBDqc\x95\xF7\x01\0\0\0\0\0\0\0\0\0\0\0\0\xCA\x9A;\0\0\0\0\0\xCA\x9A;\x04\0\0\0\x01\0\x80\0\0\0\0\0!\0\0\0\x0B\0\0\0\xFF\xFF\xFF\xFF\0\0\0\0\x02\0\0\0\x07\0\0\0Bob Ray\x03\0\0\0\x03\0\0\0All\x04\0\0\0\x0B\0\0\00.4.TESTBBS\x05\0\0\0\x0B\0\0\00.1.TESTBBS\x06\0\0\0\x05\0\0\0Hello";
 
 /// The .JDX of the messages.
-const JDX: [u8; 32] =
+pub const JDX: [u8; 32] =
     *b"\x22\x8E\xE7\xC4\0\x04\0\0\x22\x8E\xE7\xC4\x86\x04\0\0\x22\x8E\xE7\xC4\x1F\x05\0\0\x22\x8E\xE7\xC4\xB8\x05\0\0";
 
 /// A body.
-const JDT: [u8; 22] = *b"First line\rFirst line\r";
+pub const JDT: [u8; 22] = *b"First line\rFirst line\r";
 
 /// The .JLR of its four readers.
-const JLR: [u8; 64] =
+pub const JLR: [u8; 64] =
     *b"\x99W\x03\x9F\x01\0\0\0\0\0\0\0\0\0\0\0\x91d\x92\xC6\x02\0\0\0\0\0\0\0\0\0\0\0#9\xC6m\x03\0\0\0\0\0\0\0\0\0\0\0\xAA\xFEL\x8E\x04\0\0\0\0\0\0\0\0\0\0\0";
 
 /// The record of a fifth reader in .JLR.
-const FIFTH: [u8; 16] = *b"\xE8\xC3gg\x05\0\0\0\0\0\0\0\0\0\0\0";
+pub const FIFTH: [u8; 16] = *b"\xE8\xC3gg\x05\0\0\0\0\0\0\0\0\0\0\0";
 
 /// The four files of the message and its answers.
 fn files(alloc: Global) -> Result<BaseFiles, AllocError> {
@@ -73,9 +73,10 @@ fn read(alloc: Global, files: &BaseFiles, shape: &Shape) -> Option<Result<Base, 
 }
 
 /// What the board says of the conference.
-fn general(alloc: Global) -> Result<Shape, AllocError>
+pub fn general(alloc: Global) -> Result<Shape, AllocError>
     ensures shape { IfOk result IsShape }
     ensures readers { IfOk result (λ shape. All (λ reader. reader.id < 5) shape.readers) }
+    ensures kind { IfOk result (λ shape. shape.kind ≡ Kind.Local) }
 {
     let mut readers = Readers::new(alloc);
     let name = Bytes::from_slice(alloc, b"Ann Lee")?;
@@ -95,7 +96,7 @@ fn general(alloc: Global) -> Result<Shape, AllocError>
 }
 
 /// How many slots, live messages and bytes a base has.
-fn counts(base: &Base) -> (u32, u32, u64) {
+pub fn counts(base: &Base) -> (u32, u32, u64) {
     (base.slot_count(), base.live_count(), base.size())
 }
 
@@ -128,17 +129,17 @@ fn new_conference(alloc: Global) -> Result<BaseChange, AllocError> {
 }
 
 /// The number of the message that this one answers.
-fn answered(base: &Base, number: u32) -> u32 {
+pub fn answered(base: &Base, number: u32) -> u32 {
     base.reply_to(number)
 }
 
 /// The last-read pointer of a reader.
-fn pointer(base: &Base, user: u32) -> Option<u32> {
+pub fn pointer(base: &Base, user: u32) -> Option<u32> {
     base.pointer(user)
 }
 
 /// The message of a number.
-fn message(base: &Base, number: u32) -> Option<&Message> {
+pub fn message(base: &Base, number: u32) -> Option<&Message> {
     match base.slot(number) {
         Some(Slot::Held(message)) => Some(message),
         _ => None,
@@ -146,7 +147,7 @@ fn message(base: &Base, number: u32) -> Option<&Message> {
 }
 
 /// The number of the file that a patch replaces, and its bytes.
-fn parts(patch: &Patch) -> (u16, &[u8]) {
+pub fn parts(patch: &Patch) -> (u16, &[u8]) {
     match patch {
         Patch::Whole { file, bytes } | Patch::Put { file, bytes, .. } => {
             (file.number(), bytes.as_slice())
