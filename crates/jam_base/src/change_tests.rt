@@ -55,6 +55,7 @@ fn hello(alloc: Global, msgid: &[u8], replyid: &[u8]) -> Result<Message, AllocEr
 }
 
 /// The message of example `import-two` and `reply-chain`.
+#[tactic(auto, unfolding(jam_layout::specs::Fields::is_text))]
 fn original(alloc: Global) -> Result<Messages, AllocError>
     ensures { IfOk result (All (IsMessage Kind.Local)) }
 {
@@ -64,6 +65,7 @@ fn original(alloc: Global) -> Result<Messages, AllocError>
 }
 
 /// The two messages of example `import-two`.
+#[tactic(auto, unfolding(jam_layout::specs::Fields::is_text))]
 fn two(alloc: Global) -> Result<Messages, AllocError>
     ensures { IfOk result (All (IsMessage Kind.Local)) }
 {
@@ -73,6 +75,7 @@ fn two(alloc: Global) -> Result<Messages, AllocError>
 }
 
 /// The three answers of example `reply-chain`.
+#[tactic(auto, unfolding(jam_layout::specs::Fields::is_text))]
 fn answers(alloc: Global) -> Result<Messages, AllocError>
     ensures { IfOk result (All (IsMessage Kind.Local)) }
 {
@@ -84,6 +87,7 @@ fn answers(alloc: Global) -> Result<Messages, AllocError>
 }
 
 /// As many messages as a conference has slots.
+#[tactic(auto, unfolding(jam_layout::specs::Fields::is_text))]
 fn many(alloc: Global) -> Result<Messages, AllocError>
     ensures { IfOk result (All (IsMessage Kind.Local)) }
 {
