@@ -1,4 +1,4 @@
-ghost use Rattle.std.specs.Prelude.{IfOk};
+ghost use Rattle.std.specs.Prelude.{◌≡◌, IfOk};
 ghost use Rattle.jam_base.specs.Valid.{IsShape};
 
 use byte_lists::Bytes;
@@ -11,7 +11,8 @@ pub const CREATED: u32 = 1_000_000_000;
 
 /// What the board says of the conference: a local one of four readers.
 pub fn general(alloc: Global) -> Result<Shape, AllocError>
-    ensures { IfOk result IsShape }
+    ensures shape { IfOk result IsShape }
+    ensures kind { IfOk result (λ shape. shape.kind ≡ Kind.Local) }
 {
     let mut readers = Readers::new(alloc);
     let name = Bytes::from_slice(alloc, b"Ann Lee")?;

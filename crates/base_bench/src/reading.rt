@@ -1,3 +1,5 @@
+ghost use Rattle.std.specs.Prelude.{◌≡◌, All, IfOk, IfSome};
+ghost use Rattle.jam_base.specs.Messages.{IsSlot};
 ghost use Rattle.jam_base.specs.Valid.{IsShape};
 
 use jam_base::{Base, BaseError, BaseFiles, Shape, read_base};
@@ -10,6 +12,7 @@ const TOO_LONG: usize = 1 << 31;
 /// Reads files whose lengths `read_base` takes.
 fn read(alloc: Global, files: &BaseFiles, shape: &Shape) -> Option<Result<Base, BaseError>>
     requires { IsShape shape.now }
+    ensures { IfSome result (λ read. IfOk read (λ base. All (IsSlot shape.now.kind) base.conference.slots)) }
 {
     if files.jhr.as_slice().len() >= TOO_LONG || files.jdt.as_slice().len() >= TOO_LONG {
         return None;
@@ -20,16 +23,29 @@ fn read(alloc: Global, files: &BaseFiles, shape: &Shape) -> Option<Result<Base, 
     Some(read_base(alloc, files, shape))
 }
 
-/// Reads the files, and prints what came of it.
-pub fn report<R: Print>(rt: &R, alloc: Global, files: &BaseFiles, shape: &Shape) -> io::Result<()>
+/// Reads the files, prints what came of it, and answers the base.
+pub fn report<R: Print>(
+    rt: &R,
+    alloc: Global,
+    files: &BaseFiles,
+    shape: &Shape,
+) -> io::Result<Option<Base>>
     requires { IsShape shape.now }
+    ensures { IfOk result (λ read. IfSome read (λ base. All (IsSlot shape.now.kind) base.conference.slots)) }
 {
     match read(alloc, files, shape) {
-        None => println!(rt; "not read: a file is too long"),
-        Some(Err(error)) => println!(rt; "not read: {error:?}"),
+        None => {
+            println!(rt; "not read: a file is too long")?;
+            Ok(None)
+        }
+        Some(Err(error)) => {
+            println!(rt; "not read: {error:?}")?;
+            Ok(None)
+        }
         Some(Ok(base)) => {
             let count = base.slot_count();
-            println!(rt; "read: {count} slots")
+            println!(rt; "read: {count} slots")?;
+            Ok(Some(base))
         }
     }
 }

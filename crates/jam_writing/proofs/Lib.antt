@@ -2,3 +2,4 @@ pub mod PieceLaws
 pub mod WritingLoops
 pub mod SubfieldList
 pub mod LastReadLoop
+pub mod SlotShapes
