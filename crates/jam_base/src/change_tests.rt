@@ -69,7 +69,8 @@ fn original(alloc: Global) -> Result<Messages, AllocError>
 fn two(alloc: Global) -> Result<Messages, AllocError>
     ensures { IfOk result (All (IsMessage Kind.Local)) }
 {
-    let mut messages = original(alloc)?;
+    let mut messages = Messages::new(alloc);
+    messages.add(hello(alloc, b"0.1.TESTBBS", b"")?)?;
     messages.add(hello(alloc, b"0.2.TESTBBS", b"")?)?;
     Ok(messages)
 }
@@ -114,11 +115,10 @@ fn append(alloc: Global, base: &Base, messages: &Messages) -> Result<BaseChange,
     base.appended(alloc, messages)
 }
 
-/// The changes by which the message, and then its answers are appended.
-fn chain(alloc: Global) -> Result<[BaseChange; 2], AppendRefusal> {
+/// The change by which the answers are appended, after that of the message.
+fn chain(alloc: Global) -> Result<BaseChange, AppendRefusal> {
     let first = append(alloc, &empty(alloc)?, &original(alloc)?)?;
-    let second = append(alloc, &first.base, &answers(alloc)?)?;
-    Ok([first, second])
+    append(alloc, &first.base, &answers(alloc)?)
 }
 
 /// The change by which the two messages are appended.
@@ -175,36 +175,57 @@ fn two_messages_are_appended(rt: HostRuntime) -> Result<(), Fail> {
     Ok(())
 }
 
-#[test]
-fn a_chain_of_answers_is_appended_and_one_killed(rt: HostRuntime) -> Result<(), Fail> {
-    let [_, second] = chain(rt.alloc())?;
-    for (number, original) in [(1, 0), (2, 1), (3, 1), (4, 1), (5, 0)] {
-        assert_eq!(rt; answered(&second.base, number), original);
+/// The bytes of the patch in a place.
+fn bytes_of(change: &BaseChange, place: usize) -> &[u8] {
+    match change.patches.get(place) {
+        Some(patch) => parts(patch).1,
+        None => &[],
     }
+}
+
+/// The numbers of the messages that five messages answer, from number 1.
+fn originals(base: &Base) -> [u32; 5] {
+    [1, 2, 3, 4, 5].map(|number| answered(base, number))
+}
+
+#[test]
+fn a_chain_of_answers_is_appended(rt: HostRuntime) -> Result<(), Fail> {
+    let change = chain(rt.alloc())?;
+    assert_eq!(rt; originals(&change.base), [0, 1, 1, 1, 0]);
     let jdt = joined(rt.alloc(), &[&JDT, &JDT])?;
-    assert_eq!(rt;
-        parts(second.patches.get(1).ok_or("no patch")?),
-        (3, jdt.as_slice())
-    );
-    assert_eq!(rt;
-        parts(second.patches.get(2).ok_or("no patch")?),
-        (4, JDX.as_slice())
-    );
-    let killed = second.base.killed(rt.alloc(), 3)?;
-    let jhr = joined(
-        rt.alloc(),
+    assert_eq!(rt; bytes_of(&change, 1), jdt.as_slice());
+    assert_eq!(rt; bytes_of(&change, 2), JDX.as_slice());
+    Ok(())
+}
+
+/// The change by which a message is killed.
+fn kill(alloc: Global, base: &Base, number: u32) -> Result<BaseChange, KillRefusal> {
+    base.killed(alloc, number)
+}
+
+/// The .JHR of the chain, in which the second answer is deleted.
+fn jhr_of_chain(alloc: Global) -> Result<Bytes, AllocError> {
+    let head = joined(alloc, &[&BASE, &[0; 1000]])?;
+    joined(
+        alloc,
         &[
-            &BASE,
-            &[0; 1000],
+            head.as_slice(),
             &ORIGINAL,
             &FIRST_ANSWER,
             &SECOND_ANSWER,
             &THIRD_ANSWER,
         ],
-    )?;
-    assert!(rt; wanted(killed.patches.as_slice(), &[(2, jhr.as_slice())]));
+    )
+}
+
+#[test]
+fn an_answer_is_killed(rt: HostRuntime) -> Result<(), Fail> {
+    let chain = chain(rt.alloc())?;
+    let change = kill(rt.alloc(), &chain.base, 3)?;
+    let jhr = jhr_of_chain(rt.alloc())?;
+    assert!(rt; wanted(change.patches.as_slice(), &[(2, jhr.as_slice())]));
     for number in [0, 3, 5] {
-        let again = killed.base.killed(rt.alloc(), number);
+        let again = kill(rt.alloc(), &change.base, number);
         assert_eq!(rt; again.err(), Some(KillRefusal::NoMessage));
     }
     Ok(())
@@ -225,38 +246,55 @@ fn no_message_is_no_change(rt: HostRuntime) -> Result<(), Fail> {
     Ok(())
 }
 
-/// The bytes of the first patch.
-fn first_bytes(change: &BaseChange) -> &[u8] {
-    match change.patches.get(0) {
-        Some(patch) => parts(patch).1,
-        None => &[],
-    }
+/// The change by which messages to a name between two numbers are received.
+fn receive(
+    alloc: Global,
+    base: &Base,
+    name: &[u8],
+    above: u32,
+    upto: u32,
+) -> Result<BaseChange, AllocError> {
+    base.received(alloc, name, above, upto, NOW + 100)
+}
+
+/// Whether a message is read, and when it was received.
+fn received(base: &Base, number: u32) -> Option<(bool, u32)> {
+    let message = message(base, number)?;
+    Some((message.seen, message.received))
 }
 
 #[test]
 fn messages_to_a_name_are_received(rt: HostRuntime) -> Result<(), Fail> {
-    let [_, second] = chain(rt.alloc())?;
-    let change = second.base.received(rt.alloc(), b"aLL", 1, 3, NOW + 100)?;
-    for (number, seen) in [(1, false), (2, true), (3, true), (4, false)] {
-        let message = message(&change.base, number).ok_or("no message")?;
-        assert_eq!(rt;
-            (message.seen, message.received),
-            (seen, if seen { NOW + 100 } else { 0 })
-        );
+    let chain = chain(rt.alloc())?;
+    let change = receive(rt.alloc(), &chain.base, b"aLL", 1, 3)?;
+    let unread = Some((false, 0));
+    let read = Some((true, NOW + 100));
+    for (number, wanted) in [(1, unread), (2, read), (3, read), (4, unread)] {
+        assert_eq!(rt; received(&change.base, number), wanted);
     }
-    let jhr = first_bytes(&change);
+    let jhr = bytes_of(&change, 0);
     // Three changes, and the mark and the moment of the second message.
-    assert_eq!(rt; jhr.get(8), Some(&3));
-    assert_eq!(rt; jhr.get(1158 + 52), Some(&9));
-    assert_eq!(rt; jhr.get(1158 + 40), Some(&100));
-    for (name, above, upto) in [
-        (b"aLL".as_slice(), 1, 3),
-        (b"Bob Ray", 0, 4),
-        (b"All", 4, 9),
-    ] {
-        let none = change.base.received(rt.alloc(), name, above, upto, NOW)?;
-        assert_eq!(rt; none.patches.len(), 0);
-    }
+    assert_eq!(rt;
+        (jhr.get(8), jhr.get(1210), jhr.get(1198)),
+        (Some(&3), Some(&9), Some(&100))
+    );
+    Ok(())
+}
+
+#[test]
+fn messages_are_received_once(rt: HostRuntime) -> Result<(), Fail> {
+    let chain = chain(rt.alloc())?;
+    let change = receive(rt.alloc(), &chain.base, b"All", 0, 4)?;
+    let again = receive(rt.alloc(), &change.base, b"All", 0, 4)?;
+    let sender = receive(rt.alloc(), &chain.base, b"Bob Ray", 0, 4)?;
+    assert_eq!(rt;
+        (
+            change.patches.len(),
+            again.patches.len(),
+            sender.patches.len()
+        ),
+        (1, 0, 0)
+    );
     Ok(())
 }
 
