@@ -1,3 +1,4 @@
+use std::alloc::Allocator;
 use std::rt::Env;
 use std::{env, io};
 
@@ -13,7 +14,7 @@ pub struct Plan {
 }
 
 /// The number that a word spells, or this one without a word.
-fn number(word: Option<String>, without: u32) -> io::Result<u32> {
+fn number<A: Allocator>(word: Option<String<A>>, without: u32) -> io::Result<u32> {
     match word {
         None => Ok(without),
         Some(word) => match word.as_str().parse::<u32>() {
@@ -24,7 +25,7 @@ fn number(word: Option<String>, without: u32) -> io::Result<u32> {
 }
 
 /// What the arguments say, three numbers. Without them the files are read once, and nothing is appended.
-pub fn plan<R: Env + Alloc>(rt: &R) -> io::Result<Plan> {
+pub fn asked<R: Env + Alloc>(rt: &R) -> io::Result<Plan> {
     let mut words = env::args(rt)?;
     let _program = words.next();
     let reads = number(words.next(), 1)?;

@@ -2,6 +2,7 @@
 //! or once without one. Where the second says so, appends so many messages to an empty base, and then one more
 //! as often as the third says. Prints the length of the files, and of each reading and change what came of it.
 #![tactic(auto)]
+
 ghost use Rattle.std.specs.Prelude.{◌≡◌};
 ghost use Rattle.jam_base.specs.Valid.{IsShape};
 
@@ -13,11 +14,11 @@ mod layout;
 mod messages;
 mod reading;
 
-use argument::{Plan, plan};
+use argument::{Plan, asked};
 use board::general;
-use layout::{files, total};
 use jam_base::{BaseFiles, Shape};
 use jam_records::Kind;
+use layout::{files, total};
 use std::alloc::Global;
 use std::io;
 
@@ -41,7 +42,7 @@ fn read_and_append<R: Print>(
 }
 
 fn main(rt: HostRuntime) -> io::Result<()> {
-    let plan = plan(&rt)?;
+    let plan = asked(&rt)?;
     let shape = general(rt.alloc())?;
     let files = files(rt.alloc(), &shape)?;
     let total = total(&files);
