@@ -1,0 +1,4 @@
+pub mod Rising
+pub mod Texts
+pub mod Zones
+pub mod Valid

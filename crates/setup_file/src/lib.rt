@@ -1,0 +1,17 @@
+//! Setup files: the text of lines that a board is made of, and the rules of texts, zones and conferences
+//! that its ledger shares.
+#![tactic(auto)]
+
+mod conference;
+mod error;
+mod setup;
+#[cfg(test)]
+mod tests;
+mod texts;
+mod zones;
+
+pub use conference::{Conference, Conferences};
+pub use error::{SetupError, SetupRule};
+pub use setup::Setup;
+pub use texts::{is_bbsid, is_board_text, is_conference_name, is_user_name};
+pub use zones::{Zones, are_zones};

@@ -1,0 +1,109 @@
+ghost use Rattle.std.specs.Prelude.{◌≡◌, ◌↔◌, length, min, slice_get, Contains, IsTrue, IfOk};
+ghost use Rattle.std.specs.Option.{option_copied};
+
+use crate::conference::{Conference, Conferences};
+use crate::zones::Zones;
+use byte_lists::Bytes;
+use std::alloc::{AllocError, Global};
+
+/// What a board is made of. A valid setup keeps the rules that the fields name.
+#[derive(Debug, Drop)]
+pub struct Setup {
+    /// The board's name, at most 60 bytes from 20h to 7Eh.
+    pub board: Bytes,
+    /// Its city, at most 60 bytes from 20h to 7Eh.
+    pub city: Bytes,
+    /// Its phone number, at most 60 bytes from 20h to 7Eh.
+    pub phone: Bytes,
+    /// The sysop's name, a user name.
+    pub sysop: Bytes,
+    /// The board id, 1 to 8 ASCII letters and digits.
+    pub bbsid: Bytes,
+    /// The serial number, at most 99,999.
+    pub serial: u32,
+    /// The zones of net mail.
+    pub zones: Zones,
+    /// The conferences, 1 to 64, whose numbers rise.
+    pub conferences: Conferences,
+}
+
+impl Setup {
+    /// The board's name.
+    pub fn board(&self) -> &Bytes
+        ensures { result.now ≡ self.now.board }
+    {
+        &self.board
+    }
+
+    /// The board's city.
+    pub fn city(&self) -> &Bytes
+        ensures { result.now ≡ self.now.city }
+    {
+        &self.city
+    }
+
+    /// The board's phone number.
+    pub fn phone(&self) -> &Bytes
+        ensures { result.now ≡ self.now.phone }
+    {
+        &self.phone
+    }
+
+    /// The sysop's name.
+    pub fn sysop(&self) -> &Bytes
+        ensures { result.now ≡ self.now.sysop }
+    {
+        &self.sysop
+    }
+
+    /// The board id.
+    pub fn bbsid(&self) -> &Bytes
+        ensures { result.now ≡ self.now.bbsid }
+    {
+        &self.bbsid
+    }
+
+    /// The serial number.
+    pub fn serial(&self) -> u32
+        ensures { result ≡ self.now.serial }
+    {
+        self.serial
+    }
+
+    /// Whether a zone is one of the board's.
+    pub fn has_zone(&self, zone: u16) -> bool
+        ensures { IsTrue result ↔ Contains self.now.zones zone }
+    {
+        self.zones.as_slice().contains(&zone)
+    }
+
+    /// How many conferences there are: 1 to 64 in a valid setup, and 255 where there are more than that.
+    pub fn conference_count(&self) -> u8
+        ensures { result ≡ min (length self.now.conferences) 255 }
+    {
+        self.conferences.len().min(255) as u8
+    }
+
+    /// The conference in a place, from 0, or None past the last.
+    pub fn conference(&self, place: u8) -> Option<&Conference>
+        ensures { option_copied result ≡ slice_get self.now.conferences place }
+    {
+        self.conferences.get(usize::from(place))
+    }
+
+    /// An equal setup.
+    pub fn copy(&self, alloc: Global) -> Result<Setup, AllocError>
+        ensures { IfOk result (λ copy. copy ≡ self.now) }
+    {
+        Ok(Setup {
+            board: self.board.copy(alloc)?,
+            city: self.city.copy(alloc)?,
+            phone: self.phone.copy(alloc)?,
+            sysop: self.sysop.copy(alloc)?,
+            bbsid: self.bbsid.copy(alloc)?,
+            serial: self.serial,
+            zones: self.zones.copy(alloc)?,
+            conferences: self.conferences.copy(alloc)?,
+        })
+    }
+}

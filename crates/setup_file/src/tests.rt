@@ -1,0 +1,1 @@
+//! Setup files from worked examples.
