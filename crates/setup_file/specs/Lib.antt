@@ -2,3 +2,8 @@ pub mod Rising
 pub mod Texts
 pub mod Zones
 pub mod Valid
+pub mod Words
+pub mod Rules
+pub mod Reads
+pub mod Fault
+pub mod State

@@ -3,12 +3,20 @@
 #![tactic(auto)]
 
 mod conference;
+mod conference_line;
 mod error;
+mod head;
+mod key;
+pub mod laws;
+mod parse;
 mod setup;
 #[cfg(test)]
 mod tests;
 mod texts;
+mod unread;
+mod word;
 mod zones;
+mod zones_line;
 
 pub use conference::{Conference, Conferences};
 pub use error::{SetupError, SetupRule};

@@ -1,0 +1,111 @@
+-- What the reader knows between two lines.
+use Rattle.std.specs.Prelude.{◌≡◌, ℕ, ◌+◌, ◌<◌, ◌≤◌, ◌^◌, List, [], ◌∷◌, ◌++◌, length, map, All, Option, Some, None, Bool, true, false, unwrap_or}
+use Rattle.setup_file.specs.Words.{number_of, numbers_in, kind_of, rights_of, value_behind}
+use Rattle.setup_file.specs.Rules.{LineRules, broken_in, key_text, zones_key, conference_key, number_word, kind_word, rights_word, name_behind}
+use Rattle.setup_file.specs.Reads.{is_skipped, counted}
+use Rattle.setup_file.specs.Fault.{KeepRules, LinesFault}
+use Rattle.jam_records.specs.declared.message.Kind.TheVariants.{Local}
+use Rattle.setup_file.specs.declared.conference.Conference.{Conference}
+use Rattle.setup_file.specs.declared.error.SetupError.{SetupError}
+use Rattle.setup_file.specs.declared.error.SetupError.TheVariants.{Line, OutOfMemory}
+use Rattle.setup_file.specs.declared.error.SetupRule.{SetupRule}
+use Rattle.setup_file.specs.declared.conference_line.Parts.{Parts}
+use Rattle.setup_file.specs.declared.head.Texts.{Texts}
+use Rattle.setup_file.specs.declared.key.Key.TheVariants.{Board, City, Phone, Sysop, Bbsid, Serial}
+
+-- the lines have numbers of 32 bits, one past the last too
+abbrev pub IsNumbered : List (List ℕ) → ℕ → Type 0
+IsNumbered all number = number + length all < 2 ^ 32
+
+-- these lines were taken from the first, and the others are left; each with the number of its first line
+pub record Ahead (all : List (List ℕ)) (number : ℕ) (left : List (List ℕ)) (at : ℕ) (taken : List (List ℕ)) : Type 0 where
+  pub whole : all ≡ taken ++ left
+  pub count : at ≡ number + length taken
+
+abbrev pub AllSkipped : List (List ℕ) → Type 0
+AllSkipped all = All (λ line. is_skipped line ≡ true) all
+
+-- the first line isn't skipped, or there is none
+abbrev pub StartsCounted : List (List ℕ) → Type 0
+StartsCounted [] = Unit {0}
+StartsCounted (line ∷ more) = is_skipped line ≡ false
+
+-- lines that are skipped were taken, up to one that isn't, or to the end
+pub record SkippedTo (all : List (List ℕ)) (number : ℕ) (left : List (List ℕ)) (at : ℕ) : Type 0 where
+  pub skipped : List (List ℕ)
+  pub each : AllSkipped skipped
+  pub ahead : Ahead all number left at skipped
+  pub starts : StartsCounted left
+
+-- Of all lines some were taken, and the others are left, the first of which has this number. The kept lines are those that count
+-- of the former, and break no rule.
+pub record Kept (all left : List (List ℕ)) (at : ℕ) (kept : List (List ℕ)) : Type 0 where
+  pub before : List (List ℕ)
+  pub whole : all ≡ before ++ left
+  pub count : at ≡ length before + 1
+  pub counted : counted before ≡ kept
+  pub keep : KeepRules [] kept
+
+-- a line with a number breaks a rule so, or there was no memory
+abbrev pub FaultOrMemory : (ℕ → SetupRule → Type 0) → SetupError → Type 0
+FaultOrMemory P (Line number rule) = P number rule
+FaultOrMemory P OutOfMemory = Unit {0}
+
+-- no rule is broken
+abbrev pub NoneBroken : LineRules → Type 0
+NoneBroken rules = broken_in rules ≡ None
+
+-- this rule is the first that is broken
+abbrev pub Breaks : LineRules → SetupRule → Type 0
+Breaks rules rule = broken_in rules ≡ Some rule
+
+-- the line with this number breaks this rule
+abbrev pub BreaksAt : ℕ → LineRules → ℕ → SetupRule → Type 0
+BreaksAt number rules at rule = (at ≡ number) × Breaks rules rule
+
+-- the conference of a value that breaks no rule
+abbrev pub conference_of : List ℕ → Conference
+conference_of value = record {
+  number = number_of (number_word value);
+  kind = unwrap_or (kind_of (kind_word value)) Local;
+  readonly = (unwrap_or (rights_of (rights_word value)) (false, false)).0;
+  private = (unwrap_or (rights_of (rights_word value)) (false, false)).1;
+  name = name_behind value;
+}
+
+abbrev pub conferences_of : List (List ℕ) → List Conference
+conferences_of all = map (λ line. conference_of (value_behind conference_key line)) all
+
+-- one line more was kept, and what it says is known
+abbrev pub OneMore : List (List ℕ) → List (List ℕ) → List (List ℕ) → ℕ → (List ℕ → Type 0) → Type 0
+OneMore all kept left at P = (line : List ℕ) × P line × Kept all left at (kept ++ line ∷ [])
+
+-- the texts of the first six lines
+pub record TextsAre (board city phone sysop bbsid serial : List ℕ) (texts : Texts) : Type 0 where
+  pub board : texts.board.now ≡ value_behind (key_text Board) board
+  pub city : texts.city.now ≡ value_behind (key_text City) city
+  pub phone : texts.phone.now ≡ value_behind (key_text Phone) phone
+  pub sysop : texts.sysop.now ≡ value_behind (key_text Sysop) sysop
+  pub bbsid : texts.bbsid.now ≡ value_behind (key_text Bbsid) bbsid
+  pub serial : texts.serial.now ≡ value_behind (key_text Serial) serial
+
+-- the first six lines were kept, and these are their texts
+abbrev pub TextsTaken : List (List ℕ) → Texts → List (List ℕ) → ℕ → Type 0
+TextsTaken all texts left at =
+    (board city phone sysop bbsid serial : List ℕ) × TextsAre board city phone sysop bbsid serial texts
+    × Kept all left at (board ∷ city ∷ phone ∷ sysop ∷ bbsid ∷ serial ∷ [])
+
+-- the parts of a conference are those of the value
+pub record PartsAre (value : List ℕ) (parts : Parts) : Type 0 where
+  pub number : parts.number ≡ number_of (number_word value)
+  pub kind : kind_of (kind_word value) ≡ Some parts.kind
+  pub rights : rights_of (rights_word value) ≡ Some (parts.readonly, parts.private)
+  pub name : parts.name.now ≡ name_behind value
+
+-- all lines were kept, and these are the conferences of those behind the first seven, of which there are some
+pub record ConferencesTaken (all kept : List (List ℕ)) (conferences : List Conference) : Type 0 where
+  pub own : List (List ℕ)
+  pub some : 1 ≤ length own
+  pub are : conferences ≡ conferences_of own
+  pub number : ℕ
+  pub whole : Kept all [] number (kept ++ own)
