@@ -1,0 +1,10 @@
+pub mod Rules
+pub mod Met
+pub mod Texts
+pub mod Records
+pub mod Opening
+pub mod Conferences
+pub mod Users
+pub mod Uploads
+pub mod Ledger
+pub mod Valid

@@ -1,0 +1,19 @@
+-- What the functions of this crate answer where they read by rules.
+use Rattle.std.specs.Prelude.{◌≡◌, ◌⊎◌, Option, Some, None, Result, Err}
+use Rattle.jam_records.specs.declared.damage.Damage.{Damage}
+use Rattle.damage_rules.specs.Rules.{Answers}
+use Rattle.board_ledger.specs.declared.error.LedgerError.{LedgerError}
+use Rattle.board_ledger.specs.declared.error.LedgerError.TheVariants.{Damaged, OutOfMemory}
+
+-- the damage that an error tells of, or none where memory ran out
+abbrev pub told : LedgerError → Option Damage
+told OutOfMemory = None
+told (Damaged d) = Some d
+
+-- what a function answered, seen by view, is what is read, unless memory ran out
+abbrev pub Gives : {X Y : Type 0} → (X → Y) → Result X LedgerError → Result Y Damage → Type 0
+Gives view result read = Answers told view result read
+
+-- the answer, or want of memory
+abbrev pub UnlessMemory : {T : Type 0} → Result T LedgerError → Result T LedgerError → Type 0
+UnlessMemory result answer = (result ≡ answer) ⊎ (result ≡ Err OutOfMemory)

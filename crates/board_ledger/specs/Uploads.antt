@@ -1,0 +1,45 @@
+-- An upload record: u16 user id, 32 bytes of SHA-256, u32 posted, u32 refused.
+use Rattle.std.specs.Prelude.{◌≡◌, ℕ, ◌+◌, ◌≤◌, List, [], ◌∷◌, ◌++◌, length, take, drop, All, Bool, Result, ◌&&◌, ◌||◌, ◌==◌, nat_lt}
+use Rattle.std.specs.List.{list_any}
+use Rattle.std.specs.Str.{bytes_eq}
+use Rattle.byte_lists.specs.Byte.{IsByte}
+use Rattle.record_numbers.specs.Numbers.{u16_at, u32_at, u16_text, u32_text}
+use Rattle.jam_records.specs.declared.damage.Damage.{Damage}
+use Rattle.jam_records.specs.declared.damage.DamageRule.TheVariants.{Short, User as NoUser, Twice, Counts as WrongCounts}
+use Rattle.damage_rules.specs.Rules.{Rules, by_rules}
+use Rattle.board_ledger.specs.declared.upload.UploadRecord.{UploadRecord}
+
+unfoldable pub upload_text : UploadRecord → List ℕ
+upload_text r = u16_text r.user ++ (r.digest ++ (u32_text r.counts.posted ++ u32_text r.counts.refused))
+
+unfoldable pub upload_of : List ℕ → UploadRecord
+upload_of bytes = record {
+  user = u16_at 0 bytes;
+  digest = take 32 (drop 2 bytes);
+  counts = record { posted = u32_at 34 bytes; refused = u32_at 38 bytes };
+}
+
+-- one of these records has the same user and digest
+abbrev pub is_repeated : List UploadRecord → UploadRecord → Bool
+is_repeated before r = list_any (λ e. e.user == r.user && bytes_eq e.digest r.digest) before
+
+-- the rules of the record at the front, behind those before, where there are so many users
+unfoldable pub upload_rules : ℕ → List UploadRecord → List ℕ → Rules
+upload_rules users before bytes =
+    (Short, nat_lt (length bytes) 42)
+    ∷ (NoUser, u16_at 0 bytes == 0 || nat_lt users (u16_at 0 bytes))
+    ∷ (Twice, is_repeated before (upload_of bytes))
+    ∷ (WrongCounts, nat_lt 8191 (u32_at 34 bytes + u32_at 38 bytes))
+    ∷ []
+
+-- the upload record at the front, and its length, where the first upload record has this number
+unfoldable pub upload_at : ℕ → ℕ → List UploadRecord → List ℕ → Result (UploadRecord × ℕ) Damage
+upload_at first users before bytes = by_rules 0 (first + length before) (upload_rules users before bytes) (upload_of bytes, 42)
+
+-- an upload record of a board of so many users
+pub record IsUpload (users : ℕ) (r : UploadRecord) : Type 0 where
+  pub some : 1 ≤ r.user
+  pub user : r.user ≤ users
+  pub digest : length r.digest ≡ 32
+  pub bytes : All IsByte r.digest
+  pub counts : r.counts.posted + r.counts.refused ≤ 8191

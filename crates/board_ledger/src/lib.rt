@@ -1,0 +1,27 @@
+//! A board's ledger: its setup, users and upload records in one file, exactly its layout, and the first damage
+//! named.
+#![tactic(auto)]
+
+mod conferences;
+mod damaged;
+mod error;
+pub mod laws;
+mod ledger;
+mod met;
+mod opening;
+mod read;
+mod size;
+#[cfg(test)]
+mod tests;
+mod texts;
+mod upload;
+mod uploads;
+mod user;
+mod users;
+mod write;
+
+pub use error::LedgerError;
+pub use ledger::Ledger;
+pub use setup_file::{Conference, Conferences, Setup, SetupError, SetupRule, Zones};
+pub use upload::{Counts, UploadRecord, Uploads};
+pub use user::{Highs, User, Users};

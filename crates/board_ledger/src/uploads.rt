@@ -1,0 +1,94 @@
+ghost use Rattle.std.specs.Prelude.{◌≡◌, ◌≤◌, ◌<◌, ◌+◌, ◌^◌, ◌++◌, ◌||◌, ℕ, List, [], length, All, IfOk, OnOk};
+ghost use Rattle.std.specs.List.{flat_map, list_any};
+ghost use Rattle.std.specs.Str.{bytes_eq};
+ghost use Rattle.record_numbers.specs.Numbers.{u16_text};
+ghost use Rattle.board_ledger.specs.Rules.{Gives};
+ghost use Rattle.board_ledger.specs.Met.{is_met};
+ghost use Rattle.board_ledger.specs.Records.{records_at};
+ghost use Rattle.board_ledger.specs.Uploads.{upload_text, upload_at};
+
+use crate::damaged::damaged;
+use crate::error::LedgerError;
+use crate::met::Met;
+use crate::upload::{UploadRecord, Uploads};
+use byte_lists::Bytes;
+use jam_records::DamageRule;
+use std::alloc::{AllocError, Global};
+
+/// The length of an upload record in bytes.
+pub(crate) const UPLOAD: usize = 42;
+
+/// How many bytes of an upload record are its user and its digest.
+const PAIR: usize = 34;
+
+/// The upload record at the front, behind those before, whose users and digests were met. The first record has
+/// this number, and there are so many users.
+#[tactic(auto, unfolding(crate::specs::Uploads::upload_at, crate::specs::Uploads::upload_rules))]
+fn upload_of(
+    alloc: Global,
+    first: u32,
+    users: u16,
+    before: &[UploadRecord],
+    pairs: &mut Met,
+    bytes: &[u8],
+) -> Result<UploadRecord, LedgerError>
+    requires first { first ≤ 1000 }
+    requires few { length before.now < 100000 }
+    requires fit { All (λ e. (e.user < 2 ^ 16) × (length e.digest ≡ 32)) before.now }
+    requires met { (key : List ℕ) → is_met pairs.old key ≡ list_any (λ e. bytes_eq (u16_text e.user ++ e.digest) key) before.now }
+    ensures gives { Gives (λ x. (x, 42)) result (upload_at first users before.now bytes.now) }
+    ensures size { IfOk result (λ _. 42 ≤ length bytes.now) }
+    ensures fits { IfOk result (λ x. (x.user < 2 ^ 16) × (length x.digest ≡ 32)) }
+    ensures added { IfOk result (λ x. (key : List ℕ) → is_met pairs.new key ≡ (bytes_eq (u16_text x.user ++ x.digest) key || is_met pairs.old key)) }
+{
+    let item = first + before.len() as u32;
+    if bytes.len() < UPLOAD {
+        return Err(damaged(item, DamageRule::Short));
+    }
+    let upload = UploadRecord::read(bytes);
+    if upload.user == 0 || upload.user > u32::from(users) {
+        return Err(damaged(item, DamageRule::User));
+    }
+    if pairs.add(alloc, &bytes[..PAIR])? {
+        return Err(damaged(item, DamageRule::Twice));
+    }
+    let counts = upload.counts;
+    if u64::from(counts.posted) + u64::from(counts.refused) > 8191 {
+        return Err(damaged(item, DamageRule::Counts));
+    }
+    Ok(upload)
+}
+
+/// So many upload records, and the bytes behind the last. The first has this number, and there are so many users.
+pub(crate) fn uploads_of(
+    alloc: Global,
+    first: u32,
+    users: u16,
+    count: u32,
+    bytes: &[u8],
+) -> Result<(Uploads, &[u8]), LedgerError>
+    requires first { first ≤ 1000 }
+    requires count { count ≤ 100000 }
+    ensures { Gives (λ x. (x.0, x.1.now)) result (records_at (upload_at first users) count [] bytes.now) }
+{
+    let mut uploads = Uploads::new(alloc);
+    let mut pairs = Met::new(alloc);
+    let mut rest = bytes;
+    for _ in 0..count {
+        let upload = upload_of(alloc, first, users, uploads.as_slice(), &mut pairs, rest)?;
+        uploads.add(upload)?;
+        rest = &rest[UPLOAD..];
+    }
+    Ok((uploads, rest))
+}
+
+/// Adds upload records.
+pub(crate) fn add_uploads(out: &mut Bytes, uploads: &[UploadRecord]) -> Result<(), AllocError>
+    requires { All (λ e. e.user < 2 ^ 16) uploads.now }
+    ensures { OnOk result (out.new ≡ out.old ++ flat_map upload_text uploads.now) }
+{
+    for upload in uploads {
+        upload.write(out)?;
+    }
+    Ok(())
+}

@@ -1,0 +1,101 @@
+ghost use Rattle.std.specs.Prelude.{◌≡◌, ◌≤◌, ◌<◌, ◌+◌, ◌^◌, ◌++◌, ◌||◌, ℕ, List, [], length, map, All, IfOk, OnOk};
+ghost use Rattle.std.specs.List.{flat_map, list_any};
+ghost use Rattle.std.specs.Str.{bytes_eq};
+ghost use Rattle.board_ledger.specs.Rules.{Gives};
+ghost use Rattle.board_ledger.specs.Met.{is_met};
+ghost use Rattle.board_ledger.specs.Records.{records_at};
+ghost use Rattle.board_ledger.specs.Users.{lowered as lowered_name, user_text, user_at, IsUser};
+
+use crate::damaged::damaged;
+use crate::error::LedgerError;
+use crate::met::Met;
+use crate::texts::text_end;
+use crate::user::{User, Users};
+use byte_lists::Bytes;
+use jam_records::DamageRule;
+use setup_file::is_user_name;
+use std::alloc::{AllocError, Global};
+
+/// A name without regard to ASCII case.
+fn lowered(alloc: Global, name: &[u8]) -> Result<Vec<u8>, AllocError>
+    ensures { IfOk result (λ key. key.items ≡ lowered_name name.now) }
+{
+    name.iter().map(|b| b.to_ascii_lowercase()).collect(alloc)
+}
+
+/// The user at the front, behind those before, whose names were met, and the length of the record.
+#[tactic(auto, unfolding(crate::specs::Users::user_at, crate::specs::Users::user_rules, crate::specs::Users::user_end, crate::specs::Users::user_of))]
+fn user_of(
+    alloc: Global,
+    conferences: u16,
+    before: &[User],
+    names: &mut Met,
+    bytes: &[u8],
+) -> Result<(User, usize), LedgerError>
+    requires conferences { conferences ≤ 64 }
+    requires few { length before.now < 500 }
+    requires met { (key : List ℕ) → is_met names.old key ≡ list_any (λ u. bytes_eq (lowered_name u.name) key) before.now }
+    ensures gives { Gives (λ x. x) result (user_at conferences before.now bytes.now) }
+    ensures size { IfOk result (λ x. x.1 ≤ length bytes.now) }
+    ensures added { IfOk result (λ x. (key : List ℕ) → is_met names.new key ≡ (bytes_eq (lowered_name x.0.name) key || is_met names.old key)) }
+{
+    let item = 1 + u32::from(conferences) + before.len() as u32;
+    let Some(place) = text_end(bytes, 0) else {
+        return Err(damaged(item, DamageRule::Short));
+    };
+    let end = place + User::size_behind_name(conferences);
+    if bytes.len() < end {
+        return Err(damaged(item, DamageRule::Short));
+    }
+    let user = User::read(alloc, conferences, place, bytes)?;
+    let name = user.name.as_slice();
+    if !is_user_name(name) {
+        return Err(damaged(item, DamageRule::Name));
+    }
+    if names.add(alloc, &lowered(alloc, name)?)? {
+        return Err(damaged(item, DamageRule::Twice));
+    }
+    if bytes[place] > 1 {
+        return Err(damaged(item, DamageRule::Flags));
+    }
+    if !user.right_members(conferences) {
+        return Err(damaged(item, DamageRule::Member));
+    }
+    if !user.right_offer() {
+        return Err(damaged(item, DamageRule::Offer));
+    }
+    Ok((user, end))
+}
+
+/// So many users, where there are so many conferences, and the bytes behind the last.
+pub(crate) fn users_of(
+    alloc: Global,
+    conferences: u16,
+    count: u16,
+    bytes: &[u8],
+) -> Result<(Users, &[u8]), LedgerError>
+    requires conferences { conferences ≤ 64 }
+    requires count { count ≤ 500 }
+    ensures { Gives (λ x. (x.0, x.1.now)) result (records_at (user_at conferences) count [] bytes.now) }
+{
+    let mut users = Users::new(alloc);
+    let mut names = Met::new(alloc);
+    let mut rest = bytes;
+    for _ in 0..count {
+        let (user, size) = user_of(alloc, conferences, users.as_slice(), &mut names, rest)?;
+        users.add(user)?;
+        rest = &rest[size..];
+    }
+    Ok((users, rest))
+}
+
+/// Adds the records of users.
+pub(crate) fn add_users(out: &mut Bytes, users: &[User]) -> Result<(), AllocError>
+    requires { All (λ u. length u.name < 2 ^ 16) users.now }
+    ensures { OnOk result (out.new ≡ out.old ++ flat_map user_text users.now) }
+{
+    for user in users {
+        user.write(out)?;
+    }
+    Ok(())
+}

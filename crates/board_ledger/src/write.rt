@@ -1,0 +1,76 @@
+ghost use Rattle.std.specs.Prelude.{◌≡◌, ◌++◌, length, IfOk, OnOk};
+ghost use Rattle.std.specs.List.{flat_map};
+ghost use Rattle.byteorder.specs.Endian.{little_bytes};
+ghost use Rattle.board_ledger.specs.Opening.{fixed_text, setup_text};
+ghost use Rattle.board_ledger.specs.Ledger.{ledger_text as text_of};
+ghost use Rattle.board_ledger.specs.Valid.{IsLedger};
+ghost use Rattle.setup_file.specs.Valid.{IsSetup};
+
+use crate::conferences::add_conferences;
+use crate::ledger::Ledger;
+use crate::texts::{add_text, add_u16};
+use crate::uploads::add_uploads;
+use crate::users::add_users;
+use byte_lists::Bytes;
+use byteorder::{ByteOrder, LittleEndian};
+use setup_file::Setup;
+use std::alloc::{AllocError, Global};
+
+/// The first 24 bytes: the magic, the version, the counts, the moment and the serial number.
+#[tactic(auto, unfolding(crate::specs::Opening::fixed_text))]
+fn add_fixed(out: &mut Bytes, ledger: &Ledger) -> Result<(), AllocError>
+    requires { IsLedger ledger.now }
+    ensures { OnOk result (out.new ≡ out.old ++ fixed_text ledger.now) }
+{
+    let mut bytes = [0; 20];
+    let setup = &ledger.setup;
+    let counts = [
+        1,
+        setup.conferences.len() as u16,
+        ledger.users.len() as u16,
+        setup.zones.len() as u16,
+    ];
+    let numbers = [ledger.uploads.len() as u32, ledger.created, setup.serial];
+    LittleEndian::write_u16_into(&counts, &mut bytes[..8]);
+    LittleEndian::write_u32_into(&numbers, &mut bytes[8..]);
+    out.add(b"QMDL")?;
+    out.add(&bytes)
+}
+
+/// Adds the zones.
+fn add_zones(out: &mut Bytes, zones: &[u16]) -> Result<(), AllocError>
+    ensures { OnOk result (out.new ≡ out.old ++ flat_map (little_bytes 2) zones.now) }
+{
+    for zone in zones {
+        add_u16(out, *zone)?;
+    }
+    Ok(())
+}
+
+/// Adds the texts and the zones of a setup.
+fn add_setup(out: &mut Bytes, setup: &Setup) -> Result<(), AllocError>
+    requires { IsSetup setup.now }
+    ensures { OnOk result (out.new ≡ out.old ++ setup_text setup.now) }
+{
+    add_text(out, setup.board.as_slice())?;
+    add_text(out, setup.city.as_slice())?;
+    add_text(out, setup.phone.as_slice())?;
+    add_text(out, setup.sysop.as_slice())?;
+    add_text(out, setup.bbsid.as_slice())?;
+    add_zones(out, setup.zones.as_slice())
+}
+
+/// The text of a ledger.
+#[tactic(auto, unfolding(crate::specs::Ledger::ledger_text))]
+pub(crate) fn ledger_text(alloc: Global, ledger: &Ledger) -> Result<Bytes, AllocError>
+    requires { IsLedger ledger.now }
+    ensures { IfOk result (λ bytes. bytes ≡ text_of ledger.now) }
+{
+    let mut out = Bytes::new(alloc);
+    add_fixed(&mut out, ledger)?;
+    add_setup(&mut out, &ledger.setup)?;
+    add_conferences(&mut out, ledger.setup.conferences.as_slice())?;
+    add_users(&mut out, ledger.users.as_slice())?;
+    add_uploads(&mut out, ledger.uploads.as_slice())?;
+    Ok(out)
+}
