@@ -1,2 +1,9 @@
 pub mod RecordLaws
 pub mod TextLaws
+pub mod MetLaws
+pub mod UserTests
+pub mod ConferenceTests
+pub mod BoolTests
+pub mod SetupBounds
+pub mod OpeningTests
+pub mod UploadTests

@@ -1,8 +1,8 @@
 -- Texts and numbers at a place in bytes: what they are of the bytes, and what is read of them where they stand.
-use Rattle.std.proofs.Common.{◌≡◌, ℕ, zero, suc, ◌+◌, ◌*◌, ◌^◌, ◌<◌, ◌≤◌, List, [], ◌∷◌, ◌++◌, length, get_or, take, drop, refl, sym, ap, ◌∙◌, subst, arith, append_assoc}
+use Rattle.std.proofs.Common.{◌≡◌, ℕ, zero, suc, ◌+◌, ◌*◌, ◌^◌, ◌<◌, ◌≤◌, List, [], ◌∷◌, ◌++◌, length, get_or, take, drop, refl, sym, ap, ◌∙◌, subst, arith, append_assoc, add-one}
 use Rattle.std.specs.Prelude.{All}
 use Rattle.std.specs.List.{flat_map}
-use Rattle.std.proofs.lemmas.List.{take-append-drop, length-take, length-drop, drop-drop, drop_at, take_at, drop_more}
+use Rattle.std.proofs.lemmas.List.{take-append-drop, length-take, length-drop, drop-drop, drop_at, take_at, drop_more, get_or-drop}
 use Rattle.std.proofs.lemmas.List.Elements.{All-drop}
 use Rattle.byteorder.specs.Endian.{little_number, little_bytes}
 use Rattle.byteorder.specs.Numbers.{little_from-lt}
@@ -28,7 +28,7 @@ behind_part : (place : ℕ) (bytes part rest : List ℕ) → drop place bytes �
 behind_part place bytes part rest e = sym (drop-drop (length part) place bytes) ∙ (ap (drop (length part)) e ∙ drop_at part rest (length part) refl)
 
 pub byte_again : (place : ℕ) (bytes : List ℕ) (b : ℕ) (rest : List ℕ) → drop place bytes ≡ b ∷ rest → (get_or bytes place 0 ≡ b) × (drop (place + 1) bytes ≡ rest)
-byte_again place bytes b rest e = ?
+byte_again place bytes b rest e = (ap (λ k. get_or bytes k 0) (omega arith) ∙ (sym (get_or-drop place bytes 0 0) ∙ ap (λ xs. get_or xs 0 0) e), behind_part place bytes (b ∷ []) rest e)
 
 -- ---- numbers
 pub u16_small : (place : ℕ) (bytes : List ℕ) → All IsByte bytes → u16_at place bytes < 2 ^ 16
@@ -71,7 +71,7 @@ text_front place bytes all long =
 
 -- a text that stands at a place, where it ends, and what is behind it
 pub record TextStands (place : ℕ) (bytes text rest : List ℕ) : Type 0 where
-  pub text : text_at place bytes ≡ text
+  pub is : text_at place bytes ≡ text
   pub end : text_end place bytes ≡ place + 2 + length text
   pub behind : drop (text_end place bytes) bytes ≡ rest
 
@@ -80,7 +80,7 @@ unfolding text_at text_end
 text_again place bytes text rest small e =
     let number = u16_again place bytes (length text) (text ++ rest) small (split (drop place bytes) (u16_text (length text)) text rest e) in
     record {
-      text = ap (λ n. take n (drop (place + 2) bytes)) number.0 ∙ (ap (take (length text)) number.1 ∙ take_at text rest (length text) refl);
+      is = ap (λ n. take n (drop (place + 2) bytes)) number.0 ∙ (ap (take (length text)) number.1 ∙ take_at text rest (length text) refl);
       end = ap (λ n. place + 2 + n) number.0;
       behind = ap (λ n. drop (place + 2 + n) bytes) number.0 ∙ behind_part (place + 2) bytes text rest number.1;
     }
@@ -115,3 +115,22 @@ u16s_again place bytes (n ∷ numbers) rest small e =
     let first = u16_again place bytes n (flat_map (little_bytes 2) numbers ++ rest) (small 0 0 (omega arith)) (split (drop place bytes) (u16_text n) (flat_map (little_bytes 2) numbers) rest e) in
     let others = u16s_again (place + 2) bytes numbers rest (All-drop (λ k. k < 2 ^ 16) 1 (n ∷ numbers) small) first.1 in
     (λ i. first.0 i ∷ others.0 i, ap (λ k. drop k bytes) (omega arith) ∙ others.1)
+
+-- ---- rows, one number after the other
+more32 : (place n : ℕ) (bytes : List ℕ) → u32s_at place (suc n) bytes ≡ u32s_at place n bytes ++ u32_at (place + 4 * n) bytes ∷ []
+more32 place zero bytes = ap (λ k. u32_at k bytes ∷ []) (omega arith)
+more32 place (suc n) bytes =
+    let end : u32s_at (place + 4) n bytes ++ u32_at (place + 4 + 4 * n) bytes ∷ [] ≡ u32s_at (place + 4) n bytes ++ u32_at (place + 4 * suc n) bytes ∷ [] = ap (λ k. u32s_at (place + 4) n bytes ++ u32_at k bytes ∷ []) (omega arith) in
+    ap (λ xs. u32_at place bytes ∷ xs) (more32 (place + 4) n bytes ∙ end)
+
+pub u32s_more : (place n : ℕ) (bytes : List ℕ) → u32s_at place (n + 1) bytes ≡ u32s_at place n bytes ++ u32_at (place + 4 * n) bytes ∷ []
+u32s_more place n bytes = ap (λ k. u32s_at place k bytes) (add-one n) ∙ more32 place n bytes
+
+more16 : (place n : ℕ) (bytes : List ℕ) → u16s_at place (suc n) bytes ≡ u16s_at place n bytes ++ u16_at (place + 2 * n) bytes ∷ []
+more16 place zero bytes = ap (λ k. u16_at k bytes ∷ []) (omega arith)
+more16 place (suc n) bytes =
+    let end : u16s_at (place + 2) n bytes ++ u16_at (place + 2 + 2 * n) bytes ∷ [] ≡ u16s_at (place + 2) n bytes ++ u16_at (place + 2 * suc n) bytes ∷ [] = ap (λ k. u16s_at (place + 2) n bytes ++ u16_at k bytes ∷ []) (omega arith) in
+    ap (λ xs. u16_at place bytes ∷ xs) (more16 (place + 2) n bytes ∙ end)
+
+pub u16s_more : (place n : ℕ) (bytes : List ℕ) → u16s_at place (n + 1) bytes ≡ u16s_at place n bytes ++ u16_at (place + 2 * n) bytes ∷ []
+u16s_more place n bytes = ap (λ k. u16s_at place k bytes) (add-one n) ∙ more16 place n bytes

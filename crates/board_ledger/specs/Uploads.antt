@@ -7,6 +7,7 @@ use Rattle.record_numbers.specs.Numbers.{u16_at, u32_at, u16_text, u32_text}
 use Rattle.jam_records.specs.declared.damage.Damage.{Damage}
 use Rattle.jam_records.specs.declared.damage.DamageRule.TheVariants.{Short, User as NoUser, Twice, Counts as WrongCounts}
 use Rattle.damage_rules.specs.Rules.{Rules, by_rules}
+use Rattle.board_ledger.specs.declared.upload.Counts.{Counts}
 use Rattle.board_ledger.specs.declared.upload.UploadRecord.{UploadRecord}
 
 unfoldable pub upload_text : UploadRecord → List ℕ
@@ -19,6 +20,14 @@ upload_of bytes = record {
   counts = record { posted = u32_at 34 bytes; refused = u32_at 38 bytes };
 }
 
+-- there is no user of that id, where there are so many users
+abbrev pub wrong_user : ℕ → UploadRecord → Bool
+wrong_user users r = r.user == 0 || nat_lt users r.user
+
+-- together the counts are above 8,191
+abbrev pub too_many : Counts → Bool
+too_many c = nat_lt 8191 (c.posted + c.refused)
+
 -- one of these records has the same user and digest
 abbrev pub is_repeated : List UploadRecord → UploadRecord → Bool
 is_repeated before r = list_any (λ e. e.user == r.user && bytes_eq e.digest r.digest) before
@@ -27,9 +36,9 @@ is_repeated before r = list_any (λ e. e.user == r.user && bytes_eq e.digest r.d
 unfoldable pub upload_rules : ℕ → List UploadRecord → List ℕ → Rules
 upload_rules users before bytes =
     (Short, nat_lt (length bytes) 42)
-    ∷ (NoUser, u16_at 0 bytes == 0 || nat_lt users (u16_at 0 bytes))
+    ∷ (NoUser, wrong_user users (upload_of bytes))
     ∷ (Twice, is_repeated before (upload_of bytes))
-    ∷ (WrongCounts, nat_lt 8191 (u32_at 34 bytes + u32_at 38 bytes))
+    ∷ (WrongCounts, too_many (upload_of bytes).counts)
     ∷ []
 
 -- the upload record at the front, and its length, where the first upload record has this number

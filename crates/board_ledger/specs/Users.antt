@@ -54,10 +54,14 @@ is_member u place = bit_at u.members place == 1
 unfoldable pub right_members : ℕ → ℕ → Bool
 right_members count members = not (members == 0) && nat_lt members (2 ^ count)
 
--- the highs from a place on: each is 0 where the user isn't a member, and where no packet is offered
+-- the high of a place is 0 where the user isn't a member, and where no packet is offered
+abbrev pub right_high : User → ℕ → ℕ → Bool
+right_high u place high = high == 0 || (not (u.offered == 0) && is_member u place)
+
+-- the highs from a place on are right
 abbrev pub right_highs : User → ℕ → List ℕ → Bool
 right_highs u place [] = true
-right_highs u place (high ∷ highs) = (high == 0 || (not (u.offered == 0) && is_member u place)) && right_highs u (place + 1) highs
+right_highs u place (high ∷ highs) = right_high u place high && right_highs u (place + 1) highs
 
 -- the offered packet is 0 or the last one, and the highs are right
 unfoldable pub right_offer : User → Bool
@@ -67,10 +71,10 @@ right_offer u = (u.offered == 0 || u.offered == u.last) && right_highs u 0 u.hig
 unfoldable pub user_rules : ℕ → List User → List ℕ → Rules
 user_rules count before bytes =
     (Short, nat_lt (length bytes) (user_end count bytes))
-    ∷ (Name, not (is_user_name (text_at 0 bytes)))
-    ∷ (Twice, is_taken before (text_at 0 bytes))
+    ∷ (Name, not (is_user_name (user_of count bytes).name))
+    ∷ (Twice, is_taken before (user_of count bytes).name)
     ∷ (Flags, nat_lt 1 (slice_index bytes (text_end 0 bytes)))
-    ∷ (Member, not (right_members count (u64_at (text_end 0 bytes + 9) bytes)))
+    ∷ (Member, not (right_members count (user_of count bytes).members))
     ∷ (Offer, not (right_offer (user_of count bytes)))
     ∷ []
 

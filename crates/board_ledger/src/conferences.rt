@@ -56,7 +56,7 @@ fn out_of_order(before: &[Conference], number: u16) -> bool
 }
 
 /// The conference at the front, behind those before, and the length of its record.
-#[tactic(auto, unfolding(crate::specs::Conferences::conference_at, crate::specs::Conferences::conference_rules, crate::specs::Conferences::conference_of))]
+#[tactic(auto, unfolding(crate::specs::Conferences::conference_at, crate::specs::Conferences::conference_rules, crate::specs::Conferences::conference_of, crate::specs::Texts::text_end))]
 fn conference_of(
     alloc: Global,
     before: &[Conference],

@@ -1,5 +1,5 @@
 ghost use Rattle.std.specs.Prelude.{◌≡◌, ◌≤◌, ◌<◌, ◌++◌, length, IfOk, MatchOption};
-ghost use Rattle.damage_rules.specs.Rules.{first_broken};
+ghost use Rattle.damage_rules.specs.Rules.{first_broken, by_rules};
 ghost use Rattle.board_ledger.specs.Rules.{Gives};
 ghost use Rattle.board_ledger.specs.Opening.{places_of as places_in, setup_of as setup_in, opening_of as opening_in, opening_at as opening_read, wrong_counts as counts_wrong, wrong_texts as texts_wrong, fixed_rules, setup_rules};
 
@@ -131,8 +131,11 @@ fn broken_fixed(bytes: &[u8]) -> Option<DamageRule>
 }
 
 /// The setup behind the first 24 bytes and the length of record 0, or the first rule that they break.
+#[tactic(auto, unfolding(crate::specs::Opening::setup_rules))]
 fn setup_behind(alloc: Global, bytes: &[u8]) -> Result<(Setup, usize), LedgerError>
     requires { 24 ≤ length bytes.now }
+    ensures gives { Gives (λ x. x) result (by_rules 0 0 (setup_rules bytes.now (setup_in bytes.now)) (setup_in bytes.now, (places_in bytes.now).end)) }
+    ensures size { IfOk result (λ x. x.1 ≤ length bytes.now) }
 {
     let Some(places) = places_of(bytes) else {
         return Err(damaged(0, DamageRule::Short));

@@ -1,8 +1,8 @@
-ghost use Rattle.std.specs.Prelude.{◌≡◌, ◌≤◌, length, All};
+ghost use Rattle.std.specs.Prelude.{◌≡◌, ◌≤◌, ◌+◌, ◌*◌, length, All};
 ghost use Rattle.std.specs.List.{flat_map};
-ghost use Rattle.board_ledger.specs.Opening.{opening_text};
+ghost use Rattle.board_ledger.specs.Opening.{setup_text};
 ghost use Rattle.board_ledger.specs.Conferences.{conference_text};
-ghost use Rattle.board_ledger.specs.Users.{user_text};
+ghost use Rattle.board_ledger.specs.Users.{user_text, IsUser};
 ghost use Rattle.board_ledger.specs.Ledger.{ledger_text as text_of};
 ghost use Rattle.board_ledger.specs.Valid.{IsLedger};
 ghost use Rattle.setup_file.specs.Valid.{IsSetup, IsSetupConference};
@@ -10,38 +10,54 @@ ghost use Rattle.setup_file.specs.Valid.{IsSetup, IsSetupConference};
 use crate::ledger::Ledger;
 use crate::uploads::UPLOAD;
 use crate::user::User;
+use byte_lists::Bytes;
 use setup_file::{Conference, Setup};
 
+/// How many bytes a text of at most 60 bytes has with its length.
+fn text_size(text: &Bytes) -> usize
+    requires { length text.now ≤ 60 }
+    ensures { result ≡ 2 + length text.now }
+{
+    2 + text.as_slice().len()
+}
+
 /// How many bytes the texts and zones of a setup have.
-fn setup_size(setup: &Setup) -> usize {
-    let texts = [
-        &setup.board,
-        &setup.city,
-        &setup.phone,
-        &setup.sysop,
-        &setup.bbsid,
-    ];
-    let mut size = 2 * setup.zones.len();
-    for text in texts {
-        size += 2 + text.as_slice().len();
-    }
-    size
+fn setup_size(setup: &Setup) -> usize
+    requires { IsSetup setup.now }
+    ensures size { result ≡ length (setup_text setup.now) }
+    ensures small { result ≤ 400 }
+{
+    let zones = 2 * setup.zones.len();
+    let names = text_size(&setup.board) + text_size(&setup.city) + text_size(&setup.phone);
+    let ids = text_size(&setup.sysop) + text_size(&setup.bbsid);
+    names + ids + zones
 }
 
 /// How many bytes the records of conferences have.
-fn conferences_size(conferences: &[Conference]) -> usize {
+fn conferences_size(conferences: &[Conference]) -> usize
+    requires each { All IsSetupConference conferences.now }
+    requires many { length conferences.now ≤ 64 }
+    ensures size { result ≡ length (flat_map conference_text conferences.now) }
+    ensures small { result ≤ 19 * length conferences.now }
+{
     let mut size = 0;
     for conference in conferences {
-        size += 6 + conference.name.as_slice().len();
+        size += 4 + text_size(&conference.name);
     }
     size
 }
 
 /// How many bytes the records of users have, where there are so many conferences.
-fn users_size(conferences: u16, users: &[User]) -> usize {
+fn users_size(conferences: u16, users: &[User]) -> usize
+    requires each { All (IsUser conferences) users.now }
+    requires conferences { conferences ≤ 64 }
+    requires many { length users.now ≤ 500 }
+    ensures size { result ≡ length (flat_map user_text users.now) }
+    ensures small { result ≤ 400 * length users.now }
+{
     let mut size = 0;
     for user in users {
-        size += 2 + user.name.as_slice().len() + User::size_behind_name(conferences);
+        size += text_size(&user.name) + User::size_behind_name(conferences);
     }
     size
 }
@@ -53,6 +69,6 @@ pub(crate) fn ledger_size(ledger: &Ledger) -> u64
 {
     let conferences = ledger.setup.conferences.as_slice();
     let users = users_size(conferences.len() as u16, ledger.users.as_slice());
-    let size = 24 + setup_size(&ledger.setup) + conferences_size(conferences);
-    (size + users + UPLOAD * ledger.uploads.len()) as u64
+    let setup = setup_size(&ledger.setup) + conferences_size(conferences);
+    (24 + setup + users + UPLOAD * ledger.uploads.len()) as u64
 }

@@ -34,6 +34,7 @@ pub(crate) fn text_at(bytes: &[u8], place: usize) -> &[u8]
 }
 
 /// So many numbers of two bytes from a place on.
+#[tactic(auto, using(crate::proofs::TextLaws::u16s_more))]
 pub(crate) fn u16s_at(
     alloc: Global,
     bytes: &[u8],
@@ -51,6 +52,7 @@ pub(crate) fn u16s_at(
 }
 
 /// So many numbers of four bytes from a place on.
+#[tactic(auto, using(crate::proofs::TextLaws::u32s_more))]
 pub(crate) fn u32s_at(
     alloc: Global,
     bytes: &[u8],
@@ -58,7 +60,8 @@ pub(crate) fn u32s_at(
     count: usize,
 ) -> Result<List<u32>, AllocError>
     requires { place + 4 * count ≤ length bytes.now }
-    ensures { IfOk result (λ numbers. numbers ≡ u32s_of place count bytes.now) }
+    ensures numbers { IfOk result (λ numbers. numbers ≡ u32s_of place count bytes.now) }
+    ensures count { IfOk result (λ numbers. length numbers ≡ count) }
 {
     let mut numbers = List::new(alloc);
     for i in 0..count {

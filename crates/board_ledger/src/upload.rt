@@ -1,5 +1,5 @@
 ghost use Rattle.std.specs.Prelude.{◌≡◌, ◌≤◌, ◌<◌, ◌^◌, ◌++◌, length, IfOk, OnOk};
-ghost use Rattle.board_ledger.specs.Uploads.{upload_text, upload_of as upload_in};
+ghost use Rattle.board_ledger.specs.Uploads.{upload_text, upload_of as upload_in, wrong_user as user_wrong, too_many as counts_wrong};
 
 use crate::texts::{add_u16, add_u32};
 use byte_lists::{Bytes, Duplicate, List};
@@ -35,7 +35,23 @@ impl Duplicate for UploadRecord {
     }
 }
 
+impl Counts {
+    /// Whether they are above 8,191 together.
+    pub(crate) fn too_many(&self) -> bool
+        ensures { result ≡ counts_wrong self.now }
+    {
+        u64::from(self.posted) + u64::from(self.refused) > 8191
+    }
+}
+
 impl UploadRecord {
+    /// Whether there is no user of that id, where there are so many users.
+    pub(crate) fn wrong_user(&self, users: u16) -> bool
+        ensures { result ≡ user_wrong users self.now }
+    {
+        self.user == 0 || self.user > u32::from(users)
+    }
+
     /// The record at the front.
     #[tactic(auto, unfolding(crate::specs::Uploads::upload_of))]
     pub(crate) fn read(bytes: &[u8]) -> UploadRecord

@@ -34,11 +34,11 @@ fn upload_of(
 ) -> Result<UploadRecord, LedgerError>
     requires first { first ≤ 1000 }
     requires few { length before.now < 100000 }
-    requires fit { All (λ e. (e.user < 2 ^ 16) × (length e.digest ≡ 32)) before.now }
+    requires fit { All (λ e. e.user < 2 ^ 16) before.now }
     requires met { (key : List ℕ) → is_met pairs.old key ≡ list_any (λ e. bytes_eq (u16_text e.user ++ e.digest) key) before.now }
     ensures gives { Gives (λ x. (x, 42)) result (upload_at first users before.now bytes.now) }
     ensures size { IfOk result (λ _. 42 ≤ length bytes.now) }
-    ensures fits { IfOk result (λ x. (x.user < 2 ^ 16) × (length x.digest ≡ 32)) }
+    ensures fits { IfOk result (λ x. x.user < 2 ^ 16) }
     ensures added { IfOk result (λ x. (key : List ℕ) → is_met pairs.new key ≡ (bytes_eq (u16_text x.user ++ x.digest) key || is_met pairs.old key)) }
 {
     let item = first + before.len() as u32;
@@ -46,14 +46,14 @@ fn upload_of(
         return Err(damaged(item, DamageRule::Short));
     }
     let upload = UploadRecord::read(bytes);
-    if upload.user == 0 || upload.user > u32::from(users) {
+    if upload.wrong_user(users) {
         return Err(damaged(item, DamageRule::User));
     }
-    if pairs.add(alloc, &bytes[..PAIR])? {
+    let pair = &bytes[..PAIR];
+    if pairs.add(alloc, pair)? {
         return Err(damaged(item, DamageRule::Twice));
     }
-    let counts = upload.counts;
-    if u64::from(counts.posted) + u64::from(counts.refused) > 8191 {
+    if upload.counts.too_many() {
         return Err(damaged(item, DamageRule::Counts));
     }
     Ok(upload)

@@ -1,7 +1,7 @@
-ghost use Rattle.std.specs.Prelude.{◌≡◌, ◌≤◌, ◌<◌, ◌+◌, ◌^◌, ◌++◌, length, IfOk, OnOk};
+ghost use Rattle.std.specs.Prelude.{◌≡◌, ◌≤◌, ◌<◌, ◌+◌, ◌^◌, ◌++◌, length, nat_lt, IfOk, OnOk};
 ghost use Rattle.record_numbers.specs.Numbers.{u32s_text};
 ghost use Rattle.board_ledger.specs.Texts.{text_end as end_of};
-ghost use Rattle.board_ledger.specs.Users.{user_text, behind_name as size_behind_name, user_of as user_in, user_end, right_members as members_right, right_highs as highs_right, right_offer as offer_right, is_member as member_at};
+ghost use Rattle.board_ledger.specs.Users.{user_text, behind_name as size_behind_name, user_of as user_in, user_end, right_members as members_right, right_high as high_right, right_highs as highs_right, right_offer as offer_right, is_member as member_at};
 
 use crate::texts::{add_byte, add_text, add_u32, add_u64, text_at, u32s_at, u64_at};
 use byte_lists::{Bytes, Duplicate, List};
@@ -44,6 +44,17 @@ impl Duplicate for User {
     }
 }
 
+/// Whether a set has no place past so many.
+fn are_below(members: u64, count: u16) -> bool
+    requires { count ≤ 64 }
+    ensures { result ≡ nat_lt members (2 ^ count) }
+{
+    if count == 64 {
+        return true;
+    }
+    members >> count == 0
+}
+
 impl User {
     /// How many bytes of a user's record stand behind the name, where there are so many conferences.
     pub(crate) fn size_behind_name(conferences: u16) -> usize
@@ -62,7 +73,8 @@ impl User {
     ) -> Result<User, AllocError>
         requires place { place ≡ end_of 0 bytes.now }
         requires whole { user_end conferences bytes.now ≤ length bytes.now }
-        ensures { IfOk result (λ user. user ≡ user_in conferences bytes.now) }
+        ensures user { IfOk result (λ user. user ≡ user_in conferences bytes.now) }
+        ensures highs { IfOk result (λ user. length user.highs ≡ conferences) }
     {
         Ok(User {
             name: Bytes::from_slice(alloc, text_at(bytes, 0))?,
@@ -88,8 +100,16 @@ impl User {
         requires { conferences ≤ 64 }
         ensures { result ≡ members_right conferences self.now.members }
     {
-        let within = conferences == 64 || self.members >> conferences == 0;
+        let within = are_below(self.members, conferences);
         self.members != 0 && within
+    }
+
+    /// Whether the high of a place is 0 where the user isn't a member and where no packet is offered.
+    fn right_high(&self, place: u32, high: u32) -> bool
+        requires { place < 64 }
+        ensures { result ≡ high_right self.now place high }
+    {
+        high == 0 || (self.offered != 0 && self.is_member(place))
     }
 
     /// Whether each high is 0 where the user isn't a member and where no packet is offered.
@@ -97,12 +117,12 @@ impl User {
         requires { length self.now.highs ≤ 64 }
         ensures { result ≡ highs_right self.now 0 self.now.highs }
     {
-        let mut right = true;
         for (place, high) in self.highs.as_slice().iter().enumerate() {
-            let open = self.offered != 0 && self.is_member(place as u32);
-            right = right && (*high == 0 || open);
+            if !self.right_high(place as u32, *high) {
+                return false;
+            }
         }
-        right
+        true
     }
 
     /// Whether the offered packet is 0 or the last one, and the highs are right.

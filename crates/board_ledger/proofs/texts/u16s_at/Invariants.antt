@@ -1,0 +1,7 @@
+use Rattle.std.proofs.Common.{◌≡◌}
+use Rattle.board_ledger.specs.Texts.{u16s_at}
+use Rattle.board_ledger.proofs.texts.u16s_at.Given as goal
+
+-- the numbers so far
+abbrev pub invariant-loop-i : goal.invariant-loop-i
+invariant-loop-i l = l.numbers ≡ u16s_at l.place l.i l.bytes
