@@ -22,7 +22,7 @@ counted all = filter (λ line. not (is_skipped line)) all
 -- the line is the key, and what follows is, without the spaces at its ends, the value
 pub record ValueReads (key line value : List ℕ) : Type 0 where
   pub begins : IsTrue (begins_with key line)
-  pub value : value ≡ value_behind key line
+  pub rest : value ≡ value_behind key line
 
 -- 1 to 5 digits of the number
 pub record NumberReads (word : List ℕ) (n : ℕ) : Type 0 where

@@ -80,20 +80,20 @@ conferences_of all = map (λ line. conference_of (value_behind conference_key li
 abbrev pub OneMore : List (List ℕ) → List (List ℕ) → List (List ℕ) → ℕ → (List ℕ → Type 0) → Type 0
 OneMore all kept left at P = (line : List ℕ) × P line × Kept all left at (kept ++ line ∷ [])
 
--- the texts of the first six lines
-pub record TextsAre (board city phone sysop bbsid serial : List ℕ) (texts : Texts) : Type 0 where
-  pub board : texts.board.now ≡ value_behind (key_text Board) board
-  pub city : texts.city.now ≡ value_behind (key_text City) city
-  pub phone : texts.phone.now ≡ value_behind (key_text Phone) phone
-  pub sysop : texts.sysop.now ≡ value_behind (key_text Sysop) sysop
-  pub bbsid : texts.bbsid.now ≡ value_behind (key_text Bbsid) bbsid
-  pub serial : texts.serial.now ≡ value_behind (key_text Serial) serial
+-- the texts of the first six lines, in order
+pub record TextsAre (first second third fourth fifth sixth : List ℕ) (texts : Texts) : Type 0 where
+  pub board : texts.board.now ≡ value_behind (key_text Board) first
+  pub city : texts.city.now ≡ value_behind (key_text City) second
+  pub phone : texts.phone.now ≡ value_behind (key_text Phone) third
+  pub sysop : texts.sysop.now ≡ value_behind (key_text Sysop) fourth
+  pub bbsid : texts.bbsid.now ≡ value_behind (key_text Bbsid) fifth
+  pub serial : texts.serial.now ≡ value_behind (key_text Serial) sixth
 
 -- the first six lines were kept, and these are their texts
 abbrev pub TextsTaken : List (List ℕ) → Texts → List (List ℕ) → ℕ → Type 0
 TextsTaken all texts left at =
-    (board city phone sysop bbsid serial : List ℕ) × TextsAre board city phone sysop bbsid serial texts
-    × Kept all left at (board ∷ city ∷ phone ∷ sysop ∷ bbsid ∷ serial ∷ [])
+    (first second third fourth fifth sixth : List ℕ) × TextsAre first second third fourth fifth sixth texts
+    × Kept all left at (first ∷ second ∷ third ∷ fourth ∷ fifth ∷ sixth ∷ [])
 
 -- the parts of a conference are those of the value
 pub record PartsAre (value : List ℕ) (parts : Parts) : Type 0 where

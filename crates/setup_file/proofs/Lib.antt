@@ -1,0 +1,9 @@
+pub mod Spaces
+pub mod Numbers
+pub mod ZoneWords
+pub mod Lines
+pub mod RuleLists
+pub mod KeptLines
+pub mod ConferenceLines
+pub mod Readings
+pub mod Single
