@@ -137,8 +137,7 @@ passes_conference front line many p =
     let few : length front < 71 = p.few in
     let count : leb 64 (length front - 7) ≡ false = grind (arith, nat_tests) in
     rule_by_conference front line many
-    ∙ none_broken (conference_rules (length front - 7) (number_before front) line)
-    (
+    ∙ none_broken (conference_rules (length front - 7) (number_before front) line) (
       false_not (begins_with conference_key line) p.begins,
       (
         count,
@@ -257,7 +256,7 @@ read_keep front (line ∷ own) (c ∷ cs) many few r valid rise =
     let next : Some c.number ≡ number_before (front ++ line ∷ []) = ap Some number ∙ sym (number_behind front line many) in (
       passes_conference front line many p,
       read_keep (front ++ line ∷ []) own cs (omega (arith, length-append front (line ∷ []))) (omega (arith, length-append front (line ∷ []))) r.1 (All-tail IsSetupConference c cs valid)
-      (subst (λ (o : Option ℕ). RiseFrom o (numbers_of cs)) next (rise_rest (number_before front) c.number (numbers_of cs) rise)),
+          (subst (λ (o : Option ℕ). RiseFrom o (numbers_of cs)) next (rise_rest (number_before front) c.number (numbers_of cs) rise)),
     )
 
 made : ℕ → Kind → Bool → Bool → List ℕ → Conference

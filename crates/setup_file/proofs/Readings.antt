@@ -172,7 +172,7 @@ reads_passing all s r =
         fit = ap zones_fit (sym r.zones.1.rest) ∙ fits_both r.zones.0 r.zones.2 (ap are_zones (sym r.zones.3) ∙ r.valid.zones);
       };
       conferences = read_keep (first_lines l) own s.conferences (omega arith) (omega (arith, count, many)) r.conferences r.valid.conferences.each
-      (subst (λ (o : Option ℕ). RiseFrom o (numbers_of s.conferences)) (sym (no_number_before (first_lines l) refl)) r.valid.conferences.order);
+          (subst (λ (o : Option ℕ). RiseFrom o (numbers_of s.conferences)) (sym (no_number_before (first_lines l) refl)) r.valid.conferences.order);
     }
 
 -- the lines of a setup break no rule
@@ -252,5 +252,5 @@ pub setup_reads : (all : List (List ℕ)) (l : First) (own : List (List ℕ)) (n
 setup_reads all l own number texts zones conferences s k some t z q m =
     let digits : IsTrue (is_number texts.serial.now) = ap is_number t.serial ∙ (passing l own k.keep).serial.fit in
     let same : s ≡ setup_of l own
-        = same_setup s (setup_of l own) (m.board ∙ t.board) (m.city ∙ t.city) (m.phone ∙ t.phone) (m.sysop ∙ t.sysop) (m.bbsid ∙ t.bbsid) (m.serial digits ∙ ap number_of t.serial) (m.zone_list ∙ z) (m.conference_list ∙ q) in
+    = same_setup s (setup_of l own) (m.board ∙ t.board) (m.city ∙ t.city) (m.phone ∙ t.phone) (m.sysop ∙ t.sysop) (m.bbsid ∙ t.bbsid) (m.serial digits ∙ ap number_of t.serial) (m.zone_list ∙ z) (m.conference_list ∙ q) in
     subst (LinesRead all) (sym same) (kept_reads all l own (all_kept all (lines_of l own) number k) k.keep some)

@@ -66,9 +66,9 @@ trim_is text [] t =
 trim_is text (x ∷ xs) t =
     let e : text ≡ t.before ++ ((x ∷ xs) ++ t.after) = t.whole ∙ append_assoc t.before (x ∷ xs) t.after in
     let n : prefix_len is_space (t.before ++ ((x ∷ xs) ++ t.after)) ≡ length t.before
-        = prefix_at t.before ((x ∷ xs) ++ t.after) t.blank_before (λ first more is b. let same : x ≡ first = cc in t.begins x xs refl (same ∙ b)) in
+    = prefix_at t.before ((x ∷ xs) ++ t.after) t.blank_before (λ first more is b. let same : x ≡ first = cc in t.begins x xs refl (same ∙ b)) in
     let front : past_spaces (t.before ++ ((x ∷ xs) ++ t.after)) ≡ (x ∷ xs) ++ t.after
-        = ap (λ k. drop k (t.before ++ ((x ∷ xs) ++ t.after))) n ∙ drop_at t.before ((x ∷ xs) ++ t.after) (length t.before) refl in
+    = ap (λ k. drop k (t.before ++ ((x ∷ xs) ++ t.after))) n ∙ drop_at t.before ((x ∷ xs) ++ t.after) (length t.before) refl in
     sym (ap trim e ∙ (trim_from (t.before ++ ((x ∷ xs) ++ t.after)) ((x ∷ xs) ++ t.after) front ∙ before_is (x ∷ xs) t.after t.blank_after t.ends))
 
 -- a space more at the front changes nothing

@@ -85,9 +85,9 @@ bad_word value word left rest zones h e bad =
     let all = h.taken ++ word ∷ rest in
     let whole : words value ≡ all = h.whole ∙ ap (λ (l : List (List ℕ)). h.taken ++ l) e in
     fit_is value ∙ (ap zones_test whole ∙ not_true (zones_test all) (λ t.
-        let number : is_number word ≡ true = item_passes is_number h.taken rest word (and_left (list_all is_number all) (are_zones (map number_of all)) t) in
-        let zone : is_zone (number_of word) ≡ true = number_passes h.taken rest word (in_range (map number_of all) (and_right (list_all is_number all) (are_zones (map number_of all)) t)) in
-        false≢true (sym bad ∙ both_true (is_number word) (is_zone (number_of word)) number zone)))
+    let number : is_number word ≡ true = item_passes is_number h.taken rest word (and_left (list_all is_number all) (are_zones (map number_of all)) t) in
+    let zone : is_zone (number_of word) ≡ true = number_passes h.taken rest word (in_range (map number_of all) (and_right (list_all is_number all) (are_zones (map number_of all)) t)) in
+    false≢true (sym bad ∙ both_true (is_number word) (is_zone (number_of word)) number zone)))
 
 -- a seventeenth word
 pub many_words : (value word : List ℕ) (left rest : List (List ℕ)) (zones : List ℕ) → ZonesTaken value left zones → left ≡ word ∷ rest → 16 ≤ length zones → zones_fit value ≡ false
@@ -95,7 +95,7 @@ many_words value word left rest zones h e many =
     let all = h.taken ++ word ∷ rest in
     let whole : words value ≡ all = h.whole ∙ ap (λ (l : List (List ℕ)). h.taken ++ l) e in
     fit_is value ∙ (ap zones_test whole ∙ not_true (zones_test all) (λ t.
-        omega (arith, few (map number_of all) (and_right (list_all is_number all) (are_zones (map number_of all)) t), length-map all number_of, length-append h.taken (word ∷ rest), ap length h.are, length-map h.taken number_of)))
+    omega (arith, few (map number_of all) (and_right (list_all is_number all) (are_zones (map number_of all)) t), length-map all number_of, length-append h.taken (word ∷ rest), ap length h.are, length-map h.taken number_of)))
 
 -- all words were taken
 all_taken : (value : List ℕ) (left : List (List ℕ)) (zones : List ℕ) (h : ZonesTaken value left zones) → left ≡ [] → words value ≡ h.taken
@@ -104,7 +104,7 @@ all_taken value left zones h e = h.whole ∙ (ap (λ (l : List (List ℕ)). h.ta
 pub bad_zones : (value : List ℕ) (left : List (List ℕ)) (zones : List ℕ) → ZonesTaken value left zones → left ≡ [] → are_zones zones ≡ false → zones_fit value ≡ false
 bad_zones value left zones h e bad =
     fit_is value ∙ (ap zones_test (all_taken value left zones h e) ∙ not_true (zones_test h.taken) (λ t.
-        false≢true (sym bad ∙ (ap are_zones h.are ∙ and_right (list_all is_number h.taken) (are_zones (map number_of h.taken)) t))))
+    false≢true (sym bad ∙ (ap are_zones h.are ∙ and_right (list_all is_number h.taken) (are_zones (map number_of h.taken)) t))))
 
 pub good_zones : (value : List ℕ) (left : List (List ℕ)) (zones : List ℕ) → ZonesTaken value left zones → left ≡ [] → are_zones zones ≡ true → zones_fit value ≡ true
 good_zones value left zones h e good =

@@ -28,7 +28,7 @@ returns-in-Ok-clause-value c = λ all kept place k.
       line,
       c.in-Ok.ensures.1,
       kept_more all left (lines after.text.now) kept line here.line after.line (kept_skip all (lines start.text.now) left kept start.line here.line k c.past_skipped-here.ensures) ahead counts
-      (rule_by_key kept line c.args.key place ∙ c.in-Ok.ensures.0),
+          (rule_by_key kept line c.args.key place ∙ c.in-Ok.ensures.0),
     )
 
 pub returns-in-Err-clause-value : goal.returns-in-Err-clause-value

@@ -45,5 +45,5 @@ returns-clause-zones c = λ all kept place k.
       line,
       c.in_ok-zones.ensures.1,
       kept_more all left (lines after.text.now) kept line here.line after.line (kept_skip all (lines start.text.now) left kept start.line here.line k c.past_skipped-here.ensures) ahead counts
-      (rule_by_zones kept line place ∙ c.in_ok-zones.ensures.0),
+          (rule_by_zones kept line place ∙ c.in_ok-zones.ensures.0),
     )
