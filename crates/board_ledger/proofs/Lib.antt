@@ -7,3 +7,7 @@ pub mod BoolTests
 pub mod SetupBounds
 pub mod OpeningTests
 pub mod UploadTests
+pub mod WritingLaws
+pub mod SizeLaws
+pub mod MetLoops
+pub mod ReadingSteps

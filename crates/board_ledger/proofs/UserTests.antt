@@ -1,8 +1,9 @@
 -- The tests of a user's record in the code are those of its rules.
 use Rattle.std.proofs.Common.{◌≡◌, ℕ, zero, suc, ◌+◌, ◌*◌, ◌/◌, ◌%◌, ◌^◌, ◌<◌, ◌≤◌, true, false, cond, ◌&&◌, eqb, ltb, List, [], ◌∷◌, length, get_or, drop, refl, sym, ap, ◌∙◌, subst, inl, inr, arith}
-use Rattle.std.proofs.Math.Nat.{div-eq_of_lt, div-add-mod', mod-lt, one-le-pow}
+use Rattle.std.proofs.Math.Nat.{div-eq_of_lt, div-add-mod', mod-lt}
 use Rattle.std.proofs.lemmas.Bool.{cases_lt, cases_eq, le-ltb}
 use Rattle.std.proofs.lemmas.Bool.Decides.{nat_tests}
+use Rattle.std.proofs.lemmas.Nat.{pow_pos}
 use Rattle.std.proofs.lemmas.List.{drop_all, drop_more}
 use Rattle.board_ledger.specs.Users.{right_high, right_highs}
 use Rattle.board_ledger.specs.declared.user.User.{User}
@@ -42,7 +43,7 @@ none_past members count =
     elim (cases_lt members (2 ^ count)) [
       | inl below ↦ ap (λ q. eqb q 0) (div-eq_of_lt below) ∙ sym (lt_tests members (2 ^ count) below)
       | inr past ↦
-          let power : 0 < 2 ^ count = one-le-pow (omega arith) in
+          let power : 0 < 2 ^ count = pow_pos count in
           some_tests (members / 2 ^ count) (not_zero members (2 ^ count) power past) ∙ sym (le-ltb _ _ past)
     ]
 

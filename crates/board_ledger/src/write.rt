@@ -22,7 +22,6 @@ fn add_fixed(out: &mut Bytes, ledger: &Ledger) -> Result<(), AllocError>
     requires { IsLedger ledger.now }
     ensures { OnOk result (out.new ≡ out.old ++ fixed_text ledger.now) }
 {
-    let mut bytes = [0; 20];
     let setup = &ledger.setup;
     let counts = [
         1,
@@ -31,10 +30,13 @@ fn add_fixed(out: &mut Bytes, ledger: &Ledger) -> Result<(), AllocError>
         setup.zones.len() as u16,
     ];
     let numbers = [ledger.uploads.len() as u32, ledger.created, setup.serial];
-    LittleEndian::write_u16_into(&counts, &mut bytes[..8]);
-    LittleEndian::write_u32_into(&numbers, &mut bytes[8..]);
+    let mut small = [0; 8];
+    LittleEndian::write_u16_into(&counts, &mut small);
+    let mut large = [0; 12];
+    LittleEndian::write_u32_into(&numbers, &mut large);
     out.add(b"QMDL")?;
-    out.add(&bytes)
+    out.add(&small)?;
+    out.add(&large)
 }
 
 /// Adds the zones.
