@@ -1,20 +1,19 @@
 -- A conference line behind those before it: its rules, and the conference that it says.
-use Rattle.std.proofs.Common.{◌≡◌, ℕ, suc, ◌+◌, ◌-◌, ◌^◌, ◌<◌, ◌≤◌, Bool, true, false, not, cond, leb, ltb, List, [], ◌∷◌, ◌++◌, length, length-append, map, get_or, Option, Some, None, Result, Ok, Err, IsTrue, refl, sym, ap, ◌∙◌, subst, arith, append_assoc}
+use Rattle.std.proofs.Common.{◌≡◌, ℕ, ◌+◌, ◌-◌, ◌^◌, ◌<◌, ◌≤◌, Bool, true, false, not, leb, ltb, List, [], ◌∷◌, ◌++◌, length, length-append, Option, Some, None, Result, Ok, Err, IsTrue, refl, sym, ap, ◌∙◌, subst, arith}
 use Rattle.std.proofs.lemmas.Bool.{false≢true}
 use Rattle.std.proofs.lemmas.Bool.Decides.{nat_tests}
-use Rattle.std.proofs.lemmas.List.{length-map}
 use Rattle.std.proofs.lemmas.List.Elements.{All-nil, All-cons, All-head, All-tail}
 use Rattle.std.specs.List.{All, slice_get}
-use Rattle.std.specs.Option.{is_none, is_some, unwrap_or}
+use Rattle.std.specs.Option.{is_none, unwrap_or}
 use Rattle.std.specs.Result.{MatchResult}
 use Rattle.jam_records.specs.declared.message.Kind.{Kind}
 use Rattle.jam_records.specs.declared.message.Kind.TheVariants.{Local}
 use Rattle.setup_file.specs.Texts.{is_conference_name}
 use Rattle.setup_file.specs.Rising.{are_rising, rise_above}
-use Rattle.setup_file.specs.Valid.{IsSetupConference, AreSetupConferences, numbers_of}
+use Rattle.setup_file.specs.Valid.{IsSetupConference, numbers_of}
 use Rattle.setup_file.specs.Words.{is_number, number_of, kind_of, rights_of, begins_with, value_behind}
-use Rattle.setup_file.specs.Rules.{LineRules, broken_in, conference_key, number_word, kind_word, rights_word, name_behind, is_place_number, isnt_above, value_rules, conference_rules, line_number, number_before, broken_rule}
-use Rattle.setup_file.specs.Reads.{ValueReads, NumberReads, ConferenceIs, ConferenceReads, ConferencesRead}
+use Rattle.setup_file.specs.Rules.{LineRules, broken_in, conference_key, number_word, kind_word, rights_word, name_behind, is_place_number, is_out_of_order, value_rules, conference_rules, line_number, number_before, broken_rule}
+use Rattle.setup_file.specs.Reads.{ConferenceIs, ConferenceReads, ConferencesRead}
 use Rattle.setup_file.specs.Fault.{KeepRules}
 use Rattle.setup_file.specs.State.{NoneBroken, Breaks, PartsAre, conference_of, conferences_of}
 use Rattle.setup_file.specs.declared.conference.Conference.{Conference}
@@ -114,7 +113,7 @@ pub record ConferencePasses (front : List (List ℕ)) (line : List ℕ) : Type 0
   pub kind : is_none (kind_of (kind_word (value_behind conference_key line))) ≡ false
   pub rights : is_none (rights_of (rights_word (value_behind conference_key line))) ≡ false
   pub name : is_conference_name (name_behind (value_behind conference_key line)) ≡ true
-  pub order : isnt_above (number_before front) (line_number line) ≡ false
+  pub order : is_out_of_order (number_before front) (line_number line) ≡ false
 
 pub conference_passes : (front : List (List ℕ)) (line : List ℕ) → 7 ≤ length front → broken_rule front line ≡ None → ConferencePasses front line
 conference_passes front line many e =
@@ -203,11 +202,11 @@ abbrev pub RiseFrom : Option ℕ → List ℕ → Type 0
 RiseFrom None numbers = IsTrue (are_rising numbers)
 RiseFrom (Some last) numbers = IsTrue (rise_above last numbers)
 
-rise_push : (o : Option ℕ) (n : ℕ) (numbers : List ℕ) → isnt_above o n ≡ false → RiseFrom (Some n) numbers → RiseFrom o (n ∷ numbers)
+rise_push : (o : Option ℕ) (n : ℕ) (numbers : List ℕ) → is_out_of_order o n ≡ false → RiseFrom (Some n) numbers → RiseFrom o (n ∷ numbers)
 rise_push None n numbers e h = h
 rise_push (Some last) n numbers e h = both_true (ltb last n) (rise_above n numbers) (grind (arith, nat_tests)) h
 
-rise_first : (o : Option ℕ) (n : ℕ) (numbers : List ℕ) → RiseFrom o (n ∷ numbers) → isnt_above o n ≡ false
+rise_first : (o : Option ℕ) (n : ℕ) (numbers : List ℕ) → RiseFrom o (n ∷ numbers) → is_out_of_order o n ≡ false
 rise_first None n numbers h = refl
 rise_first (Some last) n numbers h = let t : ltb last n ≡ true = and_left (ltb last n) (rise_above n numbers) h in grind (arith, nat_tests)
 
@@ -242,7 +241,7 @@ read_passes front line c numbers few r valid rise =
       kind = some_is (kind_of (kind_word value)) c.kind is.kind;
       rights = some_is (rights_of (rights_word value)) (c.readonly, c.private) is.rights;
       name = ap is_conference_name (sym is.name) ∙ valid.name;
-      order = ap (isnt_above (number_before front)) (sym same) ∙ rise_first (number_before front) c.number numbers rise;
+      order = ap (is_out_of_order (number_before front)) (sym same) ∙ rise_first (number_before front) c.number numbers rise;
     }
 
 pub read_keep : (front own : List (List ℕ)) (cs : List Conference) → 7 ≤ length front → length front + length own ≤ 71 → ConferencesRead own cs → All IsSetupConference cs → RiseFrom (number_before front) (numbers_of cs) → KeepRules front own

@@ -1,12 +1,12 @@
 -- Lines that break no rule, one more of them, and the first that breaks one.
-use Rattle.std.proofs.Common.{◌≡◌, ℕ, ◌+◌, ◌<◌, ◌≤◌, false, List, [], ◌∷◌, ◌++◌, length, length-append, Option, Some, None, refl, sym, ap, ◌∙◌, subst, inl, inr, arith, append_assoc}
+use Rattle.std.proofs.Common.{◌≡◌, ℕ, ◌<◌, false, List, [], ◌∷◌, ◌++◌, length, length-append, Option, Some, None, refl, sym, ap, ◌∙◌, subst, inl, inr, arith, append_assoc}
 use Rattle.std.proofs.lemmas.Bool.{cases_lt}
 use Rattle.std.proofs.lemmas.List.{append-nil}
 use Rattle.std.specs.List.{slice_get}
 use Rattle.setup_file.specs.Rules.{keys, broken_rule}
 use Rattle.setup_file.specs.Reads.{is_skipped, counted}
 use Rattle.setup_file.specs.Fault.{KeepRules, LinesFault, at_line, at_end}
-use Rattle.setup_file.specs.State.{Ahead, SkippedTo, Kept, OneMore, FaultOrMemory}
+use Rattle.setup_file.specs.State.{Ahead, SkippedTo, Kept, FaultOrMemory}
 use Rattle.setup_file.specs.declared.error.SetupRule.{SetupRule}
 use Rattle.setup_file.specs.declared.error.SetupRule.TheVariants.{Missing}
 use Rattle.setup_file.specs.declared.error.SetupError.{SetupError}
@@ -51,7 +51,7 @@ kept_more all left after kept line at next k a counts e = record {
 
 -- at a line that breaks a rule
 pub line_fault : (all left kept more : List (List ℕ)) (line : List ℕ) (at : ℕ) (rule : SetupRule) → Kept all left at kept → left ≡ line ∷ more → is_skipped line ≡ false → broken_rule kept line ≡ Some rule → LinesFault all at rule
-line_fault all left kept more line at rule k e counts breaks =
+line_fault all left kept more line at broken k e counts breaks =
     at_line k.before more line (k.whole ∙ ap (λ (l : List (List ℕ)). k.before ++ l) e) counts (subst (KeepRules []) (sym k.counted) k.keep)
     (ap (λ (l : List (List ℕ)). broken_rule l line) k.counted ∙ breaks) k.count
 
@@ -73,5 +73,5 @@ key_place n key e = elim (cases_lt n 6) [
 ]
 
 pub weaker_fault : (P Q : ℕ → SetupRule → Type 0) → ((n : ℕ) (rule : SetupRule) → P n rule → Q n rule) → (e : SetupError) → FaultOrMemory P e → FaultOrMemory Q e
-weaker_fault P Q f (Line n rule) h = f n rule h
+weaker_fault P Q f (Line n broken) h = f n broken h
 weaker_fault P Q f OutOfMemory h = tt

@@ -1,17 +1,15 @@
 -- Lines that break no rule are those of a setup, and the other way round.
-use Rattle.std.proofs.Common.{◌≡◌, ◌⊎◌, ℕ, suc, ◌+◌, ◌<◌, ◌≤◌, Bool, true, false, List, [], ◌∷◌, ◌++◌, length, Option, Some, None, IsTrue, refl, sym, ap, ◌∙◌, subst, inl, inr, arith}
+use Rattle.std.proofs.Common.{◌≡◌, ℕ, ◌+◌, ◌≤◌, true, List, [], ◌∷◌, length, Option, IsTrue, refl, sym, ap, ◌∙◌, subst, arith}
 use Rattle.std.proofs.lemmas.List.{append-nil}
-use Rattle.std.specs.List.{list_all}
-use Rattle.setup_file.specs.Texts.{is_board_text, is_user_name, is_bbsid}
 use Rattle.setup_file.specs.Zones.{are_zones}
-use Rattle.setup_file.specs.Valid.{IsSetup, AreSetupConferences, numbers_of}
-use Rattle.setup_file.specs.Words.{words, is_number, number_of, numbers_in, begins_with, value_behind}
-use Rattle.setup_file.specs.Rules.{key_text, fits, key_rules, zones_key, zones_fit, zones_rules, number_before, broken_rule}
+use Rattle.setup_file.specs.Valid.{AreSetupConferences, numbers_of}
+use Rattle.setup_file.specs.Words.{is_number, number_of, numbers_in, value_behind}
+use Rattle.setup_file.specs.Rules.{key_text, fits, zones_key, zones_fit}
 use Rattle.setup_file.specs.Reads.{counted, ValueReads, LinesRead}
 use Rattle.setup_file.specs.Fault.{KeepRules}
-use Rattle.setup_file.specs.State.{Kept, TextsAre, conferences_of}
+use Rattle.setup_file.specs.State.{Kept, HeadIs, IsMadeOf, conferences_of}
 use Rattle.setup_file.specs.declared.conference.Conference.{Conference}
-use Rattle.setup_file.specs.declared.head.Texts.{Texts}
+use Rattle.setup_file.specs.declared.head.Head.{Head}
 use Rattle.setup_file.specs.declared.key.Key.{Key}
 use Rattle.setup_file.specs.declared.key.Key.TheVariants.{Board, City, Phone, Sysop, Bbsid, Serial}
 use Rattle.setup_file.specs.declared.setup.Setup.{Setup}
@@ -236,21 +234,11 @@ one_reading all a b x y = setup_is all a x ∙ sym (setup_is all b y)
 all_kept : (all kept : List (List ℕ)) (number : ℕ) → Kept all [] number kept → counted all ≡ kept
 all_kept all kept number k = ap counted (k.whole ∙ append-nil k.before) ∙ k.counted
 
--- what a setup has of the values that were read
-pub record IsMadeOf (texts : Texts) (zones : List ℕ) (conferences : List Conference) (s : Setup) : Type 0 where
-  pub board : s.board ≡ texts.board.now
-  pub city : s.city ≡ texts.city.now
-  pub phone : s.phone ≡ texts.phone.now
-  pub sysop : s.sysop ≡ texts.sysop.now
-  pub bbsid : s.bbsid ≡ texts.bbsid.now
-  pub serial : IsTrue (is_number texts.serial.now) → s.serial ≡ number_of texts.serial.now
-  pub zone_list : s.zones ≡ zones
-  pub conference_list : s.conferences ≡ conferences
-
-pub setup_reads : (all : List (List ℕ)) (l : First) (own : List (List ℕ)) (number : ℕ) (texts : Texts) (zones : List ℕ) (conferences : List Conference) (s : Setup) → Kept all [] number (lines_of l own) → 1 ≤ length own
-    → TextsAre l.board l.city l.phone l.sysop l.bbsid l.serial texts → zones ≡ numbers_in (value_behind zones_key l.zones) → conferences ≡ conferences_of own → IsMadeOf texts zones conferences s → LinesRead all s
-setup_reads all l own number texts zones conferences s k some t z q m =
-    let digits : IsTrue (is_number texts.serial.now) = ap is_number t.serial ∙ (passing l own k.keep).serial.fit in
+-- what was read of the lines is a setup
+pub setup_reads : (all : List (List ℕ)) (l : First) (own : List (List ℕ)) (number : ℕ) (head : Head) (zones : List ℕ) (conferences : List Conference) (s : Setup) → Kept all [] number (lines_of l own) → 1 ≤ length own
+    → HeadIs l.board l.city l.phone l.sysop l.bbsid l.serial head → zones ≡ numbers_in (value_behind zones_key l.zones) → conferences ≡ conferences_of own → IsMadeOf head zones conferences s → LinesRead all s
+setup_reads all l own number head zones conferences s k some t z q m =
+    let digits : IsTrue (is_number head.serial.now) = ap is_number t.serial ∙ (passing l own k.keep).serial.fit in
     let same : s ≡ setup_of l own
     = same_setup s (setup_of l own) (m.board ∙ t.board) (m.city ∙ t.city) (m.phone ∙ t.phone) (m.sysop ∙ t.sysop) (m.bbsid ∙ t.bbsid) (m.serial digits ∙ ap number_of t.serial) (m.zone_list ∙ z) (m.conference_list ∙ q) in
     subst (LinesRead all) (sym same) (kept_reads all l own (all_kept all (lines_of l own) number k) k.keep some)

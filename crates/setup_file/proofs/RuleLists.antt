@@ -1,11 +1,11 @@
 -- Which rule of a line is broken first, by its key, its value or the lines before it.
-use Rattle.std.proofs.Common.{◌≡◌, ℕ, ◌+◌, ◌-◌, ◌<◌, ◌≤◌, Bool, true, false, not, cond, eqb, ltb, List, [], ◌∷◌, ◌++◌, length, Option, Some, None, refl, sym, ap, ◌∙◌, subst, arith, eq-eqb, ne_eqb}
+use Rattle.std.proofs.Common.{◌≡◌, ℕ, ◌-◌, ◌≤◌, Bool, true, false, not, cond, eqb, List, [], ◌∷◌, length, Option, Some, None, refl, sym, ap, ◌∙◌, arith, eq-eqb, ne_eqb}
 use Rattle.std.proofs.lemmas.Bool.{false≢true}
 use Rattle.std.proofs.lemmas.Bool.Decides.{nat_tests}
 use Rattle.std.specs.List.{slice_get}
 use Rattle.setup_file.specs.Words.{begins_with, value_behind}
 use Rattle.setup_file.specs.Rules.{LineRules, broken_in, keys, key_text, fits, key_rules, zones_key, zones_fit, zones_rules, conference_rules, number_before, rules_at, broken_rule}
-use Rattle.setup_file.specs.State.{NoneBroken, Breaks}
+use Rattle.setup_file.specs.State.{NoneBroken}
 use Rattle.setup_file.specs.declared.error.SetupRule.{SetupRule}
 use Rattle.setup_file.specs.declared.key.Key.{Key}
 

@@ -1,5 +1,5 @@
 -- Lines are those of a setup, or have one first fault.
-use Rattle.std.proofs.Common.{◌≡◌, ◌⊎◌, ℕ, ◌+◌, ◌<◌, ◌≤◌, Bool, true, false, List, [], ◌∷◌, ◌++◌, length, length-append, Option, Some, None, Result, Ok, Err, refl, sym, ap, ◌∙◌, subst, inl, inr, arith, append_assoc}
+use Rattle.std.proofs.Common.{◌≡◌, ◌⊎◌, ℕ, ◌+◌, ◌<◌, ◌≤◌, Bool, true, false, List, [], ◌∷◌, ◌++◌, length, Option, Some, None, Result, Ok, Err, refl, sym, ap, ◌∙◌, subst, inl, inr, arith, append_assoc}
 use Rattle.std.proofs.lemmas.Bool.{cases_lt}
 use Rattle.std.proofs.lemmas.List.{append-nil}
 use Rattle.std.specs.Result.{MatchResult}
@@ -13,7 +13,7 @@ use Rattle.setup_file.specs.declared.error.SetupError.TheVariants.{Line, OutOfMe
 use Rattle.setup_file.specs.declared.error.SetupRule.{SetupRule}
 use Rattle.setup_file.specs.declared.error.SetupRule.TheVariants.{Missing}
 use Rattle.setup_file.specs.declared.setup.Setup.{Setup}
-use Rattle.setup_file.proofs.Lines.{counted_append, counted_at, counted_one, counted_none, longer}
+use Rattle.setup_file.proofs.Lines.{counted_append, counted_at, counted_none, longer}
 use Rattle.setup_file.proofs.KeptLines.{keep_at, keep_push}
 use Rattle.setup_file.proofs.Readings.{First, lines_of, setup_of, kept_reads, reads_keep, reads_many, one_reading}
 

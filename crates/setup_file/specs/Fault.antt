@@ -1,5 +1,5 @@
 -- The first line of a setup file that breaks a rule.
-use Rattle.std.specs.Prelude.{◌≡◌, ◌⊎◌, ℕ, ◌+◌, ◌<◌, List, [], ◌∷◌, ◌++◌, length, Option, Some, None, false, Result, Err}
+use Rattle.std.specs.Prelude.{◌≡◌, ◌⊎◌, ℕ, ◌+◌, ◌<◌, List, [], ◌∷◌, ◌++◌, length, Some, None, false, Result, Err}
 use Rattle.std.specs.Str.Lines.{lines}
 use Rattle.setup_file.specs.Reads.{is_skipped, counted}
 use Rattle.setup_file.specs.Rules.{broken_rule}

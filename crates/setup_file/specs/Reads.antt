@@ -6,7 +6,6 @@ use Rattle.setup_file.specs.Valid.{IsSetup}
 use Rattle.setup_file.specs.Words.{words, is_number, number_of, numbers_in, kind_of, rights_of, begins_with, value_behind}
 use Rattle.setup_file.specs.Rules.{key_text, zones_key, conference_key, number_word, kind_word, rights_word, name_behind}
 use Rattle.setup_file.specs.declared.conference.Conference.{Conference}
-use Rattle.setup_file.specs.declared.key.Key.{Key}
 use Rattle.setup_file.specs.declared.key.Key.TheVariants.{Board, City, Phone, Sysop, Bbsid, Serial}
 use Rattle.setup_file.specs.declared.setup.Setup.{Setup}
 

@@ -88,9 +88,9 @@ abbrev pub is_place_number : List ℕ → Bool
 is_place_number word = is_number word && nat_le (number_of word) 65535
 
 -- a number isn't above the one before, where there is one
-abbrev pub isnt_above : Option ℕ → ℕ → Bool
-isnt_above None n = false
-isnt_above (Some last) n = nat_le n last
+abbrev pub is_out_of_order : Option ℕ → ℕ → Bool
+is_out_of_order None n = false
+is_out_of_order (Some last) n = nat_le n last
 
 -- the rules of a value behind so many conference lines, of which the last has this number
 abbrev pub value_rules : ℕ → Option ℕ → List ℕ → LineRules
@@ -100,7 +100,7 @@ value_rules count last value =
     ∷ (rule.Kind, is_none (kind_of (kind_word value)))
     ∷ (rule.Rules, is_none (rights_of (rights_word value)))
     ∷ (rule.Name, not (is_conference_name (name_behind value)))
-    ∷ (rule.Order, isnt_above last (number_of (number_word value)))
+    ∷ (rule.Order, is_out_of_order last (number_of (number_word value)))
     ∷ []
 
 abbrev pub conference_rules : ℕ → Option ℕ → List ℕ → LineRules

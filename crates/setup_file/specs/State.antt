@@ -1,17 +1,18 @@
 -- What the reader knows between two lines.
-use Rattle.std.specs.Prelude.{◌≡◌, ℕ, ◌+◌, ◌<◌, ◌≤◌, ◌^◌, List, [], ◌∷◌, ◌++◌, length, map, All, Option, Some, None, Bool, true, false, unwrap_or}
-use Rattle.setup_file.specs.Words.{number_of, numbers_in, kind_of, rights_of, value_behind}
-use Rattle.setup_file.specs.Rules.{LineRules, broken_in, key_text, zones_key, conference_key, number_word, kind_word, rights_word, name_behind}
+use Rattle.std.specs.Prelude.{◌≡◌, ℕ, ◌+◌, ◌<◌, ◌≤◌, ◌^◌, List, [], ◌∷◌, ◌++◌, length, map, All, Some, None, true, false, IsTrue, unwrap_or}
+use Rattle.setup_file.specs.Words.{is_number, number_of, kind_of, rights_of, value_behind}
+use Rattle.setup_file.specs.Rules.{LineRules, broken_in, key_text, conference_key, number_word, kind_word, rights_word, name_behind}
 use Rattle.setup_file.specs.Reads.{is_skipped, counted}
-use Rattle.setup_file.specs.Fault.{KeepRules, LinesFault}
+use Rattle.setup_file.specs.Fault.{KeepRules}
 use Rattle.jam_records.specs.declared.message.Kind.TheVariants.{Local}
 use Rattle.setup_file.specs.declared.conference.Conference.{Conference}
 use Rattle.setup_file.specs.declared.error.SetupError.{SetupError}
 use Rattle.setup_file.specs.declared.error.SetupError.TheVariants.{Line, OutOfMemory}
 use Rattle.setup_file.specs.declared.error.SetupRule.{SetupRule}
 use Rattle.setup_file.specs.declared.conference_line.Parts.{Parts}
-use Rattle.setup_file.specs.declared.head.Texts.{Texts}
+use Rattle.setup_file.specs.declared.head.Head.{Head}
 use Rattle.setup_file.specs.declared.key.Key.TheVariants.{Board, City, Phone, Sysop, Bbsid, Serial}
+use Rattle.setup_file.specs.declared.setup.Setup.{Setup}
 
 -- the lines have numbers of 32 bits, one past the last too
 abbrev pub IsNumbered : List (List ℕ) → ℕ → Type 0
@@ -37,8 +38,8 @@ pub record SkippedTo (all : List (List ℕ)) (number : ℕ) (left : List (List �
   pub ahead : Ahead all number left at skipped
   pub starts : StartsCounted left
 
--- Of all lines some were taken, and the others are left, the first of which has this number. The kept lines are those that count
--- of the former, and break no rule.
+-- Of all lines some were taken, and the others are left, the first of which has this number. The kept lines
+-- are those that count of the former, and break no rule.
 pub record Kept (all left : List (List ℕ)) (at : ℕ) (kept : List (List ℕ)) : Type 0 where
   pub before : List (List ℕ)
   pub whole : all ≡ before ++ left
@@ -80,19 +81,19 @@ conferences_of all = map (λ line. conference_of (value_behind conference_key li
 abbrev pub OneMore : List (List ℕ) → List (List ℕ) → List (List ℕ) → ℕ → (List ℕ → Type 0) → Type 0
 OneMore all kept left at P = (line : List ℕ) × P line × Kept all left at (kept ++ line ∷ [])
 
--- the texts of the first six lines, in order
-pub record TextsAre (first second third fourth fifth sixth : List ℕ) (texts : Texts) : Type 0 where
-  pub board : texts.board.now ≡ value_behind (key_text Board) first
-  pub city : texts.city.now ≡ value_behind (key_text City) second
-  pub phone : texts.phone.now ≡ value_behind (key_text Phone) third
-  pub sysop : texts.sysop.now ≡ value_behind (key_text Sysop) fourth
-  pub bbsid : texts.bbsid.now ≡ value_behind (key_text Bbsid) fifth
-  pub serial : texts.serial.now ≡ value_behind (key_text Serial) sixth
+-- the values of the first six lines, in order
+pub record HeadIs (first second third fourth fifth sixth : List ℕ) (head : Head) : Type 0 where
+  pub board : head.board.now ≡ value_behind (key_text Board) first
+  pub city : head.city.now ≡ value_behind (key_text City) second
+  pub phone : head.phone.now ≡ value_behind (key_text Phone) third
+  pub sysop : head.sysop.now ≡ value_behind (key_text Sysop) fourth
+  pub bbsid : head.bbsid.now ≡ value_behind (key_text Bbsid) fifth
+  pub serial : head.serial.now ≡ value_behind (key_text Serial) sixth
 
--- the first six lines were kept, and these are their texts
-abbrev pub TextsTaken : List (List ℕ) → Texts → List (List ℕ) → ℕ → Type 0
-TextsTaken all texts left at =
-    (first second third fourth fifth sixth : List ℕ) × TextsAre first second third fourth fifth sixth texts
+-- the first six lines were kept, and these are their values
+abbrev pub HeadTaken : List (List ℕ) → Head → List (List ℕ) → ℕ → Type 0
+HeadTaken all head left at =
+    (first second third fourth fifth sixth : List ℕ) × HeadIs first second third fourth fifth sixth head
     × Kept all left at (first ∷ second ∷ third ∷ fourth ∷ fifth ∷ sixth ∷ [])
 
 -- the parts of a conference are those of the value
@@ -109,3 +110,14 @@ pub record ConferencesTaken (all kept : List (List ℕ)) (conferences : List Con
   pub are : conferences ≡ conferences_of own
   pub number : ℕ
   pub whole : Kept all [] number (kept ++ own)
+
+-- the setup has these values of the first six lines, these zones and these conferences
+pub record IsMadeOf (head : Head) (zones : List ℕ) (conferences : List Conference) (s : Setup) : Type 0 where
+  pub board : s.board ≡ head.board.now
+  pub city : s.city ≡ head.city.now
+  pub phone : s.phone ≡ head.phone.now
+  pub sysop : s.sysop ≡ head.sysop.now
+  pub bbsid : s.bbsid ≡ head.bbsid.now
+  pub serial : IsTrue (is_number head.serial.now) → s.serial ≡ number_of head.serial.now
+  pub zone_list : s.zones ≡ zones
+  pub conference_list : s.conferences ≡ conferences

@@ -1,7 +1,7 @@
 ghost use Rattle.std.specs.Prelude.{◌≡◌, ◌≤◌, ℕ, List, [], ◌++◌, length, IsTrue, ◌↔◌, IfOk, Option, MatchResult, MatchOption, true, false, ◌&&◌, nat_le};
 ghost use Rattle.std.specs.Str.Lines.{lines};
 ghost use Rattle.setup_file.specs.Words.{value_behind as value_in, number_of as number_in};
-ghost use Rattle.setup_file.specs.Rules.{conference_key, is_place_number, isnt_above as isnt_above_test, value_rules, conference_rules};
+ghost use Rattle.setup_file.specs.Rules.{conference_key, is_place_number, is_out_of_order as is_out_of_order_test, value_rules, conference_rules};
 ghost use Rattle.setup_file.specs.Fault.{LinesFault};
 ghost use Rattle.setup_file.specs.State.{IsNumbered, Kept, FaultOrMemory, BreaksAt, Breaks, NoneBroken, conference_of as conference_in, conferences_of as conferences_in, PartsAre, ConferencesTaken};
 
@@ -35,8 +35,8 @@ fn place_number(word: &[u8]) -> Option<u16>
 }
 
 /// Whether a number isn't above the one before, where there is one.
-fn isnt_above(last: Option<u16>, number: u16) -> bool
-    ensures { result ≡ isnt_above_test last number }
+fn is_out_of_order(last: Option<u16>, number: u16) -> bool
+    ensures { result ≡ is_out_of_order_test last number }
 {
     match last {
         None => false,
@@ -69,7 +69,7 @@ fn parts_of(value: &[u8], count: usize, last: Option<u16>) -> Result<Parts<'_>, 
     if !is_conference_name(name) {
         return Err(SetupRule::Name);
     }
-    if isnt_above(last, number) {
+    if is_out_of_order(last, number) {
         return Err(SetupRule::Order);
     }
     Ok(Parts {

@@ -3,7 +3,7 @@ ghost use Rattle.std.specs.Str.Lines.{lines};
 ghost use Rattle.setup_file.specs.Words.{value_behind};
 ghost use Rattle.setup_file.specs.Rules.{key_text, keys};
 ghost use Rattle.setup_file.specs.Fault.{LinesFault};
-ghost use Rattle.setup_file.specs.State.{IsNumbered, Kept, OneMore, TextsTaken, FaultOrMemory};
+ghost use Rattle.setup_file.specs.State.{IsNumbered, Kept, OneMore, HeadTaken, FaultOrMemory};
 
 use crate::error::{SetupError, SetupRule};
 use crate::key::Key;
@@ -11,7 +11,7 @@ use crate::unread::Unread;
 
 /// The values of the first six lines.
 #[derive(Clone, Copy)]
-pub struct Texts<'a> {
+pub struct Head<'a> {
     pub board: &'a [u8],
     pub city: &'a [u8],
     pub phone: &'a [u8],
@@ -38,11 +38,11 @@ fn value_of<'a>(key: Key, start: Unread<'a>) -> Result<(&'a [u8], Unread<'a>), S
 }
 
 /// The values of the first six lines that count, and what stands behind them.
-pub fn texts_of<'a>(start: Unread<'a>) -> Result<(Texts<'a>, Unread<'a>), SetupError>
+pub fn head_of<'a>(start: Unread<'a>) -> Result<(Head<'a>, Unread<'a>), SetupError>
     requires { IsNumbered (lines start.text.now) start.line }
     ensures numbered { IfOk result (λ found. IsNumbered (lines found.1.text.now) found.1.line) }
-    ensures texts { (all : List (List ℕ)) → Kept all (lines start.entry.text.now) start.entry.line []
-        → MatchResult result (λ found. TextsTaken all found.0 (lines found.1.text.now) found.1.line) (FaultOrMemory (LinesFault all)) }
+    ensures head { (all : List (List ℕ)) → Kept all (lines start.entry.text.now) start.entry.line []
+        → MatchResult result (λ found. HeadTaken all found.0 (lines found.1.text.now) found.1.line) (FaultOrMemory (LinesFault all)) }
 {
     let (board, behind_board) = value_of(Key::Board, start)?;
     let (city, behind_city) = value_of(Key::City, behind_board)?;
@@ -50,7 +50,7 @@ pub fn texts_of<'a>(start: Unread<'a>) -> Result<(Texts<'a>, Unread<'a>), SetupE
     let (sysop, behind_sysop) = value_of(Key::Sysop, behind_phone)?;
     let (bbsid, behind_bbsid) = value_of(Key::Bbsid, behind_sysop)?;
     let (serial, behind_serial) = value_of(Key::Serial, behind_bbsid)?;
-    let texts = Texts {
+    let head = Head {
         board,
         city,
         phone,
@@ -58,5 +58,5 @@ pub fn texts_of<'a>(start: Unread<'a>) -> Result<(Texts<'a>, Unread<'a>), SetupE
         bbsid,
         serial,
     };
-    Ok((texts, behind_serial))
+    Ok((head, behind_serial))
 }

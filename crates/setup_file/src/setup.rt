@@ -1,7 +1,14 @@
-ghost use Rattle.std.specs.Prelude.{◌≡◌, ◌↔◌, length, min, slice_get, Contains, IsTrue, IfOk};
+ghost use Rattle.std.specs.Prelude.{◌≡◌, ◌↔◌, ◌<◌, ◌^◌, ℕ, Ok, Err, length, min, slice_get, Contains, IsTrue, IfOk};
 ghost use Rattle.std.specs.Option.{option_copied};
+ghost use Rattle.setup_file.specs.Reads.{SetupReads};
+ghost use Rattle.setup_file.specs.Fault.{SetupFault, UnlessMemory};
+ghost use Rattle.setup_file.specs.declared.error.SetupError.TheVariants.{Line};
+ghost use Rattle.setup_file.specs.declared.error.SetupRule.{SetupRule};
+ghost use Rattle.setup_file.specs.declared.setup.Setup.{Setup};
 
 use crate::conference::{Conference, Conferences};
+use crate::error::SetupError;
+use crate::parse::setup_in;
 use crate::zones::Zones;
 use byte_lists::Bytes;
 use std::alloc::{AllocError, Global};
@@ -28,6 +35,22 @@ pub struct Setup {
 }
 
 impl Setup {
+    /// The setup of a setup file, or its first failing line with the rule that it breaks. The answer may be
+    /// want of memory in place of either. The bytes are fewer than 2^31.
+    pub fn parse(alloc: Global, bytes: &[u8]) -> Result<Setup, SetupError>
+        requires { length bytes.now < 2 ^ 31 }
+
+        // A setup is answered exactly where the bytes read as it, unless memory runs out.
+        ensures ok { IfOk result (λ setup. SetupReads bytes.now setup) }
+        ensures only_ok { (setup : Setup) → SetupReads bytes.now setup → UnlessMemory result (Ok setup) }
+
+        // So is a line with its rule, exactly where it is the first that fails.
+        ensures fault { (line : ℕ) (rule : SetupRule) → result ≡ Err (Line line rule) → SetupFault bytes.now line rule }
+        ensures only_fault { (line : ℕ) (rule : SetupRule) → SetupFault bytes.now line rule → UnlessMemory result (Err (Line line rule)) }
+    {
+        setup_in(alloc, bytes)
+    }
+
     /// The board's name.
     pub fn board(&self) -> &Bytes
         ensures { result.now ≡ self.now.board }
@@ -77,7 +100,7 @@ impl Setup {
         self.zones.as_slice().contains(&zone)
     }
 
-    /// How many conferences there are: 1 to 64 in a valid setup, and 255 where there are more than that.
+    /// How many conferences there are: 1 to 64 in a valid setup, and 255 where there are more than 255.
     pub fn conference_count(&self) -> u8
         ensures { result ≡ min (length self.now.conferences) 255 }
     {

@@ -1,13 +1,11 @@
-use Rattle.std.proofs.Common.{◌≡◌, ◌≤◌, ℕ, List, [], ◌∷◌, ◌++◌, length, length-append, Option, Some, None, true, false, not, refl, sym, ap, ◌∙◌, subst, arith, append_assoc}
-use Rattle.std.proofs.lemmas.Bool.{false≢true}
-use Rattle.std.proofs.lemmas.List.{append-nil, length-map}
+use Rattle.std.proofs.Common.{◌≡◌, ℕ, List, [], ◌∷◌, ◌++◌, length, length-append, Option, Some, true, false, not, sym, ap, ◌∙◌, subst, arith, append_assoc}
+use Rattle.std.proofs.lemmas.List.{append-nil}
 use Rattle.std.specs.Option.{is_none}
 use Rattle.std.specs.Str.Lines.{lines}
 use Rattle.setup_file.specs.Words.{value_behind}
-use Rattle.setup_file.specs.Rules.{number_before, conference_key, conference_rules}
+use Rattle.setup_file.specs.Rules.{number_before, conference_key}
 use Rattle.setup_file.specs.Fault.{LinesFault}
-use Rattle.setup_file.specs.State.{Kept, FaultOrMemory, conferences_of, conference_of}
-use Rattle.setup_file.specs.declared.conference.Conference.{Conference}
+use Rattle.setup_file.specs.State.{Kept, FaultOrMemory, conference_of}
 use Rattle.setup_file.proofs.Lines.{left_numbered, starts_counted}
 use Rattle.setup_file.proofs.KeptLines.{kept_skip, kept_more, line_fault, end_fault}
 use Rattle.setup_file.proofs.ConferenceLines.{number_behind, no_number_before, rule_of_next, conferences_more, count_is, none_before, some_own}

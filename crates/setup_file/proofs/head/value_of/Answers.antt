@@ -1,4 +1,4 @@
-use Rattle.std.proofs.Common.{◌≡◌, ℕ, List, sym, subst, ◌∙◌, arith}
+use Rattle.std.proofs.Common.{sym, subst, ◌∙◌, arith}
 use Rattle.std.specs.Str.Lines.{lines}
 use Rattle.setup_file.specs.Fault.{LinesFault}
 use Rattle.setup_file.specs.State.{FaultOrMemory}

@@ -1,4 +1,4 @@
-use Rattle.std.proofs.Common.{◌≤◌, length, arith}
+use Rattle.std.proofs.Common.{arith}
 use Rattle.setup_file.proofs.Numbers.{number_is, number_value, number_small, no_number, too_long}
 use Rattle.setup_file.proofs.word.number_of.Goals as goal
 

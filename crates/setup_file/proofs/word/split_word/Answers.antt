@@ -1,4 +1,4 @@
-use Rattle.std.proofs.Common.{◌≡◌, ◌++◌, ◌∷◌, List, ℕ, sym, ap, ◌∙◌}
+use Rattle.std.proofs.Common.{sym, ap, ◌∙◌}
 use Rattle.setup_file.specs.Words.{first_word, behind_word}
 use Rattle.setup_file.proofs.Spaces.{first_is, first_whole, behind_is, behind_whole}
 use Rattle.setup_file.proofs.word.split_word.Goals as goal

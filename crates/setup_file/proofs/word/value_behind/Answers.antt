@@ -1,4 +1,4 @@
-use Rattle.std.proofs.Common.{◌≡◌, ap, ◌∙◌}
+use Rattle.std.proofs.Common.{ap, ◌∙◌}
 use Rattle.setup_file.specs.Words.{begins_with, value_behind, trim}
 use Rattle.setup_file.proofs.word.value_behind.Goals as goal
 

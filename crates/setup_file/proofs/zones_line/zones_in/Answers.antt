@@ -1,4 +1,4 @@
-use Rattle.std.proofs.Common.{◌≡◌, List, ℕ, true, false, sym, ap, ◌∙◌, subst, arith}
+use Rattle.std.proofs.Common.{◌≡◌, true, false, sym, subst, arith}
 use Rattle.setup_file.specs.Words.{words}
 use Rattle.setup_file.specs.Zones.{are_zones}
 use Rattle.setup_file.proofs.ZoneWords.{ZonesTaken, none_taken, word_more, bad_word, many_words, bad_zones, good_zones, zones_are}

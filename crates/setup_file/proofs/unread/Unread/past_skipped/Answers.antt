@@ -1,7 +1,7 @@
-use Rattle.std.proofs.Common.{◌≡◌, ◌++◌, ◌∷◌, [], ℕ, List, true, false, sym, ◌∙◌, arith}
+use Rattle.std.proofs.Common.{◌≡◌, ◌++◌, ◌∷◌, [], true}
 use Rattle.std.specs.Str.Lines.{lines}
 use Rattle.setup_file.specs.Reads.{is_skipped}
-use Rattle.setup_file.proofs.Lines.{more_taken, left_numbered, left_shorter, skip_one, starts_at, starts_nowhere}
+use Rattle.setup_file.proofs.Lines.{more_taken, left_numbered, skip_one}
 use Rattle.setup_file.proofs.unread.Unread.past_skipped.Goals as goal
 
 pub loop-line-preserved : goal.loop-line-preserved
