@@ -11,3 +11,6 @@ pub mod WritingLaws
 pub mod SizeLaws
 pub mod MetLoops
 pub mod ReadingSteps
+pub mod UploadLaws
+pub mod ConferenceLaws
+pub mod UserLaws

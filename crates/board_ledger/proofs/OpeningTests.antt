@@ -23,7 +23,7 @@ pub record PlacesFit (bytes : List ℕ) (p : Places) : Type 0 where
   pub bbsid : text_end p.bbsid bytes ≤ length bytes
   pub zones : p.zones + 2 * u16_at 10 bytes ≤ length bytes
 
-end_above : (place : ℕ) (bytes : List ℕ) → place + 2 ≤ text_end place bytes
+pub end_above : (place : ℕ) (bytes : List ℕ) → place + 2 ≤ text_end place bytes
 unfolding text_end
 end_above place bytes = omega arith
 

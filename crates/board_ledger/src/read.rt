@@ -1,7 +1,6 @@
-ghost use Rattle.std.specs.Prelude.{◌≡◌, IfOk, All};
-ghost use Rattle.byte_lists.specs.Byte.{IsByte};
+ghost use Rattle.std.specs.Prelude.{◌≡◌};
 ghost use Rattle.board_ledger.specs.Rules.{Gives};
-ghost use Rattle.board_ledger.specs.Ledger.{ledger_of as ledger_in};
+ghost use Rattle.board_ledger.specs.Ledger.{with_conferences as setup_with, ledger_of as ledger_in};
 
 use crate::conferences::conferences_of;
 use crate::damaged::damaged;
@@ -15,7 +14,9 @@ use setup_file::{Conferences, Setup};
 use std::alloc::Global;
 
 /// A setup with these conferences in place of its own.
-fn with_conferences(setup: Setup, conferences: Conferences) -> Setup {
+fn with_conferences(setup: Setup, conferences: Conferences) -> Setup
+    ensures { result ≡ setup_with setup conferences }
+{
     Setup {
         conferences,
         ..setup
