@@ -14,3 +14,6 @@ pub mod ReadingSteps
 pub mod UploadLaws
 pub mod ConferenceLaws
 pub mod UserLaws
+pub mod OpeningLaws
+pub mod LedgerLaws
+pub mod ReadingClauses

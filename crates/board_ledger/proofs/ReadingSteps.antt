@@ -3,7 +3,7 @@ use Rattle.std.proofs.Common.{◌≡◌, ℕ, ◌+◌, eqb, not, List, [], ◌�
 use Rattle.jam_records.specs.declared.damage.Damage.{Damage}
 use Rattle.jam_records.specs.declared.damage.DamageRule.TheVariants.{Rest}
 use Rattle.damage_rules.specs.Rules.{by_rules, ◌>>=◌, Stops}
-use Rattle.damage_rules.proofs.KeptRules.{step_fails}
+use Rattle.damage_rules.proofs.KeptRules.{bind_ok, step_fails}
 use Rattle.setup_file.specs.declared.conference.Conference.{Conference}
 use Rattle.board_ledger.specs.Records.{records_at}
 use Rattle.board_ledger.specs.Opening.{opening_at}
@@ -73,3 +73,34 @@ users_fail bytes o cs e a b h = subst (Stops e) (sym (at_users bytes o cs a b)) 
 pub uploads_fail : (bytes : List ℕ) (o : Opening) (cs : List Conference × List ℕ) (us : List User × List ℕ) (e : Option Damage)
     → opening_at bytes ≡ Ok o → conferences_in bytes o ≡ Ok cs → users_in o cs.1 ≡ Ok us → Stops e (uploads_in o us.1) → Stops e (ledger_of bytes)
 uploads_fail bytes o cs us e a b c h = subst (Stops e) (sym (at_uploads bytes o cs us a b c)) (step_fails e (uploads_in o us.1) (ledger_in o cs.0 us.0) h)
+
+-- ---- the parts of a ledger that was read
+pub record Parts (bytes : List ℕ) (l : Ledger) : Type 0 where
+  pub opening : Opening
+  pub conferences : List Conference × List ℕ
+  pub users : List User × List ℕ
+  pub uploads : List UploadRecord × List ℕ
+  pub at_opening : opening_at bytes ≡ Ok opening
+  pub at_conferences : conferences_in bytes opening ≡ Ok conferences
+  pub at_users : users_in opening conferences.1 ≡ Ok users
+  pub at_uploads : uploads_in opening users.1 ≡ Ok uploads
+  pub at_end : ledger_in opening conferences.0 users.0 uploads ≡ Ok l
+
+pub ledger_parts : (bytes : List ℕ) (l : Ledger) → ledger_of bytes ≡ Ok l → Parts bytes l
+unfolding after_opening after_conferences after_users
+ledger_parts bytes l e =
+    let a = bind_ok (opening_at bytes) (after_opening bytes) l (sym (at_opening bytes) ∙ e) in
+    let b = bind_ok (conferences_in bytes a.0) (after_conferences a.0) l a.2 in
+    let c = bind_ok (users_in a.0 b.0.1) (after_users a.0 b.0.0) l b.2 in
+    let d = bind_ok (uploads_in a.0 c.0.1) (ledger_in a.0 b.0.0 c.0.0) l c.2 in
+    record {
+      opening = a.0;
+      conferences = b.0;
+      users = c.0;
+      uploads = d.0;
+      at_opening = a.1;
+      at_conferences = b.1;
+      at_users = c.1;
+      at_uploads = d.1;
+      at_end = d.2;
+    }

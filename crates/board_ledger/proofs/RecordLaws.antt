@@ -84,3 +84,7 @@ each_both P Q R split before (x ∷ xs) each =
     let here = split before x each.0 in
     let others = each_both P Q R split (before ++ x ∷ []) xs each.1 in
     ((here.0, others.0), (here.1, others.1))
+
+pub both_each : {A : Type 0} (P : A → Type 0) (Q : List A → A → Type 0) (before xs : List A) → EachBehind (λ b x. P x) before xs → EachBehind Q before xs → EachBehind (λ b x. P x × Q b x) before xs
+both_each P Q before [] a b = tt
+both_each P Q before (x ∷ xs) a b = ((a.0, b.0), both_each P Q (before ++ x ∷ []) xs a.1 b.1)

@@ -1,10 +1,8 @@
-use Rattle.board_ledger.proofs.UploadLaws.{upload_takes, upload_again}
-use Rattle.board_ledger.proofs.ConferenceLaws.{conference_takes, conference_again, order_rises, rising_order}
-use Rattle.board_ledger.proofs.UserLaws.{user_takes, user_again}
+use Rattle.board_ledger.proofs.LedgerLaws.{undamaged, unique}
 use Rattle.board_ledger.proofs.laws.unique_ledger.Goals as goal
 
 pub returns-clause-undamaged : goal.returns-clause-undamaged
-returns-clause-undamaged c = ?
+returns-clause-undamaged c = undamaged
 
 pub returns-clause-unique : goal.returns-clause-unique
-returns-clause-unique c = ?
+returns-clause-unique c = unique
