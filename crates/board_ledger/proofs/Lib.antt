@@ -17,3 +17,4 @@ pub mod UserLaws
 pub mod OpeningLaws
 pub mod LedgerLaws
 pub mod ReadingClauses
+pub mod LedgerBounds

@@ -1,0 +1,187 @@
+-- The text of a valid ledger is bytes, and how long it is at most.
+use Rattle.std.proofs.Common.{◌≡◌, ℕ, zero, suc, ◌+◌, ◌*◌, ◌^◌, ◌≤◌, ◌<◌, Bool, true, false, cond, not, ◌&&◌, eqb, leb, List, [], ◌∷◌, ◌++◌, length, arith, length-append}
+use Rattle.std.specs.Prelude.{All, IsTrue}
+use Rattle.std.specs.Int.{byte_at, bytes_low_first}
+use Rattle.std.specs.List.{flat_map, list_all}
+use Rattle.std.proofs.lemmas.Bool.{leb-true, and_parts}
+use Rattle.std.proofs.lemmas.Bool.Decides.{nat_tests}
+use Rattle.std.proofs.lemmas.List.Elements.{All-nil, All-cons, All-append, All-drop}
+use Rattle.std.proofs.lemmas.List.Sums.{AllPass-from_list_all}
+use Rattle.byteorder.specs.Endian.{little_bytes}
+use Rattle.byte_lists.specs.Byte.{IsByte}
+use Rattle.record_numbers.specs.Numbers.{u16_text, u32_text, u32s_text}
+use Rattle.jam_records.specs.declared.message.Kind.{Kind}
+use Rattle.jam_records.specs.declared.message.Kind.TheVariants.{Local, Echo, Net}
+use Rattle.setup_file.specs.Texts.{is_printed_byte, is_printed, is_name_byte, has_bare_ends, is_letter_or_digit, is_board_text, is_user_name, is_bbsid, is_conference_name}
+use Rattle.setup_file.specs.Valid.{IsSetup, IsSetupConference}
+use Rattle.setup_file.specs.declared.conference.Conference.{Conference}
+use Rattle.setup_file.specs.declared.setup.Setup.{Setup}
+use Rattle.board_ledger.specs.Texts.{sized_text, u64_text}
+use Rattle.board_ledger.specs.Opening.{magic, fixed_text, setup_text}
+use Rattle.board_ledger.specs.Conferences.{kind_number, rules_number, conference_text}
+use Rattle.board_ledger.specs.Users.{user_text, IsUser}
+use Rattle.board_ledger.specs.Uploads.{upload_text, IsUpload}
+use Rattle.board_ledger.specs.Ledger.{ledger_text}
+use Rattle.board_ledger.specs.Valid.{IsLedger}
+use Rattle.board_ledger.specs.declared.ledger.Ledger.{Ledger}
+use Rattle.board_ledger.specs.declared.upload.UploadRecord.{UploadRecord}
+use Rattle.board_ledger.specs.declared.user.User.{User}
+use Rattle.board_ledger.proofs.SetupBounds.{board_small, user_small, bbsid_small, name_small, zones_few}
+use Rattle.board_ledger.proofs.SizeLaws.{setup_length, conference_length, user_length, ledger_length}
+
+-- ---- numbers and lists of records
+both : (xs ys : List ℕ) → All IsByte xs → All IsByte ys → All IsByte (xs ++ ys)
+both xs ys all others = All-append IsByte xs ys all others
+
+byte_small : (i n : ℕ) → byte_at i n < 256
+byte_small zero n = omega arith
+byte_small (suc i) n = omega arith
+
+number_bytes : (i width n : ℕ) → All IsByte (bytes_low_first i width n)
+number_bytes i zero n = All-nil IsByte
+number_bytes i (suc width) n = All-cons IsByte (byte_at i n) (bytes_low_first (suc i) width n) (byte_small i n) (number_bytes (suc i) width n)
+
+numbers_bytes : (width : ℕ) (numbers : List ℕ) → All IsByte (flat_map (little_bytes width) numbers)
+numbers_bytes width [] = All-nil IsByte
+numbers_bytes width (n ∷ numbers) = both (little_bytes width n) (flat_map (little_bytes width) numbers) (number_bytes 0 width n) (numbers_bytes width numbers)
+
+records_bytes : {A : Type 0} (f : A → List ℕ) (xs : List A) → All (λ x. All IsByte (f x)) xs → All IsByte (flat_map f xs)
+records_bytes f [] each = All-nil IsByte
+records_bytes {A = A} f (x ∷ xs) each = both (f x) (flat_map f xs) (each 0 x (omega arith)) (records_bytes f xs (All-drop (λ (y : A). All IsByte (f y)) 1 (x ∷ xs) each))
+
+records_most : {A : Type 0} (f : A → List ℕ) (most : ℕ) (xs : List A) → All (λ x. length (f x) ≤ most) xs → length (flat_map f xs) ≤ most * length xs
+records_most f most [] each = omega arith
+records_most {A = A} f most (x ∷ xs) each =
+    let here = each 0 x (omega arith) in
+    let others = records_most f most xs (All-drop (λ (y : A). length (f y) ≤ most) 1 (x ∷ xs) each) in
+    let more = length-append (f x) (flat_map f xs) in
+    let product : most * length (x ∷ xs) ≡ most + most * length xs = omega arith in
+    omega (arith, here, others, more, product)
+
+-- ---- texts
+all_bytes : (p : ℕ → Bool) (text : List ℕ) → ((b : ℕ) → p b ≡ true → b < 256) → list_all p text ≡ true → All IsByte text
+all_bytes p text small e = λ k d within. small _ (AllPass-from_list_all p text e k d within)
+
+printed_small : (b : ℕ) → is_printed_byte b ≡ true → b < 256
+printed_small b e = let most = leb-true b 0x7E (and_parts (leb 0x20 b) (leb b 0x7E) e).1 in omega arith
+
+name_byte_small : (b : ℕ) → is_name_byte b ≡ true → b < 256
+name_byte_small b e = printed_small b (and_parts (is_printed_byte b) (not (eqb b 0x22)) e).0
+
+letter_small : (b : ℕ) → is_letter_or_digit b ≡ true → b < 256
+letter_small b e = grind (arith, nat_tests)
+
+board_bytes : (text : List ℕ) → IsTrue (is_board_text text) → All IsByte text
+unfolding is_board_text
+board_bytes text e = all_bytes is_printed_byte text printed_small (and_parts (leb (length text) 60) (is_printed text) e).1
+
+user_bytes : (name : List ℕ) → IsTrue (is_user_name name) → All IsByte name
+unfolding is_user_name
+user_bytes name e = all_bytes is_name_byte name name_byte_small (and_parts (list_all is_name_byte name) (has_bare_ends name) (and_parts (leb (length name) 25) (list_all is_name_byte name && has_bare_ends name) e).1).0
+
+bbsid_bytes : (id : List ℕ) → IsTrue (is_bbsid id) → All IsByte id
+unfolding is_bbsid
+bbsid_bytes id e = all_bytes is_letter_or_digit id letter_small (and_parts (leb 1 (length id) && leb (length id) 8) (list_all is_letter_or_digit id) e).1
+
+name_bytes : (name : List ℕ) → IsTrue (is_conference_name name) → All IsByte name
+unfolding is_conference_name
+name_bytes name e = all_bytes is_printed_byte name printed_small (and_parts (leb 1 (length name) && leb (length name) 13) (is_printed name) e).1
+
+sized_bytes : (text : List ℕ) → All IsByte text → All IsByte (sized_text text)
+sized_bytes text all = both (u16_text (length text)) text (number_bytes 0 2 (length text)) all
+
+-- ---- records
+magic_bytes : All IsByte magic
+magic_bytes = All-cons IsByte 0x51 (0x4D ∷ 0x44 ∷ 0x4C ∷ []) (omega arith) (All-cons IsByte 0x4D (0x44 ∷ 0x4C ∷ []) (omega arith) (All-cons IsByte 0x44 (0x4C ∷ []) (omega arith) (All-cons IsByte 0x4C [] (omega arith) (All-nil IsByte))))
+
+fixed_bytes : (l : Ledger) → All IsByte (fixed_text l)
+unfolding fixed_text
+fixed_bytes l =
+    let counts : List ℕ = 1 ∷ length l.setup.conferences ∷ length l.users ∷ length l.setup.zones ∷ [] in
+    let numbers : List ℕ = length l.uploads ∷ l.created ∷ l.setup.serial ∷ [] in
+    both magic (flat_map (little_bytes 2) counts ++ u32s_text numbers) magic_bytes (both (flat_map (little_bytes 2) counts) (u32s_text numbers) (numbers_bytes 2 counts) (numbers_bytes 4 numbers))
+
+setup_bytes : (s : Setup) → IsSetup s → All IsByte (setup_text s)
+setup_bytes s ok =
+    let zones : List ℕ = flat_map (little_bytes 2) s.zones in
+    let e5 = both (sized_text s.bbsid) zones (sized_bytes s.bbsid (bbsid_bytes s.bbsid ok.bbsid)) (numbers_bytes 2 s.zones) in
+    let e4 = both (sized_text s.sysop) (sized_text s.bbsid ++ zones) (sized_bytes s.sysop (user_bytes s.sysop ok.sysop)) e5 in
+    let e3 = both (sized_text s.phone) (sized_text s.sysop ++ (sized_text s.bbsid ++ zones)) (sized_bytes s.phone (board_bytes s.phone ok.phone)) e4 in
+    let e2 = both (sized_text s.city) (sized_text s.phone ++ (sized_text s.sysop ++ (sized_text s.bbsid ++ zones))) (sized_bytes s.city (board_bytes s.city ok.city)) e3 in
+    both (sized_text s.board) (sized_text s.city ++ (sized_text s.phone ++ (sized_text s.sysop ++ (sized_text s.bbsid ++ zones)))) (sized_bytes s.board (board_bytes s.board ok.board)) e2
+
+kind_small : (k : Kind) → kind_number k < 256
+kind_small Local = omega arith
+kind_small Echo = omega arith
+kind_small Net = omega arith
+
+rules_small : (readonly private : Bool) → cond readonly 1 0 + cond private 2 0 < 256
+rules_small true true = omega arith
+rules_small true false = omega arith
+rules_small false true = omega arith
+rules_small false false = omega arith
+
+conference_bytes : (c : Conference) → IsSetupConference c → All IsByte (conference_text c)
+unfolding conference_text
+conference_bytes c ok =
+    let name : List ℕ = sized_text c.name in
+    both (u16_text c.number) (kind_number c.kind ∷ rules_number c ∷ name) (number_bytes 0 2 c.number)
+    (All-cons IsByte (kind_number c.kind) (rules_number c ∷ name) (kind_small c.kind) (All-cons IsByte (rules_number c) name (rules_small c.readonly c.private) (sized_bytes c.name (name_bytes c.name ok.name))))
+
+flag_small : (net : Bool) → cond net 1 0 < 256
+flag_small true = omega arith
+flag_small false = omega arith
+
+one_user_bytes : (count : ℕ) (u : User) → IsUser count u → All IsByte (user_text u)
+unfolding user_text
+one_user_bytes count u ok =
+    let highs : List ℕ = u32s_text u.highs in
+    let e4 = both (u64_text u.members) highs (number_bytes 0 8 u.members) (numbers_bytes 4 u.highs) in
+    let e3 = both (u32_text u.offered) (u64_text u.members ++ highs) (number_bytes 0 4 u.offered) e4 in
+    let e2 = both (u32_text u.last) (u32_text u.offered ++ (u64_text u.members ++ highs)) (number_bytes 0 4 u.last) e3 in
+    both (sized_text u.name) (cond u.net 1 0 ∷ (u32_text u.last ++ (u32_text u.offered ++ (u64_text u.members ++ highs)))) (sized_bytes u.name (user_bytes u.name ok.name))
+    (All-cons IsByte (cond u.net 1 0) (u32_text u.last ++ (u32_text u.offered ++ (u64_text u.members ++ highs))) (flag_small u.net) e2)
+
+upload_bytes : (users : ℕ) (r : UploadRecord) → IsUpload users r → All IsByte (upload_text r)
+unfolding upload_text
+upload_bytes users r ok =
+    let counts : List ℕ = u32_text r.counts.posted ++ u32_text r.counts.refused in
+    both (u16_text r.user) (r.digest ++ counts) (number_bytes 0 2 r.user) (both r.digest counts ok.bytes (both (u32_text r.counts.posted) (u32_text r.counts.refused) (number_bytes 0 4 r.counts.posted) (number_bytes 0 4 r.counts.refused)))
+
+-- ---- the whole
+text_bytes : (l : Ledger) → IsLedger l → All IsByte (ledger_text l)
+unfolding ledger_text
+text_bytes l ok =
+    let c : List ℕ = flat_map conference_text l.setup.conferences in
+    let u : List ℕ = flat_map user_text l.users in
+    let r : List ℕ = flat_map upload_text l.uploads in
+    let cs : All IsByte c = records_bytes conference_text l.setup.conferences (λ k d within. conference_bytes _ (ok.setup.conferences.each k d within)) in
+    let us : All IsByte u = records_bytes user_text l.users (λ k d within. one_user_bytes (length l.setup.conferences) _ (ok.users k d within)) in
+    let rs : All IsByte r = records_bytes upload_text l.uploads (λ k d within. upload_bytes (length l.users) _ (ok.uploads k d within)) in
+    both (fixed_text l ++ setup_text l.setup) (c ++ (u ++ r)) (both (fixed_text l) (setup_text l.setup) (fixed_bytes l) (setup_bytes l.setup ok.setup)) (both c (u ++ r) cs (both u r us rs))
+
+conference_most : (c : Conference) → IsSetupConference c → length (conference_text c) ≤ 19
+conference_most c ok = omega (arith, conference_length c, name_small c.name ok.name)
+
+user_most : (count : ℕ) (u : User) → count ≤ 64 → IsUser count u → length (user_text u) ≤ 400
+user_most count u few ok = omega (arith, user_length u, user_small u.name ok.name, ok.one_high_each)
+
+text_short : (l : Ledger) → IsLedger l → length (ledger_text l) < 2 ^ 31
+text_short l ok =
+    let s : Setup = l.setup in
+    let board = board_small s.board ok.setup.board in
+    let city = board_small s.city ok.setup.city in
+    let phone = board_small s.phone ok.setup.phone in
+    let sysop = user_small s.sysop ok.setup.sysop in
+    let bbsid = bbsid_small s.bbsid ok.setup.bbsid in
+    let zones = zones_few s.zones ok.setup.zones in
+    let many = ok.setup.conferences.many in
+    let setup : length (setup_text s) ≤ 400 = omega (arith, setup_length s) in
+    let conferences : length (flat_map conference_text s.conferences) ≤ 19 * length s.conferences =
+    records_most conference_text 19 s.conferences (λ k d within. conference_most _ (ok.setup.conferences.each k d within)) in
+    let users : length (flat_map user_text l.users) ≤ 400 * length l.users =
+    records_most user_text 400 l.users (λ k d within. user_most (length s.conferences) _ many (ok.users k d within)) in
+    omega (arith, ledger_length l (λ k d within. (ok.uploads k d within).digest), setup, conferences, users, ok.few_users, ok.few_uploads)
+
+pub fit : (l : Ledger) → IsLedger l → All IsByte (ledger_text l) × (length (ledger_text l) < 2 ^ 31)
+fit l ok = (text_bytes l ok, text_short l ok)
