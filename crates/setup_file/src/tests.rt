@@ -34,10 +34,11 @@ fn outcome(alloc: Global, text: &[u8]) -> Result<u8, SetupError> {
 }
 
 /// The example with another text in the line of this number, from 1, and this end behind each line.
-fn with_line(alloc: Global, number: usize, text: &[u8], end: &[u8]) -> Result<Bytes, Fail> {
+fn with_line(alloc: Global, number: u32, text: &[u8], end: &[u8]) -> Result<Bytes, Fail> {
     let mut file = Bytes::new(alloc);
     for (place, line) in LINES.iter().enumerate() {
-        file.add(if place + 1 == number { text } else { *line })?;
+        let is_other = place + 1 == number as usize;
+        file.add(if is_other { text } else { *line })?;
         file.add(end)?;
     }
     Ok(file)
@@ -145,10 +146,7 @@ fn names_the_rule_of_a_failing_line(rt: HostRuntime) -> Result<(), Fail> {
         (10, b"conference: 0 net - A", SetupRule::Order),
     ] {
         let file = with_line(rt.alloc(), line, text, b"\n")?;
-        let wanted = SetupError::Line {
-            line: line as u32,
-            rule,
-        };
+        let wanted = SetupError::Line { line, rule };
         assert_eq!(&rt; outcome(rt.alloc(), file.as_slice()), Err(wanted));
     }
     Ok(())
