@@ -1,12 +1,11 @@
 -- A conference's record is read exactly where its text stands.
-use Rattle.std.proofs.Common.{◌≡◌, ℕ, zero, suc, ◌+◌, ◌^◌, ◌≤◌, ◌<◌, Bool, true, false, cond, not, ◌&&◌, eqb, ltb, leb, ◌||◌, List, [], ◌∷◌, ◌++◌, length, get_or, map, drop, Result, Ok, refl, sym, ap, ◌∙◌, subst, inl, inr, arith, length-append}
+use Rattle.std.proofs.Common.{◌≡◌, ℕ, zero, suc, ◌+◌, ◌^◌, ◌≤◌, ◌<◌, Bool, true, false, cond, not, eqb, ltb, leb, ◌||◌, List, [], ◌∷◌, ◌++◌, length, get_or, drop, Ok, refl, sym, ap, ◌∙◌, subst, arith, length-append}
 use Rattle.std.specs.Prelude.{All, IsTrue}
 use Rattle.std.proofs.lemmas.Bool.{ltb-false, le-ltb, and_parts}
 use Rattle.std.proofs.lemmas.Bool.Decides.{nat_tests}
 use Rattle.byte_lists.specs.Byte.{IsByte}
 use Rattle.record_numbers.specs.Numbers.{u16_at, u16_text}
 use Rattle.record_numbers.proofs.NumberFronts.{u16_front}
-use Rattle.jam_records.specs.declared.damage.Damage.{Damage}
 use Rattle.jam_records.specs.declared.message.Kind.{Kind}
 use Rattle.jam_records.specs.declared.message.Kind.TheVariants.{Local, Echo, Net}
 use Rattle.damage_rules.proofs.KeptRules.{Kept, rules_kept, kept_rules}

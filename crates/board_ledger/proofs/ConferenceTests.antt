@@ -1,5 +1,5 @@
 -- The tests of a conference's record in the code are those of its rules.
-use Rattle.std.proofs.Common.{◌≡◌, ℕ, suc, ◌-◌, ◌<◌, leb, List, [], ◌∷◌, length, get_or, refl, sym, ap, ◌∙◌, arith}
+use Rattle.std.proofs.Common.{◌≡◌, ℕ, suc, ◌-◌, ◌<◌, leb, List, [], ◌∷◌, length, get_or, ap, ◌∙◌, arith}
 use Rattle.setup_file.specs.declared.conference.Conference.{Conference}
 use Rattle.board_ledger.specs.Conferences.{out_of_order}
 

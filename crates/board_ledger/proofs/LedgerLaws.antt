@@ -1,15 +1,15 @@
 -- Bytes are read as a ledger exactly where they are its text, from the laws on each kind of record.
-use Rattle.std.proofs.Common.{◌≡◌, ◌↔◌, ℕ, ◌+◌, ◌*◌, ◌^◌, ◌≤◌, ◌<◌, true, false, not, eqb, List, [], ◌∷◌, ◌++◌, length, drop, None, Some, Option, Result, Ok, Err, refl, sym, ap, ◌∙◌, subst, arith, append_assoc}
+use Rattle.std.proofs.Common.{◌≡◌, ◌↔◌, ℕ, ◌+◌, false, not, eqb, List, [], ◌∷◌, ◌++◌, length, drop, None, Some, Result, Ok, Err, refl, sym, ap, ◌∙◌, subst, arith}
 use Rattle.std.specs.Prelude.{All}
 use Rattle.std.specs.List.{flat_map}
 use Rattle.std.proofs.lemmas.Bool.{eqb-true}
-use Rattle.std.proofs.lemmas.List.{append-nil, nil_from_length, length-drop}
+use Rattle.std.proofs.lemmas.List.{append-nil, nil_from_length}
 use Rattle.std.proofs.lemmas.List.Elements.{All-drop, All-cons, All-nil}
 use Rattle.byte_lists.specs.Byte.{IsByte}
 use Rattle.jam_records.specs.declared.damage.Damage.{Damage}
 use Rattle.jam_records.specs.declared.damage.DamageRule.TheVariants.{Rest}
-use Rattle.damage_rules.specs.Rules.{by_rules, ◌>>=◌, damage_of}
-use Rattle.damage_rules.proofs.KeptRules.{rules_kept, kept_rules, bind_ok, ok_is}
+use Rattle.damage_rules.specs.Rules.{damage_of}
+use Rattle.damage_rules.proofs.KeptRules.{rules_kept, kept_rules, ok_is}
 use Rattle.setup_file.specs.Valid.{IsSetup, IsSetupConference, AreSetupConferences}
 use Rattle.setup_file.specs.declared.conference.Conference.{Conference}
 use Rattle.setup_file.specs.declared.setup.Setup.{Setup}
@@ -26,9 +26,9 @@ use Rattle.board_ledger.specs.declared.upload.UploadRecord.{UploadRecord}
 use Rattle.board_ledger.specs.declared.user.User.{User}
 use Rattle.board_ledger.proofs.BoolTests.{passes}
 use Rattle.board_ledger.proofs.ConferenceLaws.{ConferenceRight, conference_takes, conference_again, order_rises, rising_order}
-use Rattle.board_ledger.proofs.OpeningLaws.{fixed_of, OpeningTaken, opening_takes, opening_in, opening_again, opening_behind}
-use Rattle.board_ledger.proofs.ReadingSteps.{conferences_in, users_in, uploads_in, ledger_in, ledger_parts, at_end}
-use Rattle.board_ledger.proofs.RecordLaws.{Taken, records_take, records_again, each_both, both_each}
+use Rattle.board_ledger.proofs.OpeningLaws.{fixed_of, opening_takes, opening_in, opening_again, opening_behind}
+use Rattle.board_ledger.proofs.ReadingSteps.{conferences_in, users_in, uploads_in, ledger_parts, at_end}
+use Rattle.board_ledger.proofs.RecordLaws.{records_take, records_again, each_both, both_each}
 use Rattle.board_ledger.proofs.UploadLaws.{UploadRight, upload_takes, upload_again}
 use Rattle.board_ledger.proofs.UserLaws.{UserRight, user_takes, user_again}
 

@@ -1,35 +1,33 @@
 -- Record 0 is read exactly where its text stands.
-use Rattle.std.proofs.Common.{◌≡◌, ℕ, zero, suc, ◌+◌, ◌*◌, ◌^◌, ◌≤◌, ◌<◌, Bool, true, false, not, ◌&&◌, ◌||◌, eqb, ltb, List, [], ◌∷◌, ◌++◌, length, get_or, take, drop, Result, Ok, refl, sym, ap, ◌∙◌, subst, arith, length-append, append_assoc}
+use Rattle.std.proofs.Common.{◌≡◌, ℕ, zero, suc, ◌+◌, ◌*◌, ◌^◌, ◌≤◌, ◌<◌, true, false, not, ◌&&◌, ◌||◌, eqb, ltb, List, [], ◌∷◌, ◌++◌, length, get_or, take, drop, Ok, refl, sym, ap, ◌∙◌, subst, arith, length-append, append_assoc}
 use Rattle.std.specs.Prelude.{All, IsTrue}
 use Rattle.std.specs.List.{flat_map}
 use Rattle.std.specs.Str.{bytes_eq}
 use Rattle.std.specs.Cmp.Lexicographic.{bytes_decides}
 use Rattle.std.proofs.lemmas.Bool.{ltb-false, le-ltb, and_parts}
 use Rattle.std.proofs.lemmas.Bool.Decides.{nat_tests}
-use Rattle.std.proofs.lemmas.List.{take-append-drop, drop_at, take_at}
+use Rattle.std.proofs.lemmas.List.{take-append-drop, drop_at}
 use Rattle.std.proofs.lemmas.List.Elements.{All-cons, All-nil}
 use Rattle.byteorder.specs.Endian.{little_bytes}
 use Rattle.byte_lists.specs.Byte.{IsByte}
 use Rattle.record_numbers.specs.Numbers.{u16_at, u32_at, u32s_text, IsU32}
 use Rattle.record_numbers.proofs.NumberFronts.{u32_small}
-use Rattle.jam_records.specs.declared.damage.Damage.{Damage}
 use Rattle.damage_rules.proofs.KeptRules.{Kept, both_kept, kept_both, rules_kept, kept_rules}
 use Rattle.setup_file.specs.Texts.{is_board_text, is_user_name, is_bbsid}
 use Rattle.setup_file.specs.Zones.{are_zones}
 use Rattle.setup_file.specs.Valid.{IsSetup}
 use Rattle.setup_file.specs.declared.setup.Setup.{Setup}
-use Rattle.board_ledger.specs.Texts.{sized_text, text_at, text_end, u16s_at, u32s_at}
+use Rattle.board_ledger.specs.Texts.{sized_text, text_at, text_end, u16s_at}
 use Rattle.board_ledger.specs.Opening.{magic, fixed_text, setup_text, opening_text, places_of, setup_of, opening_of, wrong_counts, wrong_texts, fixed_rules, setup_rules, opening_at}
 use Rattle.board_ledger.specs.Ledger.{with_conferences}
 use Rattle.board_ledger.specs.Valid.{IsLedger}
 use Rattle.board_ledger.specs.declared.ledger.Ledger.{Ledger}
 use Rattle.board_ledger.specs.declared.opening.Opening.{Opening}
-use Rattle.board_ledger.specs.declared.opening.Places.{Places}
 use Rattle.board_ledger.proofs.BoolTests.{passes, both_pass, both_false, equal, unequal}
 use Rattle.board_ledger.proofs.OpeningTests.{PlacesFit, places_fit, CountsFit, counts_fit}
 use Rattle.board_ledger.proofs.SetupBounds.{board_small, user_small, bbsid_small, zones_few, zones_small}
 use Rattle.board_ledger.proofs.SizeLaws.{setup_length}
-use Rattle.board_ledger.proofs.TextLaws.{glue, split, text_front, TextStands, text_again, u16s_front, u32s_front, u16s_again, u32s_again}
+use Rattle.board_ledger.proofs.TextLaws.{glue, split, text_front, text_again, u16s_front, u32s_front, u16s_again, u32s_again}
 
 -- the first 24 bytes by their numbers
 abbrev pub fixed_of : ℕ → ℕ → ℕ → ℕ → ℕ → ℕ → List ℕ

@@ -1,5 +1,5 @@
 -- How long the texts of a valid setup and the names of valid users are.
-use Rattle.std.proofs.Common.{◌≡◌, ℕ, ◌^◌, ◌≤◌, ◌<◌, Bool, true, ◌&&◌, leb, List, length, arith}
+use Rattle.std.proofs.Common.{◌≡◌, ℕ, ◌^◌, ◌≤◌, ◌<◌, true, ◌&&◌, leb, List, length, arith}
 use Rattle.std.specs.Prelude.{IsTrue, All}
 use Rattle.std.specs.List.{list_all}
 use Rattle.std.proofs.lemmas.Bool.{leb-true, and_parts}

@@ -1,5 +1,5 @@
 -- An upload record is read exactly where its text stands.
-use Rattle.std.proofs.Common.{◌≡◌, ℕ, ◌+◌, ◌^◌, ◌≤◌, ◌<◌, false, eqb, ltb, ◌||◌, List, [], ◌∷◌, ◌++◌, length, take, drop, Result, Ok, refl, sym, ap, ◌∙◌, subst, arith, length-append}
+use Rattle.std.proofs.Common.{◌≡◌, ℕ, ◌+◌, ◌^◌, ◌≤◌, ◌<◌, false, eqb, ltb, List, ◌++◌, length, take, drop, Ok, refl, sym, ap, ◌∙◌, subst, arith, length-append}
 use Rattle.std.specs.Prelude.{All}
 use Rattle.std.proofs.lemmas.Bool.{ltb-false, le-ltb}
 use Rattle.std.proofs.lemmas.Bool.Decides.{nat_tests}
@@ -8,7 +8,6 @@ use Rattle.std.proofs.lemmas.List.Elements.{All-drop, All-take}
 use Rattle.byte_lists.specs.Byte.{IsByte}
 use Rattle.record_numbers.specs.Numbers.{u16_at, u32_at, u16_text, u32_text}
 use Rattle.record_numbers.proofs.NumberFronts.{u16_front, u32_front}
-use Rattle.jam_records.specs.declared.damage.Damage.{Damage}
 use Rattle.damage_rules.proofs.KeptRules.{Kept, rules_kept, kept_rules}
 use Rattle.board_ledger.specs.Uploads.{upload_text, upload_of, wrong_user, too_many, is_repeated, upload_rules, upload_at, IsUpload}
 use Rattle.board_ledger.specs.declared.upload.UploadRecord.{UploadRecord}

@@ -1,5 +1,5 @@
 -- The tests of an upload record in the code are those of its rules.
-use Rattle.std.proofs.Common.{◌≡◌, ℕ, ◌+◌, ◌^◌, ◌<◌, ◌≤◌, Bool, true, ◌&&◌, eqb, ltb, List, [], ◌∷◌, ◌++◌, length, take, drop, Result, Ok, refl, sym, ap, ◌∙◌, arith}
+use Rattle.std.proofs.Common.{◌≡◌, ℕ, ◌+◌, ◌^◌, ◌<◌, ◌≤◌, Bool, ◌&&◌, eqb, ltb, List, [], ◌∷◌, ◌++◌, length, take, drop, refl, sym, ap, ◌∙◌, arith}
 use Rattle.std.specs.Prelude.{All}
 use Rattle.std.specs.List.{list_any}
 use Rattle.std.specs.Str.{bytes_eq}
@@ -8,10 +8,9 @@ use Rattle.std.proofs.lemmas.Bool.{eqb-true, eq-eqb, and_parts}
 use Rattle.std.proofs.lemmas.List.Elements.{All-drop}
 use Rattle.byteorder.specs.Endian.{little_number}
 use Rattle.byte_lists.specs.Byte.{IsByte}
-use Rattle.record_numbers.specs.Numbers.{u16_at, u16_text}
+use Rattle.record_numbers.specs.Numbers.{u16_text}
 use Rattle.record_numbers.proofs.NumberFronts.{u16_front}
 use Rattle.record_numbers.proofs.NumberLemmas.{number_of_bytes}
-use Rattle.jam_records.specs.declared.damage.Damage.{Damage}
 use Rattle.jam_records.specs.declared.damage.DamageRule.TheVariants.{Short, User as NoUser, Twice, Counts as WrongCounts}
 use Rattle.damage_rules.specs.Rules.{by_rules}
 use Rattle.board_ledger.specs.Uploads.{upload_of, wrong_user, too_many, is_repeated, upload_rules, upload_at}

@@ -1,5 +1,5 @@
 -- What a valid ledger is: the rules of a board that speak of its setup, its users and its upload records.
-use Rattle.std.specs.Prelude.{◌≡◌, ℕ, ◌≤◌, List, [], length, All, false}
+use Rattle.std.specs.Prelude.{◌≡◌, ◌≤◌, List, [], length, All, false}
 use Rattle.record_numbers.specs.Numbers.{IsU32}
 use Rattle.setup_file.specs.Valid.{IsSetup}
 use Rattle.board_ledger.specs.Records.{EachBehind}

@@ -1,4 +1,4 @@
-use Rattle.std.proofs.Common.{arith, ◌∙◌, sym, ap}
+use Rattle.std.proofs.Common.{arith}
 use Rattle.std.proofs.lemmas.Result.{err_from_is_err_and}
 use Rattle.board_ledger.specs.Rules.{told}
 use Rattle.board_ledger.proofs.OpeningTests.{fixed_fails, behind_fails, opening_read, fixed_counts}

@@ -1,4 +1,4 @@
-use Rattle.std.proofs.Common.{ap, arith, ◌∙◌}
+use Rattle.std.proofs.Common.{arith}
 use Rattle.board_ledger.proofs.OpeningTests.{same_places}
 use Rattle.board_ledger.proofs.opening.setup_of.Goals as goal
 

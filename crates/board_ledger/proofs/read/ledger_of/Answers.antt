@@ -1,4 +1,4 @@
-use Rattle.std.proofs.Common.{◌≡◌, ◌+◌, ◌∙◌, [], ◌∷◌, List, ℕ, Bool, true, false, not, eqb, length, take, drop, sym, ap, subst, Ok, arith}
+use Rattle.std.proofs.Common.{◌≡◌, ◌+◌, ◌∙◌, [], ◌∷◌, List, ℕ, Bool, true, false, not, eqb, length, sym, ap, subst, Ok, arith}
 use Rattle.std.proofs.lemmas.List.{take_rest}
 use Rattle.std.proofs.lemmas.Result.{err_from_is_err_and}
 use Rattle.jam_records.specs.declared.damage.DamageRule.TheVariants.{Rest}
@@ -9,8 +9,6 @@ use Rattle.board_ledger.specs.Records.{records_at}
 use Rattle.board_ledger.specs.Conferences.{conference_at}
 use Rattle.board_ledger.specs.Uploads.{upload_at}
 use Rattle.board_ledger.specs.Ledger.{ledger_with}
-use Rattle.board_ledger.specs.declared.ledger.Ledger.{Ledger}
-use Rattle.board_ledger.specs.declared.opening.Opening.{Opening}
 use Rattle.board_ledger.proofs.ReadingSteps.{opening_fails, conferences_fail, users_fail, uploads_fail, at_end}
 use Rattle.board_ledger.proofs.read.ledger_of.Goals as goal
 

@@ -1,4 +1,4 @@
-use Rattle.std.proofs.Common.{◌≡◌, ◌+◌, ◌∙◌, ◌++◌, ◌∷◌, [], ap, sym, length, arith}
+use Rattle.std.proofs.Common.{◌+◌, ◌∙◌, ◌++◌, ◌∷◌, [], ap, sym, length}
 use Rattle.std.proofs.lemmas.List.{length_push}
 use Rattle.board_ledger.specs.Texts.{u32s_at}
 use Rattle.board_ledger.proofs.TextLaws.{u32s_more}

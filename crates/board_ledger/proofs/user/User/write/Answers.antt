@@ -1,7 +1,6 @@
-use Rattle.std.proofs.Common.{◌≡◌, ℕ, Bool, true, false, cond, refl, List, [], ◌∷◌, ◌++◌, ap, ◌∙◌}
+use Rattle.std.proofs.Common.{◌≡◌, Bool, true, false, cond, refl, [], ◌∷◌, ◌++◌, ap, ◌∙◌}
 use mir.Val.{bool_byte}
-use Rattle.record_numbers.specs.Numbers.{u32_text, u32s_text}
-use Rattle.board_ledger.specs.Texts.{sized_text, u64_text}
+use Rattle.board_ledger.specs.Texts.{sized_text}
 use Rattle.board_ledger.specs.Users.{user_text}
 use Rattle.board_ledger.proofs.WritingLaws.{on_ok, six_parts}
 use Rattle.board_ledger.proofs.user.User.write.Goals as goal
