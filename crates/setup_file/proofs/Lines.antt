@@ -19,9 +19,6 @@ pub lines_numbered : (bytes : List ℕ) → length bytes < 2 ^ 31 → IsNumbered
 lines_numbered bytes few = omega (arith, parts_length (slice_split (λ b. nat_eq b 10) bytes), length-slice_split (λ b. nat_eq b 10) bytes, count_by-le-length (λ b. nat_eq b 10) bytes)
 
 -- lines that are taken
-pub nothing_taken : (all : List (List ℕ)) (number : ℕ) → Ahead all number all number []
-nothing_taken all number = record { whole = refl; count = omega arith }
-
 pub more_taken : (all left after taken more : List (List ℕ)) (number at next : ℕ) → Ahead all number left at taken → Ahead left at after next more → Ahead all number after next (taken ++ more)
 more_taken all left after taken more number at next x y = record {
   whole = x.whole ∙ (ap (λ r. taken ++ r) y.whole ∙ sym (append_assoc taken more after));
@@ -31,17 +28,8 @@ more_taken all left after taken more number at next x y = record {
 pub left_numbered : (all left taken : List (List ℕ)) (number at : ℕ) → IsNumbered all number → Ahead all number left at taken → IsNumbered left at
 left_numbered all left taken number at fits x = omega (arith, fits, x.count, ap length x.whole, length-append taken left)
 
-pub left_shorter : (all left : List (List ℕ)) (line : List ℕ) (number at : ℕ) → Ahead all number left at (line ∷ []) → length left < length all
-left_shorter all left line number at x = omega (arith, ap length x.whole)
-
 pub skip_one : (skipped : List (List ℕ)) (line : List ℕ) → AllSkipped skipped → is_skipped line ≡ true → AllSkipped (skipped ++ line ∷ [])
 skip_one skipped line h e = All-push (λ (l : List ℕ). is_skipped l ≡ true) skipped line h e
-
-pub starts_at : (all rest : List (List ℕ)) (line : List ℕ) → all ≡ line ∷ rest → is_skipped line ≡ false → StartsCounted all
-starts_at all rest line e h = subst StartsCounted (sym e) h
-
-pub starts_nowhere : (all : List (List ℕ)) → all ≡ [] → StartsCounted all
-starts_nowhere all e = subst StartsCounted (sym e) tt
 
 pub starts_counted : (all rest : List (List ℕ)) (line : List ℕ) → StartsCounted all → all ≡ line ∷ rest → is_skipped line ≡ false
 starts_counted all rest line h e = subst StartsCounted e h

@@ -26,7 +26,9 @@ pub struct Parts<'a> {
 
 /// The number that a word says, or None where it isn't 1 to 5 digits of at most 65,535.
 fn place_number(word: &[u8]) -> Option<u16>
-    ensures { MatchOption result (is_place_number word.now ≡ false) (λ n. (is_place_number word.now ≡ true) × (n ≡ number_in word.now)) }
+    ensures { MatchOption result
+        (is_place_number word.now ≡ false)
+        (λ n. (is_place_number word.now ≡ true) × (n ≡ number_in word.now)) }
 {
     match number_of(word) {
         Some(number) if number <= 65_535 => Some(number as u16),

@@ -24,8 +24,11 @@ pub struct Head<'a> {
 fn value_of<'a>(key: Key, start: Unread<'a>) -> Result<(&'a [u8], Unread<'a>), SetupError>
     requires { IsNumbered (lines start.text.now) start.line }
     ensures numbered { IfOk result (λ found. IsNumbered (lines found.1.text.now) found.1.line) }
-    ensures value { (all kept : List (List ℕ)) → slice_get keys (length kept) ≡ Some key → Kept all (lines start.entry.text.now) start.entry.line kept
-        → MatchResult result (λ found. OneMore all kept (lines found.1.text.now) found.1.line (λ line. found.0.now ≡ value_behind (key_text key) line)) (FaultOrMemory (LinesFault all)) }
+    ensures value { (all kept : List (List ℕ)) → slice_get keys (length kept) ≡ Some key
+        → Kept all (lines start.entry.text.now) start.entry.line kept
+        → MatchResult result
+        (λ found. OneMore all kept (lines found.1.text.now) found.1.line (λ line. found.0.now ≡ value_behind (key_text key) line))
+        (FaultOrMemory (LinesFault all)) }
 {
     let here = start.past_skipped();
     let Some((line, after)) = here.next() else {
@@ -42,7 +45,9 @@ pub fn head_of<'a>(start: Unread<'a>) -> Result<(Head<'a>, Unread<'a>), SetupErr
     requires { IsNumbered (lines start.text.now) start.line }
     ensures numbered { IfOk result (λ found. IsNumbered (lines found.1.text.now) found.1.line) }
     ensures head { (all : List (List ℕ)) → Kept all (lines start.entry.text.now) start.entry.line []
-        → MatchResult result (λ found. HeadTaken all found.0 (lines found.1.text.now) found.1.line) (FaultOrMemory (LinesFault all)) }
+        → MatchResult result
+        (λ found. HeadTaken all found.0 (lines found.1.text.now) found.1.line)
+        (FaultOrMemory (LinesFault all)) }
 {
     let (board, behind_board) = value_of(Key::Board, start)?;
     let (city, behind_city) = value_of(Key::City, behind_board)?;

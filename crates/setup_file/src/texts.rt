@@ -1,6 +1,9 @@
 ghost use Rattle.std.specs.Prelude.{◌≡◌, nat_le};
 ghost use Rattle.std.specs.List.{list_all};
-ghost use Rattle.setup_file.specs.Texts.{is_printed as printed_test, is_board_text as board_text_test, is_name_byte as name_byte_test, has_bare_ends as bare_ends_test, is_user_name as user_name_test, is_letter_or_digit as letter_or_digit_test, is_bbsid as bbsid_test, is_conference_name as conference_name_test};
+ghost use Rattle.setup_file.specs.Texts.{is_printed as printed_test, is_board_text as board_text_test};
+ghost use Rattle.setup_file.specs.Texts.{is_name_byte as name_byte_test, has_bare_ends as bare_ends_test, is_user_name as user_name_test};
+ghost use Rattle.setup_file.specs.Texts.{is_letter_or_digit as letter_or_digit_test, is_bbsid as bbsid_test};
+ghost use Rattle.setup_file.specs.Texts.{is_conference_name as conference_name_test};
 
 /// Whether each byte is from 20h to 7Eh.
 fn is_printed(text: &[u8]) -> bool

@@ -27,7 +27,9 @@ impl<'a> Unread<'a> {
     /// The first line, and what is then unread.
     pub fn next(self) -> Option<(&'a [u8], Unread<'a>)>
         requires { IsNumbered (lines self.text.now) self.line }
-        ensures { MatchOption result (lines self.entry.text.now ≡ []) (λ found. Ahead (lines self.entry.text.now) self.entry.line (lines found.1.text.now) found.1.line (found.0.now ∷ [])) }
+        ensures { MatchOption result
+            (lines self.entry.text.now ≡ [])
+            (λ found. Ahead (lines self.entry.text.now) self.entry.line (lines found.1.text.now) found.1.line (found.0.now ∷ [])) }
     {
         let (line, text) = next_line(self.text)?;
         let after = Unread {

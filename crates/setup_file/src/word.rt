@@ -13,7 +13,9 @@ fn trimmed_spaces(text: &[u8]) -> &[u8]
 
 /// The value of a line, without the spaces at its ends, or None where the line doesn't begin with the key.
 pub fn value_behind<'a>(key: &[u8], line: &'a [u8]) -> Option<&'a [u8]>
-    ensures { MatchOption result (begins_with key.now line.now ≡ false) (λ value. (begins_with key.now line.now ≡ true) × (value.now ≡ value_in key.now line.now)) }
+    ensures { MatchOption result
+        (begins_with key.now line.now ≡ false)
+        (λ value. (begins_with key.now line.now ≡ true) × (value.now ≡ value_in key.now line.now)) }
 {
     let rest = line.strip_prefix(key)?;
     Some(trimmed_spaces(rest))
@@ -49,7 +51,9 @@ pub fn next_word(text: &[u8]) -> Option<(&[u8], &[u8])>
 
 /// The number that 1 to 5 digits spell, or None where the word isn't that.
 pub fn number_of(word: &[u8]) -> Option<u32>
-    ensures { MatchOption result (is_number word.now ≡ false) (λ n. (is_number word.now ≡ true) × (n ≡ number_in word.now)) }
+    ensures { MatchOption result
+        (is_number word.now ≡ false)
+        (λ n. (is_number word.now ≡ true) × (n ≡ number_in word.now)) }
 {
     if word.len() > 5 {
         return None;

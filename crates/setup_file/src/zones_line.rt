@@ -14,7 +14,9 @@ use std::alloc::{AllocError, Global};
 
 /// The zone that a word says, or None where it isn't 1 to 5 digits of a number from 1 to 32,767.
 fn zone_of(word: &[u8]) -> Option<u16>
-    ensures { MatchOption result ((is_number word.now && is_zone (number_in word.now)) ≡ false) (λ zone. (is_number word.now ≡ true) × (zone ≡ number_in word.now)) }
+    ensures { MatchOption result
+        ((is_number word.now && is_zone (number_in word.now)) ≡ false)
+        (λ zone. (is_number word.now ≡ true) × (zone ≡ number_in word.now)) }
 {
     match number_of(word) {
         Some(number) if 1 <= number && number <= 32_767 => Some(number as u16),
@@ -24,7 +26,9 @@ fn zone_of(word: &[u8]) -> Option<u16>
 
 /// The zones that a value says, or None where it says none.
 fn zones_in(alloc: Global, value: &[u8]) -> Result<Option<Zones>, AllocError>
-    ensures { IfOk result (λ found. MatchOption found (zones_fit value.now ≡ false) (λ zones. (zones_fit value.now ≡ true) × (zones ≡ numbers_in value.now))) }
+    ensures { IfOk result (λ found. MatchOption found
+        (zones_fit value.now ≡ false)
+        (λ zones. (zones_fit value.now ≡ true) × (zones ≡ numbers_in value.now))) }
 {
     let mut zones = Zones::new(alloc);
     let mut here = value;
@@ -70,7 +74,9 @@ pub fn zones_of<'a>(alloc: Global, start: Unread<'a>) -> Result<(Zones, Unread<'
     requires { IsNumbered (lines start.text.now) start.line }
     ensures numbered { IfOk result (λ found. IsNumbered (lines found.1.text.now) found.1.line) }
     ensures zones { (all kept : List (List ℕ)) → length kept ≡ 6 → Kept all (lines start.entry.text.now) start.entry.line kept
-        → MatchResult result (λ found. OneMore all kept (lines found.1.text.now) found.1.line (λ line. found.0 ≡ numbers_in (value_in zones_key line))) (FaultOrMemory (LinesFault all)) }
+        → MatchResult result
+        (λ found. OneMore all kept (lines found.1.text.now) found.1.line (λ line. found.0 ≡ numbers_in (value_in zones_key line)))
+        (FaultOrMemory (LinesFault all)) }
 {
     let here = start.past_skipped();
     let Some((line, after)) = here.next() else {
