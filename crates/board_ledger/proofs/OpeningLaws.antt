@@ -272,16 +272,26 @@ opening_again l rest ok =
     let end : (places_of whole).end ≤ length whole = omega (arith, b.end, size) in
     let front : Kept (fixed_rules whole) = (
       le-ltb _ _ (omega (arith, size)),
-      (ap not g.letters,
-        (unequal (u16_at 4 whole) 1 g.version,
-          (counts_right whole counts,
-            (le-ltb _ _ (omega (arith, g.twenty, fit.serial)), tt)))),
+      (
+        ap not g.letters,
+        (
+          unequal (u16_at 4 whole) 1 g.version,
+          (
+            counts_right whole counts,
+            (le-ltb _ _ (omega (arith, g.twenty, fit.serial)), tt),
+          ),
+        ),
+      ),
     ) in
     let behind : Kept (setup_rules whole (setup_of whole)) = (
       le-ltb _ _ end,
-      (ap wrong_texts b.is ∙ texts_right (with_conferences s []) (same_fit s fit),
-        (ap (λ (x : Setup). not (is_bbsid x.bbsid)) b.is ∙ ap not fit.bbsid,
-          (ap (λ (x : Setup). not (are_zones x.zones)) b.is ∙ ap not fit.zones, tt))),
+      (
+        ap wrong_texts b.is ∙ texts_right (with_conferences s []) (same_fit s fit),
+        (
+          ap (λ (x : Setup). not (is_bbsid x.bbsid)) b.is ∙ ap not fit.bbsid,
+          (ap (λ (x : Setup). not (are_zones x.zones)) b.is ∙ ap not fit.zones, tt),
+        ),
+      ),
     ) in
     kept_rules 0 0 (fixed_rules whole ++ setup_rules whole (setup_of whole)) (opening_of whole) (kept_both (fixed_rules whole) (setup_rules whole (setup_of whole)) front behind)
     ∙ λ i. Ok (opening_made (b.is i) (g.sixteen i) (g.six i) (g.eight i) (g.twelve i) (b.end i))

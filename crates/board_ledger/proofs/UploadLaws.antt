@@ -84,8 +84,12 @@ upload_again first users before r rest few right =
     let user : wrong_user users r ≡ false = both_false (eqb r.user 0) (ltb users r.user) (not_zero r.user ok.some) (le-ltb _ _ ok.user) in
     let kept : Kept (upload_rules users before whole) = (
       le-ltb _ _ long,
-      (ap (wrong_user users) is ∙ user,
-        (ap (is_repeated before) is ∙ right.1,
-          (ap (λ (x : UploadRecord). too_many x.counts) is ∙ le-ltb _ _ ok.counts, tt))),
+      (
+        ap (wrong_user users) is ∙ user,
+        (
+          ap (is_repeated before) is ∙ right.1,
+          (ap (λ (x : UploadRecord). too_many x.counts) is ∙ le-ltb _ _ ok.counts, tt),
+        ),
+      ),
     ) in
     kept_rules 0 (first + length before) (upload_rules users before whole) (upload_of whole, 42) kept ∙ λ i. Ok (is i, sym size i)

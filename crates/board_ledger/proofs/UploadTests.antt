@@ -34,15 +34,15 @@ same_pair : (e r : UploadRecord) → e.user < 2 ^ 16 → r.user < 2 ^ 16 → byt
 same_pair e r small few =
     same_tests (bytes_eq (pair_of e) (pair_of r)) (eqb e.user r.user && bytes_eq e.digest r.digest)
     (λ same.
-      let texts : pair_of e ≡ pair_of r = (bytes_decides (pair_of e) (pair_of r)).0 same in
-      let users : e.user ≡ r.user = sym (number_of_bytes 2 e.user e.digest small) ∙ (ap (little_number 2) texts ∙ number_of_bytes 2 r.user r.digest few) in
-      let digests : e.digest ≡ r.digest = ap (drop 2) texts in
-      both_pass (eqb e.user r.user) (bytes_eq e.digest r.digest) (eq-eqb e.user r.user users) ((bytes_decides e.digest r.digest).1 digests))
+    let texts : pair_of e ≡ pair_of r = (bytes_decides (pair_of e) (pair_of r)).0 same in
+    let users : e.user ≡ r.user = sym (number_of_bytes 2 e.user e.digest small) ∙ (ap (little_number 2) texts ∙ number_of_bytes 2 r.user r.digest few) in
+    let digests : e.digest ≡ r.digest = ap (drop 2) texts in
+    both_pass (eqb e.user r.user) (bytes_eq e.digest r.digest) (eq-eqb e.user r.user users) ((bytes_decides e.digest r.digest).1 digests))
     (λ same.
-      let parts = and_parts (eqb e.user r.user) (bytes_eq e.digest r.digest) same in
-      let users : e.user ≡ r.user = eqb-true e.user r.user parts.0 in
-      let digests : e.digest ≡ r.digest = (bytes_decides e.digest r.digest).0 parts.1 in
-      (bytes_decides (pair_of e) (pair_of r)).1 (ap (λ n. u16_text n ++ e.digest) users ∙ ap (λ xs. u16_text r.user ++ xs) digests))
+    let parts = and_parts (eqb e.user r.user) (bytes_eq e.digest r.digest) same in
+    let users : e.user ≡ r.user = eqb-true e.user r.user parts.0 in
+    let digests : e.digest ≡ r.digest = (bytes_decides e.digest r.digest).0 parts.1 in
+    (bytes_decides (pair_of e) (pair_of r)).1 (ap (λ n. u16_text n ++ e.digest) users ∙ ap (λ xs. u16_text r.user ++ xs) digests))
 
 pub pairs_met : (before : List UploadRecord) (r : UploadRecord) → All (λ e. e.user < 2 ^ 16) before → r.user < 2 ^ 16 → list_any (λ e. bytes_eq (pair_of e) (pair_of r)) before ≡ is_repeated before r
 pairs_met [] r fit few = refl

@@ -167,10 +167,18 @@ user_again count before u rest few right =
     let long : user_end count whole ≤ length whole = omega (arith, length-append (user_text u) rest, end) in
     let kept : Kept (user_rules count before whole) = (
       le-ltb _ _ long,
-      (ap (λ (x : User). not (is_user_name x.name)) back.is ∙ ap not ok.name,
-        (ap (λ (x : User). is_taken before x.name) back.is ∙ right.1,
-          (le-ltb _ _ back.flag,
-            (ap (λ (x : User). not (right_members count x.members)) back.is ∙ ap not ok.members,
-              (ap (λ (x : User). not (right_offer x)) back.is ∙ ap not ok.offer, tt))))),
+      (
+        ap (λ (x : User). not (is_user_name x.name)) back.is ∙ ap not ok.name,
+        (
+          ap (λ (x : User). is_taken before x.name) back.is ∙ right.1,
+          (
+            le-ltb _ _ back.flag,
+            (
+              ap (λ (x : User). not (right_members count x.members)) back.is ∙ ap not ok.members,
+              (ap (λ (x : User). not (right_offer x)) back.is ∙ ap not ok.offer, tt),
+            ),
+          ),
+        ),
+      ),
     ) in
     kept_rules 0 (1 + count + length before) (user_rules count before whole) (user_of count whole, user_end count whole) kept ∙ λ i. Ok (back.is i, end i)

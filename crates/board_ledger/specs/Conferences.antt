@@ -16,8 +16,8 @@ kind_number Local = 0
 kind_number Echo = 1
 kind_number Net = 2
 
-abbrev pub kind_of : ℕ → Kind
-kind_of n = if n == 0 then Local else if n == 1 then Echo else Net
+abbrev pub kind_of_number : ℕ → Kind
+kind_of_number n = if n == 0 then Local else if n == 1 then Echo else Net
 
 -- bit 0 readonly, bit 1 private
 abbrev pub rules_number : Conference → ℕ
@@ -26,10 +26,10 @@ rules_number c = (if c.readonly then 1 else 0) + (if c.private then 2 else 0)
 unfoldable pub conference_text : Conference → List ℕ
 conference_text c = u16_text c.number ++ (kind_number c.kind ∷ rules_number c ∷ sized_text c.name)
 
-unfoldable pub conference_of : List ℕ → Conference
-conference_of bytes = record {
+unfoldable pub conference_fields : List ℕ → Conference
+conference_fields bytes = record {
   number = u16_at 0 bytes;
-  kind = kind_of (slice_index bytes 2);
+  kind = kind_of_number (slice_index bytes 2);
   readonly = slice_index bytes 3 == 1 || slice_index bytes 3 == 3;
   private = slice_index bytes 3 == 2 || slice_index bytes 3 == 3;
   name = text_at 4 bytes;
@@ -42,8 +42,8 @@ out_of_order (c ∷ []) number = nat_le number c.number
 out_of_order (c ∷ d ∷ before) number = out_of_order (d ∷ before) number
 
 -- the rules of the record at the front, behind those before
-unfoldable pub conference_rules : List Conference → List ℕ → Rules
-conference_rules before bytes =
+unfoldable pub conference_record_rules : List Conference → List ℕ → Rules
+conference_record_rules before bytes =
     (Short, nat_lt (length bytes) (text_end 4 bytes))
     ∷ (WrongKind, nat_lt 2 (slice_index bytes 2))
     ∷ (WrongRules, nat_lt 3 (slice_index bytes 3))
@@ -53,4 +53,4 @@ conference_rules before bytes =
 
 -- the conference at the front, and the length of its record
 unfoldable pub conference_at : List Conference → List ℕ → Result (Conference × ℕ) Damage
-conference_at before bytes = by_rules 0 (1 + length before) (conference_rules before bytes) (conference_of bytes, text_end 4 bytes)
+conference_at before bytes = by_rules 0 (1 + length before) (conference_record_rules before bytes) (conference_fields bytes, text_end 4 bytes)

@@ -2,7 +2,7 @@ ghost use Rattle.std.specs.Prelude.{◌≡◌, ◌≤◌, ◌<◌, ◌+◌, ◌+
 ghost use Rattle.std.specs.List.{flat_map};
 ghost use Rattle.board_ledger.specs.Rules.{Gives};
 ghost use Rattle.board_ledger.specs.Records.{records_at};
-ghost use Rattle.board_ledger.specs.Conferences.{kind_number as number_of_kind, rules_number as number_of_rules, kind_of as kind_in, conference_text, out_of_order as order_wrong, conference_at};
+ghost use Rattle.board_ledger.specs.Conferences.{kind_number as number_of_kind, rules_number as number_of_rules, kind_of_number as kind_in, conference_text, out_of_order as order_wrong, conference_at};
 ghost use Rattle.setup_file.specs.Valid.{IsSetupConference};
 
 use crate::damaged::damaged;
@@ -15,7 +15,7 @@ use setup_file::{Conference, Conferences, is_conference_name};
 use std::alloc::{AllocError, Global};
 
 /// The kind of a number: 0 local, 1 echo, and else net.
-fn kind_of(number: u8) -> Kind
+fn kind_of_number(number: u8) -> Kind
     ensures { result ≡ kind_in number }
 {
     match number {
@@ -56,7 +56,7 @@ fn out_of_order(before: &[Conference], number: u16) -> bool
 }
 
 /// The conference at the front, behind those before, and the length of its record.
-#[tactic(auto, unfolding(crate::specs::Conferences::conference_at, crate::specs::Conferences::conference_rules, crate::specs::Conferences::conference_of, crate::specs::Texts::text_end))]
+#[tactic(auto, unfolding(crate::specs::Conferences::conference_at, crate::specs::Conferences::conference_record_rules, crate::specs::Conferences::conference_fields, crate::specs::Texts::text_end))]
 fn conference_of(
     alloc: Global,
     before: &[Conference],
@@ -89,7 +89,7 @@ fn conference_of(
     }
     let conference = Conference {
         number,
-        kind: kind_of(kind),
+        kind: kind_of_number(kind),
         readonly: rules == 1 || rules == 3,
         private: rules == 2 || rules == 3,
         name: Bytes::from_slice(alloc, name)?,

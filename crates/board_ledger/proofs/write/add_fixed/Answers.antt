@@ -26,8 +26,8 @@ unfolding fixed_text
 returns c =
     let l : Ledger = c.args.ledger.now in
     on_ok c.add-3.result _ _ c.add-3.ensures.ok (λ last.
-      three_parts c.args.out.now c.add.new.self c.add-2.new.self c.add-3.new.self magic
-      (flat_map (little_bytes 2) (1 ∷ length l.setup.conferences ∷ length l.users ∷ length l.setup.zones ∷ [])) (u32s_text (length l.uploads ∷ l.created ∷ l.setup.serial ∷ []))
-      c.in_ok-add.ensures.ok
-      (c.in_ok-add-2.ensures.ok ∙ ap (λ x. c.add.new.self ++ x) (c.write_u16_into.ensures ∙ counted c.len.result c.len-2.result c.len-3.result l c.len.ensures c.len-2.ensures c.len-3.ensures))
-      (last ∙ ap (λ x. c.add-2.new.self ++ x) (c.write_u32_into.ensures ∙ ap (λ n. u32s_text (n ∷ l.created ∷ l.setup.serial ∷ [])) c.len-4.ensures)))
+    three_parts c.args.out.now c.add.new.self c.add-2.new.self c.add-3.new.self magic
+    (flat_map (little_bytes 2) (1 ∷ length l.setup.conferences ∷ length l.users ∷ length l.setup.zones ∷ [])) (u32s_text (length l.uploads ∷ l.created ∷ l.setup.serial ∷ []))
+    c.in_ok-add.ensures.ok
+    (c.in_ok-add-2.ensures.ok ∙ ap (λ x. c.add.new.self ++ x) (c.write_u16_into.ensures ∙ counted c.len.result c.len-2.result c.len-3.result l c.len.ensures c.len-2.ensures c.len-3.ensures))
+    (last ∙ ap (λ x. c.add-2.new.self ++ x) (c.write_u32_into.ensures ∙ ap (λ n. u32s_text (n ∷ l.created ∷ l.setup.serial ∷ [])) c.len-4.ensures)))
