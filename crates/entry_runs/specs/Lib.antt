@@ -1,3 +1,6 @@
 pub mod Code
-pub mod Runs
+pub mod Door
+pub mod Entry
 pub mod Promise
+pub mod Runs
+pub mod Saying

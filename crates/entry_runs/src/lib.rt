@@ -3,9 +3,13 @@
 #![tactic(auto)]
 
 mod class;
+mod saying;
 mod status;
+mod stop;
 #[cfg(test)]
 mod tests;
 
 pub use class::Class;
+pub use saying::say_all;
 pub use status::Status;
+pub use stop::Stop;

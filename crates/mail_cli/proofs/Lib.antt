@@ -1,4 +1,3 @@
-mod OneCommand
-mod OneOutcome
-mod Reading
-mod Saying
+pub mod EntryLaws
+pub mod OneCommand
+pub mod Wrongs

@@ -1,33 +1,56 @@
--- Words are one command at most.
-use Rattle.std.proofs.Common.{◌≡◌, ℕ, List, [], ◌∷◌, sym, ◌∙◌, ap, arith}
+-- Words are one command at most, since no two first words are alike.
+use Rattle.std.proofs.Common.{◌≡◌, inl, inr, ℕ, List, [], ◌∷◌, Option, Some, refl, sym, ◌∙◌, ap, subst}
+use Rattle.std.specs.List.{find}
+use Rattle.std.specs.Str.{bytes_eq}
 use Rattle.std.specs.Str.Parse.{digits_value}
 use Rattle.mail_cli.specs.declared.command.Command.{Command}
-use Rattle.mail_cli.specs.declared.command.Command.TheVariants.{List as ListFile, Read, Show}
-use Rattle.mail_cli.specs.Words.{NumberWord, CommandReads}
+use Rattle.mail_cli.specs.declared.command.Command.TheVariants as command
+use Rattle.mail_cli.specs.declared.verb.Verb.{Verb}
+use Rattle.mail_cli.specs.declared.verb.Verb.TheVariants.{ListFile, ReadFolder}
+use Rattle.mail_cli.specs.Words.{first_word, NumberWord, ReadsBehind, CommandReads}
 
--- what the first word begins with
-abbrev first_byte : List (List ℕ) → ℕ
-first_byte [] = 0
-first_byte ([] ∷ words) = 0
-first_byte ((b ∷ word) ∷ words) = b
+-- all verbs in order
+verbs : List Verb
+verbs = ListFile ∷ ReadFolder ∷ []
 
-apart : (a b : List (List ℕ)) (C : Type 0) → a ≡ b → (first_byte a ≡ first_byte b → ⊥) → C
-apart a b C same other = absurd (other (ap first_byte same))
+-- the verb of a first word
+verb_of : List ℕ → Option Verb
+verb_of word = find (λ verb. bytes_eq (first_word verb) word) verbs
+
+-- a line for each: its first word is that of no verb before it
+verb_back : (verb : Verb) → verb_of (first_word verb) ≡ Some verb
+unfolding verb_of verbs
+verb_back ListFile = refl
+verb_back ReadFolder = refl
+
+one_verb : (a b : Verb) → first_word a ≡ first_word b → a ≡ b
+one_verb a b same = let e : Some a ≡ Some b = sym (verb_back a) ∙ ap verb_of same ∙ verb_back b in cc
 
 one_number : (word other : List ℕ) (m n : ℕ) → word ≡ other → NumberWord word m → NumberWord other n → m ≡ n
 one_number word other m n same a b = a.digits.value ∙ ap (λ (w : List ℕ). digits_value 10 w) same ∙ sym b.digits.value
 
+-- behind a verb stands one command at most: a line for each
+behind_unique : (verb : Verb) (words : List (List ℕ)) (a b : Command) → ReadsBehind verb words a → ReadsBehind verb words b → a ≡ b
+behind_unique ListFile words a b x y = let e = sym x.1 ∙ y.1 in let file : x.0 ≡ y.0 = cc in x.3 ∙ ap command.List file ∙ sym y.3
+behind_unique ReadFolder words a b (inl x) (inl y) = let e = sym x.1 ∙ y.1 in let folder : x.0 ≡ y.0 = cc in x.3 ∙ ap command.Read folder ∙ sym y.3
+behind_unique ReadFolder words a b (inl x) (inr y) = let e = sym x.1 ∙ y.3 in cc
+behind_unique ReadFolder words a b (inr x) (inl y) = let e = sym x.3 ∙ y.1 in cc
+behind_unique ReadFolder words a b (inr x) (inr y) =
+    let e = sym x.3 ∙ y.3 in
+    let folder : x.0 ≡ y.0 = cc in
+    let word : x.1 ≡ y.1 = cc in
+    let place : x.2 ≡ y.2 = one_number x.1 y.1 x.2 y.2 word x.5 y.5 in
+    x.6 ∙ (λ i. command.Show (folder i) (place i)) ∙ sym y.6
+
+-- what stands behind a first word is read by its verb
+behind_verb : (verb : Verb) (rest : List (List ℕ)) (c : Command) → CommandReads (first_word verb ∷ rest) c → ReadsBehind verb rest c
+behind_verb verb rest c reads =
+    let words = reads.2 in
+    let first : first_word verb ≡ first_word reads.0 = cc in
+    let others : rest ≡ reads.1 = cc in
+    subst (λ (v : Verb). ReadsBehind v rest c) (sym (one_verb verb reads.0 first)) (subst (λ (words : List (List ℕ)). ReadsBehind reads.0 words c) (sym others) reads.3)
+
 pub command_unique : (words : List (List ℕ)) (a b : Command) → CommandReads words a → CommandReads words b → a ≡ b
-command_unique words (ListFile file) (ListFile other) a b = let e = sym a.0 ∙ b.0 in cc
-command_unique words (ListFile file) (Read folder) a b = apart _ _ _ (sym a.0 ∙ b.0) (λ e. omega (arith, e))
-command_unique words (ListFile file) (Show folder place) a b = apart _ _ _ (sym a.0 ∙ b.1) (λ e. omega (arith, e))
-command_unique words (Read folder) (ListFile file) a b = apart _ _ _ (sym a.0 ∙ b.0) (λ e. omega (arith, e))
-command_unique words (Read folder) (Read other) a b = let e = sym a.0 ∙ b.0 in cc
-command_unique words (Read folder) (Show other place) a b = let e = sym a.0 ∙ b.1 in cc
-command_unique words (Show folder place) (ListFile file) a b = apart _ _ _ (sym a.1 ∙ b.0) (λ e. omega (arith, e))
-command_unique words (Show folder place) (Read other) a b = let e = sym a.1 ∙ b.0 in cc
-command_unique words (Show folder m) (Show other n) a b =
-    let e = sym a.1 ∙ b.1 in
-    let word : a.0 ≡ b.0 = cc in
-    let place : m ≡ n = one_number a.0 b.0 m n word a.3 b.3 in
-    cc
+command_unique words a b x y =
+    let again : CommandReads (first_word x.0 ∷ x.1) b = subst (λ (w : List (List ℕ)). CommandReads w b) x.2 y in
+    behind_unique x.0 x.1 a b x.3 (behind_verb x.0 x.1 b again)

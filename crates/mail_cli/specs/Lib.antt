@@ -1,8 +1,5 @@
-pub mod Answer
-pub mod Halt
-pub mod List
-pub mod Read
+pub mod Answers
+pub mod Board
 pub mod Run
-pub mod Shelved
 pub mod Step
 pub mod Words

@@ -1,65 +1,109 @@
 -- What a run of the door promises.
-use Rattle.std.specs.Prelude.{◌≡◌, ◌⊎◌, ℕ, List, [], ◌∷◌}
-use Rattle.door_outside.specs.Disk.{Disk, Image}
+use Rattle.std.specs.Prelude.{◌≡◌, ◌⊎◌, ℕ, List, [], ◌∷◌, ◌++◌, IsTrue, Result}
+use Rattle.door_outside.specs.Disk.{Disk}
+use Rattle.door_outside.specs.Name.{HasParts}
 use Rattle.door_outside.specs.Shelf.{Files}
+use Rattle.entry_runs.specs.Door.{World, here, any_touches}
+use Rattle.entry_runs.specs.Entry as Entry
 use Rattle.entry_runs.specs.Promise as Promise
-use Rattle.entry_runs.specs.Promise.{Seen}
+use Rattle.entry_runs.specs.Promise.{Counts}
+use Rattle.entry_runs.specs.declared.class.Class.{Class}
 use Rattle.entry_runs.specs.declared.status.Status.{Status}
 use Rattle.entry_runs.specs.declared.status.Status.TheVariants as status
-use Rattle.door_outside.specs.Name.{HasParts}
-use Rattle.mail_cli.specs.declared.command.Command.TheVariants as command
-use Rattle.mail_cli.specs.declared.entry.Entry.{Entry}
-use Rattle.mail_cli.specs.declared.entry.Entry.TheVariants.{Run, Wrong}
-use Rattle.mail_cli.specs.declared.halt.Stop.{Stop}
-use Rattle.mail_cli.specs.declared.halt.Stop.TheVariants as stop
-use Rattle.mail_cli.specs.Step.{Step, shelf_of, here}
+use Rattle.entry_runs.specs.declared.stop.Stop.{Stop}
+use Rattle.intent_journal.specs.Recovered.{recovered}
+use Rattle.mail_cli.specs.Board.{State, Stores, IsSpoiled, unread}
+use Rattle.mail_cli.specs.Step.{act, door}
 use Rattle.mail_cli.specs.Words.{CommandReads, IsNoCommand}
-
-abbrev pub status_of_stop : Stop → Status
-status_of_stop stop.ShelfFault = status.ShelfFault
-status_of_stop stop.VoiceFault = status.VoiceFault
-status_of_stop stop.OutOfMemory = status.OutOfMemory
-
--- what a disk was told and a shelf holds
-abbrev pub seen : Disk → Files → Seen
-seen disk shelf = record { said = disk.said; shelf = shelf }
+use Rattle.mail_cli.specs.declared.command.Command.{Command}
+use Rattle.mail_cli.specs.declared.command.Command.TheVariants as command
+use Rattle.mail_cli.specs.declared.entry.Entry as entry
+use Rattle.mail_cli.specs.declared.entry.Entry.TheVariants.{Run, Wrong, Refuse}
+use Rattle.mail_cli.specs.declared.entry.Usage.TheVariants.{Words, Line}
 
 -- the words are this entry
-abbrev pub EntryReads : List (List ℕ) → Entry → Type 0
-EntryReads words (Run command) = CommandReads words command
-EntryReads words Wrong = IsNoCommand words
-
--- the names in an entry are such as its words have
-abbrev pub CanRun : Entry → Type 0
-CanRun (Run (command.List file)) = Unit {0}
-CanRun (Run (command.Read folder)) = HasParts 3 folder
-CanRun (Run (command.Show folder place)) = HasParts 3 folder
-CanRun Wrong = Unit {0}
+abbrev pub EntryReads : List (List ℕ) → entry.Entry → Type 0
+EntryReads words (Run c) = CommandReads words c
+EntryReads words (Wrong Words) = IsNoCommand words
+EntryReads words (Wrong (Line line)) = ⊥
+EntryReads words (Refuse why) = ⊥
 
 -- the entries of the words: one command, or none
-abbrev pub EntriesRead : List (List ℕ) → List Entry → Type 0
-EntriesRead words entries = (entry : Entry) × EntryReads words entry × (entries ≡ entry ∷ [])
+abbrev pub EntriesRead : List (List ℕ) → List entry.Entry → Type 0
+EntriesRead words entries = (one : entry.Entry) × EntryReads words one × (entries ≡ one ∷ [])
 
--- all entries of the words were carried out, refused or answered, and that is the status
-abbrev pub RunIsWhole : ℕ → List (List ℕ) → Files → List ℕ → Status → Seen → Type 0
-RunIsWhole now words shelf so_far result seen =
-    (entries : List Entry) × EntriesRead words entries × Promise.IsWhole (Step now) shelf_of result (here shelf) entries so_far seen
+-- the names in a command are such as its words have
+abbrev pub CanRun : Command → Type 0
+CanRun (command.List file) = Unit {0}
+CanRun (command.Read folder) = HasParts 3 folder
+CanRun (command.Show folder place) = HasParts 3 folder
 
--- an entry of the words wasn't finished, and the status says why
-abbrev pub RunIsCutShort : ℕ → List (List ℕ) → Files → List ℕ → Status → Seen → Type 0
-RunIsCutShort now words shelf so_far result seen =
-    (entries : List Entry) × EntriesRead words entries × Promise.IsCutShort (Step now) shelf_of result (here shelf) entries so_far seen
+abbrev pub EntryCanRun : entry.Entry → Type 0
+EntryCanRun (Run c) = CanRun c
+EntryCanRun (Wrong which) = Unit {0}
+EntryCanRun (Refuse why) = Unit {0}
 
--- there was no memory to read the words, and nothing was done
-abbrev pub RunIsUnread : ℕ → Files → List ℕ → Status → Seen → Type 0
-RunIsUnread now shelf so_far result seen = (result ≡ status.OutOfMemory) × Promise.IsUndone (Step now) shelf_of (here shelf) so_far seen
+-- words that are no command
+abbrev pub IsWrong : entry.Entry → Type 0
+IsWrong (Run c) = ⊥
+IsWrong (Wrong which) = Unit {0}
+IsWrong (Refuse why) = ⊥
 
--- what a run of these words leaves
-abbrev pub RunLeaves : ℕ → List (List ℕ) → Files → List ℕ → Status → Seen → Type 0
-RunLeaves now words shelf so_far result seen =
-    RunIsWhole now words shelf so_far result seen ⊎ (RunIsCutShort now words shelf so_far result seen ⊎ RunIsUnread now shelf so_far result seen)
+-- one of the entries is words that are no command
+abbrev pub HasWrong : List entry.Entry → Type 0
+HasWrong entries = (front back : List entry.Entry) × (one : entry.Entry) × IsWrong one × (entries ≡ front ++ one ∷ back)
 
--- What a crash leaves in a run of these words: the files as they were, and a front of the replies was said.
-abbrev pub RunHolds : ℕ → List (List ℕ) → Files → Disk → Image → Type 0
-RunHolds now words shelf old image =
-    (entries : List Entry) × EntriesRead words entries × Promise.IsHeld (Step now) old (here shelf) entries image
+-- the first of them is
+abbrev pub BeginsWrong : List entry.Entry → Type 0
+BeginsWrong entries = (back : List entry.Entry) × (one : entry.Entry) × IsWrong one × (entries ≡ one ∷ back)
+
+-- words that are no command were answered so, unless the saying failed or memory ran out
+abbrev pub AnswersUsage : Status → Type 0
+AnswersUsage result = (result ≡ status.Usage) ⊎ ((result ≡ status.VoiceFault) ⊎ (result ≡ status.OutOfMemory))
+
+-- P holds of each world for which the files at entry stand, with the shelf at entry. The law `one_state` says that
+-- there is exactly one.
+abbrev pub FromEntry : Disk → Files → (World State → Type 0) → Type 0
+FromEntry old shelf P = (state : State) → Stores state (recovered old.files) → P (here state shelf)
+
+-- it ends as damaged only where the data files at entry are neither all empty nor a board
+abbrev pub DamagedOnlyIfSpoiled : Status → Disk → Files → Type 0
+DamagedOnlyIfSpoiled result old shelf = FromEntry old shelf (λ start. result ≡ status.Damaged → IsSpoiled start.state)
+
+-- in each world that stands at entry, this is what the entry did, its reply included
+abbrev pub Performs : ℕ → entry.Entry → Disk → Disk → Files → Files → Result Class Stop → Type 0
+Performs now one old new shelf later result =
+    (world : World State) → Entry.IsAt Stores unread world old shelf → Entry.Performs Stores (act now one) unread world old new later result
+
+-- what the entries leave, and what a crash at any moment leaves
+module _ (now : ℕ) (entries : List entry.Entry) where
+  abbrev pub EntriesLeave : Status → Disk → Disk → Files → Files → Type 0
+  EntriesLeave result old new shelf later = FromEntry old shelf (λ start. Promise.Leaves (door now) result start entries old new later)
+
+  abbrev pub EntriesSurvive : Disk → Disk → Files → Type 0
+  EntriesSurvive old new shelf = FromEntry old shelf (λ start. Promise.Survives (door now) start entries old new)
+
+-- the same of words
+module _ (now : ℕ) (words : List (List ℕ)) where
+  -- All entries of the words were carried out, refused or answered, and said; or the status tells why one was stopped,
+  -- or that they couldn't be read.
+  abbrev pub RunLeaves : Status → Disk → Disk → Files → Files → Type 0
+  RunLeaves result old new shelf later = FromEntry old shelf (λ start.
+      ((entries : List entry.Entry) × EntriesRead words entries × Promise.Leaves (door now) result start entries old new later)
+      ⊎ Promise.IsUnread (door now) result start old new later)
+
+  -- A crash at any moment leaves the board after some of the entries, and a front of these entries' replies said. Where
+  -- there was no memory to read the words, that is after none.
+  abbrev pub RunSurvives : Disk → Disk → Files → Type 0
+  RunSurvives old new shelf = FromEntry old shelf (λ start.
+      (entries : List entry.Entry) × (EntriesRead words entries ⊎ (entries ≡ [])) × Promise.Survives (door now) start entries old new)
+
+  -- where no count rose, the whole was done, or memory ran out
+  abbrev pub RunCompletes : Counts → Counts → Status → Disk → Disk → Files → Files → Type 0
+  RunCompletes before after result old new shelf later = FromEntry old shelf (λ start. Promise.NoneRose before after →
+      (result ≡ status.OutOfMemory)
+      ⊎ ((entries : List entry.Entry) × EntriesRead words entries × Promise.IsWhole (door now) result start entries old new later))
+
+  -- an entry of the words touches the board
+  abbrev pub TouchBoard : Type 0
+  TouchBoard = (entries : List entry.Entry) × EntriesRead words entries × IsTrue (any_touches (door now) entries)

@@ -1,7 +1,9 @@
-ghost use Rattle.std.specs.Prelude.{◌≡◌, ◌∷◌, [], ℕ, codes, IfOk, MatchOption};
+ghost use Rattle.std.specs.Prelude.{◌≡◌, ◌∷◌, [], ℕ, IfOk, MatchOption};
 ghost use Rattle.door_outside.specs.Name.{HasParts};
-ghost use Rattle.mail_cli.specs.Words.{NumberWord, CommandOf};
+ghost use Rattle.mail_cli.specs.Words.{NumberWord, BehindOf};
+ghost use Rattle.mail_cli.specs.declared.verb.Verb.TheVariants.{ListFile, ReadFolder};
 
+use crate::verb::Verb;
 use crate::words::Words;
 use byte_lists::Bytes;
 use door_outside::ShelfName;
@@ -21,7 +23,7 @@ pub enum Command {
 
 /// The command of `list` with the words behind it.
 fn parse_list(alloc: Global, rest: &[Bytes]) -> Result<Option<Command>, AllocError>
-    ensures { IfOk result (CommandOf (codes "list" ∷ rest.now)) }
+    ensures { IfOk result (BehindOf ListFile rest.now) }
 {
     let [file] = rest else {
         return Ok(None);
@@ -57,7 +59,7 @@ fn number_of(word: &[u8]) -> Option<u32>
 
 /// The command of `read` with the folder behind it.
 fn parse_folder(alloc: Global, folder: &[u8]) -> Result<Option<Command>, AllocError>
-    ensures { IfOk result (CommandOf (codes "read" ∷ folder.now ∷ [])) }
+    ensures { IfOk result (BehindOf ReadFolder (folder.now ∷ [])) }
 {
     match folder_of(alloc, folder)? {
         Some(folder) => Ok(Some(Command::Read { folder })),
@@ -67,7 +69,7 @@ fn parse_folder(alloc: Global, folder: &[u8]) -> Result<Option<Command>, AllocEr
 
 /// The command of `read` with the folder and the place behind it.
 fn parse_place(alloc: Global, folder: &[u8], place: &[u8]) -> Result<Option<Command>, AllocError>
-    ensures { IfOk result (CommandOf (codes "read" ∷ folder.now ∷ place.now ∷ [])) }
+    ensures { IfOk result (BehindOf ReadFolder (folder.now ∷ place.now ∷ [])) }
 {
     let Some(place) = number_of(place) else {
         return Ok(None);
@@ -80,12 +82,22 @@ fn parse_place(alloc: Global, folder: &[u8], place: &[u8]) -> Result<Option<Comm
 
 /// The command of `read` with the words behind it.
 fn parse_read(alloc: Global, rest: &[Bytes]) -> Result<Option<Command>, AllocError>
-    ensures { IfOk result (CommandOf (codes "read" ∷ rest.now)) }
+    ensures { IfOk result (BehindOf ReadFolder rest.now) }
 {
     match rest {
         [folder] => parse_folder(alloc, folder.as_slice()),
         [folder, place] => parse_place(alloc, folder.as_slice(), place.as_slice()),
         _ => Ok(None),
+    }
+}
+
+/// The command of a verb with the words behind it.
+fn parse_behind(alloc: Global, verb: Verb, rest: &[Bytes]) -> Result<Option<Command>, AllocError>
+    ensures { IfOk result (BehindOf verb rest.now) }
+{
+    match verb {
+        Verb::ListFile => parse_list(alloc, rest),
+        Verb::ReadFolder => parse_read(alloc, rest),
     }
 }
 
@@ -100,10 +112,9 @@ impl Command {
         let [first, rest @ ..] = words.as_slice() else {
             return Ok(None);
         };
-        match first.as_slice() {
-            b"list" => parse_list(alloc, rest),
-            b"read" => parse_read(alloc, rest),
-            _ => Ok(None),
+        match Verb::of(first.as_slice()) {
+            Some(verb) => parse_behind(alloc, verb, rest),
+            None => Ok(None),
         }
     }
 }

@@ -1,10 +1,50 @@
 use crate::command::Command;
+use door_outside::{Host, VoiceFault};
+use entry_runs::say_all;
+use itoa::Buffer;
+use shelf_files::Refusal;
 
-/// An entry of a run: a command, or words that are none.
+/// Words that are no command.
+#[derive(Clone, Copy, Debug, PartialEq, Eq)]
+pub enum Usage {
+    /// The words of the program.
+    Words,
+    /// The words of this line of a batch, from 1.
+    Line(u32),
+}
+
+/// An entry of a run.
 #[derive(Debug, Drop)]
 pub enum Entry {
     /// A command to carry out.
     Run(Command),
     /// Words that are no command.
-    Wrong,
+    Wrong(Usage),
+    /// A batch that isn't there, or is too long.
+    Refuse(Refusal),
+}
+
+impl Usage {
+    ghost use Rattle.std.specs.Prelude.{◌≡◌, IsTrue};
+    ghost use Rattle.door_outside.specs.Cause.{HasCause};
+    ghost use Rattle.entry_runs.specs.Saying.{Voiced};
+    ghost use Rattle.mail_cli.specs.Answers.{usage_line};
+
+    /// Says that the words are no command. It takes no memory.
+    pub fn say<H: Host>(self, host: &mut H) -> Result<(), VoiceFault>
+        ensures voiced { IsTrue H.tells → Voiced (usage_line self) (H.disk host.old) (H.disk host.new) result }
+        ensures cause { HasCause (H.voice_faults host.old) (H.voice_faults host.new) result }
+        ensures disk { H.disk_faults host.new ≡ H.disk_faults host.old }
+    {
+        match self {
+            Usage::Words => say_all(host, &[b"usage\n"]),
+            Usage::Line(line) => {
+                let mut buffer = Buffer::new();
+                say_all(
+                    host,
+                    &[b"usage line ", buffer.format(line).as_bytes(), b"\n"],
+                )
+            }
+        }
+    }
 }

@@ -4,22 +4,17 @@
 
 mod answer;
 mod command;
+mod entries;
 mod entry;
-mod folder;
-mod halt;
 pub mod laws;
-mod list;
 mod perform;
-mod read;
 mod running;
-mod shelved;
-#[cfg(test)]
-mod tests;
+mod verb;
 mod words;
 
-pub use answer::{Answer, Refusal};
 pub use command::Command;
-pub use entry::Entry;
+pub use entry::{Entry, Usage};
 pub use entry_runs::{Class, Status};
 pub use running::run;
+pub use shelf_files::Refusal;
 pub use words::Words;

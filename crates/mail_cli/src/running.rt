@@ -1,13 +1,14 @@
 //! The run that the program makes.
-ghost use Rattle.std.specs.Prelude.{◌≡◌, ◌≢◌, ◌⊎◌, ℕ, ◌≤◌, IsTrue, IfOk};
+ghost use Rattle.std.specs.Prelude.{◌≡◌, ◌≢◌, ◌⊎◌, ◌≤◌, IsTrue, IfOk};
 ghost use Rattle.door_outside.specs.Cause.{Rose};
-ghost use Rattle.door_outside.specs.Disk.{Between};
-ghost use Rattle.mail_cli.specs.Run.{seen, CanRun, EntryReads, RunIsWhole, RunLeaves, RunHolds};
+ghost use Rattle.entry_runs.specs.Promise.{counts};
+ghost use Rattle.intent_journal.specs.Hosts.{IsSettled};
+ghost use Rattle.mail_cli.specs.Run.{EntryReads, EntryCanRun, RunLeaves, RunSurvives, RunCompletes, DamagedOnlyIfSpoiled, TouchBoard, AnswersUsage};
 ghost use Rattle.mail_cli.specs.Words.{IsNoCommand};
 
 use crate::command::Command;
-use crate::entry::Entry;
-use crate::perform::perform;
+use crate::entries::run_entries;
+use crate::entry::{Entry, Usage};
 use crate::words::Words;
 use door_outside::{Host, Shelf};
 use entry_runs::Status;
@@ -16,15 +17,16 @@ use std::alloc::{AllocError, Global};
 /// The entry that the words are.
 fn entry_of(alloc: Global, words: &Words) -> Result<Entry, AllocError>
     ensures reads { IfOk result (EntryReads words.now) }
-    ensures can_run { IfOk result CanRun }
+    ensures can_run { IfOk result EntryCanRun }
 {
     match Command::parse(alloc, words)? {
         Some(command) => Ok(Entry::Run(command)),
-        None => Ok(Entry::Wrong),
+        None => Ok(Entry::Wrong(Usage::Words)),
     }
 }
 
-/// Carries out the words over a host and a shelf, and says the reply. `now` is the moment in Unix seconds.
+/// Carries out the words over a host and a shelf, and says the reply. `now` is the moment in Unix seconds. The
+/// host must be settled, as it is after any run, and after a crash too.
 pub fn run<H: Host, S: Shelf>(
     alloc: Global,
     words: &Words,
@@ -32,36 +34,43 @@ pub fn run<H: Host, S: Shelf>(
     shelf: &mut S,
     now: u32,
 ) -> Status
-    // All entries of the words were carried out, refused or answered, and said; or the status tells why a part was.
-    ensures leaves { IsTrue H.tells → IsTrue S.tells → RunLeaves now words.now (S.files shelf.old) (H.disk host.old).said result (seen (H.disk host.new) (S.files shelf.new)) }
+    requires { IsTrue H.tells → IsSettled (H.disk host.old) }
 
-    // A crash at any moment leaves the files as they were, and a front of the replies was said.
-    ensures held { IsTrue H.tells → IsTrue S.tells → Between (H.disk host.old) (H.disk host.new) (RunHolds now words.now (S.files shelf.old) (H.disk host.old)) }
-    ensures files { IsTrue H.tells → (H.disk host.new).files ≡ (H.disk host.old).files }
+    // The whole run, or the run cut short: what the files recover to, what was said, the shelf and the status.
+    ensures leaves { IsTrue H.tells → IsTrue S.tells → RunLeaves now words.now result (H.disk host.old) (H.disk host.new) (S.files shelf.old) (S.files shelf.new) }
 
-    // A fault is answered exactly where its count rose: any other status leaves the count, so that want of memory
-    // hides no fault. Where no count rose, the whole was done, or memory ran out.
-    ensures complete { IsTrue H.tells → IsTrue S.tells → ¬ Rose (S.faults shelf.old) (S.faults shelf.new) → ¬ Rose (H.voice_faults host.old) (H.voice_faults host.new)
-        → (result ≡ Status.OutOfMemory) ⊎ RunIsWhole now words.now (S.files shelf.old) (H.disk host.old).said result (seen (H.disk host.new) (S.files shelf.new)) }
+    // A crash at any moment leaves the board after some of the entries, and a front of these entries' replies said.
+    ensures survives { IsTrue H.tells → IsTrue S.tells → RunSurvives now words.now (H.disk host.old) (H.disk host.new) (S.files shelf.old) }
+    ensures settled { IsTrue H.tells → IsSettled (H.disk host.new) }
+
+    // Where no count rose, the whole was done, or memory ran out.
+    ensures completes { IsTrue H.tells → IsTrue S.tells → RunCompletes now words.now
+        (counts (H.disk_faults host.old) (H.voice_faults host.old) (S.faults shelf.old)) (counts (H.disk_faults host.new) (H.voice_faults host.new) (S.faults shelf.new))
+        result (H.disk host.old) (H.disk host.new) (S.files shelf.old) (S.files shelf.new) }
+
+    // A fault is answered only where its count rose, and any other status leaves the count: so want of memory hides
+    // no fault.
+    ensures disk_fault { result ≡ Status.DiskFault → Rose (H.disk_faults host.old) (H.disk_faults host.new) }
     ensures shelf_fault { result ≡ Status.ShelfFault → Rose (S.faults shelf.old) (S.faults shelf.new) }
     ensures voice_fault { result ≡ Status.VoiceFault → Rose (H.voice_faults host.old) (H.voice_faults host.new) }
+    ensures disk_kept { (result ≡ Status.DiskFault) ⊎ (H.disk_faults host.new ≡ H.disk_faults host.old) }
     ensures shelf_kept { (result ≡ Status.ShelfFault) ⊎ (S.faults shelf.new ≡ S.faults shelf.old) }
     ensures voice_kept { (result ≡ Status.VoiceFault) ⊎ (H.voice_faults host.new ≡ H.voice_faults host.old) }
-    ensures no_disk_fault { result ≢ Status.DiskFault }
-    ensures disk_faults { H.disk_faults host.new ≡ H.disk_faults host.old }
-    ensures voice_later { H.voice_faults host.old ≤ H.voice_faults host.new }
+    ensures disk_later { H.disk_faults host.old ≤ H.disk_faults host.new }
     ensures shelf_later { S.faults shelf.old ≤ S.faults shelf.new }
+    ensures voice_later { H.voice_faults host.old ≤ H.voice_faults host.new }
 
     // Words that are no command are answered so, and no others.
     ensures usage { result ≡ Status.Usage → IsNoCommand words.now }
-    ensures no_command { IsNoCommand words.now → (result ≡ Status.Usage) ⊎ ((result ≡ Status.VoiceFault) ⊎ (result ≡ Status.OutOfMemory)) }
-    ensures undamaged { result ≢ Status.Damaged }
+    ensures no_command { IsNoCommand words.now → AnswersUsage result }
+
+    // It ends as damaged only where an entry touches the board, and the data files at entry are neither all empty
+    // nor a board.
+    ensures damaged { IsTrue H.tells → IsTrue S.tells → DamagedOnlyIfSpoiled result (H.disk host.old) (S.files shelf.old) }
+    ensures touched { result ≡ Status.Damaged → TouchBoard now words.now }
 {
     let Ok(entry) = entry_of(alloc, words) else {
         return Status::OutOfMemory;
     };
-    match perform(alloc, host, shelf, &entry, now) {
-        Ok(class) => class.after(Status::Done),
-        Err(stop) => stop.status(),
-    }
+    run_entries(alloc, &[entry], host, shelf, now)
 }

@@ -1,5 +1,5 @@
-use Rattle.mail_cli.proofs.OneOutcome.{step_unique}
+use Rattle.mail_cli.proofs.EntryLaws as EntryLaws
 use Rattle.mail_cli.proofs.laws.one_outcome.Goals as goal
 
 pub returns : goal.returns
-returns c = step_unique
+returns c now world entry a b first second = (EntryLaws.lawful now entry).one_outcome world a b first second

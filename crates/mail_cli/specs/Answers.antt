@@ -1,0 +1,33 @@
+-- What is said of the entries of a run.
+use Rattle.std.specs.Prelude.{ℕ, List, ◌++◌, codes, decimal, Result, Ok, Err}
+use Rattle.entry_runs.specs.Entry.{Reply}
+use Rattle.entry_runs.specs.Promise.{counts, ended, HasCauses}
+use Rattle.entry_runs.specs.declared.class.Class.TheVariants as class
+use Rattle.entry_runs.specs.declared.stop.Stop.{Stop}
+use Rattle.shelf_files.specs.Halts.{done, refused}
+use Rattle.mail_cli.specs.declared.answer.Answer.{Answer}
+use Rattle.mail_cli.specs.declared.answer.Answer.TheVariants.{Text, Refused}
+use Rattle.mail_cli.specs.declared.entry.Usage.{Usage}
+use Rattle.mail_cli.specs.declared.entry.Usage.TheVariants.{Words, Line}
+
+-- one line for each answer of a command
+abbrev pub reply_of : Answer → Reply
+reply_of (Text text) = done text
+reply_of (Refused refusal) = refused refusal
+
+-- what is to be said of a command, or why the run stops
+abbrev pub answered : Result Answer Stop → Result Reply Stop
+answered (Ok answer) = Ok (reply_of answer)
+answered (Err stop) = Err stop
+
+abbrev pub usage_line : Usage → List ℕ
+usage_line Words = codes "usage\n"
+usage_line (Line line) = codes "usage line " ++ (decimal line ++ codes "\n")
+
+-- words that are no command
+abbrev pub usage : Usage → Reply
+usage words = record { text = usage_line words; class = class.Usage }
+
+-- what the counts of a run have to do with the answer of a command that reaches the shelf alone
+abbrev pub StopCauses : ℕ → ℕ → Result Answer Stop → Type 0
+StopCauses shelf later result = (disk voice : ℕ) → HasCauses (counts disk voice shelf) (counts disk voice later) (ended result)

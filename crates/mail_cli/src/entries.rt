@@ -1,0 +1,46 @@
+//! A run over a list of entries.
+ghost use Rattle.std.specs.Prelude.{◌≡◌, IsTrue, All};
+ghost use Rattle.entry_runs.specs.Door.{any_touches};
+ghost use Rattle.entry_runs.specs.Promise.{counts, HasCauses};
+ghost use Rattle.intent_journal.specs.Hosts.{IsSettled};
+ghost use Rattle.mail_cli.specs.Run.{EntriesLeave, EntriesSurvive, DamagedOnlyIfSpoiled, EntryCanRun, HasWrong, BeginsWrong, AnswersUsage};
+ghost use Rattle.mail_cli.specs.Step.{door};
+
+use crate::entry::Entry;
+use crate::perform::perform;
+use door_outside::{Host, Shelf};
+use entry_runs::Status;
+use std::alloc::Global;
+
+/// Carries out entries in order, and says their replies, up to and with the first that ends the run.
+pub fn run_entries<H: Host, S: Shelf>(
+    alloc: Global,
+    entries: &[Entry],
+    host: &mut H,
+    shelf: &mut S,
+    now: u32,
+) -> Status
+    requires can_run { All EntryCanRun entries.now }
+    requires settled { IsTrue H.tells → IsSettled (H.disk host.old) }
+    ensures settled { IsTrue H.tells → IsSettled (H.disk host.new) }
+    ensures leaves { IsTrue H.tells → IsTrue S.tells → EntriesLeave now entries.now result (H.disk host.old) (H.disk host.new) (S.files shelf.old) (S.files shelf.new) }
+    ensures survives { IsTrue H.tells → IsTrue S.tells → EntriesSurvive now entries.now (H.disk host.old) (H.disk host.new) (S.files shelf.old) }
+    ensures damaged { IsTrue H.tells → IsTrue S.tells → DamagedOnlyIfSpoiled result (H.disk host.old) (S.files shelf.old) }
+    ensures touched { result ≡ Status.Damaged → IsTrue (any_touches (door now) entries.now) }
+    ensures causes { HasCauses (counts (H.disk_faults host.old) (H.voice_faults host.old) (S.faults shelf.old)) (counts (H.disk_faults host.new) (H.voice_faults host.new) (S.faults shelf.new)) result }
+    ensures usage { result ≡ Status.Usage → HasWrong entries.now }
+    ensures wrong { BeginsWrong entries.now → AnswersUsage result }
+{
+    let mut status = Status::Done;
+    for entry in entries {
+        let class = match perform(alloc, host, shelf, entry, now) {
+            Ok(class) => class,
+            Err(stop) => return stop.status(),
+        };
+        status = class.after(status);
+        if class.is_last() {
+            return status;
+        }
+    }
+    status
+}

@@ -1,0 +1,25 @@
+/// What a command begins with.
+#[derive(Clone, Copy, Debug, PartialEq, Eq)]
+pub enum Verb {
+    /// `list`
+    ListFile,
+    /// `read`
+    ReadFolder,
+}
+
+impl Verb {
+    ghost use Rattle.std.specs.Prelude.{◌≡◌, ◌≢◌, MatchOption};
+    ghost use Rattle.mail_cli.specs.Words.{first_word};
+    ghost use Rattle.mail_cli.specs.declared.verb.Verb.{Verb};
+
+    /// The verb whose first word this is, or None exactly where it is that of no verb.
+    pub fn of(word: &[u8]) -> Option<Verb>
+        ensures { MatchOption result ((verb : Verb) → word.now ≢ first_word verb) (λ verb. word.now ≡ first_word verb) }
+    {
+        match word {
+            b"list" => Some(Verb::ListFile),
+            b"read" => Some(Verb::ReadFolder),
+            _ => None,
+        }
+    }
+}

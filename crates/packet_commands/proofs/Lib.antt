@@ -1,0 +1,2 @@
+pub mod PacketAnswers
+pub mod PacketLaws

@@ -1,0 +1,3 @@
+pub mod List
+pub mod Packets
+pub mod Read

@@ -1,0 +1,58 @@
+//! A packet's folder on the shelf.
+ghost use Rattle.std.specs.Prelude.{◌≡◌, ◌++◌, codes, IsTrue, IfOk};
+ghost use Rattle.door_outside.specs.Name.{HasParts};
+ghost use Rattle.shelf_files.specs.Halts.{Comes, ShelfCauses};
+ghost use Rattle.packet_commands.specs.Packets.{FolderOf};
+
+use crate::control_file::control_in;
+use crate::packet_file::packet_in;
+use door_outside::{Shelf, ShelfName};
+use qwk_blocks::QwkMessages;
+use qwk_control::Control;
+use shelf_files::Halt;
+use std::alloc::{AllocError, Global};
+
+/// What the two files of a packet's folder say.
+#[derive(Debug, Drop)]
+pub struct Packet {
+    /// What CONTROL.DAT says.
+    pub control: Control,
+    /// The messages of MESSAGES.DAT.
+    pub messages: QwkMessages,
+}
+
+/// The name of CONTROL.DAT in a folder.
+fn control_name(alloc: Global, folder: &ShelfName) -> Result<ShelfName, AllocError>
+    requires { HasParts 3 folder.now }
+    ensures { IfOk result (λ name. name ≡ folder.now ++ codes "/CONTROL.DAT") }
+{
+    folder.file(alloc, b"CONTROL.DAT")
+}
+
+/// The name of MESSAGES.DAT in a folder.
+fn messages_name(alloc: Global, folder: &ShelfName) -> Result<ShelfName, AllocError>
+    requires { HasParts 3 folder.now }
+    ensures { IfOk result (λ name. name ≡ folder.now ++ codes "/MESSAGES.DAT") }
+{
+    folder.file(alloc, b"MESSAGES.DAT")
+}
+
+/// The packet in a folder: CONTROL.DAT first, refused where it isn't there, is too long or has a fault, and
+/// then MESSAGES.DAT, refused where it isn't there, is too long or is broken.
+pub fn folder_in<S: Shelf>(alloc: Global, shelf: &mut S, folder: &ShelfName) -> Result<Packet, Halt>
+    requires { HasParts 3 folder.now }
+    ensures packet { IsTrue S.tells → Comes result (FolderOf (S.files shelf.old) folder.now) }
+    ensures unchanged { IsTrue S.tells → S.files shelf.new ≡ S.files shelf.old }
+    ensures causes { ShelfCauses (S.faults shelf.old) (S.faults shelf.new) result }
+{
+    let name = control_name(alloc, folder)?;
+    let control = match control_in(alloc, shelf, &name) {
+        Ok(control) => control,
+        Err(halt) => return Err(halt),
+    };
+    let name = messages_name(alloc, folder)?;
+    match packet_in(alloc, shelf, &name) {
+        Ok(messages) => Ok(Packet { control, messages }),
+        Err(halt) => Err(halt),
+    }
+}

@@ -1,0 +1,10 @@
+//! Files of the shelf as commands read them, and why a command is refused.
+#![tactic(auto)]
+
+mod halt;
+mod refusal;
+mod shelf_file;
+
+pub use halt::Halt;
+pub use refusal::Refusal;
+pub use shelf_file::{FILE_LIMIT, PACKET_LIMIT, file_in};
