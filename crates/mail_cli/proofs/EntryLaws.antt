@@ -8,9 +8,10 @@ use Rattle.entry_runs.specs.Runs.{Stepped}
 use Rattle.entry_runs.specs.declared.class.Class.TheVariants.{Damaged}
 use Rattle.entry_runs.proofs.ShelfLaws.{lawful_on_shelf, lawful_saying}
 use Rattle.intent_journal.specs.Patches.{Files, data_files}
-use Rattle.packet_commands.proofs.PacketLaws.{lawful_lists, lawful_reads, lawful_shows}
+use Rattle.packet_commands.proofs.PacketLaws.{lawful_lists, lawful_reads, lawful_scans, lawful_shows}
 use Rattle.packet_commands.specs.List.{lists}
 use Rattle.packet_commands.specs.Read.{reads, shows}
+use Rattle.packet_commands.specs.Scan.{scans}
 use Rattle.shelf_files.proofs.Replies.{some_refusal}
 use Rattle.shelf_files.specs.Halts.{refused}
 use Rattle.mail_cli.specs.Answers.{usage, usage_line}
@@ -31,6 +32,7 @@ pub lawful : (now : ℕ) → AreLawful (door now)
 lawful now (Run (command.List file)) = lawful_on_shelf (lists file) (lawful_lists file)
 lawful now (Run (command.Read folder)) = lawful_on_shelf (reads folder) (lawful_reads folder)
 lawful now (Run (command.Show folder place)) = lawful_on_shelf (shows folder place) (lawful_shows folder place)
+lawful now (Run (command.Scan file)) = lawful_on_shelf (scans file) (lawful_scans file)
 lawful now (Wrong which) = lawful_on_shelf (says (usage which)) (lawful_saying (usage which) (some_usage which) (λ is. absurd (cc is)))
 lawful now (Refuse why) = lawful_on_shelf (says (refused why)) (lawful_saying (refused why) (some_refusal why) (λ is. absurd (cc is)))
 
@@ -39,6 +41,7 @@ off_board : (now : ℕ) (entry : Entry) → touches (door now) entry ≡ false
 off_board now (Run (command.List file)) = refl
 off_board now (Run (command.Read folder)) = refl
 off_board now (Run (command.Show folder place)) = refl
+off_board now (Run (command.Scan file)) = refl
 off_board now (Wrong which) = refl
 off_board now (Refuse why) = refl
 

@@ -6,12 +6,12 @@ use Rattle.std.specs.Str.Parse.{digits_value}
 use Rattle.mail_cli.specs.declared.command.Command.{Command}
 use Rattle.mail_cli.specs.declared.command.Command.TheVariants as command
 use Rattle.mail_cli.specs.declared.verb.Verb.{Verb}
-use Rattle.mail_cli.specs.declared.verb.Verb.TheVariants.{ListFile, ReadFolder}
+use Rattle.mail_cli.specs.declared.verb.Verb.TheVariants.{ListFile, ReadFolder, ScanFile}
 use Rattle.mail_cli.specs.Words.{first_word, NumberWord, ReadsBehind, CommandReads}
 
 -- all verbs in order
 verbs : List Verb
-verbs = ListFile ∷ ReadFolder ∷ []
+verbs = ListFile ∷ ReadFolder ∷ ScanFile ∷ []
 
 -- the verb of a first word
 verb_of : List ℕ → Option Verb
@@ -22,6 +22,7 @@ verb_back : (verb : Verb) → verb_of (first_word verb) ≡ Some verb
 unfolding verb_of verbs
 verb_back ListFile = refl
 verb_back ReadFolder = refl
+verb_back ScanFile = refl
 
 one_verb : (a b : Verb) → first_word a ≡ first_word b → a ≡ b
 one_verb a b same = let e : Some a ≡ Some b = sym (verb_back a) ∙ ap verb_of same ∙ verb_back b in cc
@@ -41,6 +42,7 @@ behind_unique ReadFolder words a b (inr x) (inr y) =
     let word : x.1 ≡ y.1 = cc in
     let place : x.2 ≡ y.2 = one_number x.1 y.1 x.2 y.2 word x.5 y.5 in
     x.6 ∙ (λ i. command.Show (folder i) (place i)) ∙ sym y.6
+behind_unique ScanFile words a b x y = let e = sym x.1 ∙ y.1 in let file : x.0 ≡ y.0 = cc in x.3 ∙ ap command.Scan file ∙ sym y.3
 
 -- what stands behind a first word is read by its verb
 behind_verb : (verb : Verb) (rest : List (List ℕ)) (c : Command) → CommandReads (first_word verb ∷ rest) c → ReadsBehind verb rest c

@@ -4,15 +4,17 @@ use Rattle.entry_runs.specs.Entry.{Reply}
 use Rattle.entry_runs.specs.Promise.{counts, ended, HasCauses}
 use Rattle.entry_runs.specs.declared.class.Class.TheVariants as class
 use Rattle.entry_runs.specs.declared.stop.Stop.{Stop}
+use Rattle.packet_commands.specs.Scan.{count_line}
 use Rattle.shelf_files.specs.Halts.{done, refused}
 use Rattle.mail_cli.specs.declared.answer.Answer.{Answer}
-use Rattle.mail_cli.specs.declared.answer.Answer.TheVariants.{Text, Refused}
+use Rattle.mail_cli.specs.declared.answer.Answer.TheVariants.{Text, Counted, Refused}
 use Rattle.mail_cli.specs.declared.entry.Usage.{Usage}
 use Rattle.mail_cli.specs.declared.entry.Usage.TheVariants.{Words, Line}
 
 -- one line for each answer of a command
 abbrev pub reply_of : Answer → Reply
 reply_of (Text text) = done text
+reply_of (Counted count) = done (count_line count)
 reply_of (Refused refusal) = refused refusal
 
 -- what is to be said of a command, or why the run stops

@@ -37,6 +37,7 @@ abbrev pub CanRun : Command → Type 0
 CanRun (command.List file) = Unit {0}
 CanRun (command.Read folder) = HasParts 3 folder
 CanRun (command.Show folder place) = HasParts 3 folder
+CanRun (command.Scan file) = Unit {0}
 
 abbrev pub EntryCanRun : entry.Entry → Type 0
 EntryCanRun (Run c) = CanRun c

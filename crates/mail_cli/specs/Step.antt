@@ -4,6 +4,7 @@ use Rattle.entry_runs.specs.Door.{Act, Door}
 use Rattle.entry_runs.specs.Entry.{Reply, ShelfAct, on_shelf, looks}
 use Rattle.packet_commands.specs.List.{lists}
 use Rattle.packet_commands.specs.Read.{reads, shows}
+use Rattle.packet_commands.specs.Scan.{scans}
 use Rattle.shelf_files.specs.Halts.{refused}
 use Rattle.mail_cli.specs.Answers.{usage}
 use Rattle.mail_cli.specs.Board.{State, Stores}
@@ -17,6 +18,7 @@ abbrev pub does : ℕ → Command → ShelfAct
 does now (command.List file) = lists file
 does now (command.Read folder) = reads folder
 does now (command.Show folder place) = shows folder place
+does now (command.Scan file) = scans file
 
 -- something is said, and nothing changes
 abbrev pub says : Reply → ShelfAct

@@ -5,7 +5,7 @@ use Rattle.text_fields.specs.Number.{Digits}
 use Rattle.mail_cli.specs.declared.command.Command.{Command}
 use Rattle.mail_cli.specs.declared.command.Command.TheVariants as command
 use Rattle.mail_cli.specs.declared.verb.Verb.{Verb}
-use Rattle.mail_cli.specs.declared.verb.Verb.TheVariants.{ListFile, ReadFolder}
+use Rattle.mail_cli.specs.declared.verb.Verb.TheVariants.{ListFile, ReadFolder, ScanFile}
 
 -- 1 to 10 digits of a value of at most 4,294,967,295
 pub record NumberWord (word : List ℕ) (n : ℕ) : Type 0 where
@@ -17,6 +17,7 @@ pub record NumberWord (word : List ℕ) (n : ℕ) : Type 0 where
 abbrev pub first_word : Verb → List ℕ
 first_word ListFile = codes "list"
 first_word ReadFolder = codes "read"
+first_word ScanFile = codes "scan"
 
 -- the words behind it, and the command that they are
 abbrev pub ReadsBehind : Verb → List (List ℕ) → Command → Type 0
@@ -24,6 +25,7 @@ ReadsBehind ListFile words c = (file : List ℕ) × (words ≡ file ∷ []) × I
 ReadsBehind ReadFolder words c =
     ((folder : List ℕ) × (words ≡ folder ∷ []) × HasParts 3 folder × (c ≡ command.Read folder))
     ⊎ ((folder word : List ℕ) × (place : ℕ) × (words ≡ folder ∷ word ∷ []) × HasParts 3 folder × NumberWord word place × (c ≡ command.Show folder place))
+ReadsBehind ScanFile words c = (file : List ℕ) × (words ≡ file ∷ []) × IsShelfName file × (c ≡ command.Scan file)
 
 -- the words are this command
 abbrev pub CommandReads : List (List ℕ) → Command → Type 0

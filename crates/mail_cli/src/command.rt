@@ -1,7 +1,7 @@
 ghost use Rattle.std.specs.Prelude.{◌≡◌, ◌∷◌, [], ℕ, IfOk, MatchOption};
 ghost use Rattle.door_outside.specs.Name.{HasParts};
 ghost use Rattle.mail_cli.specs.Words.{NumberWord, BehindOf};
-ghost use Rattle.mail_cli.specs.declared.verb.Verb.TheVariants.{ListFile, ReadFolder};
+ghost use Rattle.mail_cli.specs.declared.verb.Verb.TheVariants.{ListFile, ReadFolder, ScanFile};
 
 use crate::verb::Verb;
 use crate::words::Words;
@@ -19,6 +19,8 @@ pub enum Command {
     Read { folder: ShelfName },
     /// `read FOLDER N`: shows the message in place N of the packet, from 1.
     Show { folder: ShelfName, place: u32 },
+    /// `scan FILE`: counts the messages of a packet's file, without memory for them.
+    Scan { file: ShelfName },
 }
 
 /// The command of `list` with the words behind it.
@@ -30,6 +32,19 @@ fn parse_list(alloc: Global, rest: &[Bytes]) -> Result<Option<Command>, AllocErr
     };
     match ShelfName::parse(alloc, file.as_slice())? {
         Some(file) => Ok(Some(Command::List { file })),
+        None => Ok(None),
+    }
+}
+
+/// The command of `scan` with the words behind it.
+fn parse_scan(alloc: Global, rest: &[Bytes]) -> Result<Option<Command>, AllocError>
+    ensures { IfOk result (BehindOf ScanFile rest.now) }
+{
+    let [file] = rest else {
+        return Ok(None);
+    };
+    match ShelfName::parse(alloc, file.as_slice())? {
+        Some(file) => Ok(Some(Command::Scan { file })),
         None => Ok(None),
     }
 }
@@ -98,6 +113,7 @@ fn parse_behind(alloc: Global, verb: Verb, rest: &[Bytes]) -> Result<Option<Comm
     match verb {
         Verb::ListFile => parse_list(alloc, rest),
         Verb::ReadFolder => parse_read(alloc, rest),
+        Verb::ScanFile => parse_scan(alloc, rest),
     }
 }
 

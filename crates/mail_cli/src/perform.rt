@@ -14,7 +14,7 @@ use crate::command::Command;
 use crate::entry::Entry;
 use door_outside::{Host, Shelf};
 use entry_runs::{Class, Stop};
-use packet_commands::{list, read, show};
+use packet_commands::{list, read, scan, show};
 use std::alloc::Global;
 
 /// Carries out a command, and answers what is to be said of it.
@@ -32,6 +32,7 @@ fn carry_out<S: Shelf>(
         Command::List { file } => Answer::of_text(list(alloc, shelf, file)),
         Command::Read { folder } => Answer::of_text(read(alloc, shelf, folder)),
         Command::Show { folder, place } => Answer::of_text(show(alloc, shelf, folder, *place)),
+        Command::Scan { file } => Answer::of_count(scan(alloc, shelf, file)),
     }
 }
 

@@ -5,6 +5,8 @@ pub enum Verb {
     ListFile,
     /// `read`
     ReadFolder,
+    /// `scan`
+    ScanFile,
 }
 
 impl Verb {
@@ -19,6 +21,7 @@ impl Verb {
         match word {
             b"list" => Some(Verb::ListFile),
             b"read" => Some(Verb::ReadFolder),
+            b"scan" => Some(Verb::ScanFile),
             _ => None,
         }
     }

@@ -25,6 +25,7 @@ use Rattle.shelf_files.specs.declared.refusal.Refusal.TheVariants.{Broken, NoMes
 use Rattle.packet_commands.specs.List.{lists}
 use Rattle.packet_commands.specs.Packets.{control_refusal, PacketOf, ControlOf, FolderOf}
 use Rattle.packet_commands.specs.Read.{reads, shows, shown, shown_in}
+use Rattle.packet_commands.specs.Scan.{scans, count_line}
 use Rattle.packet_commands.specs.declared.folder.Packet.{Packet}
 
 pub packet_of_unique : (shelf : Files) (name : List ℕ) (a b : Result (List QwkMessage) Refusal) → PacketOf shelf name a → PacketOf shelf name b → a ≡ b
@@ -68,6 +69,13 @@ undamaged_shown (Some message) is = absurd (cc is)
 
 pub lawful_lists : (file : List ℕ) → IsLawfulOnShelf (lists file)
 lawful_lists file = lawful_reading _ (replied listing) (λ (shelf : Files). packet_of_unique shelf file) (some_reply listing some_listing) (undamaged_reply listing)
+
+some_count : (messages : List QwkMessage) → count_line (length messages) ≢ []
+some_count messages = some_behind (decimal (length messages)) (codes " messages\n") (λ is. absurd (cc is))
+
+pub lawful_scans : (file : List ℕ) → IsLawfulOnShelf (scans file)
+lawful_scans file = lawful_reading _ (replied (λ messages. count_line (length messages))) (λ (shelf : Files). packet_of_unique shelf file)
+    (some_reply (λ messages. count_line (length messages)) some_count) (undamaged_reply (λ (messages : List QwkMessage). count_line (length messages)))
 
 pub lawful_reads : (folder : List ℕ) → IsLawfulOnShelf (reads folder)
 lawful_reads folder = lawful_reading _ (replied (λ (packet : Packet). folder_listing packet.control packet.messages)) (λ (shelf : Files). folder_unique shelf folder)

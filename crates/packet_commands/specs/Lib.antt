@@ -1,3 +1,4 @@
 pub mod List
 pub mod Packets
 pub mod Read
+pub mod Scan

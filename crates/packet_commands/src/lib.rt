@@ -1,4 +1,4 @@
-//! The commands over a packet on the shelf: `list` and `read`.
+//! The commands over a packet on the shelf: `list`, `read` and `scan`.
 #![tactic(auto)]
 
 mod control_file;
@@ -6,6 +6,8 @@ mod folder;
 mod listing;
 mod packet_file;
 mod reading;
+mod scanning;
 
 pub use listing::list;
 pub use reading::{read, show};
+pub use scanning::scan;

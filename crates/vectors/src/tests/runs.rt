@@ -115,6 +115,26 @@ fn packets_are_listed(rt: HostRuntime) -> Result<(), Fail> {
 }
 
 #[test]
+fn packets_are_scanned(rt: HostRuntime) -> Result<(), Fail> {
+    let alloc = rt.alloc();
+    let mut shelf = empty_shelf(alloc, no_faults(alloc));
+    put_packets(&mut shelf, alloc)?;
+    let runs = [
+        ("scan P1", "1 messages\n", Status::Done),
+        ("scan p128", "0 messages\n", Status::Done),
+        ("scan p0", "refused broken truncated 0\n", Status::Refused),
+        ("scan X", "refused nofile X\n", Status::Refused),
+        (
+            "scan cut",
+            "refused broken truncated 384\n",
+            Status::Refused,
+        ),
+        ("scan zero", "refused broken blocks 128\n", Status::Refused),
+    ];
+    assert_runs(&rt, alloc, &mut shelf, &runs)
+}
+
+#[test]
 fn folders_are_read(rt: HostRuntime) -> Result<(), Fail> {
     let alloc = rt.alloc();
     let mut shelf = empty_shelf(alloc, no_faults(alloc));
@@ -163,6 +183,8 @@ fn other_words_are_no_command(rt: HostRuntime) -> Result<(), Fail> {
         "list",
         "list P1 P1",
         "list ../P1",
+        "scan",
+        "scan P1 P1",
         "read",
         "read a/b/c/d",
         "read out 00000000001",
