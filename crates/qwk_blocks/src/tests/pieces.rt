@@ -50,10 +50,11 @@ fn feeds_one_message_byte_by_byte(rt: HostRuntime) -> Result<(), Fail> {
     ];
     assert_eq!(rt; events.as_slice(), wanted.as_slice());
     assert_eq!(rt; reader.finish(), Ok(1));
-    assert_eq!(rt; reader.block().as_slice(), &bytes[256..]);
-    let (reader, _) = feed(&rt, rt.alloc(), &bytes[..383], 0, 1)?;
+    assert_eq!(rt; Some(reader.block().as_slice()), bytes.get(256..));
+    let cut = bytes.get(..383).ok_or("too short")?;
+    let (reader, _) = feed(&rt, rt.alloc(), cut, 0, 1)?;
     assert_eq!(rt; reader.finish(), Err(QwkFault::Truncated { at: 128 }));
-    assert_eq!(rt; reader.block().as_slice(), &bytes[128..256]);
+    assert_eq!(rt; Some(reader.block().as_slice()), bytes.get(128..256));
     let reader = BlockReader::new();
     assert_eq!(rt; reader.finish(), Err(QwkFault::Truncated { at: 0 }));
     assert_eq!(rt; reader.block().as_slice(), [0u8; 128].as_slice());
@@ -86,7 +87,7 @@ fn every_cut_gives_the_same(rt: HostRuntime) -> Result<(), Fail> {
     let mut file = example(rt.alloc(), b"2", b' ')?;
     add_message(&mut file, b"2", b' ')?;
     assert_eq!(rt; file.as_slice().len(), 640);
-    let bytes = &file.as_slice()[..639];
+    let bytes = file.as_slice().get(..639).ok_or("too short")?;
     for cut in 0..=639 {
         assert_cut(&rt, rt.alloc(), bytes, cut, 1000)?;
     }
@@ -97,10 +98,13 @@ fn every_cut_gives_the_same(rt: HostRuntime) -> Result<(), Fail> {
 fn a_bad_count_stops_the_reader(rt: HostRuntime) -> Result<(), Fail> {
     let file = example(rt.alloc(), b"0", b' ')?;
     assert_eq!(rt; file.as_slice().len(), 384);
-    let (mut reader, _) = feed(&rt, rt.alloc(), &file.as_slice()[..255], 0, 100)?;
-    let fault = BlocksFault { at: 128 };
-    assert_eq!(rt; reader.feed(&file.as_slice()[255..]), Err(fault));
-    assert_eq!(rt; reader.block().as_slice(), &file.as_slice()[128..256]);
+    let bytes = file.as_slice();
+    let front = bytes.get(..255).ok_or("too short")?;
+    let rest = bytes.get(255..).ok_or("too short")?;
+    assert!(rt; rest.len() <= 1000);
+    let (mut reader, _) = feed(&rt, rt.alloc(), front, 0, 100)?;
+    assert_eq!(rt; reader.feed(rest), Err(BlocksFault { at: 128 }));
+    assert_eq!(rt; Some(reader.block().as_slice()), bytes.get(128..256));
     assert_eq!(rt; reader.finish(), Err(QwkFault::BadBlocks { at: 128 }));
     Ok(())
 }
