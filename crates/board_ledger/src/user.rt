@@ -86,8 +86,8 @@ impl User {
         })
     }
 
-    /// Whether the place is in the member set.
-    fn is_member(&self, place: u32) -> bool
+    /// Whether the user is a member of the conference in a place, from 0 to 63.
+    pub fn is_member(&self, place: u32) -> bool
         requires { place < 64 }
         ensures { result ≡ member_at self.now place }
     {

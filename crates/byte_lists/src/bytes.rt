@@ -43,6 +43,13 @@ impl Bytes {
         Ok(Bytes { inner })
     }
 
+    /// The string of these bytes, which are not copied.
+    pub fn from_vec(bytes: Vec<u8>) -> Bytes
+        ensures { result ≡ bytes.items }
+    {
+        Bytes { inner: bytes }
+    }
+
     /// Adds bytes at the end. Where there is no memory for them, the string is unchanged.
     pub fn add(&mut self, part: &[u8]) -> Result<(), AllocError>
         ensures ok { OnOk result (self.new ≡ self.old ++ part.now) }

@@ -7,11 +7,14 @@ fn a_list_of_lines_is_copied(rt: HostRuntime) -> Result<(), Fail> {
     for line in ["First line", "", "Last"] {
         lines.add(Bytes::from_slice(rt.alloc(), line.as_bytes())?)?;
     }
+    lines.add(Bytes::from_vec(b"Moved".to_vec(rt.alloc())?))?;
     let copy = lines.copy(rt.alloc())?;
-    assert_eq!(rt; copy.len(), 3);
+    assert_eq!(rt; copy.len(), 4);
     let first = copy.get(0).ok_or("no line")?;
     assert_eq!(rt; first.as_slice(), b"First line".as_slice());
-    assert!(rt; copy.get(3).is_none());
+    let last = copy.get(3).ok_or("no line")?;
+    assert_eq!(rt; last.as_slice(), b"Moved".as_slice());
+    assert!(rt; copy.get(4).is_none());
     Ok(())
 }
 
