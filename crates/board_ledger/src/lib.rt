@@ -24,4 +24,4 @@ pub use error::LedgerError;
 pub use ledger::Ledger;
 pub use setup_file::{Conference, Conferences, Setup, SetupError, SetupRule, Zones};
 pub use upload::{Counts, UploadRecord, Uploads};
-pub use user::{Highs, User, Users};
+pub use user::{Highs, User, Users, are_members};

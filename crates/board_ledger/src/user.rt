@@ -55,6 +55,17 @@ fn are_below(members: u64, count: u16) -> bool
     members >> count == 0
 }
 
+/// Whether a set of places is one of a member: a place is there, bit k for place k, and none past so many
+/// conferences.
+#[tactic(auto, unfolding(crate::specs::Users::right_members))]
+pub fn are_members(members: u64, conferences: u16) -> bool
+    requires { conferences ≤ 64 }
+    ensures { result ≡ members_right conferences members }
+{
+    let within = are_below(members, conferences);
+    members != 0 && within
+}
+
 impl User {
     /// How many bytes of a user's record stand behind the name, where there are so many conferences.
     pub(crate) fn size_behind_name(conferences: u16) -> usize
@@ -95,13 +106,11 @@ impl User {
     }
 
     /// Whether the user is a member somewhere, and of no place past the conferences.
-    #[tactic(auto, unfolding(crate::specs::Users::right_members))]
     pub(crate) fn right_members(&self, conferences: u16) -> bool
         requires { conferences ≤ 64 }
         ensures { result ≡ members_right conferences self.now.members }
     {
-        let within = are_below(self.members, conferences);
-        self.members != 0 && within
+        are_members(self.members, conferences)
     }
 
     /// Whether the high of a place is 0 where the user isn't a member and where no packet is offered.

@@ -1,14 +1,15 @@
 -- What whole patches do to the files of a place, and what an intent asks of them.
-use Rattle.std.proofs.Common.{◌≡◌, ◌≢◌, inl, inr, false, ℕ, ◌+◌, ◌<◌, ◌≤◌, List, [], ◌∷◌, ◌++◌, length, refl, ap, ◌∙◌, arith, length-append}
+use Rattle.std.proofs.Common.{◌≡◌, ◌≢◌, inl, inr, true, false, ℕ, ◌+◌, ◌<◌, ◌≤◌, List, [], ◌∷◌, ◌++◌, length, refl, ap, ◌∙◌, arith, length-append}
 use Rattle.std.specs.Prelude.{All, IsTrue, ◌==◌}
-use Rattle.std.proofs.lemmas.Bool.{eq-eqb, ne_eqb, cond-true, cond-false}
+use Rattle.std.proofs.lemmas.Bool.{and_parts, and_from, eq-eqb, ne_eqb, cond-true, cond-false}
 use Rattle.std.proofs.lemmas.List.Elements.{All-cons, All-nil}
-use Rattle.intent_journal.specs.Patches.{Files, file_of, apply, is_once}
+use Rattle.intent_journal.specs.Patches.{Files, file_of, place_of, bytes_of, apply, begins_within, are_within, is_once}
 use Rattle.intent_journal.specs.Journal.{patch_text, patches_text}
 use Rattle.intent_journal.specs.declared.patch.Patch.{Patch}
 use Rattle.intent_journal.specs.declared.patch.Patch.TheVariants.{Whole}
 use Rattle.door_outside.specs.File.{jhr_file, jdt_file, jdx_file, jlr_file}
 use Rattle.jam_base.specs.Change.{whole_jhr, whole_jlr, whole_messages, whole_files, IsOfPlace, IsElsewhere, Turns, SuitsIntent}
+use Rattle.jam_layout.specs.Layout.{files_size}
 use Rattle.jam_layout.specs.declared.files.BaseFiles.{BaseFiles}
 
 -- ---- one patch
@@ -36,6 +37,7 @@ pub jhr_turns : (place : ℕ) (old : BaseFiles) (jhr : List ℕ) → Turns place
 jhr_turns place old jhr =
     let patch : Patch = Whole (jhr_file place) jhr in
     record {
+      starts = λ files e. refl;
       base = λ files e.
           let first : apply patch files (jhr_file place) ≡ jhr = here (jhr_file place) jhr files in
           let jdt : apply patch files (jdt_file place) ≡ old.jdt = elsewhere patch files (jdt_file place) (λ same. omega (arith, same)) ∙ ap (λ (four : BaseFiles). four.jdt) e in
@@ -49,6 +51,7 @@ pub jdt_turns : (place : ℕ) (old : BaseFiles) (jdt : List ℕ) → Turns place
 jdt_turns place old jdt =
     let patch : Patch = Whole (jdt_file place) jdt in
     record {
+      starts = λ files e. refl;
       base = λ files e.
           let jhr : apply patch files (jhr_file place) ≡ old.jhr = elsewhere patch files (jhr_file place) (λ same. omega (arith, same)) ∙ ap (λ (four : BaseFiles). four.jhr) e in
           let second : apply patch files (jdt_file place) ≡ jdt = here (jdt_file place) jdt files in
@@ -62,6 +65,7 @@ pub jdx_turns : (place : ℕ) (old : BaseFiles) (jdx : List ℕ) → Turns place
 jdx_turns place old jdx =
     let patch : Patch = Whole (jdx_file place) jdx in
     record {
+      starts = λ files e. refl;
       base = λ files e.
           let jhr : apply patch files (jhr_file place) ≡ old.jhr = elsewhere patch files (jhr_file place) (λ same. omega (arith, same)) ∙ ap (λ (four : BaseFiles). four.jhr) e in
           let jdt : apply patch files (jdt_file place) ≡ old.jdt = elsewhere patch files (jdt_file place) (λ same. omega (arith, same)) ∙ ap (λ (four : BaseFiles). four.jdt) e in
@@ -75,6 +79,7 @@ pub jlr_turns : (place : ℕ) (old : BaseFiles) (jlr : List ℕ) → Turns place
 jlr_turns place old jlr =
     let patch : Patch = Whole (jlr_file place) jlr in
     record {
+      starts = λ files e. refl;
       base = λ files e.
           let jhr : apply patch files (jhr_file place) ≡ old.jhr = elsewhere patch files (jhr_file place) (λ same. omega (arith, same)) ∙ ap (λ (four : BaseFiles). four.jhr) e in
           let jdt : apply patch files (jdt_file place) ≡ old.jdt = elsewhere patch files (jdt_file place) (λ same. omega (arith, same)) ∙ ap (λ (four : BaseFiles). four.jdt) e in
@@ -86,10 +91,11 @@ jlr_turns place old jlr =
 
 -- no patch, and one patch before others
 pub nothing_turns : (place : ℕ) (old : BaseFiles) → Turns place old old []
-nothing_turns place old = record { base = λ files e. e; others = λ files file away. refl }
+nothing_turns place old = record { starts = λ files e. refl; base = λ files e. e; others = λ files file away. refl }
 
 pub turns_then : (place : ℕ) (old between new : BaseFiles) (patch : Patch) (patches : List Patch) → Turns place old between (patch ∷ []) → Turns place between new patches → Turns place old new (patch ∷ patches)
 turns_then place old between new patch patches one others = record {
+  starts = λ files e. and_from (begins_within patch files) (are_within patches (apply patch files)) (and_parts (begins_within patch files) true (one.starts files e)).0 (others.starts (apply patch files) (one.base files e));
   base = λ files e. others.base (apply patch files) (one.base files e);
   others = λ files file away. others.others (apply patch files) file away ∙ one.others files file away;
 }
@@ -162,30 +168,56 @@ module _ (place : ℕ) (new : BaseFiles) where
   unfolding OfPlace
   jlr_within rest all = All-cons OfPlace (Whole (jlr_file place) new.jlr) rest (omega arith, omega arith) all
 
+  -- none ends behind as many bytes as the files have
+  Ends : Patch → Type 0
+  Ends patch = place_of patch + length (bytes_of patch) ≤ files_size new
+
+  no_ends : All Ends []
+  no_ends = All-nil Ends
+
+  jhr_ends : (rest : List Patch) → All Ends rest → All Ends (Whole (jhr_file place) new.jhr ∷ rest)
+  unfolding Ends
+  jhr_ends rest all = All-cons Ends (Whole (jhr_file place) new.jhr) rest (omega arith) all
+
+  jdt_ends : (rest : List Patch) → All Ends rest → All Ends (Whole (jdt_file place) new.jdt ∷ rest)
+  unfolding Ends
+  jdt_ends rest all = All-cons Ends (Whole (jdt_file place) new.jdt) rest (omega arith) all
+
+  jdx_ends : (rest : List Patch) → All Ends rest → All Ends (Whole (jdx_file place) new.jdx ∷ rest)
+  unfolding Ends
+  jdx_ends rest all = All-cons Ends (Whole (jdx_file place) new.jdx) rest (omega arith) all
+
+  jlr_ends : (rest : List Patch) → All Ends rest → All Ends (Whole (jlr_file place) new.jlr ∷ rest)
+  unfolding Ends
+  jlr_ends rest all = All-cons Ends (Whole (jlr_file place) new.jlr) rest (omega arith) all
+
   pub nothing_small : SuitsIntent place new []
-  nothing_small = record { within = All-nil (λ (patch : Patch). IsOfPlace place (file_of patch)); once = refl; short = omega arith }
+  unfolding Ends
+  nothing_small = record { within = All-nil (λ (patch : Patch). IsOfPlace place (file_of patch)); once = refl; ends = no_ends; short = omega arith }
 
   pub jhr_small : SuitsIntent place new (whole_jhr place new)
-  unfolding OfPlace
-  jhr_small = record { within = jhr_within [] none; once = refl; short = at_most _ _ _ (text_more (jhr_file place) new.jhr []) (omega arith) }
+  unfolding OfPlace Ends
+  jhr_small = record { within = jhr_within [] none; once = refl; ends = jhr_ends [] no_ends; short = at_most _ _ _ (text_more (jhr_file place) new.jhr []) (omega arith) }
 
   pub jlr_small : SuitsIntent place new (whole_jlr place new)
-  unfolding OfPlace
-  jlr_small = record { within = jlr_within [] none; once = refl; short = at_most _ _ _ (text_more (jlr_file place) new.jlr []) (omega arith) }
+  unfolding OfPlace Ends
+  jlr_small = record { within = jlr_within [] none; once = refl; ends = jlr_ends [] no_ends; short = at_most _ _ _ (text_more (jlr_file place) new.jlr []) (omega arith) }
 
   pub messages_small : SuitsIntent place new (whole_messages place new)
-  unfolding OfPlace
+  unfolding OfPlace Ends
   messages_small = record {
+    ends = jhr_ends (Whole (jdt_file place) new.jdt ∷ Whole (jdx_file place) new.jdx ∷ []) (jdt_ends (Whole (jdx_file place) new.jdx ∷ []) (jdx_ends [] no_ends));
     within = jhr_within (Whole (jdt_file place) new.jdt ∷ Whole (jdx_file place) new.jdx ∷ []) (jdt_within (Whole (jdx_file place) new.jdx ∷ []) (jdx_within [] none));
     once = once_three;
     short = at_most _ _ _ (texts_length []) (omega arith);
   }
 
   pub whole_small : SuitsIntent place new (whole_files place new)
-  unfolding OfPlace
+  unfolding OfPlace Ends
   whole_small =
       let last : List Patch = Whole (jlr_file place) new.jlr ∷ [] in
       record {
+        ends = jhr_ends (Whole (jdt_file place) new.jdt ∷ Whole (jdx_file place) new.jdx ∷ last) (jdt_ends (Whole (jdx_file place) new.jdx ∷ last) (jdx_ends last (jlr_ends [] no_ends)));
         within = jhr_within (Whole (jdt_file place) new.jdt ∷ Whole (jdx_file place) new.jdx ∷ last) (jdt_within (Whole (jdx_file place) new.jdx ∷ last) (jdx_within last (jlr_within [] none)));
         once = once;
         short = at_most _ _ _ (texts_length last ∙ ap (λ n. 11 + (length new.jhr + (11 + (length new.jdt + (11 + (length new.jdx + n)))))) (text_more (jlr_file place) new.jlr [])) (omega arith);

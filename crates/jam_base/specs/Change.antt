@@ -1,6 +1,6 @@
 -- A change of the four files of a conference, as patches.
 use Rattle.std.specs.Prelude.{◌≡◌, ◌⊎◌, ℕ, ◌+◌, ◌*◌, ◌≤◌, ◌<◌, List, [], ◌∷◌, length, All, IsTrue}
-use Rattle.intent_journal.specs.Patches.{Files, file_of, patched, is_once}
+use Rattle.intent_journal.specs.Patches.{Files, file_of, place_of, bytes_of, patched, are_within, is_once}
 use Rattle.intent_journal.specs.Journal.{patches_text}
 use Rattle.intent_journal.specs.declared.patch.Patch.{Patch}
 use Rattle.intent_journal.specs.declared.patch.Patch.TheVariants.{Whole}
@@ -23,16 +23,19 @@ IsOfPlace place file = (jhr_file place ≤ file) × (file ≤ jlr_file place)
 abbrev pub IsElsewhere : ℕ → ℕ → Type 0
 IsElsewhere place file = (file < jhr_file place) ⊎ (jlr_file place < file)
 
--- the patches make the new four files of the old ones, and leave every other file
+-- the patches make the new four files of the old ones, where each begins at most at its file's end, and leave every
+-- other file
 pub record Turns (place : ℕ) (old new : BaseFiles) (patches : List Patch) : Type 0 where
+  pub starts : (files : Files) → files_of_place place files ≡ old → IsTrue (are_within patches files)
   pub base : (files : Files) → files_of_place place files ≡ old → files_of_place place (patched patches files) ≡ new
   pub others : (files : Files) (file : ℕ) → IsElsewhere place file → patched patches files file ≡ files file
 
--- what an intent asks of patches: each is of one of the four files, none has two, and with 11 bytes for
--- each file they are spelled in no more than the new files have
+-- what an intent asks of patches: each is of one of the four files, none has two, none ends behind as many bytes as
+-- the new files have, and with 11 bytes for each file they are spelled in no more than these
 pub record SuitsIntent (place : ℕ) (new : BaseFiles) (patches : List Patch) : Type 0 where
   pub within : All (λ patch. IsOfPlace place (file_of patch)) patches
   pub once : IsTrue (is_once patches)
+  pub ends : All (λ patch. place_of patch + length (bytes_of patch) ≤ files_size new) patches
   pub short : length (patches_text patches) ≤ 4 * 11 + files_size new
 
 -- some of a place's four files, whole, and all of them
