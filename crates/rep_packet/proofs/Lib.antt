@@ -1,0 +1,4 @@
+pub mod Once
+pub mod Answers
+pub mod Written
+pub mod Sizes

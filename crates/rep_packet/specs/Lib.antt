@@ -1,0 +1,3 @@
+pub mod Rep
+pub mod Written
+pub mod Answer
