@@ -1,2 +1,8 @@
 pub mod Marks
 pub mod AddressLines
+pub mod KeptLines
+pub mod RuleLists
+pub mod Sizes
+pub mod Verdicts
+pub mod PostedNames
+pub mod PostedDrafts

@@ -1,6 +1,6 @@
 -- Address lines: the first line of net mail, which names its recipient and his address.
-use Rattle.std.specs.Prelude.{◌≡◌, ℕ, ◌+◌, ◌-◌, ◌≤◌, List, [], ◌∷◌, ◌++◌, length, drop, All, Option, Some, None, option_map, IsTrue, ◌&&◌, ◌==◌, if◌then◌else◌, decimal}
-use Rattle.std.specs.List.{before_last, after_last}
+use Rattle.std.specs.Prelude.{◌≡◌, ℕ, ◌+◌, ◌-◌, ◌≤◌, List, [], ◌∷◌, ◌++◌, length, drop, All, Option, Some, None, option_map, Bool, IsTrue, nat_le, ◌&&◌, ◌==◌, if◌then◌else◌, decimal}
+use Rattle.std.specs.List.{before_last, after_last, list_all}
 use Rattle.text_fields.specs.Blank.{IsBlank}
 use Rattle.text_fields.specs.Number.{Digits}
 use Rattle.text_fields.specs.Split.{Lacks}
@@ -17,6 +17,10 @@ use Rattle.netmail_rules.specs.declared.net_line.NetLine.{NetLine}
 pub record SplitsAtLast (byte : ℕ) (text front rest : List ℕ) : Type 0 where
   pub whole : text ≡ front ++ byte ∷ rest
   pub last : Lacks byte rest
+
+-- no byte is below 20h
+abbrev pub is_plain : List ℕ → Bool
+is_plain text = list_all (λ b. nat_le 0x20 b) text
 
 -- ---- what an address line is
 -- 1 to 5 digits of the number, which is at most 32,767

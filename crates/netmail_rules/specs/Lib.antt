@@ -1,1 +1,7 @@
 pub mod AddressLine
+pub mod RuleWord
+pub mod Status
+pub mod Draft
+pub mod Rules
+pub mod Verdict
+pub mod Fits

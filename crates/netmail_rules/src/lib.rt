@@ -2,9 +2,22 @@
 #![tactic(auto)]
 
 mod address;
+mod draft;
+pub mod laws;
 mod net_line;
+mod rule;
+mod rules;
+mod size;
+mod status;
 #[cfg(test)]
 mod tests;
+mod verdict;
+#[cfg(test)]
+mod verdict_tests;
+mod view;
 
 pub use address::Address;
 pub use net_line::{NetLine, address_line};
+pub use rule::Rule;
+pub use verdict::{Verdict, judge};
+pub use view::{ConferenceView, View};

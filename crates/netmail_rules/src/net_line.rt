@@ -1,9 +1,8 @@
-ghost use Rattle.std.specs.Prelude.{◌≡◌, ◌↔◌, ◌+◌, ◌≤◌, length, MatchOption, nat_le};
-ghost use Rattle.std.specs.List.{list_all};
+ghost use Rattle.std.specs.Prelude.{◌≡◌, ◌↔◌, ◌≤◌, MatchOption, length, slice_range};
 ghost use Rattle.text_fields.specs.Split.{Lacks};
 ghost use Rattle.setup_file.specs.Words.{past_spaces as text_past_spaces};
 ghost use Rattle.jam_layout.specs.Fields.{is_text};
-ghost use Rattle.netmail_rules.specs.AddressLine.{SplitsAtLast, IsAddressLine, net_line};
+ghost use Rattle.netmail_rules.specs.AddressLine.{SplitsAtLast, IsAddressLine, net_line, is_plain as is_plain_text};
 ghost use Rattle.netmail_rules.specs.declared.net_line.NetLine.{NetLine};
 
 use crate::address::{Address, address_of};
@@ -19,6 +18,16 @@ pub struct NetLine {
     pub name_to: usize,
     /// The address.
     pub address: Address,
+}
+
+impl NetLine {
+    /// The name in the line that it was read from.
+    pub(crate) fn name(self, line: &[u8]) -> &[u8]
+        requires { IsAddressLine line.now self }
+        ensures { result.now ≡ slice_range line.now self.name_from self.name_to }
+    {
+        &line[self.name_from..self.name_to]
+    }
 }
 
 /// What stands before the last byte of this value, and what stands behind it; or None where there is no
@@ -42,8 +51,8 @@ fn past_spaces(text: &[u8]) -> &[u8]
 }
 
 /// Whether no byte is below 20h.
-fn has_no_control(text: &[u8]) -> bool
-    ensures { result ≡ list_all (λ b. nat_le 0x20 b) text.now }
+pub(crate) fn is_plain(text: &[u8]) -> bool
+    ensures { result ≡ is_plain_text text.now }
 {
     text.iter().all(|b| 0x20 <= *b)
 }
@@ -53,8 +62,8 @@ fn has_no_control(text: &[u8]) -> bool
 fn is_name(text: &[u8]) -> bool
     ensures { result ≡ is_text 36 text.now }
 {
-    let right = has_no_control(text);
-    1 <= text.len() && text.len() <= 36 && right
+    let plain = is_plain(text);
+    1 <= text.len() && text.len() <= 36 && plain
 }
 
 /// What an address line names, or None where the line isn't one. An address line is, without the spaces
