@@ -1,0 +1,11 @@
+pub mod LedgerShapes
+pub mod BasePlaces
+pub mod SizeLaws
+pub mod RenewedBases
+pub mod RestLaws
+pub mod HighLaws
+pub mod ConferenceLaws
+pub mod BoardParts
+pub mod BoardLaws
+pub mod ReadingBases
+pub mod ReadingParts

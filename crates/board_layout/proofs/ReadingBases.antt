@@ -1,0 +1,78 @@
+-- A loop over the conferences of a ledger: those that were read, and those that are left.
+use Rattle.std.proofs.Common.{◌≡◌, ℕ, ◌+◌, ◌<◌, Bool, List, [], ◌∷◌, ◌++◌, length, map, drop, get_or, Option, Result, Ok, Err, refl, sym, ap, ◌∙◌, subst, arith, append_assoc}
+use Rattle.std.specs.Prelude.{All, IsTrue}
+use Rattle.std.proofs.lemmas.List.{append-nil, map-append, length-map, length_push, drop_more}
+use Rattle.std.proofs.lemmas.List.Elements.{All-nil, All-push}
+use Rattle.board_ledger.specs.declared.ledger.Ledger.{Ledger}
+use Rattle.damage_rules.specs.Rules.{Stops}
+use Rattle.damage_rules.proofs.KeptRules.{with_front, one_more, one_fails}
+use Rattle.intent_journal.specs.Patches.{Files}
+use Rattle.jam_base.specs.Change.{files_of_place}
+use Rattle.jam_base.specs.Contents.{Contents}
+use Rattle.jam_layout.specs.Layout.{conference_of}
+use Rattle.jam_layout.specs.Valid.{IsConference}
+use Rattle.jam_layout.specs.declared.conference.Conference.{Conference}
+use Rattle.jam_layout.specs.declared.files.BaseFiles.{BaseFiles}
+use Rattle.jam_layout.specs.declared.shape.Shape.{Shape}
+use Rattle.jam_records.specs.declared.damage.Damage.{Damage}
+use Rattle.setup_file.specs.declared.conference.Conference.{Conference as SetupConference}
+use Rattle.board_layout.specs.Board.{conferences_in, shape_of, shapes_from, shapes_in, shapes_of}
+use Rattle.board_layout.specs.Damage.{conferences_of}
+use Rattle.board_layout.specs.Layout.{files_in, AreAt}
+use Rattle.board_layout.proofs.BasePlaces.{IsBase, one_more_at}
+
+-- these bases were read, and the conferences from this place on are left
+pub record BasesRead (tells : Bool) (l : Ledger) (place : ℕ) (left : List SetupConference) (files : Files) (bases : List Contents) : Type 0 where
+  pub count : length bases ≡ place
+  pub shapes : shapes_in bases ++ shapes_from l place left ≡ shapes_of l
+  pub conferences : All IsBase bases
+  pub read : IsTrue tells → with_front (conferences_in bases) (conferences_of (shapes_from l place left) files) ≡ conferences_of (shapes_of l) files
+  pub layout : IsTrue tells → AreAt 0 (map files_in bases) files
+
+no_front : {A : Type 0} (read : Result (List A) Damage) → with_front [] read ≡ read
+no_front (Ok xs) = refl
+no_front (Err d) = refl
+
+pub bases_none : (tells : Bool) (l : Ledger) (files : Files) → BasesRead tells l 0 l.setup.conferences files []
+bases_none tells l files = record {
+  count = refl;
+  shapes = refl;
+  conferences = All-nil IsBase;
+  read = λ told. no_front (conferences_of (shapes_of l) files);
+  layout = λ told. tt;
+}
+
+module _ (tells : Bool) (l : Ledger) (place : ℕ) (c : SetupConference) (left : List SetupConference) (files : Files) (bases : List Contents) (so_far : BasesRead tells l place (c ∷ left) files bases) where
+  pub bases_more : (b : Contents) → b.shape ≡ shape_of l place c.kind → IsConference b.shape b.conference
+      → (IsTrue tells → conference_of (shape_of l place c.kind) (files_of_place place files) ≡ Ok b.conference) → (IsTrue tells → files_of_place place files ≡ files_in b)
+      → BasesRead tells l (place + 1) left files (bases ++ b ∷ [])
+  bases_more b shape ok read laid =
+      let rest : List Shape = shapes_from l (place + 1) left in
+      let shapes : shapes_in (bases ++ b ∷ []) ≡ shapes_in bases ++ shape_of l place c.kind ∷ [] = map-append (λ (x : Contents). x.shape) bases (b ∷ []) ∙ ap (λ (s : Shape). shapes_in bases ++ s ∷ []) shape in
+      let conferences : conferences_in (bases ++ b ∷ []) ≡ conferences_in bases ++ b.conference ∷ [] = map-append (λ (x : Contents). x.conference) bases (b ∷ []) in
+      let at : 0 + length (map files_in bases) ≡ place = omega (arith, length-map bases files_in, so_far.count) in
+      record {
+        count = omega (arith, length_push bases b, so_far.count);
+        shapes = ap (λ (ss : List Shape). ss ++ rest) shapes ∙ (append_assoc (shapes_in bases) (shape_of l place c.kind ∷ []) rest ∙ so_far.shapes);
+        conferences = All-push IsBase bases b so_far.conferences ok;
+        read = λ told. one_more (conferences_in bases) (conferences_in (bases ++ b ∷ [])) (conferences_of (shapes_from l place (c ∷ left)) files) (conferences_of rest files) (conferences_of (shapes_of l) files)
+            (conference_of (shape_of l place c.kind) (files_of_place place files)) b.conference (λ x. x) refl (read told) conferences (so_far.read told);
+        layout = λ told. subst (λ (xs : List BaseFiles). AreAt 0 xs files) (sym (map-append files_in bases (b ∷ [])))
+            (one_more_at 0 (map files_in bases) (files_in b) files (so_far.layout told) (ap (λ n. files_of_place n files) at ∙ laid told));
+      }
+
+  pub bases_fail : (e : Option Damage) → (IsTrue tells → Stops e (conference_of (shape_of l place c.kind) (files_of_place place files))) → IsTrue tells → Stops e (conferences_of (shapes_of l) files)
+  bases_fail e failed told =
+      one_fails (conferences_in bases) (conferences_of (shapes_from l place (c ∷ left)) files) (conferences_of (shapes_from l (place + 1) left) files) (conferences_of (shapes_of l) files)
+      (conference_of (shape_of l place c.kind) (files_of_place place files)) (λ x. x) e refl (failed told) (so_far.read told)
+
+-- the conference at the front of those that are left
+pub next_left : (setup : List SetupConference) (place : ℕ) (c : SetupConference) → place < length setup → c ≡ get_or setup place c → drop place setup ≡ c ∷ drop (place + 1) setup
+next_left setup place c within is = drop_more setup place c within ∙ ap (λ (x : SetupConference). x ∷ drop (place + 1) setup) (sym is)
+
+module _ (tells : Bool) (l : Ledger) (place : ℕ) (files : Files) (bases : List Contents) (so_far : BasesRead tells l place [] files bases) where
+  pub shapes_done : shapes_in bases ≡ shapes_of l
+  shapes_done = sym (append-nil (shapes_in bases)) ∙ so_far.shapes
+
+  pub conferences_done : IsTrue tells → conferences_of (shapes_of l) files ≡ Ok (conferences_in bases)
+  conferences_done told = sym (so_far.read told) ∙ ap (λ (xs : List Conference). Ok xs) (append-nil (conferences_in bases))

@@ -1,0 +1,78 @@
+-- The board of data files, or their first damage.
+use Rattle.std.specs.Prelude.{ℕ, zero, suc, ◌+◌, ◌-◌, List, [], ◌∷◌, length, Option, Some, None, Result, Ok, Err, not, ◌==◌, nat_lt, if◌then◌else◌}
+use Rattle.board_ledger.specs.Ledger.{ledger_of}
+use Rattle.board_ledger.specs.declared.user.User.{User}
+use Rattle.damage_rules.specs.Rules.{by_rules, damage_of, ◌>>=◌}
+use Rattle.door_outside.specs.File.{ledger_file, jhr_file, jdt_file, jdx_file, jlr_file}
+use Rattle.intent_journal.specs.Patches.{Files}
+use Rattle.jam_base.specs.Change.{files_of_place}
+use Rattle.jam_layout.specs.Layout.{conference_of}
+use Rattle.jam_layout.specs.declared.conference.Conference.{Conference}
+use Rattle.jam_layout.specs.declared.shape.Shape.{Shape}
+use Rattle.jam_records.specs.declared.damage.Damage.{Damage}
+use Rattle.jam_records.specs.declared.damage.DamageRule.TheVariants.{Size, Rest, High}
+use Rattle.board_layout.specs.Board.{Board, shapes_of}
+use Rattle.board_layout.specs.Layout.{data_size}
+use Rattle.board_layout.specs.Valid.{board_limit, highs_fit}
+
+-- the conference of each shape, read from the files of its place
+abbrev pub conferences_of : List Shape → Files → Result (List Conference) Damage
+conferences_of [] files = Ok []
+conferences_of (shape ∷ shapes) files = do
+  c ← conference_of shape (files_of_place shape.place files)
+  others ← conferences_of shapes files
+  Ok (c ∷ others)
+
+-- a file past the conferences is empty
+abbrev pub is_rest : ℕ → Files → Result (Unit {0}) Damage
+is_rest file files = by_rules file 0 ((Rest, not (length (files file) == 0)) ∷ []) (tt {0})
+
+-- so are the four of a place
+unfoldable pub is_rest_place : ℕ → Files → Result (Unit {0}) Damage
+is_rest_place place files = do
+  jhr ← is_rest (jhr_file place) files
+  jdt ← is_rest (jdt_file place) files
+  jdx ← is_rest (jdx_file place) files
+  is_rest (jlr_file place) files
+
+-- and those of so many places from one on
+unfoldable pub are_rest : ℕ → ℕ → Files → Result (Unit {0}) Damage
+are_rest place zero files = Ok (tt {0})
+are_rest place (suc n) files = do
+  here ← is_rest_place place files
+  are_rest (place + 1) n files
+
+-- no high of a user, from the one of this record on, is above the count of slots of its conference
+abbrev pub highs_of : List Conference → ℕ → List User → Result (Unit {0}) Damage
+highs_of conferences item [] = Ok (tt {0})
+highs_of conferences item (u ∷ users) = do
+  one ← by_rules ledger_file item ((High, not (highs_fit conferences u.highs)) ∷ []) (tt {0})
+  highs_of conferences (item + 1) users
+
+-- the board of files that aren't too long together, or the first rule that they break: part by part, file by
+-- file, record by record
+unfoldable pub parts_of : Files → Result Board Damage
+parts_of files = do
+  ledger ← ledger_of (files ledger_file)
+  conferences ← conferences_of (shapes_of ledger) files
+  empty ← are_rest (length ledger.setup.conferences) (64 - length ledger.setup.conferences) files
+  within ← highs_of conferences (1 + length ledger.setup.conferences) ledger.users
+  Ok (record { ledger = ledger; conferences = conferences })
+
+-- the board of the files, or the first rule that they break
+unfoldable pub board_of : Files → Result Board Damage
+board_of files = do
+  sized ← by_rules ledger_file 0 ((Size, nat_lt board_limit (data_size files)) ∷ []) (tt {0})
+  parts_of files
+
+-- the first damage, or none
+abbrev pub board_damage : Files → Option Damage
+board_damage files = damage_of (board_of files)
+
+abbrev pub some_board : Result Board Damage → Result (Option Board) Damage
+some_board (Ok b) = Ok (Some b)
+some_board (Err d) = Err d
+
+-- the board of the files, or none where all are empty, or the first damage
+abbrev pub board_in : Files → Result (Option Board) Damage
+board_in files = if data_size files == 0 then Ok None else some_board (board_of files)

@@ -1,0 +1,6 @@
+pub mod Board
+pub mod Renewed
+pub mod Layout
+pub mod Valid
+pub mod Damage
+pub mod Rules

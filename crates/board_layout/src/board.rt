@@ -1,0 +1,128 @@
+ghost use Rattle.std.specs.Prelude.{◌≡◌, ◌≤◌, ◌<◌, ◌^◌, map, sum_by, slice_get, MatchOption};
+ghost use Rattle.std.specs.Option.{option_copied, option_map};
+ghost use Rattle.board_layout.specs.Board.{board_with, conferences_in, shapes_in, shapes_of};
+ghost use Rattle.board_layout.specs.Layout.{base_size, board_size};
+ghost use Rattle.board_layout.specs.Renewed.{contents_of, renewed};
+ghost use Rattle.board_layout.specs.Valid.{IsBoard};
+
+use board_ledger::Ledger;
+use byte_lists::List;
+use jam_base::Base;
+use std::marker::Model;
+
+/// Conferences, by place from 0.
+pub type Bases = List<Base>;
+
+/// A valid board as its files hold it. Contracts see it as a `Board`.
+#[derive(Debug, Drop)]
+pub struct StoredBoard {
+    /// Its setup, when it was made, its users and its upload records.
+    ledger: Ledger,
+    /// Its conferences, one for each of the setup.
+    bases: Vec<Base>,
+}
+
+impl Model for StoredBoard {
+    ghost use Rattle.std.specs.Prelude.{◌≡◌};
+    ghost use Rattle.board_layout.specs.Board.{Board, board_with, shapes_in, shapes_of};
+    ghost use Rattle.board_layout.specs.Valid.{IsBoard};
+
+    ghost Value = { Board };
+
+    ghost view = { λ s. board_with s.ledger s.bases.items };
+
+    ghost invariant = { λ s. IsBoard (board_with s.ledger s.bases.items) × (shapes_in s.bases.items ≡ shapes_of s.ledger) };
+}
+
+/// How many bytes the files of bases have together.
+pub(crate) fn bases_size(bases: &[Base]) -> u64
+    requires { sum_by base_size bases.now < 2 ^ 64 }
+    ensures { result ≡ sum_by base_size bases.now }
+{
+    let mut size = 0;
+    for base in bases {
+        size += base.size();
+    }
+    size
+}
+
+/// Puts each new base in place of the old one.
+fn renew_bases(olds: &mut [Base], mut news: Vec<Option<Base>>)
+    ensures { olds.new ≡ renewed olds.old news.items }
+{
+    while let Some(new) = news.pop() {
+        let place = news.len();
+        if let Some(base) = new {
+            if place < olds.len() {
+                olds[place] = base;
+            }
+        }
+    }
+}
+
+impl StoredBoard {
+    /// The board of a ledger and its conferences, in order of the setup.
+    pub fn new(ledger: Ledger, bases: Bases) -> StoredBoard
+        requires board { IsBoard (board_with ledger bases) }
+        requires shapes { shapes_in bases ≡ shapes_of ledger }
+        ensures { result ≡ board_with ledger bases }
+    {
+        StoredBoard {
+            ledger,
+            bases: bases.into_vec(),
+        }
+    }
+
+    /// Its ledger.
+    pub fn ledger(&self) -> &Ledger
+        ensures ledger { result.now ≡ self.now.ledger }
+        ensures board { IsBoard self.now }
+    {
+        &self.ledger
+    }
+
+    /// Its conferences, by place.
+    pub fn bases(&self) -> &[Base]
+        ensures contents { result.now ≡ contents_of self.now }
+        ensures conferences { conferences_in result.now ≡ self.now.conferences }
+        ensures shapes { shapes_in result.now ≡ shapes_of self.now.ledger }
+        ensures board { IsBoard self.now }
+    {
+        self.bases.as_slice()
+    }
+
+    /// The conference in a place, from 0, or None past the last.
+    pub fn base(&self, place: u8) -> Option<&Base>
+        ensures conference { option_map (λ base. base.conference) (option_copied result) ≡ slice_get self.now.conferences place }
+        ensures shape { option_map (λ base. base.shape) (option_copied result) ≡ slice_get (shapes_of self.now.ledger) place }
+    {
+        self.bases.get(usize::from(place))
+    }
+
+    /// Its ledger and its conferences, by place.
+    pub fn into_parts(self) -> (Ledger, Bases)
+        ensures ledger { result.0 ≡ self.ledger }
+        ensures conferences { conferences_in result.1 ≡ self.conferences }
+        ensures shapes { shapes_in result.1 ≡ shapes_of self.ledger }
+        ensures board { IsBoard self }
+    {
+        (self.ledger, List::from_vec(self.bases))
+    }
+
+    /// Puts a ledger in place of its own, and each new conference in place of the old one. It takes no memory.
+    pub fn renew(&mut self, ledger: Ledger, bases: List<Option<Base>>)
+        requires board { IsBoard (board_with ledger (renewed (contents_of self.old) bases)) }
+        requires shapes { shapes_in (renewed (contents_of self.old) bases) ≡ shapes_of ledger }
+        ensures { self.new ≡ board_with ledger (renewed (contents_of self.old) bases) }
+    {
+        renew_bases(&mut self.bases, bases.into_vec());
+        self.ledger = ledger;
+    }
+
+    /// How many bytes its data files have together, at most 33,554,432. It takes no memory.
+    pub fn size(&self) -> u64
+        ensures { result ≡ board_size self.now }
+    {
+        self.ledger.size() + bases_size(self.bases.as_slice())
+    }
+}
