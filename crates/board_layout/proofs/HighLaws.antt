@@ -1,14 +1,17 @@
 -- No high of a user is above the count of slots of its conference.
-use Rattle.std.proofs.Common.{◌≡◌, ℕ, ◌+◌, not, false, List, [], ◌∷◌, Ok, refl, ap, ◌∙◌, arith}
+use Rattle.std.proofs.Common.{◌≡◌, inl, inr, ℕ, ◌+◌, not, min, true, false, List, [], ◌∷◌, length, drop, Ok, refl, ap, ◌∙◌, arith, length-drop}
 use Rattle.std.specs.Prelude.{All, IsTrue}
-use Rattle.std.proofs.lemmas.Bool.{not-false}
+use Rattle.std.proofs.lemmas.Bool.{cases_lt, not-false}
+use Rattle.std.proofs.lemmas.List.{length-map}
 use Rattle.std.proofs.lemmas.List.Elements.{All-nil, All-cons, All-drop}
 use Rattle.board_ledger.specs.declared.user.User.{User}
 use Rattle.damage_rules.specs.Rules.{Rules, by_rules, ◌>>=◌}
 use Rattle.damage_rules.proofs.KeptRules.{bind_ok, rules_kept, kept_rules}
 use Rattle.door_outside.specs.File.{ledger_file}
+use Rattle.jam_base.specs.Contents.{Contents}
 use Rattle.jam_layout.specs.declared.conference.Conference.{Conference}
 use Rattle.jam_records.specs.declared.damage.DamageRule.TheVariants.{High}
+use Rattle.board_layout.specs.Board.{conferences_in}
 use Rattle.board_layout.specs.Damage.{highs_of}
 use Rattle.board_layout.specs.Valid.{highs_fit}
 
@@ -32,3 +35,24 @@ highs_again conferences item (u ∷ users) all =
     let kept : not (highs_fit conferences u.highs) ≡ false = ap not one in
     ap (λ r. r >>= λ one. highs_of conferences (item + 1) users) (kept_rules ledger_file item (rules_of conferences u) (tt {0}) (kept, tt))
     ∙ highs_again conferences (item + 1) users (All-drop (HasHighs conferences) 1 (u ∷ users) all)
+
+-- the highs that are asked of, in other places
+pub highs_asked : (slice bases : List Contents) (first wanted : ℕ) (others users : List User) → slice ≡ bases → first ≡ wanted → others ≡ users
+    → highs_of (conferences_in slice) first others ≡ highs_of (conferences_in bases) wanted users
+highs_asked slice bases first wanted others users a b c = λ i. highs_of (conferences_in (a i)) (b i) (c i)
+
+-- ---- a loop over the highs of a user
+no_conferences : (conferences : List Conference) (highs : List ℕ) → length conferences ≡ 0 → highs_fit conferences highs ≡ true
+no_conferences [] highs none = refl
+no_conferences (c ∷ conferences) highs none = absurd (omega arith)
+
+no_highs : (conferences : List Conference) (highs : List ℕ) → length highs ≡ 0 → highs_fit conferences highs ≡ true
+no_highs [] highs none = refl
+no_highs (c ∷ conferences) [] none = refl
+no_highs (c ∷ conferences) (high ∷ highs) none = absurd (omega arith)
+
+pub highs_done : (bases : List Contents) (highs : List ℕ) (n : ℕ) → n ≡ min (length bases) (length highs) → highs_fit (conferences_in (drop n bases)) (drop n highs) ≡ true
+highs_done bases highs n all = elim (cases_lt (length bases) (length highs)) [
+  | inl fewer ↦ no_conferences (conferences_in (drop n bases)) (drop n highs) (omega (arith, length-map (drop n bases) (λ (x : Contents). x.conference), length-drop n bases))
+  | inr others ↦ no_highs (conferences_in (drop n bases)) (drop n highs) (omega (arith, length-drop n highs))
+]

@@ -9,3 +9,5 @@ pub mod BoardParts
 pub mod BoardLaws
 pub mod ReadingBases
 pub mod ReadingParts
+pub mod ReadingClauses
+pub mod ReadingBoard

@@ -31,9 +31,20 @@ first_places (suc n) bases files at =
     let last : files_size (files_of_place n files) ≡ files_size (get_or bases n no_base) = ap files_size (at n (omega arith)) in
     omega (arith, before, last, sum_more n bases)
 
-pub places_more : (n : ℕ) (files : Files) → places_size (n + 1) files ≡ places_size n files + files_size (files_of_place n files)
+-- a loop over the places: what was added up, and one place more
+pub size_none : (files : Files) (size : ℕ) → size ≡ length (files ledger_file) → size ≡ length (files ledger_file) + places_size 0 files
 unfolding places_size
-places_more n files = ap (λ k. places_size k files) (let e : n + 1 ≡ suc n = omega arith in e)
+size_none files size e = omega arith
+
+places_more : (n k : ℕ) (files : Files) → k ≡ suc n → places_size k files ≡ places_size n files + files_size (files_of_place n files)
+unfolding places_size
+places_more n k files e = ap (λ j. places_size j files) e
+
+pub size_more : (n size more : ℕ) (old now : Files) → now ≡ old → size ≡ length (old ledger_file) + places_size n old → more ≡ files_size (files_of_place n now)
+    → size + more ≡ length (old ledger_file) + places_size (n + 1) old
+size_more n size more old now same so_far here =
+    let this : more ≡ files_size (files_of_place n old) = here ∙ ap (λ (files : Files). files_size (files_of_place n files)) same in
+    omega (arith, so_far, this, places_more n (n + 1) old (omega arith))
 
 pub place_within : (n : ℕ) (files : Files) (place : ℕ) → place < n → files_size (files_of_place place files) ≤ places_size n files
 unfolding places_size

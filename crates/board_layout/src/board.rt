@@ -10,6 +10,9 @@ use byte_lists::List;
 use jam_base::Base;
 use std::marker::Model;
 
+/// How many bytes the data files may have together.
+pub const BOARD_LIMIT: u64 = 33_554_432;
+
 /// Conferences, by place from 0.
 pub type Bases = List<Base>;
 
@@ -35,7 +38,7 @@ impl Model for StoredBoard {
 }
 
 /// How many bytes the files of bases have together.
-pub(crate) fn bases_size(bases: &[Base]) -> u64
+fn bases_size(bases: &[Base]) -> u64
     requires { sum_by base_size bases.now < 2 ^ 64 }
     ensures { result ≡ sum_by base_size bases.now }
 {

@@ -1,12 +1,20 @@
 //! The data files of a board: exactly its layout over all 257, read with the first damage named.
 #![tactic(auto)]
 
+mod bases;
 mod board;
 mod damaged;
 mod error;
+mod files;
+mod highs;
 pub mod laws;
+mod parts;
+mod read;
+mod rest;
 mod shape;
+mod sizes;
 
-pub use board::{Bases, StoredBoard};
+pub use board::{BOARD_LIMIT, Bases, StoredBoard};
 pub use error::ReadError;
+pub use read::read_board;
 pub use shape::shape_at;

@@ -1,0 +1,37 @@
+-- What the data files are read as, where they aren't empty.
+use Rattle.std.proofs.Common.{◌≡◌, ℕ, ◌≤◌, ◌<◌, Bool, cond, ltb, eqb, true, false, [], ◌∷◌, Option, Some, None, Result, Ok, Err, refl, sym, ap, ◌∙◌, subst}
+use Rattle.std.proofs.lemmas.Bool.{cond-false, le-ltb, lt-ltb, ne_eqb}
+use Rattle.damage_rules.specs.Rules.{by_rules, ◌>>=◌, Stops}
+use Rattle.door_outside.specs.File.{ledger_file}
+use Rattle.intent_journal.specs.Patches.{Files}
+use Rattle.jam_records.specs.declared.damage.Damage.{Damage}
+use Rattle.jam_records.specs.declared.damage.DamageRule.TheVariants.{Size}
+use Rattle.board_layout.specs.Board.{Board}
+use Rattle.board_layout.specs.Damage.{parts_of, board_of, some_board, board_in}
+use Rattle.board_layout.specs.Layout.{data_size}
+use Rattle.board_layout.specs.Valid.{board_limit}
+
+by_size : (files : Files) (long : Bool) → ltb board_limit (data_size files) ≡ long → board_of files ≡ (by_rules ledger_file 0 ((Size, long) ∷ []) (tt {0}) >>= λ sized. parts_of files)
+unfolding board_of
+by_size files long e = ap (λ (b : Bool). by_rules ledger_file 0 ((Size, b) ∷ []) (tt {0}) >>= λ sized. parts_of files) e
+
+some_bytes : (files : Files) → (data_size files ≡ 0 → ⊥) → board_in files ≡ some_board (board_of files)
+some_bytes files some = cond-false (eqb (data_size files) 0) (Ok None) (some_board (board_of files)) (ne_eqb (data_size files) 0 some)
+
+some_fails : (e : Option Damage) (read : Result Board Damage) → Stops e read → Stops e (some_board read)
+some_fails None read h = tt
+some_fails (Some d) read h = ap some_board h
+
+module _ (files : Files) (some : data_size files ≡ 0 → ⊥) where
+  pub too_long : board_limit < data_size files → board_in files ≡ Err (record { file = 0; item = 0; rule = Size })
+  too_long long = some_bytes files some ∙ ap some_board (by_size files true (lt-ltb board_limit (data_size files) long))
+
+  module _ (short : data_size files ≤ board_limit) where
+    in_parts : board_in files ≡ some_board (parts_of files)
+    in_parts = some_bytes files some ∙ ap some_board (by_size files false (le-ltb board_limit (data_size files) short))
+
+    pub parts_fail : (e : Option Damage) → Stops e (parts_of files) → Stops e (board_in files)
+    parts_fail e h = subst (Stops e) (sym in_parts) (some_fails e (parts_of files) h)
+
+    pub parts_read : (b : Board) → parts_of files ≡ Ok b → board_in files ≡ Ok (Some b)
+    parts_read b e = in_parts ∙ ap some_board e

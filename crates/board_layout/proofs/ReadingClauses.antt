@@ -1,0 +1,35 @@
+-- What a base and a ledger are read as, from the clauses of `read_base` and `Ledger::read`; and what calls leave.
+use Rattle.std.proofs.Common.{◌≡◌, inl, inr, ℕ, List, Result, Ok, sym, ap, ◌∙◌, subst}
+use Rattle.board_ledger.specs.Ledger.{ledger_text, ledger_of}
+use Rattle.board_ledger.specs.Valid.{IsLedger}
+use Rattle.board_ledger.specs.declared.ledger.Ledger.{Ledger}
+use Rattle.board_ledger.proofs.LedgerLaws.{ledger_again}
+use Rattle.door_outside.specs.Disk.{Disk, Unchanged}
+use Rattle.jam_layout.specs.Layout.{layout, conference_of}
+use Rattle.jam_layout.specs.Valid.{ShapeFits, IsConference}
+use Rattle.jam_layout.specs.declared.conference.Conference.{Conference}
+use Rattle.jam_layout.specs.declared.files.BaseFiles.{BaseFiles}
+use Rattle.jam_layout.specs.declared.shape.Shape.{Shape}
+use Rattle.jam_layout.proofs.ConferenceLayout.{is_layout}
+use Rattle.board_layout.specs.Rules.{HasReadCause}
+
+-- read from these files and this shape, which equal those that are asked for
+pub base_read : (shape wanted : Shape) (files read : BaseFiles) (c : Conference) → shape ≡ wanted → files ≡ read → ShapeFits wanted → IsConference shape c → read ≡ layout shape c → conference_of wanted files ≡ Ok c
+base_read shape wanted files read c same from fits ok laid =
+    (λ i. conference_of (sym same i) (from i)) ∙ (ap (conference_of shape) laid ∙ is_layout shape c (subst ShapeFits (sym same) fits) ok)
+
+pub ledger_read : (bytes read : List ℕ) (l : Ledger) → bytes ≡ read → IsLedger l → read ≡ ledger_text l → ledger_of bytes ≡ Ok l
+ledger_read bytes read l from ok text = ap ledger_of (from ∙ text) ∙ ledger_again l ok
+
+pub kept_at_ok : {T : Type 0} (x : T) (before now : ℕ) → HasReadCause {T = T} before now (Ok x) → now ≡ before
+kept_at_ok x before now cause = elim cause.kept [ inl fault ↦ absurd cc | inr kept ↦ kept ]
+
+pub unchanged_twice : (old mid new : Disk) → Unchanged old mid → Unchanged mid new → Unchanged old new
+unchanged_twice old mid new first second = record {
+  files = second.files ∙ first.files;
+  said = second.said ∙ first.said;
+  clock = second.clock ∙ first.clock;
+  wrote = second.wrote ∙ first.wrote;
+  leaves = λ t image left. first.leaves t image (second.leaves t image left);
+  left = λ t image left. second.left t image (first.left t image left);
+}

@@ -1,0 +1,92 @@
+// Reading a board.
+ghost use Rattle.std.specs.Prelude.{◌≡◌, ◌≤◌, IfOk, IsTrue};
+ghost use Rattle.board_ledger.specs.Ledger.{ledger_text, ledger_of};
+ghost use Rattle.board_ledger.specs.Valid.{IsLedger};
+ghost use Rattle.board_layout.specs.Damage.{board_in, parts_of};
+ghost use Rattle.board_layout.specs.Layout.{IsLayout, data_size as size_of_data};
+ghost use Rattle.board_layout.specs.Rules.{Gives, HasReadCause, IsLaidOut};
+ghost use Rattle.board_layout.specs.Valid.{board_limit};
+ghost use Rattle.door_outside.specs.Disk.{Unchanged};
+ghost use Rattle.door_outside.specs.File.{ledger_file};
+
+use crate::bases::read_bases;
+use crate::board::{BOARD_LIMIT, StoredBoard};
+use crate::damaged::damage;
+use crate::error::ReadError;
+use crate::files::read_file;
+use crate::highs::check_highs;
+use crate::parts::board_of_parts;
+use crate::rest::check_rests;
+use crate::sizes::data_size;
+use board_ledger::Ledger;
+use door_outside::{FileId, Host};
+use jam_records::DamageRule;
+use std::alloc::Global;
+
+/// The damage of files that are too long together.
+fn too_long() -> ReadError
+    ensures { result ≡ ReadError.Damaged record { file = ledger_file; item = 0; rule = DamageRule.Size } }
+{
+    ReadError::Damaged(damage(FileId::ledger(), 0, DamageRule::Size))
+}
+
+/// The ledger of file 0.
+fn read_ledger<H: Host>(alloc: Global, host: &mut H) -> Result<Ledger, ReadError>
+    ensures ledger { IfOk result IsLedger }
+    ensures unchanged { IsTrue H.tells → Unchanged (H.disk host.old) (H.disk host.new) }
+    ensures gives { IsTrue H.tells → Gives (λ ledger. ledger) result (ledger_of ((H.disk host.old).files ledger_file)) }
+    ensures layout { IsTrue H.tells → IfOk result (λ ledger. (H.disk host.old).files ledger_file ≡ ledger_text ledger) }
+    ensures cause { HasReadCause (H.disk_faults host.old) (H.disk_faults host.new) result }
+    ensures voice { H.voice_faults host.new ≡ H.voice_faults host.old }
+{
+    let bytes = read_file(alloc, host, FileId::ledger())?;
+    Ok(Ledger::read(alloc, bytes.as_slice())?)
+}
+
+/// The board of files that aren't too long together, or the first rule that they break.
+fn read_parts<H: Host>(alloc: Global, host: &mut H) -> Result<StoredBoard, ReadError>
+    requires { IsTrue H.tells → size_of_data (H.disk host.old).files ≤ board_limit }
+    ensures unchanged { IsTrue H.tells → Unchanged (H.disk host.old) (H.disk host.new) }
+    ensures gives { IsTrue H.tells → Gives (λ board. board) result (parts_of (H.disk host.old).files) }
+    ensures layout { IsTrue H.tells → IfOk result (λ board. IsLayout board (H.disk host.old).files) }
+    ensures cause { HasReadCause (H.disk_faults host.old) (H.disk_faults host.new) result }
+    ensures voice { H.voice_faults host.new ≡ H.voice_faults host.old }
+{
+    let ledger = read_ledger(alloc, host)?;
+    let bases = read_bases(alloc, host, &ledger)?;
+    let places = ledger.setup.conference_count();
+    check_rests(host, places)?;
+    check_highs(
+        bases.as_slice(),
+        1 + u32::from(places),
+        ledger.users.as_slice(),
+    )?;
+    // Files that changed between the two looks at their length may be too long only now.
+    match board_of_parts(ledger, bases) {
+        Some(board) => Ok(board),
+        None => Err(too_long()),
+    }
+}
+
+/// The board whose layout the data files are, or None where all of them are empty.
+///
+/// `Damaged` comes where they are neither, with the first rule that they break: the size of all files, the
+/// ledger, the four files of each place, and then the highs of the users. `DiskFault` comes only where the
+/// host's count of disk faults rose. `OutOfMemory` comes where there is no memory; it hides no fault.
+pub fn read_board<H: Host>(alloc: Global, host: &mut H) -> Result<Option<StoredBoard>, ReadError>
+    ensures unchanged { IsTrue H.tells → Unchanged (H.disk host.old) (H.disk host.new) }
+    ensures gives { IsTrue H.tells → Gives (λ board. board) result (board_in (H.disk host.old).files) }
+    ensures layout { IsTrue H.tells → IfOk result (λ board. IsLaidOut board (H.disk host.old).files) }
+    ensures cause { HasReadCause (H.disk_faults host.old) (H.disk_faults host.new) result }
+    ensures voice { H.voice_faults host.new ≡ H.voice_faults host.old }
+{
+    let size = data_size(host)?;
+    if size == 0 {
+        return Ok(None);
+    }
+    if size > BOARD_LIMIT {
+        return Err(too_long());
+    }
+    let board = read_parts(alloc, host)?;
+    Ok(Some(board))
+}
