@@ -1,5 +1,5 @@
 -- What the data files are read as, where they aren't empty.
-use Rattle.std.proofs.Common.{◌≡◌, ℕ, ◌≤◌, ◌<◌, Bool, cond, ltb, eqb, true, false, [], ◌∷◌, Option, Some, None, Result, Ok, Err, refl, sym, ap, ◌∙◌, subst}
+use Rattle.std.proofs.Common.{◌≡◌, ◌≤◌, ◌<◌, Bool, ltb, eqb, true, false, [], ◌∷◌, Option, Some, None, Result, Ok, Err, sym, ap, ◌∙◌, subst}
 use Rattle.std.proofs.lemmas.Bool.{cond-false, le-ltb, lt-ltb, ne_eqb}
 use Rattle.damage_rules.specs.Rules.{by_rules, ◌>>=◌, Stops}
 use Rattle.door_outside.specs.File.{ledger_file}

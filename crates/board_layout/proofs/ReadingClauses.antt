@@ -1,5 +1,5 @@
 -- What a base and a ledger are read as, from the clauses of `read_base` and `Ledger::read`; and what calls leave.
-use Rattle.std.proofs.Common.{◌≡◌, inl, inr, ℕ, List, Result, Ok, sym, ap, ◌∙◌, subst}
+use Rattle.std.proofs.Common.{◌≡◌, inl, inr, ℕ, List, Ok, sym, ap, ◌∙◌, subst}
 use Rattle.board_ledger.specs.Ledger.{ledger_text, ledger_of}
 use Rattle.board_ledger.specs.Valid.{IsLedger}
 use Rattle.board_ledger.specs.declared.ledger.Ledger.{Ledger}

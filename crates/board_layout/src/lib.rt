@@ -13,6 +13,8 @@ mod read;
 mod rest;
 mod shape;
 mod sizes;
+#[cfg(test)]
+mod tests;
 
 pub use board::{BOARD_LIMIT, Bases, StoredBoard};
 pub use error::ReadError;

@@ -1,5 +1,5 @@
-use Rattle.std.proofs.Common.{◌+◌, ap, arith}
-use Rattle.std.proofs.lemmas.List.Sums.{sum_by_more, sum_by_more_le}
+use Rattle.std.proofs.Common.{ap, arith}
+use Rattle.std.proofs.lemmas.List.Sums.{sum_by_more}
 use Rattle.board_layout.specs.Layout.{base_size}
 use Rattle.board_layout.proofs.parts.bases_fit.Goals as goal
 

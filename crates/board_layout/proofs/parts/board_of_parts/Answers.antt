@@ -1,7 +1,6 @@
-use Rattle.std.proofs.Common.{◌≡◌, List, ap, arith}
+use Rattle.std.proofs.Common.{ap, arith}
 use Rattle.std.specs.Prelude.{sum_by}
 use Rattle.std.proofs.lemmas.Bool.{iff_false}
-use Rattle.jam_base.specs.Contents.{Contents}
 use Rattle.board_layout.specs.Layout.{base_size}
 use Rattle.board_layout.proofs.ReadingParts.{is_board}
 use Rattle.board_layout.proofs.SizeLaws.{size_in}
