@@ -1,0 +1,9 @@
+pub mod JoinLaws
+pub mod LedgerBounds
+pub mod GatherLaws
+pub mod PlaceLaws
+pub mod MadeLaws
+pub mod MemberLaws
+pub mod LeadLaws
+pub mod UserSizes
+pub mod FitLaws

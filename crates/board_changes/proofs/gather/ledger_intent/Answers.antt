@@ -1,0 +1,8 @@
+use Rattle.board_ledger.specs.Ledger.{ledger_text}
+use Rattle.board_changes.proofs.GatherLaws.{takes_ledger}
+use Rattle.board_changes.proofs.LedgerBounds.{ledger_at_most}
+use Rattle.board_changes.proofs.gather.ledger_intent.Goals as goal
+
+pub add-requires : goal.add-requires
+add-requires c =
+    rw (c.new-intent.ensures, c.ledger.ensures, c.in_ok-bytes.ensures) (takes_ledger (ledger_text c.args.ledger.now) (ledger_at_most c.args.ledger.now c.requires))

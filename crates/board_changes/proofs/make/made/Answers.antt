@@ -1,0 +1,39 @@
+use Rattle.std.proofs.Common.{◌≡◌, ℕ, [], List, length, sym, ap, ◌∙◌, subst, arith}
+use Rattle.board_changes.specs.Changed.{new_ledger, empty_conferences, made}
+use Rattle.board_changes.specs.Gathered.{Gathered, FitJournal}
+use Rattle.board_changes.proofs.LeadLaws.{leads_made}
+use Rattle.board_changes.proofs.MadeLaws.{new_fits, new_is_board}
+use Rattle.board_layout.specs.Board.{board_with, conferences_in, shapes_of}
+use Rattle.board_layout.specs.Layout.{layouts}
+use Rattle.board_layout.specs.Valid.{IsBoard}
+use Rattle.board_ledger.specs.Ledger.{ledger_text}
+use Rattle.board_ledger.specs.declared.ledger.Ledger.{Ledger}
+use Rattle.board_ledger.specs.declared.upload.UploadRecord.{UploadRecord}
+use Rattle.board_ledger.specs.declared.user.User.{User}
+use Rattle.jam_base.specs.Contents.{Contents}
+use Rattle.setup_file.specs.declared.setup.Setup.{Setup}
+use Rattle.board_changes.proofs.make.made.Goals as goal
+
+-- a ledger without users and upload records
+ledger_is : (setup : Setup) (created : ℕ) (users : List User) (uploads : List UploadRecord) → users ≡ [] → uploads ≡ [] → record { setup = setup; created = created; users = users; uploads = uploads } ≡ new_ledger setup created
+ledger_is setup created users uploads none nothing = λ i. record { setup = setup; created = created; users = none i; uploads = nothing i }
+
+pub fresh_bases-requires-clause-fit : goal.fresh_bases-requires-clause-fit
+fresh_bases-requires-clause-fit c =
+    subst (λ (l : Ledger). FitJournal (ledger_text l) (layouts (shapes_of l) (empty_conferences (shapes_of l)))) (sym (ledger_is c.args.setup c.args.created c.new.result c.new-2.result c.new.ensures c.new-2.ensures))
+    (new_fits c.args.setup c.args.created c.requires)
+
+pub new-board-requires-clause-board : goal.new-board-requires-clause-board
+new-board-requires-clause-board c =
+    let l : Ledger = record { setup = c.args.setup; created = c.args.created; users = c.new.result; uploads = c.new-2.result } in
+    let is : l ≡ new_ledger c.args.setup c.args.created = ledger_is c.args.setup c.args.created c.new.result c.new-2.result c.new.ensures c.new-2.ensures in
+    let bases : List Contents = c.in_ok-bases.bases in
+    let conferences : conferences_in bases ≡ empty_conferences (shapes_of (new_ledger c.args.setup c.args.created)) = c.in_ok-bases.ensures.conferences ∙ ap (λ (k : Ledger). empty_conferences (shapes_of k)) is in
+    let board : board_with l bases ≡ made c.args.setup c.args.created = λ i. record { ledger = is i; conferences = conferences i } in
+    subst IsBoard (sym board) (new_is_board c.args.setup c.args.created c.requires (omega (arith, c.ranges.created.fits)))
+
+pub returns-clause-leads : goal.returns-clause-leads
+returns-clause-leads c =
+    leads_made c.args.setup c.args.created c.fresh_bases.new.intent
+    (subst (λ (l : Ledger). Gathered (ledger_text l) [] (layouts (shapes_of l) (empty_conferences (shapes_of l))) (length (shapes_of l)) c.fresh_bases.new.intent)
+    (ledger_is c.args.setup c.args.created c.new.result c.new-2.result c.new.ensures c.new-2.ensures) c.in_ok-bases.ensures.gathers)

@@ -1,0 +1,19 @@
+-- What a change of a board gives, and what it leads to.
+use Rattle.std.specs.Prelude.{◌≡◌, List, IsTrue}
+use Rattle.intent_journal.specs.Patches.{Files, patched, are_within}
+use Rattle.intent_journal.specs.declared.patch.Patch.{Patch}
+use Rattle.board_layout.specs.Board.{Board}
+use Rattle.board_layout.specs.Layout.{IsLayout}
+use Rattle.board_layout.specs.Renewed.{contents_of, renewed}
+use Rattle.board_changes.specs.declared.change.BoardChange.{BoardChange}
+
+-- The patches may be carried out on files such as P says, and make them the layout of the board.
+pub record Leads (P : Files → Type 0) (next : Board) (patches : List Patch) : Type 0 where
+  pub starts : (files : Files) → P files → IsTrue (are_within patches files)
+  pub files : (files : Files) → P files → IsLayout next (patched patches files)
+
+-- The new ledger and the new bases in place of the old ones make the next board of this one, and the intent its files.
+pub record Becomes (old next : Board) (change : BoardChange) : Type 0 where
+  pub ledger : change.ledger ≡ next.ledger
+  pub bases : renewed (contents_of old) change.bases ≡ contents_of next
+  pub intent : Leads (IsLayout old) next change.intent

@@ -1,0 +1,55 @@
+-- Boards after a change.
+use Rattle.std.specs.Prelude.{ℕ, ◌+◌, List, [], ◌∷◌, ◌++◌, length, replicate, Bool, ◌==◌, if◌then◌else◌}
+use Rattle.std.specs.Int.{bit_at}
+use Rattle.board_ledger.specs.declared.ledger.Ledger.{Ledger}
+use Rattle.board_ledger.specs.declared.user.User.{User}
+use Rattle.board_layout.specs.Board.{Board, shapes_of}
+use Rattle.jam_base.specs.Contents.{no_slots}
+use Rattle.jam_layout.specs.declared.conference.Conference.{Conference}
+use Rattle.jam_layout.specs.declared.shape.Shape.{Shape}
+use Rattle.setup_file.specs.declared.setup.Setup.{Setup}
+
+-- ---- a new board
+abbrev pub new_ledger : Setup → ℕ → Ledger
+new_ledger setup created = record { setup = setup; created = created; users = []; uploads = [] }
+
+-- a conference without slots for each shape
+abbrev pub empty_conferences : List Shape → List Conference
+empty_conferences [] = []
+empty_conferences (shape ∷ shapes) = no_slots shape ∷ empty_conferences shapes
+
+-- the board of a setup: no users, no slots, and all change counters 0
+abbrev pub made : Setup → ℕ → Board
+made setup created = record { ledger = new_ledger setup created; conferences = empty_conferences (shapes_of (new_ledger setup created)) }
+
+-- ---- a user more
+-- a user who was never offered a packet, on a board of so many conferences
+abbrev pub new_user : List ℕ → Bool → ℕ → ℕ → User
+new_user name net members count = record {
+  name = name;
+  net = net;
+  members = members;
+  last = 0;
+  offered = 0;
+  highs = replicate count 0;
+}
+
+-- the pointer of a new member in this place is 0
+abbrev pub joined_in : ℕ → ℕ → Conference → Conference
+joined_in members place c = if bit_at members place == 1 then record c { pointers = c.pointers ++ 0 ∷ [] } else c
+
+-- so it is in the places from this one on
+abbrev pub joined_from : ℕ → ℕ → List Conference → List Conference
+joined_from members place [] = []
+joined_from members place (c ∷ conferences) = joined_in members place c ∷ joined_from members (place + 1) conferences
+
+abbrev pub with_user : User → Ledger → Ledger
+with_user user l = record l { users = l.users ++ user ∷ [] }
+
+-- the board with a user behind the others, whose id is the count of all
+abbrev pub with_member : User → Board → Board
+with_member user b = record { ledger = with_user user b.ledger; conferences = joined_from user.members 0 b.conferences }
+
+-- the board with a user of this name behind the others, a member of a set of places
+abbrev pub enrolled : List ℕ → Bool → ℕ → Board → Board
+enrolled name net members b = with_member (new_user name net members (length b.ledger.setup.conferences)) b

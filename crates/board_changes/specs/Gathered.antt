@@ -1,0 +1,43 @@
+-- Patches that turn a board's files into those of another, gathered place by place.
+use Rattle.std.specs.Prelude.{◌≡◌, ◌≢◌, ℕ, ◌+◌, ◌*◌, ◌<◌, ◌≤◌, ◌^◌, List, ◌++◌, length, take, slice_index_or, sum_by, All, IsTrue, nat_lt, if◌then◌else◌}
+use Rattle.door_outside.specs.File.{ledger_file, journal_file, jhr_file}
+use Rattle.intent_journal.specs.Journal.{journal_text, patches_text}
+use Rattle.intent_journal.specs.Patches.{Files, file_of, place_of, bytes_of, patched, are_within, is_once}
+use Rattle.intent_journal.specs.declared.patch.Patch.{Patch}
+use Rattle.jam_base.specs.Change.{files_of_place}
+use Rattle.jam_layout.specs.Layout.{files_size}
+use Rattle.jam_layout.specs.declared.files.BaseFiles.{BaseFiles}
+use Rattle.board_layout.specs.Layout.{no_base}
+
+-- the files of a place, of which there are four for each conference, and none past them
+abbrev pub at_place : List BaseFiles → ℕ → BaseFiles
+at_place bases place = slice_index_or bases place no_base
+
+-- the files of all places are these
+abbrev pub HasBases : List BaseFiles → Files → Type 0
+HasBases bases files = (place : ℕ) → place < 64 → files_of_place place files ≡ at_place bases place
+
+-- the new files in the first places, and the old ones behind them
+abbrev pub mixed : ℕ → List BaseFiles → List BaseFiles → ℕ → BaseFiles
+mixed count old new place = if nat_lt place count then at_place new place else at_place old place
+
+-- the patches write the ledger, and turn the old files of the first places into the new ones
+pub record Gathered (ledger : List ℕ) (old new : List BaseFiles) (count : ℕ) (patches : List Patch) : Type 0 where
+  pub starts : (files : Files) → HasBases old files → IsTrue (are_within patches files)
+  pub ledger_is : (files : Files) → HasBases old files → patched patches files ledger_file ≡ ledger
+  pub bases : (files : Files) → HasBases old files → (place : ℕ) → place < 64 → files_of_place place (patched patches files) ≡ mixed count old new place
+  pub no_journal : All (λ patch. file_of patch ≢ journal_file) patches
+  pub below : All (λ patch. file_of patch < jhr_file count) patches
+  pub once : IsTrue (is_once patches)
+  pub short : length (patches_text patches) ≤ 11 + length ledger + 44 * count + sum_by files_size (take count new)
+
+-- together they fit the journal
+abbrev pub FitJournal : List ℕ → List BaseFiles → Type 0
+FitJournal ledger new = 13 + (11 + length ledger + 44 * length new + sum_by files_size new) ≤ 41943040
+
+-- an intent may have these patches behind its own
+pub record Joins (intent patches : List Patch) : Type 0 where
+  pub no_journal : All (λ patch. file_of patch ≢ journal_file) patches
+  pub once : IsTrue (is_once (intent ++ patches))
+  pub ends : All (λ patch. place_of patch + length (bytes_of patch) < 2 ^ 31) patches
+  pub fits : length (journal_text (intent ++ patches)) ≤ 41943040

@@ -1,0 +1,4 @@
+pub mod Changed
+pub mod Change
+pub mod Gathered
+pub mod Enrolling

@@ -1,0 +1,15 @@
+use board_ledger::Ledger;
+use byte_lists::List;
+use intent_journal::Intent;
+use jam_base::Base;
+
+/// What a change of a board makes new, and the change of its files.
+#[derive(Drop)]
+pub struct BoardChange {
+    /// The next ledger.
+    pub ledger: Ledger,
+    /// By place, the next base of each conference that changes, and None for the others.
+    pub bases: List<Option<Base>>,
+    /// What makes the data files of the next board of those before.
+    pub intent: Intent,
+}

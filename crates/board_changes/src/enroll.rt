@@ -1,0 +1,128 @@
+ghost use Rattle.std.specs.Prelude.{◌≡◌, ◌<◌, ◌+◌, ◌==◌, ◌∷◌, ◌++◌, [], Some, None, length, slice_get, unwrap_or, IfOk, OnOk, if◌then◌else◌};
+ghost use Rattle.std.specs.Int.{bit_at};
+ghost use Rattle.board_changes.specs.Change.{Becomes};
+ghost use Rattle.board_changes.specs.Changed.{enrolled as enrolled_of, new_user as new_user_of, with_user as with_user_of, with_member};
+ghost use Rattle.board_changes.specs.Gathered.{Gathered, FitJournal};
+ghost use Rattle.board_layout.specs.Layout.{base_files};
+ghost use Rattle.board_layout.specs.Renewed.{contents_of, renewed};
+ghost use Rattle.board_layout.specs.Valid.{IsBoard};
+ghost use Rattle.board_ledger.specs.Ledger.{ledger_text};
+ghost use Rattle.board_ledger.specs.Valid.{IsLedger};
+
+use crate::change::BoardChange;
+use crate::gather::{add_all, ledger_intent};
+use board_layout::StoredBoard;
+use board_ledger::{Highs, Ledger, User};
+use byte_lists::{Bytes, Duplicate, List};
+use intent_journal::Intent;
+use jam_base::Base;
+use std::alloc::{AllocError, Global};
+
+/// A user whom no packet was ever offered, on a board of so many conferences.
+fn new_user(
+    alloc: Global,
+    name: &[u8],
+    net: bool,
+    members: u64,
+    count: usize,
+) -> Result<User, AllocError>
+    ensures { IfOk result (λ user. user ≡ new_user_of name.now net members count) }
+{
+    let mut highs = Highs::new(alloc);
+    highs.fill(alloc, &0, count)?;
+    Ok(User {
+        name: Bytes::from_slice(alloc, name)?,
+        net,
+        members,
+        last: 0,
+        offered: 0,
+        highs,
+    })
+}
+
+/// The ledger with a user behind the others.
+fn with_user(alloc: Global, ledger: &Ledger, user: User) -> Result<Ledger, AllocError>
+    ensures { IfOk result (λ next. next ≡ with_user_of user ledger.now) }
+{
+    let mut users = ledger.users.copy(alloc)?;
+    users.add(user)?;
+    Ok(Ledger {
+        setup: ledger.setup.copy(alloc)?,
+        created: ledger.created,
+        users,
+        uploads: ledger.uploads.copy(alloc)?,
+    })
+}
+
+/// The base of a place with the user as a further reader, whose files the intent makes too, or None where the
+/// user is no member of its conference.
+fn joined_base(
+    alloc: Global,
+    board: &StoredBoard,
+    user: &User,
+    place: u8,
+    base: &Base,
+    intent: &mut Intent,
+) -> Result<Option<Base>, AllocError>
+    requires next { IsBoard (with_member user.now board.now) }
+    requires base { slice_get (contents_of board.now) place ≡ Some base.now }
+    requires gathered { Gathered (ledger_text (with_user_of user.now board.now.ledger)) (base_files board.now) (base_files (with_member user.now board.now)) place intent.old }
+    requires fit { FitJournal (ledger_text (with_user_of user.now board.now.ledger)) (base_files (with_member user.now board.now)) }
+    ensures base { IfOk result (λ new. slice_get (contents_of (with_member user.now board.now)) place ≡ Some (unwrap_or new base.now)) }
+    ensures gathers { OnOk result (Gathered (ledger_text (with_user_of user.now board.now.ledger)) (base_files board.now) (base_files (with_member user.now board.now)) (place + 1) intent.new) }
+{
+    if !user.is_member(u32::from(place)) {
+        return Ok(None);
+    }
+    let id = board.ledger().users.len() as u32 + 1;
+    let change = base.joined(alloc, id, user.name.as_slice())?;
+    add_all(intent, change.patches)?;
+    Ok(Some(change.base))
+}
+
+/// The bases of the places whose member the user is, with the user as a further reader, whose files the intent
+/// makes too.
+fn joined_bases(
+    alloc: Global,
+    board: &StoredBoard,
+    user: &User,
+    intent: &mut Intent,
+) -> Result<List<Option<Base>>, AllocError>
+    requires next { IsBoard (with_member user.now board.now) }
+    requires gathered { Gathered (ledger_text (with_user_of user.now board.now.ledger)) (base_files board.now) (base_files (with_member user.now board.now)) 0 intent.old }
+    requires fit { FitJournal (ledger_text (with_user_of user.now board.now.ledger)) (base_files (with_member user.now board.now)) }
+    ensures bases { IfOk result (λ bases. renewed (contents_of board.now) bases ≡ contents_of (with_member user.now board.now)) }
+    ensures gathers { OnOk result (Gathered (ledger_text (with_user_of user.now board.now.ledger)) (base_files board.now) (base_files (with_member user.now board.now)) (length board.now.conferences) intent.new) }
+{
+    let mut bases = List::new(alloc);
+    for (place, base) in board.bases().iter().enumerate() {
+        bases.add(joined_base(alloc, board, user, place as u8, base, intent)?)?;
+    }
+    Ok(bases)
+}
+
+/// The change of a board by a user who is new on it: behind the others, with pointers 0 in the conferences in
+/// these places, bit k for place k. The board that it makes is valid.
+///
+/// The error comes where there is no memory.
+pub fn enrolled(
+    alloc: Global,
+    board: &StoredBoard,
+    name: &[u8],
+    net: bool,
+    members: u64,
+) -> Result<BoardChange, AllocError>
+    requires { IsBoard (enrolled_of name.now net members board.now) }
+    ensures { IfOk result (λ change. Becomes board.now (enrolled_of name.now net members board.now) change) }
+{
+    let ledger = board.ledger();
+    let user = new_user(alloc, name, net, members, ledger.setup.conferences.len())?;
+    let next = with_user(alloc, ledger, user.duplicate(alloc)?)?;
+    let mut intent = ledger_intent(alloc, &next)?;
+    let bases = joined_bases(alloc, board, &user, &mut intent)?;
+    Ok(BoardChange {
+        ledger: next,
+        bases,
+        intent,
+    })
+}

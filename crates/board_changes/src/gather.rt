@@ -1,0 +1,35 @@
+ghost use Rattle.std.specs.Prelude.{◌≡◌, ◌++◌, ◌∷◌, [], IfOk, OnOk};
+ghost use Rattle.board_changes.specs.Gathered.{Joins};
+ghost use Rattle.board_ledger.specs.Ledger.{ledger_text};
+ghost use Rattle.board_ledger.specs.Valid.{IsLedger};
+ghost use Rattle.door_outside.specs.File.{ledger_file};
+
+use board_ledger::Ledger;
+use door_outside::FileId;
+use intent_journal::{Intent, Patch, Patches};
+use std::alloc::{AllocError, Global};
+
+/// Adds patches at the end of an intent, which may have them all.
+pub(crate) fn add_all(intent: &mut Intent, patches: Patches) -> Result<(), AllocError>
+    requires { Joins intent.old patches }
+    ensures { OnOk result (intent.new ≡ intent.old ++ patches) }
+{
+    for patch in patches.into_vec() {
+        intent.add(patch)?;
+    }
+    Ok(())
+}
+
+/// The intent of a ledger alone.
+pub(crate) fn ledger_intent(alloc: Global, ledger: &Ledger) -> Result<Intent, AllocError>
+    requires { IsLedger ledger.now }
+    ensures { IfOk result (λ intent. intent ≡ Patch.Whole ledger_file (ledger_text ledger.now) ∷ []) }
+{
+    let bytes = ledger.write(alloc)?;
+    let mut intent = Intent::new(alloc);
+    intent.add(Patch::Whole {
+        file: FileId::ledger(),
+        bytes,
+    })?;
+    Ok(intent)
+}

@@ -1,0 +1,17 @@
+//! Changes of a whole board: each gives what of the next board is new, and one intent that makes its files.
+#![tactic(auto)]
+
+mod change;
+mod enroll;
+mod fits;
+mod gather;
+mod make;
+mod size;
+#[cfg(test)]
+mod tests;
+
+pub use change::BoardChange;
+pub use enroll::enrolled;
+pub use fits::fits_user;
+pub use make::{NewBoard, made};
+pub use size::size_with_user;

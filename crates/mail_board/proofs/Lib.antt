@@ -1,0 +1,3 @@
+pub mod DataLaws
+pub mod CommitLaws
+pub mod NextLaws

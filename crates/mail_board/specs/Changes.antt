@@ -1,0 +1,19 @@
+-- What a change makes of a board, and where it may be made.
+use Rattle.std.specs.Prelude.{◌^◌, ◌<◌, length}
+use Rattle.board_changes.specs.Changed.{enrolled}
+use Rattle.board_layout.specs.Board.{Board}
+use Rattle.board_layout.specs.Valid.{IsBoard}
+use Rattle.mail_board.specs.declared.change.Change.{Change}
+use Rattle.mail_board.specs.declared.change.Change.TheVariants.{Enroll}
+
+-- the board after it
+abbrev pub changed : Change → Board → Board
+changed (Enroll name net members) b = enrolled name net members b
+
+-- the user and the places that it names are there
+abbrev pub Exists : Change → Board → Type 0
+Exists (Enroll name net members) b = members < 2 ^ length b.conferences
+
+-- what it acts on is there, and the board after it is valid
+abbrev pub Fits : Change → Board → Type 0
+Fits (Enroll name net members) b = IsBoard (changed (Enroll name net members) b)

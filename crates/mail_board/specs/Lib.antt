@@ -1,0 +1,5 @@
+pub mod Causes
+pub mod Held
+pub mod Loading
+pub mod Changes
+pub mod Readers

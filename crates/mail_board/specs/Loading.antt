@@ -1,0 +1,38 @@
+-- What a load finds.
+use Rattle.std.specs.Prelude.{◌≡◌, false, Option, Some, None, Result, Ok, Err}
+use Rattle.intent_journal.specs.Patches.{Files}
+use Rattle.intent_journal.specs.declared.recovery.JournalError.{JournalError}
+use Rattle.intent_journal.specs.declared.recovery.JournalError.TheVariants as recovery
+use Rattle.board_layout.specs.Board.{Board}
+use Rattle.board_layout.specs.Layout.{AreEmpty, IsLayout}
+use Rattle.board_layout.specs.declared.error.ReadError.{ReadError}
+use Rattle.board_layout.specs.declared.error.ReadError.TheVariants.{Damaged, DiskFault, OutOfMemory}
+use Rattle.mail_board.specs.declared.loading.Loaded.{Loaded}
+use Rattle.mail_board.specs.declared.loading.Loaded.TheVariants.{NotMade, Ready}
+
+-- the board that was loaded, or none where there is none
+abbrev pub loaded_board : Loaded → Option Board
+loaded_board NotMade = None
+loaded_board (Ready held) = Some held.board
+
+-- it is in no doubt
+abbrev pub IsSure : Loaded → Type 0
+IsSure NotMade = Unit {0}
+IsSure (Ready held) = held.doubtful ≡ false
+
+-- what was loaded stands in the files
+abbrev pub StandsIn : Files → Loaded → Type 0
+StandsIn files NotMade = AreEmpty files
+StandsIn files (Ready held) = IsLayout held.board files
+
+-- an answer other than a fault or want of memory
+abbrev pub IsTold : {T : Type 0} → Result T ReadError → Type 0
+IsTold (Ok value) = Unit {0}
+IsTold (Err (Damaged d)) = Unit {0}
+IsTold (Err DiskFault) = ⊥
+IsTold (Err OutOfMemory) = ⊥
+
+-- the error of a load whose recovery ended so
+abbrev pub recovery_error : JournalError → ReadError
+recovery_error recovery.DiskFault = DiskFault
+recovery_error recovery.OutOfMemory = OutOfMemory

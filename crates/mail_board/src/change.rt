@@ -1,0 +1,116 @@
+ghost use Rattle.std.specs.Prelude.{◌≡◌, ◌↔◌, true, Err, IfOk, OnOk, IsErrOf, IsTrue, IsFalse};
+ghost use Rattle.board_changes.specs.Change.{Becomes};
+ghost use Rattle.board_layout.specs.Layout.{IsLayout};
+ghost use Rattle.door_outside.specs.Disk.{Disk, AllNow, Between};
+ghost use Rattle.intent_journal.specs.Hosts.{IsSettled};
+ghost use Rattle.mail_board.specs.Causes.{HasFault};
+ghost use Rattle.mail_board.specs.Changes.{changed, Fits};
+ghost use Rattle.mail_board.specs.Held.{BeforeOrNext, Rests, sure};
+ghost use Rattle.mail_board.specs.declared.change.ChangeError.TheVariants.{DiskFault as DiskFails, OutOfMemory};
+
+use crate::board::Board;
+use board_changes::{BoardChange, enrolled};
+use board_layout::StoredBoard;
+use byte_lists::Bytes;
+use door_outside::{DiskFault, Host};
+use intent_journal::commit;
+use std::alloc::{AllocError, Global};
+use thiserror::Error;
+
+/// A change of a board.
+#[derive(Debug, Drop)]
+pub enum Change {
+    /// A user more, behind the others.
+    Enroll {
+        /// The name, a user name that no user has, ignoring ASCII case.
+        name: Bytes,
+        /// Whether the user may write net mail.
+        net: bool,
+        /// The places of the conferences whose member the user is, bit k for place k. At least one is there.
+        members: u64,
+    },
+}
+
+/// Why a change wasn't made, or may not have been.
+#[derive(Clone, Copy, Debug, PartialEq, Eq, Error)]
+pub enum ChangeError {
+    /// A file call of the host failed. The files hold the board before the change or the one after it.
+    #[error("disk fault")]
+    DiskFault,
+    /// An earlier change ended with a disk fault, so nothing was done.
+    #[error("the board is in doubt")]
+    Doubt,
+    /// There is no memory for the change. Nothing was done.
+    #[error("out of memory")]
+    OutOfMemory,
+}
+
+impl From<DiskFault> for ChangeError {
+    ghost from_gives = { λ _ e. e ≡ DiskFails };
+
+    fn from(_fault: DiskFault) -> ChangeError {
+        ChangeError::DiskFault
+    }
+}
+
+impl From<AllocError> for ChangeError {
+    ghost from_gives = { λ _ e. e ≡ OutOfMemory };
+
+    fn from(_error: AllocError) -> ChangeError {
+        ChangeError::OutOfMemory
+    }
+}
+
+/// What a change that fits makes of a board.
+fn next_of(alloc: Global, stored: &StoredBoard, change: &Change) -> Result<BoardChange, AllocError>
+    requires { Fits change.now stored.now }
+    ensures { IfOk result (λ next. Becomes stored.now (changed change.now stored.now) next) }
+{
+    match change {
+        Change::Enroll { name, net, members } => {
+            enrolled(alloc, stored, name.as_slice(), *net, *members)
+        }
+    }
+}
+
+impl Board {
+    /// Makes a change that fits, whole or not at all. Where the board isn't doubtful, the host's files are those of
+    /// this board, and the host rests. It says nothing.
+    ///
+    /// `Doubt` comes where the board is doubtful, and `OutOfMemory` before the first write: both leave all as it
+    /// was. `DiskFault` comes only where the host's count of disk faults rose. After it the board is doubtful.
+    pub fn change<H: Host>(
+        &mut self,
+        alloc: Global,
+        host: &mut H,
+        change: &Change,
+    ) -> Result<(), ChangeError>
+        requires fits { Fits change.now self.old.board }
+        requires rests { IsTrue H.tells → IsFalse self.old.doubtful → Rests self.old.board (H.disk host.old) }
+
+        // A crash at any moment leaves the board before the change or the one after it.
+        ensures moments { IsTrue H.tells → IsFalse self.old.doubtful → Between (H.disk host.old) (H.disk host.new) (BeforeOrNext (IsLayout self.old.board) (changed change.now self.old.board) (H.disk host.old)) }
+        ensures now { IsTrue H.tells → IsFalse self.old.doubtful → AllNow (H.disk host.new) (BeforeOrNext (IsLayout self.old.board) (changed change.now self.old.board) (H.disk host.old)) }
+        ensures settled { IsTrue H.tells → IsFalse self.old.doubtful → IsSettled (H.disk host.new) }
+
+        ensures board { OnOk result (self.new ≡ sure (changed change.now self.old.board)) }
+        ensures rests { OnOk result (IsTrue H.tells → Rests (changed change.now self.old.board) (H.disk host.new)) }
+        ensures doubt { (result ≡ Err ChangeError.Doubt) ↔ IsTrue self.old.doubtful }
+        ensures fault { IsErrOf result ChangeError.DiskFault → self.new ≡ record { board = self.old.board; doubtful = true } }
+        ensures unchanged { IsErrOf result ChangeError.Doubt → (self.new ≡ self.old) × (host.new ≡ host.old) }
+        ensures starved { IsErrOf result ChangeError.OutOfMemory → (self.new ≡ self.old) × (host.new ≡ host.old) }
+        ensures cause { HasFault ChangeError.DiskFault (H.disk_faults host.old) (H.disk_faults host.new) result }
+        ensures voice { H.voice_faults host.new ≡ H.voice_faults host.old }
+    {
+        if self.doubtful {
+            return Err(ChangeError::Doubt);
+        }
+        let next = next_of(alloc, &self.stored, change)?;
+        if let Err(fault) = commit(host, &next.intent) {
+            self.doubtful = true;
+            return Err(fault.into());
+        }
+        self.stored.renew(next.ledger, next.bases);
+        Ok(())
+    }
+}

@@ -1,0 +1,35 @@
+// Whether a change may be made, and what size it gives.
+ghost use Rattle.std.specs.Prelude.{◌≡◌, ◌↔◌, ◌-◌, ◌^◌, min, IsTrue};
+ghost use Rattle.board_layout.specs.Layout.{board_size};
+ghost use Rattle.mail_board.specs.Changes.{changed, Exists, Fits};
+
+use crate::board::Board;
+use crate::change::Change;
+use board_changes::{fits_user, size_with_user};
+
+impl Board {
+    /// Whether a change may be made: the users and places that it names are there, and so is what it acts on, and
+    /// the board after it is valid, with data files of at most 33,554,432 bytes. It takes no memory.
+    pub fn fits(&self, change: &Change) -> bool
+        ensures { IsTrue result ↔ Fits change.now self.now.board }
+    {
+        match change {
+            Change::Enroll { name, net, members } => {
+                fits_user(&self.stored, name.as_slice(), *net, *members)
+            }
+        }
+    }
+
+    /// How many bytes the data files have together after a change, or 18,446,744,073,709,551,615 where they are
+    /// more. The users and places that it names are there. It takes no memory.
+    pub fn size_after(&self, change: &Change) -> u64
+        requires { Exists change.now self.now.board }
+        ensures { result ≡ min (board_size (changed change.now self.now.board)) (2 ^ 64 - 1) }
+    {
+        match change {
+            Change::Enroll { name, net, members } => {
+                size_with_user(&self.stored, name.as_slice(), *net, *members)
+            }
+        }
+    }
+}

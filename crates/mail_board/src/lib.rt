@@ -1,0 +1,15 @@
+//! A bulletin board over a host: loaded, made and changed, each change whole or not at all.
+#![tactic(auto)]
+
+mod board;
+mod change;
+mod fits;
+mod loading;
+mod making;
+mod readers;
+
+pub use board::Board;
+pub use board_layout::ReadError as LoadError;
+pub use change::{Change, ChangeError};
+pub use intent_journal::JournalError;
+pub use loading::Loaded;

@@ -1,0 +1,71 @@
+ghost use Rattle.std.specs.Prelude.{◌≡◌, IfOk, IsErrOf, IsTrue};
+ghost use Rattle.board_layout.specs.Damage.{board_in};
+ghost use Rattle.board_layout.specs.Rules.{Gives, HasReadCause};
+ghost use Rattle.door_outside.specs.Disk.{Disk, AllNow, Between, as_read};
+ghost use Rattle.intent_journal.specs.Hosts.{IsCalm, IsFirm, IsSettled};
+ghost use Rattle.intent_journal.specs.Patches.{data_files};
+ghost use Rattle.intent_journal.specs.Recovered.{recovered, Back};
+ghost use Rattle.mail_board.specs.Loading.{loaded_board, recovery_error, IsSure, IsTold, StandsIn};
+
+use crate::board::Board;
+use board_layout::{ReadError, read_board};
+use door_outside::Host;
+use intent_journal::{JournalError, recover};
+use std::alloc::Global;
+
+/// What the data files of a host stand for.
+#[derive(Drop)]
+pub enum Loaded {
+    /// All are empty.
+    NotMade,
+    /// They are the layout of this board.
+    Ready(Board),
+}
+
+/// The error of a load that a recovery ended with.
+fn of_recovery(error: JournalError) -> ReadError
+    ensures { result ≡ recovery_error error }
+{
+    match error {
+        JournalError::DiskFault => ReadError::DiskFault,
+        JournalError::OutOfMemory => ReadError::OutOfMemory,
+    }
+}
+
+impl Board {
+    /// What the data files of a host stand for: it recovers first, carrying out what a crash left, and then reads
+    /// each file once. It says nothing.
+    ///
+    /// `Damaged` comes where the recovered data files are neither all empty nor the layout of a board, with the
+    /// first rule that they break. `DiskFault` comes only where the host's count of disk faults rose.
+    /// `OutOfMemory` hides no fault. Where damage and want of memory meet, either may be answered.
+    pub fn load<H: Host>(alloc: Global, host: &mut H) -> Result<Loaded, ReadError>
+        requires { IsTrue H.tells → IsSettled (H.disk host.old) }
+
+        // A crash at any moment leaves what recovers to the same files.
+        ensures moments { IsTrue H.tells → Between (H.disk host.old) (H.disk host.new) (Back (H.disk host.old)) }
+        ensures now { IsTrue H.tells → IsFirm (H.disk host.old) → AllNow (H.disk host.new) (Back (H.disk host.old)) }
+        ensures same { IsTrue H.tells → Back (H.disk host.old) (as_read (H.disk host.new)) }
+        ensures settled { IsTrue H.tells → IsSettled (H.disk host.new) }
+        ensures firm { IsErrOf result ReadError.OutOfMemory → IsTrue H.tells → IsFirm (H.disk host.new) }
+        ensures calm { IsTold result → IsTrue H.tells → IsCalm (H.disk host.new) }
+        ensures done { IsTold result → IsTrue H.tells → data_files (H.disk host.new).files ≡ recovered (H.disk host.old).files }
+
+        // The board whose layout the files are then, or none where all are empty, or the first damage.
+        ensures gives { IsTrue H.tells → Gives loaded_board result (board_in (H.disk host.new).files) }
+        ensures stands { IsTrue H.tells → IfOk result (StandsIn (H.disk host.new).files) }
+        ensures sure { IfOk result IsSure }
+
+        ensures cause { HasReadCause (H.disk_faults host.old) (H.disk_faults host.new) result }
+        ensures voice { H.voice_faults host.new ≡ H.voice_faults host.old }
+    {
+        recover(alloc, host).map_err(of_recovery)?;
+        match read_board(alloc, host)? {
+            None => Ok(Loaded::NotMade),
+            Some(stored) => Ok(Loaded::Ready(Board {
+                stored,
+                doubtful: false,
+            })),
+        }
+    }
+}

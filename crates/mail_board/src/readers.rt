@@ -1,0 +1,169 @@
+// What a board answers from memory.
+ghost use Rattle.std.specs.Prelude.{◌≡◌, ◌<◌, ◌==◌, length, position, slice_get, Some, IfSome};
+ghost use Rattle.std.specs.Option.{option_copied, option_map};
+ghost use Rattle.std.specs.Str.{str_eq_ignore_ascii_case};
+ghost use Rattle.board_layout.specs.Layout.{board_size};
+ghost use Rattle.jam_layout.specs.Conference.{live_count as live_in};
+ghost use Rattle.jam_threads.specs.Children.{original};
+ghost use Rattle.mail_board.specs.Readers.{place_of, user_of, user_id as id_of, offer_of, pointer_at, upload_of as counts_of};
+
+use crate::board::Board;
+use board_ledger::{Conference, Counts, Setup, User};
+use jam_base::Base;
+
+/// The place of the conference of a number, or None where none has it.
+fn place_in(conferences: &[Conference], number: u16) -> Option<usize>
+    ensures place { result ≡ position (λ c. c.number == number) conferences.now }
+    ensures within { IfSome result (λ place. place < length conferences.now) }
+{
+    conferences.iter().position(|c| c.number == number)
+}
+
+/// The place of the user of a name, ignoring ASCII case, or None where none has it.
+fn place_named(users: &[User], name: &[u8]) -> Option<usize>
+    ensures place { result ≡ position (λ u. str_eq_ignore_ascii_case u.name name.now) users.now }
+    ensures within { IfSome result (λ place. place < length users.now) }
+{
+    users
+        .iter()
+        .position(|user| user.name.as_slice().eq_ignore_ascii_case(name))
+}
+
+impl Board {
+    /// What the board is made of.
+    pub fn setup(&self) -> &Setup
+        ensures { result.now ≡ self.now.board.ledger.setup }
+    {
+        &self.stored.ledger().setup
+    }
+
+    /// Whether a change ended with a disk fault, so that the files hold the board before it or the one after it.
+    /// The next load finds which.
+    pub fn doubtful(&self) -> bool
+        ensures { result ≡ self.now.doubtful }
+    {
+        self.doubtful
+    }
+
+    /// The place, from 0, of the conference of a number, or None where no conference has it.
+    pub fn place_of(&self, conference: u16) -> Option<u8>
+        ensures { result ≡ place_of conference self.now.board }
+    {
+        let conferences = self.stored.ledger().setup.conferences.as_slice();
+        match place_in(conferences, conference) {
+            Some(place) => Some(place as u8),
+            None => None,
+        }
+    }
+
+    /// The base of a place that has one.
+    fn base(&self, place: u8) -> &Base
+        requires { place < length self.now.board.conferences }
+        ensures { Some result.now.conference ≡ slice_get self.now.board.conferences place }
+    {
+        match self.stored.base(place) {
+            Some(base) => base,
+            None => unreachable!(),
+        }
+    }
+
+    /// How many slots the conference in a place has, 0 to 9,999. It is the greatest message number.
+    pub fn slot_count(&self, place: u8) -> u32
+        requires { place < length self.now.board.conferences }
+        ensures { Some result ≡ option_map (λ c. length c.slots) (slice_get self.now.board.conferences place) }
+    {
+        self.base(place).slot_count()
+    }
+
+    /// How many of its messages aren't deleted.
+    pub fn live_count(&self, place: u8) -> u32
+        requires { place < length self.now.board.conferences }
+        ensures { Some result ≡ option_map (λ c. live_in c.slots) (slice_get self.now.board.conferences place) }
+    {
+        self.base(place).live_count()
+    }
+
+    /// The number of the message that the message of a number answers, or 0 where it answers none that is there or
+    /// no slot has the number.
+    pub fn reply_to(&self, place: u8, number: u32) -> u32
+        requires { place < length self.now.board.conferences }
+        ensures { Some result ≡ option_map (λ c. original c.slots number) (slice_get self.now.board.conferences place) }
+    {
+        self.base(place).reply_to(number)
+    }
+
+    /// The last-read pointer of a user in the conference in a place: a message number, or 0 before the first. None
+    /// where the board has no such place, or the user isn't a member.
+    pub fn pointer(&self, place: u8, user: u32) -> Option<u32>
+        ensures { result ≡ pointer_at place user self.now.board }
+    {
+        match self.stored.bases().get(usize::from(place)) {
+            Some(base) => base.pointer(user),
+            None => None,
+        }
+    }
+
+    /// How many users there are, at most 500. Their ids are those from 1 to this number.
+    pub fn user_count(&self) -> u32
+        ensures { result ≡ length self.now.board.ledger.users }
+    {
+        self.stored.ledger().users.len() as u32
+    }
+
+    /// The id, from 1, of the user of a name, ignoring ASCII case, or None where no user has it.
+    pub fn user_id(&self, name: &[u8]) -> Option<u32>
+        ensures { result ≡ id_of name.now self.now.board }
+    {
+        let users = self.stored.ledger().users.as_slice();
+        match place_named(users, name) {
+            Some(place) => Some(place as u32 + 1),
+            None => None,
+        }
+    }
+
+    /// The user of an id, from 1, or None where there is none.
+    pub fn user(&self, id: u32) -> Option<&User>
+        ensures { option_copied result ≡ user_of id self.now.board }
+    {
+        if id == 0 {
+            return None;
+        }
+        self.stored.ledger().users.get(id as usize - 1)
+    }
+
+    /// The number of the packet that a user is offered, or None where there is none or no user has the id.
+    pub fn offer(&self, id: u32) -> Option<u32>
+        ensures { result ≡ offer_of id self.now.board }
+    {
+        let user = self.user(id)?;
+        if user.offered == 0 {
+            return None;
+        }
+        Some(user.offered)
+    }
+
+    /// What became of the reply packet of a SHA-256 that a user sent, or None where that user sent none.
+    pub fn upload_of(&self, id: u32, digest: &[u8; 32]) -> Option<Counts>
+        ensures { result ≡ counts_of id digest.now self.now.board }
+    {
+        let uploads = self.stored.ledger().uploads.as_slice();
+        let record = uploads
+            .iter()
+            .find(|record| record.user == id && record.digest == *digest)?;
+        Some(record.counts)
+    }
+
+    /// How many upload records are kept, at most 100,000.
+    pub fn upload_count(&self) -> u32
+        ensures { result ≡ length self.now.board.ledger.uploads }
+    {
+        self.stored.ledger().uploads.len() as u32
+    }
+
+    /// How many bytes the data files have together, at most 33,554,432.
+    pub fn size(&self) -> u64
+        ensures { result ≡ board_size self.now.board }
+    {
+        self.stored.size()
+    }
+}
