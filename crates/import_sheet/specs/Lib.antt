@@ -2,3 +2,4 @@ pub mod Header
 pub mod Sheet
 pub mod Fault
 pub mod State
+pub mod RuleWord

@@ -1,4 +1,5 @@
 ghost use Rattle.std.specs.Prelude.{◌≡◌};
+ghost use Rattle.import_sheet.specs.RuleWord.{rule_word};
 ghost use Rattle.import_sheet.specs.declared.fault.SheetError.TheVariants.{OutOfMemory};
 
 use std::alloc::AllocError;
@@ -34,6 +35,29 @@ pub enum SheetRule {
     Length,
     /// The file ends inside a message.
     End,
+}
+
+impl SheetRule {
+    /// The word of the rule, as a refusal has it.
+    pub fn word(self) -> &'static [u8]
+        ensures { result.now ≡ rule_word self }
+    {
+        match self {
+            SheetRule::Header => b"header",
+            SheetRule::Twice => b"twice",
+            SheetRule::From => b"from",
+            SheetRule::To => b"to",
+            SheetRule::Subject => b"subject",
+            SheetRule::Date => b"date",
+            SheetRule::Msgid => b"msgid",
+            SheetRule::Reply => b"reply",
+            SheetRule::Private => b"private",
+            SheetRule::Missing => b"missing",
+            SheetRule::Byte => b"byte",
+            SheetRule::Length => b"length",
+            SheetRule::End => b"end",
+        }
+    }
 }
 
 /// Why the bytes of a sheet aren't read.
