@@ -1,0 +1,9 @@
+use Rattle.std.proofs.Common.{◌≡◌, ◌+◌, length, take}
+use Rattle.qwk_blocks.specs.Text.{ended}
+use Rattle.offline_writer.proofs.fitting.are_short.Given as goal
+
+abbrev pub invariant-loop-line : goal.invariant-loop-line
+invariant-loop-line l = record {
+  all : l.line-items ≡ l.lines;
+  left : l.left + length (ended (take l.line-index l.line-items)) ≡ l.most;
+}

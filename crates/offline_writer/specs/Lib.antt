@@ -1,0 +1,4 @@
+pub mod Drafts
+pub mod Fitting
+pub mod Placing
+pub mod Answer

@@ -1,0 +1,68 @@
+//! Whether a draft can be put into QWK.
+ghost use Rattle.std.specs.Prelude.{◌≤◌, ◌↔◌, All, IsTrue, length};
+ghost use Rattle.text_fields.specs.Split.{Lacks};
+ghost use Rattle.qwk_blocks.specs.Text.{ended};
+ghost use Rattle.offline_writer.specs.Fitting.{FitsQwk};
+
+use byte_lists::Lines;
+use qwk_blocks::QwkMessage;
+
+/// The most bytes of To and of the subject.
+const FIELD: usize = 25;
+
+/// The byte that ends a line in QWK.
+const LINE_END: u8 = 0xE3;
+
+/// The most bytes of a text, with one behind each line.
+const TEXT: usize = 16_384;
+
+/// Whether a line lacks a byte.
+fn lacks(line: &[u8], byte: u8) -> bool
+    ensures { IsTrue result ↔ Lacks byte line.now }
+{
+    line.iter().all(|b| *b != byte)
+}
+
+/// Whether all lines do.
+fn all_lack(lines: &Lines, byte: u8) -> bool
+    ensures { IsTrue result ↔ All (Lacks byte) lines.now }
+{
+    lines
+        .as_slice()
+        .iter()
+        .all(|line| lacks(line.as_slice(), byte))
+}
+
+/// Whether lines have at most so many bytes, with one behind each.
+fn are_short(lines: &Lines, most: usize) -> bool
+    ensures { IsTrue result ↔ (length (ended lines.now) ≤ most) }
+{
+    let mut left = most;
+    for line in lines.as_slice() {
+        let size = line.as_slice().len();
+        if size >= left {
+            return false;
+        }
+        left -= size + 1;
+    }
+    true
+}
+
+/// Whether a draft can be put into QWK.
+pub(crate) fn fits_qwk(draft: &QwkMessage) -> bool
+    ensures { IsTrue result ↔ FitsQwk draft.now }
+{
+    if draft.header.to.as_slice().len() > FIELD {
+        return false;
+    }
+    if draft.header.subject.as_slice().len() > FIELD {
+        return false;
+    }
+    if !all_lack(&draft.lines, LINE_END) {
+        return false;
+    }
+    if !all_lack(&draft.lines, b'\r') {
+        return false;
+    }
+    are_short(&draft.lines, TEXT)
+}
