@@ -31,7 +31,7 @@ use Rattle.packet_commands.specs.declared.folder.Packet.{Packet}
 pub packet_of_unique : (shelf : Files) (name : List ℕ) (a b : Result (List QwkMessage) Refusal) → PacketOf shelf name a → PacketOf shelf name b → a ≡ b
 packet_of_unique shelf name = read_unique PacketReads FirstFault (λ (f : QwkFault). Broken f) packet_unique Packets.fault_unique Packets.no_fault (file_of shelf name packet_limit)
 
-control_of_unique : (shelf : Files) (name : List ℕ) (a b : Result Control Refusal) → ControlOf shelf name a → ControlOf shelf name b → a ≡ b
+pub control_of_unique : (shelf : Files) (name : List ℕ) (a b : Result Control Refusal) → ControlOf shelf name a → ControlOf shelf name b → a ≡ b
 control_of_unique shelf name =
     read_unique ControlReads ControlFault control_refusal (λ (bytes : List ℕ). Controls.control_unique (lines bytes)) (λ (bytes : List ℕ). Controls.fault_unique (lines bytes))
     (λ (bytes : List ℕ). Controls.no_fault (lines bytes)) (file_of shelf name file_limit)

@@ -46,3 +46,14 @@ FolderOf shelf folder (Err why) =
     ControlOf shelf (folder ++ codes "/CONTROL.DAT") (Err why)
     ⊎ ((control : Control) × ControlOf shelf (folder ++ codes "/CONTROL.DAT") (Ok control)
     × PacketOf shelf (folder ++ codes "/MESSAGES.DAT") (Err why))
+
+-- what was read of some bytes
+abbrev pub IsControl : Control → Type 0
+IsControl control = (bytes : List ℕ) × ControlReads bytes control
+
+abbrev pub ArePacket : List QwkMessage → Type 0
+ArePacket messages = (bytes : List ℕ) × PacketReads bytes messages
+
+pub record IsFolder (packet : Packet) : Type 0 where
+  pub control : IsControl packet.control
+  pub messages : ArePacket packet.messages

@@ -1,6 +1,6 @@
-ghost use Rattle.std.specs.Prelude.{◌≡◌, IsTrue};
+ghost use Rattle.std.specs.Prelude.{◌≡◌, IsTrue, IfOk};
 ghost use Rattle.shelf_files.specs.Halts.{Comes, ShelfCauses};
-ghost use Rattle.packet_commands.specs.Packets.{ControlOf, control_halt};
+ghost use Rattle.packet_commands.specs.Packets.{ControlOf, IsControl, control_halt};
 
 use door_outside::{Shelf, ShelfName};
 use qwk_control::{Control, ControlError, read_control};
@@ -22,6 +22,7 @@ fn halt_of(error: ControlError) -> Halt
 /// What CONTROL.DAT says, refused where it isn't there, is too long or has a fault.
 pub fn control_in<S: Shelf>(alloc: Global, shelf: &mut S, name: &ShelfName) -> Result<Control, Halt>
     ensures control { IsTrue S.tells → Comes result (ControlOf (S.files shelf.old) name.now) }
+    ensures read { IfOk result IsControl }
     ensures unchanged { IsTrue S.tells → S.files shelf.new ≡ S.files shelf.old }
     ensures causes { ShelfCauses (S.faults shelf.old) (S.faults shelf.new) result }
 {

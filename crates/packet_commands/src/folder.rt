@@ -2,7 +2,7 @@
 ghost use Rattle.std.specs.Prelude.{◌≡◌, ◌++◌, codes, IsTrue, IfOk};
 ghost use Rattle.door_outside.specs.Name.{HasParts};
 ghost use Rattle.shelf_files.specs.Halts.{Comes, ShelfCauses};
-ghost use Rattle.packet_commands.specs.Packets.{FolderOf};
+ghost use Rattle.packet_commands.specs.Packets.{FolderOf, IsFolder};
 
 use crate::control_file::control_in;
 use crate::packet_file::packet_in;
@@ -22,7 +22,7 @@ pub struct Packet {
 }
 
 /// The name of CONTROL.DAT in a folder.
-fn control_name(alloc: Global, folder: &ShelfName) -> Result<ShelfName, AllocError>
+pub fn control_name(alloc: Global, folder: &ShelfName) -> Result<ShelfName, AllocError>
     requires { HasParts 3 folder.now }
     ensures { IfOk result (λ name. name ≡ folder.now ++ codes "/CONTROL.DAT") }
 {
@@ -42,6 +42,7 @@ fn messages_name(alloc: Global, folder: &ShelfName) -> Result<ShelfName, AllocEr
 pub fn folder_in<S: Shelf>(alloc: Global, shelf: &mut S, folder: &ShelfName) -> Result<Packet, Halt>
     requires { HasParts 3 folder.now }
     ensures packet { IsTrue S.tells → Comes result (FolderOf (S.files shelf.old) folder.now) }
+    ensures read { IfOk result IsFolder }
     ensures unchanged { IsTrue S.tells → S.files shelf.new ≡ S.files shelf.old }
     ensures causes { ShelfCauses (S.faults shelf.old) (S.faults shelf.new) result }
 {

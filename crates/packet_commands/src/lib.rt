@@ -8,6 +8,8 @@ mod packet_file;
 mod reading;
 mod scanning;
 
+pub use control_file::control_in;
+pub use folder::{Packet, control_name, folder_in};
 pub use listing::list;
 pub use reading::{read, show};
 pub use scanning::scan;

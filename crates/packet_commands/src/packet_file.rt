@@ -1,6 +1,6 @@
-ghost use Rattle.std.specs.Prelude.{◌≡◌, IsTrue};
+ghost use Rattle.std.specs.Prelude.{◌≡◌, IsTrue, IfOk};
 ghost use Rattle.shelf_files.specs.Halts.{Comes, ShelfCauses};
-ghost use Rattle.packet_commands.specs.Packets.{PacketOf};
+ghost use Rattle.packet_commands.specs.Packets.{PacketOf, ArePacket};
 
 use door_outside::{Shelf, ShelfName};
 use qwk_blocks::{QwkError, QwkMessages, read_messages};
@@ -14,6 +14,7 @@ pub fn packet_in<S: Shelf>(
     name: &ShelfName,
 ) -> Result<QwkMessages, Halt>
     ensures packet { IsTrue S.tells → Comes result (PacketOf (S.files shelf.old) name.now) }
+    ensures read { IfOk result ArePacket }
     ensures unchanged { IsTrue S.tells → S.files shelf.new ≡ S.files shelf.old }
     ensures causes { ShelfCauses (S.faults shelf.old) (S.faults shelf.new) result }
 {

@@ -12,7 +12,7 @@ use Rattle.shelf_files.specs.ShelfFile.{ReadAs}
 use Rattle.shelf_files.specs.declared.halt.Halt.{Halt}
 use Rattle.shelf_files.specs.declared.halt.Halt.TheVariants.{Refused, ShelfFault, OutOfMemory}
 use Rattle.shelf_files.specs.declared.refusal.Refusal.{Refusal}
-use Rattle.shelf_files.specs.declared.refusal.Refusal.TheVariants.{NoFile, TooLarge, Broken, ControlShort, ControlNumber, ControlId, NoMessage}
+use Rattle.shelf_files.specs.declared.refusal.Refusal.TheVariants.{NoFile, TooLarge, Broken, ControlShort, ControlNumber, ControlId, NoMessage, NoBoardId, OtherBoard, NoConference, Sheet, Text, NotMade, Exists, Name, DupUser, Users, Setup, Slots, Size}
 
 pub some_refusal : (refusal : Refusal) → refusal_line refusal ≢ []
 some_refusal (NoFile name) is = absurd (cc is)
@@ -23,6 +23,19 @@ some_refusal (ControlShort line) is = absurd (cc is)
 some_refusal (ControlNumber line) is = absurd (cc is)
 some_refusal ControlId is = absurd (cc is)
 some_refusal NoMessage is = absurd (cc is)
+some_refusal NoBoardId is = absurd (cc is)
+some_refusal OtherBoard is = absurd (cc is)
+some_refusal NoConference is = absurd (cc is)
+some_refusal (Sheet line rule) is = absurd (cc is)
+some_refusal (Text number) is = absurd (cc is)
+some_refusal NotMade is = absurd (cc is)
+some_refusal Exists is = absurd (cc is)
+some_refusal Name is = absurd (cc is)
+some_refusal DupUser is = absurd (cc is)
+some_refusal Users is = absurd (cc is)
+some_refusal (Setup line rule) is = absurd (cc is)
+some_refusal (Slots count) is = absurd (cc is)
+some_refusal (Size bytes) is = absurd (cc is)
 
 pub some_reply : {Value : Type 0} (text : Value → List ℕ) → ((value : Value) → text value ≢ []) → (read : Result Value Refusal) → (replied text read).text ≢ []
 some_reply text some (Ok value) = some value

@@ -1,3 +1,4 @@
 pub mod Halts
 pub mod Refusals
 pub mod ShelfFile
+pub mod Sheets

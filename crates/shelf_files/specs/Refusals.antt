@@ -1,12 +1,33 @@
 -- What is said of a refused command.
 use Rattle.std.specs.Prelude.{ℕ, List, [], ◌++◌, codes, decimal}
+use Rattle.import_sheet.specs.RuleWord.{rule_word}
 use Rattle.qwk_blocks.specs.declared.fault.QwkFault.TheVariants.{Truncated, BadBlocks}
+use Rattle.setup_file.specs.declared.error.SetupRule.{SetupRule}
+use Rattle.setup_file.specs.declared.error.SetupRule.TheVariants as setup
 use Rattle.shelf_files.specs.declared.refusal.Refusal.{Refusal}
-use Rattle.shelf_files.specs.declared.refusal.Refusal.TheVariants.{NoFile, TooLarge, Broken, ControlShort, ControlNumber, ControlId, NoMessage}
+use Rattle.shelf_files.specs.declared.refusal.Refusal.TheVariants.{NoFile, TooLarge, Broken, ControlShort, ControlNumber, ControlId, NoMessage, NoBoardId, OtherBoard, NoConference, Sheet, Text, NotMade, Exists, Name, DupUser, Users, Setup, Slots, Size}
 
 -- the line of a refusal, of its words and what stands behind them
 abbrev pub line_of : List ℕ → List ℕ → List ℕ
 line_of words behind = codes "refused " ++ (words ++ (behind ++ codes "\n"))
+
+-- the same with the number of a line and the word of the rule that it breaks
+abbrev pub ruled_line : List ℕ → ℕ → List ℕ → List ℕ
+ruled_line words line rule = codes "refused " ++ (words ++ (decimal line ++ (codes " " ++ (rule ++ codes "\n"))))
+
+-- the words of the rules of setup files
+abbrev pub setup_word : SetupRule → List ℕ
+setup_word setup.Key = codes "key"
+setup_word setup.Text = codes "text"
+setup_word setup.Id = codes "id"
+setup_word setup.Number = codes "number"
+setup_word setup.Zones = codes "zones"
+setup_word setup.Kind = codes "kind"
+setup_word setup.Rules = codes "rules"
+setup_word setup.Name = codes "name"
+setup_word setup.Order = codes "order"
+setup_word setup.Many = codes "many"
+setup_word setup.Missing = codes "missing"
 
 -- one line for each refusal
 abbrev pub refusal_line : Refusal → List ℕ
@@ -18,3 +39,16 @@ refusal_line (ControlShort line) = line_of (codes "control short ") (decimal lin
 refusal_line (ControlNumber line) = line_of (codes "control number ") (decimal line)
 refusal_line ControlId = line_of (codes "control id 5") []
 refusal_line NoMessage = line_of (codes "nomessage") []
+refusal_line NoBoardId = line_of (codes "noboardid") []
+refusal_line OtherBoard = line_of (codes "board") []
+refusal_line NoConference = line_of (codes "noconference") []
+refusal_line (Sheet line rule) = ruled_line (codes "sheet ") line (rule_word rule)
+refusal_line (Text number) = line_of (codes "text ") (decimal number)
+refusal_line NotMade = line_of (codes "notmade") []
+refusal_line Exists = line_of (codes "exists") []
+refusal_line Name = line_of (codes "name") []
+refusal_line DupUser = line_of (codes "dupuser") []
+refusal_line Users = line_of (codes "users") []
+refusal_line (Setup line rule) = ruled_line (codes "setup ") line (setup_word rule)
+refusal_line (Slots count) = line_of (codes "slots ") (decimal count)
+refusal_line (Size bytes) = line_of (codes "size ") (decimal bytes)
