@@ -1,0 +1,5 @@
+pub mod Steps
+pub mod Shelves
+pub mod Clean
+pub mod Makings
+pub mod ReplyLaws
