@@ -1,0 +1,10 @@
+//! Single words of commands: numbers, and which conferences of a board are meant.
+#![tactic(auto)]
+
+mod choice;
+mod number;
+#[cfg(test)]
+mod tests;
+
+pub use choice::Choice;
+pub use number::number_of;
