@@ -190,12 +190,26 @@ impl Base {
         if count > 9999 {
             return Err(AppendRefusal::Slots(count));
         }
+        Ok(self.extended(alloc, messages.copy(alloc)?)?)
+    }
+
+    /// The base with these messages at the end, as `appended` has it, which are moved there and not copied. Each
+    /// is one that a conference of this kind may hold, with a msgid, and at most 9,999 slots will stand.
+    ///
+    /// The error comes where there is no memory.
+    pub fn extended(&self, alloc: Global, messages: Messages) -> Result<BaseChange, AllocError>
+        requires messages { All (IsMessage self.now.shape.kind) messages }
+        requires few { length self.now.conference.slots + length messages ≤ 9999 }
+        ensures base { IfOk result (λ change. change.base ≡ with_messages_of messages self.now) }
+        ensures files { IfOk result (λ change. Turns self.now.shape.place (layout self.now.shape self.now.conference) (layout change.base.shape change.base.conference) change.patches) }
+        ensures intent { IfOk result (λ change. SuitsIntent self.now.shape.place (layout change.base.shape change.base.conference) change.patches) }
+    {
         if messages.as_slice().is_empty() {
-            return Ok(self.unchanged(alloc)?);
+            return self.unchanged(alloc);
         }
+        let (_, conference) = self.parts();
         let slots = with_messages(alloc, &conference.slots, messages)?;
-        let base = self.changed(alloc, slots)?;
-        Ok(BaseChange::of_messages(alloc, base)?)
+        BaseChange::of_messages(alloc, self.changed(alloc, slots)?)
     }
 
     /// The base with the message of a number marked deleted. Its patches make its files of those of this base.

@@ -2,18 +2,17 @@
 ghost use Rattle.std.specs.Prelude.{◌≡◌, ◌+◌, ◌≤◌, ◌<◌, ◌==◌, ◌^◌, length, IfOk, OnOk};
 ghost use Rattle.jam_base.specs.Slots.{slots_with_all, has_live as has_live_of, slot_deleted, slots_deleted};
 
-use byte_lists::{Duplicate, List};
-use jam_records::{Message, Messages, Slot, Slots};
+use byte_lists::List;
+use jam_records::{Messages, Slot, Slots};
 use std::alloc::{AllocError, Global};
 
 /// The slots with these messages at the end.
-pub fn with_messages(alloc: Global, slots: &Slots, messages: &Messages) -> Result<Slots, AllocError>
-    ensures { IfOk result (λ new. new ≡ slots_with_all slots.now messages.now) }
+pub fn with_messages(alloc: Global, slots: &Slots, messages: Messages) -> Result<Slots, AllocError>
+    ensures { IfOk result (λ new. new ≡ slots_with_all slots.now messages) }
 {
-    let messages = messages.as_slice();
     let mut longer = slots.copy(alloc)?;
-    for message in messages {
-        longer.add(Slot::Held(message.duplicate(alloc)?))?;
+    for message in messages.into_vec() {
+        longer.add(Slot::Held(message))?;
     }
     Ok(longer)
 }
