@@ -2,7 +2,7 @@
 use Rattle.std.proofs.Common.{◌≡◌, ◌≢◌, inl, inr, ℕ, zero, suc, ◌+◌, ◌<◌, ◌≤◌, List, [], ◌∷◌, ◌++◌, length, take, refl, sym, ap, ◌∙◌, subst, arith, length-append}
 use Rattle.std.specs.Prelude.{sum_by, nat_lt, ◌==◌}
 use Rattle.std.proofs.lemmas.Bool.{cond-true, cond-false, lt-ltb, le-ltb, ne_eqb, cases_lt, cases_eq, cases_order}
-use Rattle.std.proofs.lemmas.List.{take_more}
+use Rattle.std.proofs.lemmas.List.{append-nil, take_more}
 use Rattle.std.proofs.lemmas.List.Sums.{sum_by-append, sum_by-cons, sum_by-take-le}
 use Rattle.std.proofs.lemmas.List.Elements.{All-nil, All-cons, All-append}
 use Rattle.door_outside.specs.File.{ledger_file, journal_file, jhr_file, jdt_file, jdx_file, jlr_file}
@@ -11,6 +11,7 @@ use Rattle.intent_journal.specs.Patches.{Files, file_of, patched}
 use Rattle.intent_journal.specs.declared.patch.Patch.{Patch}
 use Rattle.intent_journal.specs.declared.patch.Patch.TheVariants.{Whole}
 use Rattle.jam_base.specs.Change.{files_of_place, IsElsewhere, Turns, SuitsIntent}
+use Rattle.jam_base.proofs.PatchLaws.{nothing_turns, nothing_small}
 use Rattle.jam_layout.specs.Layout.{files_size}
 use Rattle.jam_layout.specs.declared.files.BaseFiles.{BaseFiles}
 use Rattle.board_layout.specs.Layout.{no_base}
@@ -30,15 +31,27 @@ ledger_apart ledger files place =
     other : (file : ℕ) → 0 < file → patched (Whole ledger_file ledger ∷ []) files file ≡ files file
     other file some = cond-false (file == ledger_file) ledger (files file) (ne_eqb file ledger_file (λ e. omega (arith, e, some)))
 
-pub gathered_none : (ledger : List ℕ) (old new : List BaseFiles) → Gathered ledger old new 0 (Whole ledger_file ledger ∷ [])
-gathered_none ledger old new = record {
-  starts = λ files has. refl;
-  ledger_is = λ files has. refl;
-  bases = λ files has place within. ledger_apart ledger files place ∙ (has place within ∙ sym (cond-false (nat_lt place 0) (at_place new place) (at_place old place) (le-ltb place 0 (omega arith))));
+pub gathered_none : (P : Files → Type 0) (ledger : List ℕ) (old new : List BaseFiles) → ((files : Files) → P files → HasBases old files) → Gathered P ledger old new 0 (Whole ledger_file ledger ∷ [])
+gathered_none P ledger old new has = record {
+  starts = λ files here. refl;
+  ledger_is = λ files here. refl;
+  bases = λ files here place within. ledger_apart ledger files place ∙ (has files here place within ∙ sym (cond-false (nat_lt place 0) (at_place new place) (at_place old place) (le-ltb place 0 (omega arith))));
   no_journal = All-cons (λ (p : Patch). file_of p ≢ journal_file) (Whole ledger_file ledger) [] (λ e. omega (arith, e)) (All-nil (λ (p : Patch). file_of p ≢ journal_file));
   below = All-cons (λ (p : Patch). file_of p < jhr_file 0) (Whole ledger_file ledger) [] (omega arith) (All-nil (λ (p : Patch). file_of p < jhr_file 0));
   once = refl;
   short = omega (arith, length-append ledger []);
+}
+
+-- ---- a ledger that stays
+pub gathered_kept : (P : Files → Type 0) (ledger : List ℕ) (old new : List BaseFiles) → ((files : Files) → P files → HasBases old files) → ((files : Files) → P files → files ledger_file ≡ ledger) → Gathered P ledger old new 0 []
+gathered_kept P ledger old new has right = record {
+  starts = λ files here. refl;
+  ledger_is = right;
+  bases = λ files here place within. has files here place within ∙ sym (cond-false (nat_lt place 0) (at_place new place) (at_place old place) (le-ltb place 0 (omega arith)));
+  no_journal = All-nil (λ (p : Patch). file_of p ≢ journal_file);
+  below = All-nil (λ (p : Patch). file_of p < jhr_file 0);
+  once = refl;
+  short = omega arith;
 }
 
 -- ---- the files of one place
@@ -59,17 +72,17 @@ elsewhere count old new patches turns files place ne =
     ]
 
 -- one place more, of which there are new files
-module _ (ledger : List ℕ) (old new : List BaseFiles) (count : ℕ) (done more : List Patch) (gathered : Gathered ledger old new count done) (place_is : count < 64) (has_new : count < length new)
+module _ (P : Files → Type 0) (ledger : List ℕ) (old new : List BaseFiles) (count : ℕ) (done more : List Patch) (gathered : Gathered P ledger old new count done) (place_is : count < 64) (has_new : count < length new)
     (turns : Turns count (at_place old count) (at_place new count) more) (suits : SuitsIntent count (at_place new count) more) where
   -- those of the place are still the old ones
-  still : (files : Files) → HasBases old files → files_of_place count (patched done files) ≡ at_place old count
-  still files has = gathered.bases files has count place_is ∙ cond-false (nat_lt count count) (at_place new count) (at_place old count) (le-ltb count count (omega arith))
+  still : (files : Files) → P files → files_of_place count (patched done files) ≡ at_place old count
+  still files here = gathered.bases files here count place_is ∙ cond-false (nat_lt count count) (at_place new count) (at_place old count) (le-ltb count count (omega arith))
 
-  bases_then : (files : Files) → HasBases old files → (place : ℕ) → place < 64 → files_of_place place (patched more (patched done files)) ≡ mixed (count + 1) old new place
-  bases_then files has place within = elim (cases_eq place count) [
+  bases_then : (files : Files) → P files → (place : ℕ) → place < 64 → files_of_place place (patched more (patched done files)) ≡ mixed (count + 1) old new place
+  bases_then files here place within = elim (cases_eq place count) [
     | inl is ↦ subst (λ (k : ℕ). files_of_place k (patched more (patched done files)) ≡ mixed (count + 1) old new k) (sym is)
-        (turns.base (patched done files) (still files has) ∙ sym (cond-true (nat_lt count (count + 1)) (at_place new count) (at_place old count) (lt-ltb count (count + 1) (omega arith))))
-    | inr ne ↦ elsewhere count (at_place old count) (at_place new count) more turns (patched done files) place ne ∙ (gathered.bases files has place within ∙ same place ne)
+        (turns.base (patched done files) (still files here) ∙ sym (cond-true (nat_lt count (count + 1)) (at_place new count) (at_place old count) (lt-ltb count (count + 1) (omega arith))))
+    | inr ne ↦ elsewhere count (at_place old count) (at_place new count) more turns (patched done files) place ne ∙ (gathered.bases files here place within ∙ same place ne)
   ]
     where
       same : (place : ℕ) → place ≢ count → mixed count old new place ≡ mixed (count + 1) old new place
@@ -89,11 +102,11 @@ module _ (ledger : List ℕ) (old new : List BaseFiles) (count : ℕ) (done more
     sum_by-cons files_size (at_place new count) [],
   )
 
-  pub gathered_more : Gathered ledger old new (count + 1) (done ++ more)
+  pub gathered_more : Gathered P ledger old new (count + 1) (done ++ more)
   gathered_more = record {
-    starts = λ files has. within_append done more files (gathered.starts files has) (turns.starts (patched done files) (still files has));
-    ledger_is = λ files has. ap (λ (f : Files). f ledger_file) (patched_append done more files) ∙ (turns.others (patched done files) ledger_file (inl (omega arith)) ∙ gathered.ledger_is files has);
-    bases = λ files has place within. ap (files_of_place place) (patched_append done more files) ∙ bases_then files has place within;
+    starts = λ files here. within_append done more files (gathered.starts files here) (turns.starts (patched done files) (still files here));
+    ledger_is = λ files here. ap (λ (f : Files). f ledger_file) (patched_append done more files) ∙ (turns.others (patched done files) ledger_file (inl (omega arith)) ∙ gathered.ledger_is files here);
+    bases = λ files here place within. ap (files_of_place place) (patched_append done more files) ∙ bases_then files here place within;
     no_journal = All-append (λ (p : Patch). file_of p ≢ journal_file) done more gathered.no_journal (λ k d within e. omega (arith, e, (suits.within k d within).0));
     below = All-append (λ (p : Patch). file_of p < jhr_file (count + 1)) done more (λ k d within. omega (arith, gathered.below k d within)) (λ k d within. omega (arith, (suits.within k d within).1));
     once = once_append done more gathered.once suits.once (λ k d low j e high same. omega (arith, same, gathered.below k d low, (suits.within j e high).0));
@@ -110,10 +123,21 @@ module _ (ledger : List ℕ) (old new : List BaseFiles) (count : ℕ) (done more
         fits = omega (arith, journal_length (done ++ more), text_append done more, gathered.short, suits.short, sizes, size, fit, has_new);
       }
 
+-- places whose files stay
+pub gathered_rest : (P : Files → Type 0) (ledger : List ℕ) (old new : List BaseFiles) (patches : List Patch) (count n : ℕ) → Gathered P ledger old new count patches → count + n ≤ 64 → count + n ≤ length new
+    → ((k : ℕ) → count ≤ k → k < count + n → at_place old k ≡ at_place new k) → Gathered P ledger old new (count + n) patches
+gathered_rest P ledger old new patches count zero gathered places many same = subst (λ (k : ℕ). Gathered P ledger old new k patches) (omega arith) gathered
+gathered_rest P ledger old new patches count (suc n) gathered places many same =
+    let here : ℕ = count + n in
+    let so_far : Gathered P ledger old new here patches = gathered_rest P ledger old new patches count n gathered (omega (arith, places)) (omega (arith, many)) (λ k low high. same k low (omega (arith, high))) in
+    let turns : Turns here (at_place old here) (at_place new here) [] = subst (λ (f : BaseFiles). Turns here (at_place old here) f []) (same here (omega arith) (omega arith)) (nothing_turns here (at_place old here)) in
+    let more : Gathered P ledger old new (here + 1) (patches ++ []) = gathered_more P ledger old new here patches [] so_far (omega (arith, places)) (omega (arith, many)) turns (nothing_small here (at_place new here)) in
+    subst (λ (k : ℕ). Gathered P ledger old new k patches) (omega arith) (subst (Gathered P ledger old new (here + 1)) (append-nil patches) more)
+
 -- ---- all places
-pub gathered_all : (ledger : List ℕ) (old new : List BaseFiles) (patches : List Patch) → Gathered ledger old new (length new) patches → length old ≤ length new
-    → (files : Files) → HasBases old files → HasBases new (patched patches files)
-gathered_all ledger old new patches gathered fewer files has place within = gathered.bases files has place within ∙ new_is
+pub gathered_all : (P : Files → Type 0) (ledger : List ℕ) (old new : List BaseFiles) (patches : List Patch) → Gathered P ledger old new (length new) patches → length old ≤ length new
+    → (files : Files) → P files → HasBases new (patched patches files)
+gathered_all P ledger old new patches gathered fewer files here place within = gathered.bases files here place within ∙ new_is
   where
     past : (bases : List BaseFiles) (k : ℕ) → length bases ≤ k → at_place bases k ≡ no_base
     past [] k most = refl

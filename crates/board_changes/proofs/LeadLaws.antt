@@ -2,7 +2,7 @@
 use Rattle.std.proofs.Common.{◌≡◌, ℕ, ◌≤◌, suc, List, [], ◌∷◌, length, refl, sym, ap, ◌∙◌, subst, arith}
 use Rattle.std.specs.List.{AllZip}
 use Rattle.board_changes.specs.Change.{Leads}
-use Rattle.board_changes.specs.Changed.{new_ledger, empty_conferences, made, with_user, with_member}
+use Rattle.board_changes.specs.Changed.{new_ledger, empty_conferences, made}
 use Rattle.board_changes.specs.Gathered.{Gathered}
 use Rattle.board_changes.proofs.GatherLaws.{gathered_all}
 use Rattle.board_changes.proofs.MadeLaws.{are_conferences}
@@ -13,7 +13,6 @@ use Rattle.board_layout.specs.Layout.{AreEmpty, IsLayout, base_files, layouts}
 use Rattle.board_layout.specs.Valid.{IsBoard}
 use Rattle.board_ledger.specs.Ledger.{ledger_text}
 use Rattle.board_ledger.specs.declared.ledger.Ledger.{Ledger}
-use Rattle.board_ledger.specs.declared.user.User.{User}
 use Rattle.intent_journal.specs.declared.patch.Patch.{Patch}
 use Rattle.jam_layout.specs.Valid.{IsConference}
 use Rattle.jam_layout.specs.declared.files.BaseFiles.{BaseFiles}
@@ -27,32 +26,35 @@ zipped_count R (x ∷ xs) [] all = absurd all
 zipped_count R (x ∷ xs) (y ∷ ys) all = ap suc (zipped_count R xs ys all.1)
 
 pub leads_made : (setup : Setup) (created : ℕ) (patches : List Patch)
-    → Gathered (ledger_text (new_ledger setup created)) [] (layouts (shapes_of (new_ledger setup created)) (empty_conferences (shapes_of (new_ledger setup created)))) (length (shapes_of (new_ledger setup created))) patches
+    → Gathered AreEmpty (ledger_text (new_ledger setup created)) [] (layouts (shapes_of (new_ledger setup created)) (empty_conferences (shapes_of (new_ledger setup created)))) (length (shapes_of (new_ledger setup created))) patches
     → Leads AreEmpty (made setup created) patches
 leads_made setup created patches gathered =
     let l : Ledger = new_ledger setup created in
     let new : List BaseFiles = layouts (shapes_of l) (empty_conferences (shapes_of l)) in
-    let all = subst (λ (n : ℕ). Gathered (ledger_text l) [] new n patches) (sym (layouts_count (shapes_of l) (empty_conferences (shapes_of l)) (are_conferences (shapes_of l)))) gathered in
+    let all = subst (λ (n : ℕ). Gathered AreEmpty (ledger_text l) [] new n patches) (sym (layouts_count (shapes_of l) (empty_conferences (shapes_of l)) (are_conferences (shapes_of l)))) gathered in
     record {
-      starts = λ files empty. gathered.starts files (λ place within. empty.places place within);
+      starts = gathered.starts;
       files = λ files empty. record {
-        ledger = gathered.ledger_is files (λ place within. empty.places place within);
-        places = gathered_all (ledger_text l) [] new patches all (omega arith) files (λ place within. empty.places place within);
+        ledger = gathered.ledger_is files empty;
+        places = gathered_all AreEmpty (ledger_text l) [] new patches all (omega arith) files empty;
       };
     }
 
-pub leads_member : (b : Board) (u : User) (patches : List Patch) → IsBoard b → IsBoard (with_member u b)
-    → Gathered (ledger_text (with_user u b.ledger)) (base_files b) (base_files (with_member u b)) (length b.conferences) patches → Leads (IsLayout b) (with_member u b) patches
-leads_member b u patches ok next gathered =
-    let new : List BaseFiles = base_files (with_member u b) in
-    let counted : length b.conferences ≡ length new =
-    sym (zipped_count IsConference (shapes_of b.ledger) b.conferences ok.conferences) ∙ (shapes_count b.ledger 0 b.ledger.setup.conferences ∙ sym (files_count (with_member u b) next)) in
-    let all = subst (λ (n : ℕ). Gathered (ledger_text (with_user u b.ledger)) (base_files b) new n patches) counted gathered in
-    let fewer : length (base_files b) ≤ length new = omega (arith, files_count b ok, files_count (with_member u b) next) in
+-- a board has files for each of its conferences
+pub places_count : (b : Board) → IsBoard b → length b.conferences ≡ length (base_files b)
+places_count b ok = sym (zipped_count IsConference (shapes_of b.ledger) b.conferences ok.conferences) ∙ (shapes_count b.ledger 0 b.ledger.setup.conferences ∙ sym (files_count b ok))
+
+pub leads_next : (b next : Board) (patches : List Patch) → IsBoard b → IsBoard next → length b.ledger.setup.conferences ≡ length next.ledger.setup.conferences
+    → Gathered (IsLayout b) (ledger_text next.ledger) (base_files b) (base_files next) (length b.conferences) patches → Leads (IsLayout b) next patches
+leads_next b next patches was ok places gathered =
+    let new : List BaseFiles = base_files next in
+    let counted : length b.conferences ≡ length new = places_count b was ∙ (files_count b was ∙ (places ∙ sym (files_count next ok))) in
+    let all = subst (λ (n : ℕ). Gathered (IsLayout b) (ledger_text next.ledger) (base_files b) new n patches) counted gathered in
+    let fewer : length (base_files b) ≤ length new = omega (arith, files_count b was, files_count next ok, places) in
     record {
-      starts = λ files is. gathered.starts files is.places;
+      starts = gathered.starts;
       files = λ files is. record {
-        ledger = gathered.ledger_is files is.places;
-        places = gathered_all (ledger_text (with_user u b.ledger)) (base_files b) new patches all fewer files is.places;
+        ledger = gathered.ledger_is files is;
+        places = gathered_all (IsLayout b) (ledger_text next.ledger) (base_files b) new patches all fewer files is;
       };
     }

@@ -5,5 +5,7 @@ pub mod PlaceLaws
 pub mod MadeLaws
 pub mod MemberLaws
 pub mod LeadLaws
+pub mod OneBase
+pub mod NextLaws
 pub mod UserSizes
 pub mod FitLaws

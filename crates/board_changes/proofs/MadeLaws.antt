@@ -14,7 +14,7 @@ use Rattle.board_changes.proofs.LedgerBounds.{setup_at_most, conferences_at_most
 use Rattle.board_changes.proofs.PlaceLaws.{empty_in, layout_in}
 use Rattle.board_layout.proofs.BasePlaces.{shapes_count, layouts_count}
 use Rattle.board_layout.specs.Board.{shape_of, shapes_from, shapes_of}
-use Rattle.board_layout.specs.Layout.{layouts}
+use Rattle.board_layout.specs.Layout.{AreEmpty, layouts}
 use Rattle.board_layout.specs.Valid.{IsBoard, highs_fit}
 use Rattle.board_ledger.specs.Ledger.{ledger_text}
 use Rattle.board_ledger.specs.Uploads.{IsUpload}
@@ -98,7 +98,7 @@ files_small setup created place (c ∷ conferences) =
 -- ---- one place
 -- The patches of a new base in the next place.
 module _ (l : Ledger) (place : ℕ) (kind : Kind) (shape : Shape) (done patches : List Patch) (shape_is : shape ≡ shape_of l place kind) (here : slice_get (shapes_of l) place ≡ Some (shape_of l place kind)) (within : place < 64)
-    (gathered : Gathered (ledger_text l) [] (layouts (shapes_of l) (empty_conferences (shapes_of l))) place done)
+    (gathered : Gathered AreEmpty (ledger_text l) [] (layouts (shapes_of l) (empty_conferences (shapes_of l))) place done)
     (turns : (old : BaseFiles) → Turns shape.place old (layout shape (no_slots shape)) patches) (suits : SuitsIntent shape.place (layout shape (no_slots shape)) patches) where
   bases : List BaseFiles
   bases = layouts (shapes_of l) (empty_conferences (shapes_of l))
@@ -119,11 +119,11 @@ module _ (l : Ledger) (place : ℕ) (kind : Kind) (shape : Shape) (done patches 
 
   pub fresh_joins : FitJournal (ledger_text l) (layouts (shapes_of l) (empty_conferences (shapes_of l))) → Joins done patches
   unfolding bases
-  fresh_joins fit = joins_more (ledger_text l) [] bases place done patches gathered within counted turns_here suits_here fit
+  fresh_joins fit = joins_more AreEmpty (ledger_text l) [] bases place done patches gathered within counted turns_here suits_here fit
 
-  pub fresh_gathers : Gathered (ledger_text l) [] (layouts (shapes_of l) (empty_conferences (shapes_of l))) (place + 1) (done ++ patches)
+  pub fresh_gathers : Gathered AreEmpty (ledger_text l) [] (layouts (shapes_of l) (empty_conferences (shapes_of l))) (place + 1) (done ++ patches)
   unfolding bases
-  fresh_gathers = gathered_more (ledger_text l) [] bases place done patches gathered within counted turns_here suits_here
+  fresh_gathers = gathered_more AreEmpty (ledger_text l) [] bases place done patches gathered within counted turns_here suits_here
 
 -- ---- the board
 pub new_is_board : (setup : Setup) (created : ℕ) → IsSetup setup → IsU32 created → IsBoard (made setup created)

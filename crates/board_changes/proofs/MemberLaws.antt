@@ -10,7 +10,7 @@ use Rattle.board_changes.specs.Changed.{joined_in, joined_from, with_user, with_
 use Rattle.board_layout.specs.Board.{Board, reader_of, readers_from, shape_of, shapes_from, shapes_of}
 use Rattle.board_changes.specs.Gathered.{at_place, Gathered, FitJournal, Joins}
 use Rattle.board_changes.proofs.GatherLaws.{gathered_more, joins_more}
-use Rattle.board_layout.specs.Layout.{base_files, layouts}
+use Rattle.board_layout.specs.Layout.{IsLayout, base_files, layouts}
 use Rattle.board_layout.specs.Valid.{IsBoard}
 use Rattle.board_layout.proofs.BasePlaces.{shapes_count, layouts_count}
 use Rattle.board_ledger.specs.Ledger.{ledger_text}
@@ -87,7 +87,7 @@ pub next_in : (b : Board) (u : User) (k : ℕ) (base : Contents) → slice_get (
 next_in b u k base is = next_from b.ledger u 0 b.ledger.setup.conferences b.conferences k base is ∙ ap (λ (n : ℕ). Some (next_base b.ledger u n base)) (omega arith)
 
 -- ---- bases anew
-pub renewed_more : (olds : List Contents) (news : List (Option Contents)) (old : Contents) (new : Option Contents) → length news ≡ length olds → renewed (olds ++ old ∷ []) (news ++ new ∷ []) ≡ renewed olds news ++ unwrap_or new old ∷ []
+renewed_more : (olds : List Contents) (news : List (Option Contents)) (old : Contents) (new : Option Contents) → length news ≡ length olds → renewed (olds ++ old ∷ []) (news ++ new ∷ []) ≡ renewed olds news ++ unwrap_or new old ∷ []
 renewed_more [] [] old None same = refl
 renewed_more [] [] old (Some new) same = refl
 renewed_more [] (n ∷ news) old new same = absurd (omega (arith, same))
@@ -106,7 +106,7 @@ files_from (shape ∷ shapes) (c ∷ conferences) zero base is = ap files_of is
     files_of (Some other) = layout other.shape other.conference
 files_from (shape ∷ shapes) (c ∷ conferences) (suc k) base is = files_from shapes conferences k base is
 
-files_at : (b : Board) (k : ℕ) (base : Contents) → slice_get (contents_of b) k ≡ Some base → at_place (base_files b) k ≡ layout base.shape base.conference
+pub files_at : (b : Board) (k : ℕ) (base : Contents) → slice_get (contents_of b) k ≡ Some base → at_place (base_files b) k ≡ layout base.shape base.conference
 files_at b k base is = files_from (shapes_of b.ledger) b.conferences k base is
 
 shape_from : (l : Ledger) (place : ℕ) (cs : List SetupConference) (conferences : List Conference) (k : ℕ) (base : Contents) → slice_get (contents (shapes_from l place cs) conferences) k ≡ Some base
@@ -130,7 +130,7 @@ shape_from l place (c ∷ cs) (d ∷ conferences) (suc k) base is =
 pub readers_at : (b : Board) (k : ℕ) (base : Contents) → slice_get (contents_of b) k ≡ Some base → base.shape.readers ≡ readers_from k 1 b.ledger.users
 readers_at b k base is = (shape_from b.ledger 0 b.ledger.setup.conferences b.conferences k base is).0 ∙ ap (λ (n : ℕ). readers_from n 1 b.ledger.users) (omega arith)
 
-place_at : (b : Board) (k : ℕ) (base : Contents) → slice_get (contents_of b) k ≡ Some base → base.shape.place ≡ k
+pub place_at : (b : Board) (k : ℕ) (base : Contents) → slice_get (contents_of b) k ≡ Some base → base.shape.place ≡ k
 place_at b k base is = omega (arith, (shape_from b.ledger 0 b.ledger.setup.conferences b.conferences k base is).1)
 
 contents_few : (shapes : List Shape) (conferences : List Conference) → length (contents shapes conferences) ≤ length shapes
@@ -153,7 +153,7 @@ files_count b ok = layouts_count (shapes_of b.ledger) b.conferences ok.conferenc
 
 -- ---- the patches of a place
 module _ (b : Board) (u : User) (place : ℕ) (base : Contents) (done : List Patch) (next : IsBoard (with_member u b)) (here : slice_get (contents_of b) place ≡ Some base)
-    (gathered : Gathered (ledger_text (with_user u b.ledger)) (base_files b) (base_files (with_member u b)) place done) where
+    (gathered : Gathered (IsLayout b) (ledger_text (with_user u b.ledger)) (base_files b) (base_files (with_member u b)) place done) where
   old_is : at_place (base_files b) place ≡ layout base.shape base.conference
   old_is = files_at b place base here
 
@@ -172,13 +172,13 @@ module _ (b : Board) (u : User) (place : ℕ) (base : Contents) (done : List Pat
     pub stays_base : slice_get (contents_of (with_member u b)) place ≡ Some base
     stays_base = next_in b u place base here ∙ ap Some same_base
 
-    pub stays_gathered : Gathered (ledger_text (with_user u b.ledger)) (base_files b) (base_files (with_member u b)) (place + 1) done
+    pub stays_gathered : Gathered (IsLayout b) (ledger_text (with_user u b.ledger)) (base_files b) (base_files (with_member u b)) (place + 1) done
     stays_gathered =
         let new_is : at_place (base_files (with_member u b)) place ≡ layout base.shape base.conference = files_at (with_member u b) place base stays_base in
         let turns : Turns place (at_place (base_files b) place) (at_place (base_files (with_member u b)) place) [] =
         subst (λ (f : BaseFiles). Turns place (at_place (base_files b) place) f []) (old_is ∙ sym new_is) (nothing_turns place (at_place (base_files b) place)) in
-        subst (Gathered (ledger_text (with_user u b.ledger)) (base_files b) (base_files (with_member u b)) (place + 1)) (append-nil done)
-        (gathered_more (ledger_text (with_user u b.ledger)) (base_files b) (base_files (with_member u b)) place done [] gathered small counted turns (nothing_small place (at_place (base_files (with_member u b)) place)))
+        subst (Gathered (IsLayout b) (ledger_text (with_user u b.ledger)) (base_files b) (base_files (with_member u b)) (place + 1)) (append-nil done)
+        (gathered_more (IsLayout b) (ledger_text (with_user u b.ledger)) (base_files b) (base_files (with_member u b)) place done [] gathered small counted turns (nothing_small place (at_place (base_files (with_member u b)) place)))
 
   -- the user is
   module _ (member : is_member u place ≡ true) (made : Contents) (patches : List Patch) (made_is : made ≡ with_reader (length b.ledger.users + 1) u.name base)
@@ -204,10 +204,10 @@ module _ (b : Board) (u : User) (place : ℕ) (base : Contents) (done : List Pat
         (subst (λ (f : BaseFiles). SuitsIntent base.shape.place f patches) (sym new_is) suits)
 
     pub joins_patches : FitJournal (ledger_text (with_user u b.ledger)) (base_files (with_member u b)) → Joins done patches
-    joins_patches fit = joins_more (ledger_text (with_user u b.ledger)) (base_files b) (base_files (with_member u b)) place done patches gathered small counted turns_here suits_here fit
+    joins_patches fit = joins_more (IsLayout b) (ledger_text (with_user u b.ledger)) (base_files b) (base_files (with_member u b)) place done patches gathered small counted turns_here suits_here fit
 
-    pub joins_gathered : Gathered (ledger_text (with_user u b.ledger)) (base_files b) (base_files (with_member u b)) (place + 1) (done ++ patches)
-    joins_gathered = gathered_more (ledger_text (with_user u b.ledger)) (base_files b) (base_files (with_member u b)) place done patches gathered small counted turns_here suits_here
+    pub joins_gathered : Gathered (IsLayout b) (ledger_text (with_user u b.ledger)) (base_files b) (base_files (with_member u b)) (place + 1) (done ++ patches)
+    joins_gathered = gathered_more (IsLayout b) (ledger_text (with_user u b.ledger)) (base_files b) (base_files (with_member u b)) place done patches gathered small counted turns_here suits_here
 
 -- ---- the whole board
 pub member_fits : (b : Board) → IsBoard b → FitJournal (ledger_text b.ledger) (base_files b)

@@ -3,9 +3,12 @@ use Rattle.std.specs.Prelude.{◌≡◌, List, IsTrue}
 use Rattle.intent_journal.specs.Patches.{Files, patched, are_within}
 use Rattle.intent_journal.specs.declared.patch.Patch.{Patch}
 use Rattle.board_layout.specs.Board.{Board}
-use Rattle.board_layout.specs.Layout.{IsLayout}
+use Rattle.board_layout.specs.Layout.{IsLayout, files_in}
 use Rattle.board_layout.specs.Renewed.{contents_of, renewed}
 use Rattle.board_changes.specs.declared.change.BoardChange.{BoardChange}
+use Rattle.jam_base.specs.Change.{Turns, SuitsIntent}
+use Rattle.jam_base.specs.Contents.{Contents}
+use Rattle.jam_base.specs.declared.change.BaseChange.{BaseChange}
 
 -- The patches may be carried out on files such as P says, and make them the layout of the board.
 pub record Leads (P : Files → Type 0) (next : Board) (patches : List Patch) : Type 0 where
@@ -17,3 +20,9 @@ pub record Becomes (old next : Board) (change : BoardChange) : Type 0 where
   pub ledger : change.ledger ≡ next.ledger
   pub bases : renewed (contents_of old) change.bases ≡ contents_of next
   pub intent : Leads (IsLayout old) next change.intent
+
+-- The change of a base leaves its shape, makes the files of the new base of those of this one, and suits an intent.
+pub record Changes (old : Contents) (change : BaseChange) : Type 0 where
+  pub shape : change.base.shape ≡ old.shape
+  pub files : Turns old.shape.place (files_in old) (files_in change.base) change.patches
+  pub intent : SuitsIntent old.shape.place (files_in change.base) change.patches

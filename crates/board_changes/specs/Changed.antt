@@ -1,10 +1,11 @@
 -- Boards after a change.
-use Rattle.std.specs.Prelude.{ℕ, ◌+◌, List, [], ◌∷◌, ◌++◌, length, replicate, Bool, ◌==◌, if◌then◌else◌}
+use Rattle.std.specs.Prelude.{ℕ, ◌+◌, List, [], ◌∷◌, ◌++◌, length, replicate, slice_get, slice_set, Option, Some, None, Bool, ◌==◌, if◌then◌else◌}
 use Rattle.std.specs.Int.{bit_at}
 use Rattle.board_ledger.specs.declared.ledger.Ledger.{Ledger}
 use Rattle.board_ledger.specs.declared.user.User.{User}
-use Rattle.board_layout.specs.Board.{Board, shapes_of}
-use Rattle.jam_base.specs.Contents.{no_slots}
+use Rattle.board_layout.specs.Board.{Board, shapes_of, board_with}
+use Rattle.board_layout.specs.Renewed.{contents_of}
+use Rattle.jam_base.specs.Contents.{Contents, no_slots}
 use Rattle.jam_layout.specs.declared.conference.Conference.{Conference}
 use Rattle.jam_layout.specs.declared.shape.Shape.{Shape}
 use Rattle.setup_file.specs.declared.setup.Setup.{Setup}
@@ -53,3 +54,13 @@ with_member user b = record { ledger = with_user user b.ledger; conferences = jo
 -- the board with a user of this name behind the others, a member of a set of places
 abbrev pub enrolled : List ℕ → Bool → ℕ → Board → Board
 enrolled name net members b = with_member (new_user name net members (length b.ledger.setup.conferences)) b
+
+-- ---- one conference changed
+-- the base of a place, where there is one
+abbrev pub base_at : ℕ → Board → Option Contents
+base_at place b = slice_get (contents_of b) place
+
+-- the board with a new base in a place, where there is one
+abbrev pub with_base : ℕ → Option Contents → Board → Board
+with_base place None b = b
+with_base place (Some base) b = board_with b.ledger (slice_set (contents_of b) place base)

@@ -21,11 +21,12 @@ HasBases bases files = (place : ℕ) → place < 64 → files_of_place place fil
 abbrev pub mixed : ℕ → List BaseFiles → List BaseFiles → ℕ → BaseFiles
 mixed count old new place = if nat_lt place count then at_place new place else at_place old place
 
--- the patches write the ledger, and turn the old files of the first places into the new ones
-pub record Gathered (ledger : List ℕ) (old new : List BaseFiles) (count : ℕ) (patches : List Patch) : Type 0 where
-  pub starts : (files : Files) → HasBases old files → IsTrue (are_within patches files)
-  pub ledger_is : (files : Files) → HasBases old files → patched patches files ledger_file ≡ ledger
-  pub bases : (files : Files) → HasBases old files → (place : ℕ) → place < 64 → files_of_place place (patched patches files) ≡ mixed count old new place
+-- the patches make the ledger of files such as P says, or leave it where it is there, and turn the old files of the
+-- first places into the new ones
+pub record Gathered (P : Files → Type 0) (ledger : List ℕ) (old new : List BaseFiles) (count : ℕ) (patches : List Patch) : Type 0 where
+  pub starts : (files : Files) → P files → IsTrue (are_within patches files)
+  pub ledger_is : (files : Files) → P files → patched patches files ledger_file ≡ ledger
+  pub bases : (files : Files) → P files → (place : ℕ) → place < 64 → files_of_place place (patched patches files) ≡ mixed count old new place
   pub no_journal : All (λ patch. file_of patch ≢ journal_file) patches
   pub below : All (λ patch. file_of patch < jhr_file count) patches
   pub once : IsTrue (is_once patches)

@@ -3,13 +3,14 @@ ghost use Rattle.std.specs.Int.{bit_at};
 ghost use Rattle.board_changes.specs.Change.{Becomes};
 ghost use Rattle.board_changes.specs.Changed.{enrolled as enrolled_of, new_user as new_user_of, with_user as with_user_of, with_member};
 ghost use Rattle.board_changes.specs.Gathered.{Gathered, FitJournal};
-ghost use Rattle.board_layout.specs.Layout.{base_files};
+ghost use Rattle.board_layout.specs.Layout.{IsLayout, base_files};
 ghost use Rattle.board_layout.specs.Renewed.{contents_of, renewed};
 ghost use Rattle.board_layout.specs.Valid.{IsBoard};
 ghost use Rattle.board_ledger.specs.Ledger.{ledger_text};
 ghost use Rattle.board_ledger.specs.Valid.{IsLedger};
 
 use crate::change::BoardChange;
+use crate::copy::copy_of;
 use crate::gather::{add_all, ledger_intent};
 use board_layout::StoredBoard;
 use board_ledger::{Highs, Ledger, User};
@@ -44,14 +45,9 @@ fn new_user(
 fn with_user(alloc: Global, ledger: &Ledger, user: User) -> Result<Ledger, AllocError>
     ensures { IfOk result (λ next. next ≡ with_user_of user ledger.now) }
 {
-    let mut users = ledger.users.copy(alloc)?;
-    users.add(user)?;
-    Ok(Ledger {
-        setup: ledger.setup.copy(alloc)?,
-        created: ledger.created,
-        users,
-        uploads: ledger.uploads.copy(alloc)?,
-    })
+    let mut next = copy_of(alloc, ledger)?;
+    next.users.add(user)?;
+    Ok(next)
 }
 
 /// The base of a place with the user as a further reader, whose files the intent makes too, or None where the
@@ -66,10 +62,10 @@ fn joined_base(
 ) -> Result<Option<Base>, AllocError>
     requires next { IsBoard (with_member user.now board.now) }
     requires base { slice_get (contents_of board.now) place ≡ Some base.now }
-    requires gathered { Gathered (ledger_text (with_user_of user.now board.now.ledger)) (base_files board.now) (base_files (with_member user.now board.now)) place intent.old }
+    requires gathered { Gathered (IsLayout board.now) (ledger_text (with_user_of user.now board.now.ledger)) (base_files board.now) (base_files (with_member user.now board.now)) place intent.old }
     requires fit { FitJournal (ledger_text (with_user_of user.now board.now.ledger)) (base_files (with_member user.now board.now)) }
     ensures base { IfOk result (λ new. slice_get (contents_of (with_member user.now board.now)) place ≡ Some (unwrap_or new base.now)) }
-    ensures gathers { OnOk result (Gathered (ledger_text (with_user_of user.now board.now.ledger)) (base_files board.now) (base_files (with_member user.now board.now)) (place + 1) intent.new) }
+    ensures gathers { OnOk result (Gathered (IsLayout board.now) (ledger_text (with_user_of user.now board.now.ledger)) (base_files board.now) (base_files (with_member user.now board.now)) (place + 1) intent.new) }
 {
     if !user.is_member(u32::from(place)) {
         return Ok(None);
@@ -89,10 +85,10 @@ fn joined_bases(
     intent: &mut Intent,
 ) -> Result<List<Option<Base>>, AllocError>
     requires next { IsBoard (with_member user.now board.now) }
-    requires gathered { Gathered (ledger_text (with_user_of user.now board.now.ledger)) (base_files board.now) (base_files (with_member user.now board.now)) 0 intent.old }
+    requires gathered { Gathered (IsLayout board.now) (ledger_text (with_user_of user.now board.now.ledger)) (base_files board.now) (base_files (with_member user.now board.now)) 0 intent.old }
     requires fit { FitJournal (ledger_text (with_user_of user.now board.now.ledger)) (base_files (with_member user.now board.now)) }
     ensures bases { IfOk result (λ bases. renewed (contents_of board.now) bases ≡ contents_of (with_member user.now board.now)) }
-    ensures gathers { OnOk result (Gathered (ledger_text (with_user_of user.now board.now.ledger)) (base_files board.now) (base_files (with_member user.now board.now)) (length board.now.conferences) intent.new) }
+    ensures gathers { OnOk result (Gathered (IsLayout board.now) (ledger_text (with_user_of user.now board.now.ledger)) (base_files board.now) (base_files (with_member user.now board.now)) (length board.now.conferences) intent.new) }
 {
     let mut bases = List::new(alloc);
     for (place, base) in board.bases().iter().enumerate() {

@@ -10,7 +10,9 @@ use intent_journal::{Intent, Patch, Patches};
 use std::alloc::{AllocError, Global};
 
 /// Adds patches at the end of an intent, which may have them all.
-pub(crate) fn add_all(intent: &mut Intent, patches: Patches) -> Result<(), AllocError>
+///
+/// The error comes where there is no memory. Some of them were added then.
+pub fn add_all(intent: &mut Intent, patches: Patches) -> Result<(), AllocError>
     requires { Joins intent.old patches }
     ensures { OnOk result (intent.new ≡ intent.old ++ patches) }
 {

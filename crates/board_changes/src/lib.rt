@@ -1,7 +1,9 @@
 //! Changes of a whole board: each gives what of the next board is new, and one intent that makes its files.
 #![tactic(auto)]
 
+mod base;
 mod change;
+mod copy;
 mod enroll;
 mod fits;
 mod gather;
@@ -10,8 +12,10 @@ mod size;
 #[cfg(test)]
 mod tests;
 
+pub use base::with_base;
 pub use change::BoardChange;
 pub use enroll::enrolled;
 pub use fits::fits_user;
+pub use gather::add_all;
 pub use make::{NewBoard, made};
 pub use size::size_with_user;

@@ -36,10 +36,10 @@ fn fresh_base(
 ) -> Result<Base, AllocError>
     requires ledger { IsLedger ledger.now }
     requires shape { slice_get (shapes_of ledger.now) place ≡ Some (shape_of ledger.now place kind) }
-    requires gathered { Gathered (ledger_text ledger.now) [] (layouts (shapes_of ledger.now) (empty_conferences (shapes_of ledger.now))) place intent.old }
+    requires gathered { Gathered AreEmpty (ledger_text ledger.now) [] (layouts (shapes_of ledger.now) (empty_conferences (shapes_of ledger.now))) place intent.old }
     requires fit { FitJournal (ledger_text ledger.now) (layouts (shapes_of ledger.now) (empty_conferences (shapes_of ledger.now))) }
     ensures base { IfOk result (λ base. base ≡ record { shape = shape_of ledger.now place kind; conference = no_slots (shape_of ledger.now place kind) }) }
-    ensures gathers { OnOk result (Gathered (ledger_text ledger.now) [] (layouts (shapes_of ledger.now) (empty_conferences (shapes_of ledger.now))) (place + 1) intent.new) }
+    ensures gathers { OnOk result (Gathered AreEmpty (ledger_text ledger.now) [] (layouts (shapes_of ledger.now) (empty_conferences (shapes_of ledger.now))) (place + 1) intent.new) }
 {
     let shape = shape_at(alloc, ledger, place, kind)?;
     let change = Base::fresh(alloc, &shape)?;
@@ -50,11 +50,11 @@ fn fresh_base(
 /// The bases of new conferences, one for each of the setup, whose files the intent makes too.
 fn fresh_bases(alloc: Global, ledger: &Ledger, intent: &mut Intent) -> Result<Bases, AllocError>
     requires ledger { IsLedger ledger.now }
-    requires gathered { Gathered (ledger_text ledger.now) [] (layouts (shapes_of ledger.now) (empty_conferences (shapes_of ledger.now))) 0 intent.old }
+    requires gathered { Gathered AreEmpty (ledger_text ledger.now) [] (layouts (shapes_of ledger.now) (empty_conferences (shapes_of ledger.now))) 0 intent.old }
     requires fit { FitJournal (ledger_text ledger.now) (layouts (shapes_of ledger.now) (empty_conferences (shapes_of ledger.now))) }
     ensures shapes { IfOk result (λ bases. map (λ base. base.shape) bases ≡ shapes_of ledger.now) }
     ensures conferences { IfOk result (λ bases. map (λ base. base.conference) bases ≡ empty_conferences (shapes_of ledger.now)) }
-    ensures gathers { OnOk result (Gathered (ledger_text ledger.now) [] (layouts (shapes_of ledger.now) (empty_conferences (shapes_of ledger.now))) (length (shapes_of ledger.now)) intent.new) }
+    ensures gathers { OnOk result (Gathered AreEmpty (ledger_text ledger.now) [] (layouts (shapes_of ledger.now) (empty_conferences (shapes_of ledger.now))) (length (shapes_of ledger.now)) intent.new) }
 {
     let mut bases = Bases::new(alloc);
     for (place, conference) in ledger.setup.conferences.as_slice().iter().enumerate() {

@@ -4,7 +4,7 @@ use Rattle.board_changes.specs.Changed.{with_user, with_member}
 use Rattle.board_changes.specs.Gathered.{Gathered}
 use Rattle.board_changes.proofs.MemberLaws.{ids_below, place_next, readers_at, stays_base, stays_gathered, joins_base, joins_patches, joins_gathered}
 use Rattle.board_layout.specs.Board.{readers_from}
-use Rattle.board_layout.specs.Layout.{base_files}
+use Rattle.board_layout.specs.Layout.{IsLayout, base_files}
 use Rattle.board_ledger.specs.Ledger.{ledger_text}
 use Rattle.board_ledger.specs.Users.{is_member}
 use Rattle.board_ledger.specs.declared.user.User.{User}
@@ -49,7 +49,7 @@ returns-clause-base c =
 
 pub returns-clause-gathers : goal.returns-clause-gathers
 returns-clause-gathers c =
-    subst (Gathered (ledger_text (with_user c.args.user.now c.args.board.now.ledger)) (base_files c.args.board.now) (base_files (with_member c.args.user.now c.args.board.now)) (c.args.place + 1)) (sym c.in_ok-add_all.ensures)
+    subst (Gathered (IsLayout c.args.board.now) (ledger_text (with_user c.args.user.now c.args.board.now.ledger)) (base_files c.args.board.now) (base_files (with_member c.args.user.now c.args.board.now)) (c.args.place + 1)) (sym c.in_ok-add_all.ensures)
     (joins_gathered c.args.board.now c.args.user.now c.args.place c.args.base.now c.args.intent.now c.requires.next c.requires.base c.requires.gathered
     (member c.args.user.now c.args.place c.from.result c.is_member.result c.is_member.ensures c.from.ensures c.if-not-is_member.false)
     c.in_ok-change.change.base c.in_ok-change.change.patches (search rules) c.in_ok-change.ensures.files c.in_ok-change.ensures.intent)

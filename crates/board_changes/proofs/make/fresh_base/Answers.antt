@@ -6,7 +6,7 @@ use Rattle.board_changes.proofs.MadeLaws.{fresh_joins, fresh_gathers}
 use Rattle.board_layout.proofs.BasePlaces.{shapes_count}
 use Rattle.board_layout.proofs.LedgerShapes.{shape_is}
 use Rattle.board_layout.specs.Board.{shapes_of}
-use Rattle.board_layout.specs.Layout.{layouts}
+use Rattle.board_layout.specs.Layout.{AreEmpty, layouts}
 use Rattle.board_ledger.specs.Ledger.{ledger_text}
 use Rattle.board_ledger.specs.Valid.{IsLedger}
 use Rattle.board_ledger.specs.declared.ledger.Ledger.{Ledger}
@@ -31,6 +31,6 @@ add_all-requires c =
 
 pub returns-clause-gathers : goal.returns-clause-gathers
 returns-clause-gathers c =
-    subst (Gathered (ledger_text c.args.ledger.now) [] (layouts (shapes_of c.args.ledger.now) (empty_conferences (shapes_of c.args.ledger.now))) (c.args.place + 1)) (sym c.in_ok-add_all.ensures)
+    subst (Gathered AreEmpty (ledger_text c.args.ledger.now) [] (layouts (shapes_of c.args.ledger.now) (empty_conferences (shapes_of c.args.ledger.now))) (c.args.place + 1)) (sym c.in_ok-add_all.ensures)
     (fresh_gathers c.args.ledger.now c.args.place c.args.kind c.in_ok-shape.shape c.args.intent.now c.in_ok-change.change.patches c.in_ok-shape.ensures c.requires.shape (place_within c.args.ledger.now c.args.place _ c.requires.ledger c.requires.shape)
     c.requires.gathered c.in_ok-change.ensures.files c.in_ok-change.ensures.intent)

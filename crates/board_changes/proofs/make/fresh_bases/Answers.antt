@@ -6,7 +6,7 @@ use Rattle.board_changes.specs.Gathered.{Gathered}
 use Rattle.board_changes.proofs.PlaceLaws.{shape_in, empty_in, empty_count, pushed}
 use Rattle.board_layout.proofs.BasePlaces.{shapes_count}
 use Rattle.board_layout.specs.Board.{shape_of, shapes_of, shapes_in, conferences_in}
-use Rattle.board_layout.specs.Layout.{layouts}
+use Rattle.board_layout.specs.Layout.{AreEmpty, layouts}
 use Rattle.board_ledger.specs.Ledger.{ledger_text}
 use Rattle.board_ledger.specs.declared.ledger.Ledger.{Ledger}
 use Rattle.jam_base.specs.Contents.{Contents}
@@ -53,4 +53,4 @@ pub returns-clause-gathers : goal.returns-clause-gathers
 returns-clause-gathers c =
     let l : Ledger = c.args.ledger.now in
     let all : c.loop-place.place ≡ length (shapes_of l) = omega (arith, c.loop-place.invariant.end, shapes_count l 0 l.setup.conferences) in
-    subst (λ (n : ℕ). Gathered (ledger_text l) [] (layouts (shapes_of l) (empty_conferences (shapes_of l))) n c.loop-place.intent) all c.loop-place.invariant.gathered
+    subst (λ (n : ℕ). Gathered AreEmpty (ledger_text l) [] (layouts (shapes_of l) (empty_conferences (shapes_of l))) n c.loop-place.intent) all c.loop-place.invariant.gathered

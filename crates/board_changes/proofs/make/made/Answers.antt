@@ -1,22 +1,30 @@
 use Rattle.std.proofs.Common.{◌≡◌, ℕ, [], List, length, sym, ap, ◌∙◌, subst, arith}
 use Rattle.board_changes.specs.Changed.{new_ledger, empty_conferences, made}
 use Rattle.board_changes.specs.Gathered.{Gathered, FitJournal}
+use Rattle.board_changes.proofs.GatherLaws.{gathered_none}
 use Rattle.board_changes.proofs.LeadLaws.{leads_made}
 use Rattle.board_changes.proofs.MadeLaws.{new_fits, new_is_board}
 use Rattle.board_layout.specs.Board.{board_with, conferences_in, shapes_of}
-use Rattle.board_layout.specs.Layout.{layouts}
+use Rattle.board_layout.specs.Layout.{AreEmpty, layouts}
 use Rattle.board_layout.specs.Valid.{IsBoard}
 use Rattle.board_ledger.specs.Ledger.{ledger_text}
 use Rattle.board_ledger.specs.declared.ledger.Ledger.{Ledger}
 use Rattle.board_ledger.specs.declared.upload.UploadRecord.{UploadRecord}
 use Rattle.board_ledger.specs.declared.user.User.{User}
 use Rattle.jam_base.specs.Contents.{Contents}
+use Rattle.jam_layout.specs.declared.files.BaseFiles.{BaseFiles}
 use Rattle.setup_file.specs.declared.setup.Setup.{Setup}
 use Rattle.board_changes.proofs.make.made.Goals as goal
 
 -- a ledger without users and upload records
 ledger_is : (setup : Setup) (created : ℕ) (users : List User) (uploads : List UploadRecord) → users ≡ [] → uploads ≡ [] → record { setup = setup; created = created; users = users; uploads = uploads } ≡ new_ledger setup created
 ledger_is setup created users uploads none nothing = λ i. record { setup = setup; created = created; users = none i; uploads = nothing i }
+
+pub fresh_bases-requires-clause-gathered : goal.fresh_bases-requires-clause-gathered
+fresh_bases-requires-clause-gathered c =
+    let l : Ledger = record { setup = c.args.setup; created = c.args.created; users = c.new.result; uploads = c.new-2.result } in
+    let new : List BaseFiles = layouts (shapes_of l) (empty_conferences (shapes_of l)) in
+    subst (Gathered AreEmpty (ledger_text l) [] new 0) (sym c.in_ok-intent.ensures) (gathered_none AreEmpty (ledger_text l) [] new (λ files empty. empty.places))
 
 pub fresh_bases-requires-clause-fit : goal.fresh_bases-requires-clause-fit
 fresh_bases-requires-clause-fit c =
@@ -35,5 +43,5 @@ new-board-requires-clause-board c =
 pub returns-clause-leads : goal.returns-clause-leads
 returns-clause-leads c =
     leads_made c.args.setup c.args.created c.fresh_bases.new.intent
-    (subst (λ (l : Ledger). Gathered (ledger_text l) [] (layouts (shapes_of l) (empty_conferences (shapes_of l))) (length (shapes_of l)) c.fresh_bases.new.intent)
+    (subst (λ (l : Ledger). Gathered AreEmpty (ledger_text l) [] (layouts (shapes_of l) (empty_conferences (shapes_of l))) (length (shapes_of l)) c.fresh_bases.new.intent)
     (ledger_is c.args.setup c.args.created c.new.result c.new-2.result c.new.ensures c.new-2.ensures) c.in_ok-bases.ensures.gathers)

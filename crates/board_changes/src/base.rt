@@ -1,0 +1,49 @@
+ghost use Rattle.std.specs.Prelude.{◌≡◌, ◌++◌, ◌∷◌, [], Some, None, replicate, IfOk, IsSomeAnd};
+ghost use Rattle.board_changes.specs.Change.{Becomes, Changes};
+ghost use Rattle.board_changes.specs.Changed.{base_at, with_base as with_base_of};
+ghost use Rattle.board_layout.specs.Valid.{IsBoard};
+
+use crate::change::BoardChange;
+use crate::copy::copy_of;
+use crate::gather::add_all;
+use board_layout::StoredBoard;
+use byte_lists::List;
+use intent_journal::Intent;
+use jam_base::{Base, BaseChange};
+use std::alloc::{AllocError, Global};
+
+/// New bases by place, of which the last, in this place, is the only one.
+fn only_in(alloc: Global, place: u8, base: Base) -> Result<List<Option<Base>>, AllocError>
+    ensures { IfOk result (λ bases. bases ≡ replicate place None ++ Some base ∷ []) }
+{
+    let mut bases = List::new(alloc);
+    for _done in 0..place {
+        bases.add(None)?;
+    }
+    bases.add(Some(base))?;
+    Ok(bases)
+}
+
+/// The change of a board by which the conference in a place changes, and nothing else: the ledger and its file
+/// stay. The board that it makes is valid.
+///
+/// The error comes where there is no memory.
+pub fn with_base(
+    alloc: Global,
+    board: &StoredBoard,
+    place: u8,
+    change: BaseChange,
+) -> Result<BoardChange, AllocError>
+    requires change { IsSomeAnd (base_at place board.now) (λ old. Changes old change) }
+    requires next { IsBoard (with_base_of place (Some change.base) board.now) }
+    ensures { IfOk result (λ next. Becomes board.now (with_base_of place (Some change.base) board.now) next) }
+{
+    let ledger = copy_of(alloc, board.ledger())?;
+    let mut intent = Intent::new(alloc);
+    add_all(&mut intent, change.patches)?;
+    Ok(BoardChange {
+        ledger,
+        bases: only_in(alloc, place, change.base)?,
+        intent,
+    })
+}
