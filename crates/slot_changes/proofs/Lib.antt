@@ -1,0 +1,7 @@
+pub mod MsgidLaws
+pub mod SlotBytes
+pub mod ValueLaws
+pub mod PlaceKinds
+pub mod AppendLaws
+pub mod FitLaws
+pub mod DeleteLaws

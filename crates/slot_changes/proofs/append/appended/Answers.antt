@@ -1,0 +1,60 @@
+use Rattle.std.proofs.Common.{◌≡◌, ℕ, ◌+◌, List, length, Some, sym, ap, ◌∙◌, subst, arith}
+use Rattle.std.specs.Prelude.{All, IfOk}
+use Rattle.board_changes.specs.Change.{Becomes}
+use Rattle.board_changes.specs.Changed.{base_at, with_base}
+use Rattle.board_layout.specs.Board.{Board}
+use Rattle.board_layout.specs.Valid.{IsBoard}
+use Rattle.jam_base.specs.Contents.{Contents, with_messages}
+use Rattle.jam_layout.specs.Messages.{IsMessage}
+use Rattle.jam_records.specs.declared.message.Message.{Message}
+use Rattle.slot_changes.proofs.AppendLaws.{appended_few, appended_messages, appended_there, copies_are}
+use Rattle.slot_changes.proofs.MsgidLaws.{identified_count}
+use Rattle.slot_changes.specs.Changed.{appended}
+use Rattle.slot_changes.specs.Msgids.{all_identified, generated, msgid_in}
+use Rattle.slot_changes.proofs.append.appended.Goals as goal
+
+-- the board with the base that was made is the wanted one
+next_is : (b : Board) (place : ℕ) (base made : Contents) (messages copies : List Message) → IsBoard b → base_at place b ≡ Some base → made ≡ with_messages copies base → copies ≡ all_identified (msgid_in place b) (length base.conference.slots + 1) messages
+    → with_base place (Some made) b ≡ appended place messages b
+next_is b place base made messages copies ok here is are =
+    ap (λ (c : Contents). with_base place (Some c) b) (is ∙ ap (λ (ms : List Message). with_messages ms base) are) ∙ sym (appended_there b place messages base ok here)
+
+pub overflow_add-first : goal.overflow_add-first
+overflow_add-first c =
+    let few = appended_few c.args.board.now c.args.place c.args.messages.now c.base_of-base.result.now c.base_of-base.ensures.board c.base_of-base.ensures.base c.requires.next in
+    omega (arith, few, c.slot_count-first.ensures)
+
+pub all_identified-requires : goal.all_identified-requires
+all_identified-requires c =
+    let few = appended_few c.args.board.now c.args.place c.args.messages.now c.base_of-base.result.now c.base_of-base.ensures.board c.base_of-base.ensures.base c.requires.next in
+    omega (arith, few, c.slot_count-first.ensures, ap length c.as_slice.ensures)
+
+pub extended-requires-clause-messages : goal.extended-requires-clause-messages
+extended-requires-clause-messages c =
+    let b : Board = c.args.board.now in
+    let base : Contents = c.base_of-base.result.now in
+    let are = copies_are b c.args.place c.conference_of.result.now base c.as_slice-bbsid.result.now c.ledger.result.now c.slot_count-first.result c.as_slice.result.now c.args.messages.now c.in_ok-messages.messages
+    c.conference_of.ensures c.as_slice-bbsid.ensures.same c.ledger.ensures.ledger c.slot_count-first.ensures c.as_slice.ensures c.in_ok-messages.ensures in
+    subst (All (IsMessage base.shape.kind)) (sym are) (appended_messages b c.args.place c.args.messages.now base c.base_of-base.ensures.board c.base_of-base.ensures.base c.requires.next)
+
+pub extended-requires-clause-few : goal.extended-requires-clause-few
+extended-requires-clause-few c =
+    let few = appended_few c.args.board.now c.args.place c.args.messages.now c.base_of-base.result.now c.base_of-base.ensures.board c.base_of-base.ensures.base c.requires.next in
+    omega (arith, few, ap length c.in_ok-messages.ensures, identified_count (generated c.conference_of.result.now.number c.as_slice-bbsid.result.now) (c.slot_count-first.result + 1) c.as_slice.result.now, ap length c.as_slice.ensures)
+
+pub with_base-requires-clause-next : goal.with_base-requires-clause-next
+with_base-requires-clause-next c =
+    let b : Board = c.args.board.now in
+    let base : Contents = c.base_of-base.result.now in
+    let are = copies_are b c.args.place c.conference_of.result.now base c.as_slice-bbsid.result.now c.ledger.result.now c.slot_count-first.result c.as_slice.result.now c.args.messages.now c.in_ok-messages.messages
+    c.conference_of.ensures c.as_slice-bbsid.ensures.same c.ledger.ensures.ledger c.slot_count-first.ensures c.as_slice.ensures c.in_ok-messages.ensures in
+    subst IsBoard (sym (next_is b c.args.place base c.in_ok-extended.field-0.base c.args.messages.now c.in_ok-messages.messages c.base_of-base.ensures.board c.base_of-base.ensures.base c.in_ok-extended.ensures.base are)) c.requires.next
+
+pub returns : goal.returns
+returns c =
+    let b : Board = c.args.board.now in
+    let base : Contents = c.base_of-base.result.now in
+    let are = copies_are b c.args.place c.conference_of.result.now base c.as_slice-bbsid.result.now c.ledger.result.now c.slot_count-first.result c.as_slice.result.now c.args.messages.now c.in_ok-messages.messages
+    c.conference_of.ensures c.as_slice-bbsid.ensures.same c.ledger.ensures.ledger c.slot_count-first.ensures c.as_slice.ensures c.in_ok-messages.ensures in
+    subst (λ (next : Board). IfOk c.with_base.result (Becomes b next))
+    (next_is b c.args.place base c.in_ok-extended.field-0.base c.args.messages.now c.in_ok-messages.messages c.base_of-base.ensures.board c.base_of-base.ensures.base c.in_ok-extended.ensures.base are) c.with_base.ensures

@@ -1,0 +1,3 @@
+pub mod Msgids
+pub mod Changed
+pub mod Values

@@ -1,0 +1,43 @@
+ghost use Rattle.std.specs.Prelude.{◌≡◌, IfOk, IsTrue};
+ghost use Rattle.board_changes.specs.Change.{Becomes, Changes};
+ghost use Rattle.board_layout.specs.Valid.{IsBoard};
+ghost use Rattle.jam_base.specs.Contents.{with_deleted};
+ghost use Rattle.jam_base.specs.Slots.{has_live};
+ghost use Rattle.slot_changes.specs.Changed.{deleted as deleted_of, HasMessage};
+
+use crate::place::base_of;
+use board_changes::{BoardChange, with_base};
+use board_layout::StoredBoard;
+use jam_base::{Base, BaseChange, KillRefusal};
+use std::alloc::{AllocError, Global};
+
+/// The base with the message of a number deleted, which is there and isn't deleted.
+fn killed(alloc: Global, base: &Base, number: u32) -> Result<BaseChange, AllocError>
+    requires { IsTrue (has_live number base.now.conference.slots) }
+    ensures base { IfOk result (λ change. change.base ≡ with_deleted number base.now) }
+    ensures changes { IfOk result (λ change. Changes base.now change) }
+{
+    match base.killed(alloc, number) {
+        Ok(change) => Ok(change),
+        Err(KillRefusal::NoMessage) => unreachable!(),
+        Err(KillRefusal::OutOfMemory) => Err(AllocError),
+    }
+}
+
+/// The change of a board by which the message of a number in a place is deleted. The message is there and isn't
+/// deleted, and the board that it makes is valid.
+///
+/// The error comes where there is no memory.
+pub fn deleted(
+    alloc: Global,
+    board: &StoredBoard,
+    place: u8,
+    number: u32,
+) -> Result<BoardChange, AllocError>
+    requires message { HasMessage place number board.now }
+    requires next { IsBoard (deleted_of place number board.now) }
+    ensures { IfOk result (λ change. Becomes board.now (deleted_of place number board.now) change) }
+{
+    let change = killed(alloc, base_of(board, place), number)?;
+    with_base(alloc, board, place, change)
+}

@@ -1,0 +1,63 @@
+ghost use Rattle.std.specs.Prelude.{◌≡◌, ◌↔◌, ◌<◌, ◌≤◌, ◌+◌, length, IsTrue};
+ghost use Rattle.board_layout.specs.Valid.{IsBoard};
+ghost use Rattle.jam_base.specs.Slots.{has_live};
+ghost use Rattle.slot_changes.specs.Changed.{appended as appended_of, deleted as deleted_of, HasMessage};
+
+use crate::place::{base_of, conference_of};
+use crate::size::size_with_messages;
+use crate::value::may_hold_all;
+use board_layout::{BOARD_LIMIT, StoredBoard};
+use jam_base::Base;
+use jam_records::{Messages, Slot};
+
+/// How many slots a conference may have.
+const SLOT_LIMIT: usize = 9999;
+
+/// Whether so many slots more may stand in a base.
+fn has_slots(base: &Base, count: usize) -> bool
+    ensures { IsTrue result ↔ (length base.now.conference.slots + count ≤ 9999) }
+{
+    (base.slot_count() as usize).saturating_add(count) <= SLOT_LIMIT
+}
+
+/// Whether the board is valid once messages are appended in a place that is there.
+fn fits_in_place(board: &StoredBoard, place: u8, messages: &Messages) -> bool
+    requires { place < length board.now.conferences }
+    ensures { IsTrue result ↔ IsBoard (appended_of place messages.now board.now) }
+{
+    let kind = conference_of(board, place).kind;
+    if !has_slots(base_of(board, place), messages.len()) {
+        return false;
+    }
+    if !may_hold_all(kind, messages.as_slice()) {
+        return false;
+    }
+    size_with_messages(board, place, messages) <= BOARD_LIMIT
+}
+
+/// Whether a place is there, and the board is valid once messages are appended in it, each with the msgid that is
+/// generated for its number, where it has none. It takes no memory.
+pub fn fits_messages(board: &StoredBoard, place: u8, messages: &Messages) -> bool
+    ensures { IsTrue result ↔ ((place < length board.now.conferences) × IsBoard (appended_of place messages.now board.now)) }
+{
+    usize::from(place) < board.bases().len() && fits_in_place(board, place, messages)
+}
+
+/// Whether a message number of a base is that of a message that isn't deleted.
+fn is_live(base: &Base, number: u32) -> bool
+    ensures { result ≡ has_live number base.now.conference.slots }
+{
+    match base.slot(number) {
+        Some(Slot::Held(message)) => !message.deleted,
+        Some(Slot::Gone) => false,
+        None => false,
+    }
+}
+
+/// Whether the message of a number in a place is there and isn't deleted, and the board is valid once it is
+/// deleted. It takes no memory.
+pub fn fits_deletion(board: &StoredBoard, place: u8, number: u32) -> bool
+    ensures { IsTrue result ↔ (HasMessage place number board.now × IsBoard (deleted_of place number board.now)) }
+{
+    usize::from(place) < board.bases().len() && is_live(base_of(board, place), number)
+}

@@ -1,0 +1,16 @@
+//! Changes of a board's slots: messages appended in a place, each with a msgid, and a message deleted.
+#![tactic(auto)]
+
+mod append;
+mod delete;
+mod fits;
+mod msgid;
+mod place;
+mod size;
+mod value;
+
+pub use append::appended;
+pub use delete::deleted;
+pub use fits::{fits_deletion, fits_messages};
+pub use msgid::msgid_of;
+pub use size::size_with_messages;

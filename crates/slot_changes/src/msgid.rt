@@ -1,0 +1,60 @@
+ghost use Rattle.std.specs.Prelude.{◌≡◌, ◌<◌, ◌≤◌, length, decimal, IfOk};
+ghost use Rattle.slot_changes.specs.Msgids.{generated as generated_of, msgid_in};
+
+use crate::place::conference_of;
+use board_layout::StoredBoard;
+use byte_lists::Bytes;
+use itoa::Buffer;
+use std::alloc::{AllocError, Global};
+use text_fields::add_decimal;
+
+/// The msgid that is generated for a message number in the conference of a number.
+pub(crate) fn generated(
+    alloc: Global,
+    conference: u16,
+    bbsid: &[u8],
+    number: u32,
+) -> Result<Bytes, AllocError>
+    ensures { IfOk result (λ msgid. msgid ≡ generated_of conference bbsid.now number) }
+{
+    let mut msgid = Bytes::new(alloc);
+    add_decimal(&mut msgid, u64::from(conference))?;
+    msgid.add(b".")?;
+    add_decimal(&mut msgid, u64::from(number))?;
+    msgid.add(b".")?;
+    msgid.add(bbsid)?;
+    Ok(msgid)
+}
+
+/// How many decimal digits a number has.
+fn digit_count(number: u64) -> u64
+    ensures count { result ≡ length (decimal number) }
+    ensures few { result ≤ 40 }
+{
+    let mut buffer = Buffer::new();
+    buffer.format(number).len() as u64
+}
+
+/// How many bytes such a msgid has.
+pub(crate) fn generated_len(conference: u16, bbsid: &[u8], number: u64) -> u64
+    ensures { result ≡ length (generated_of conference bbsid.now number) }
+{
+    digit_count(u64::from(conference)) + digit_count(number) + bbsid.len() as u64 + 2
+}
+
+/// The msgid that is generated for a message number in a place: `CONFERENCE.NUMBER.BBSID`. The place is there.
+///
+/// The error comes where there is no memory.
+pub fn msgid_of(
+    alloc: Global,
+    board: &StoredBoard,
+    place: u8,
+    number: u32,
+) -> Result<Bytes, AllocError>
+    requires { place < length board.now.conferences }
+    ensures { IfOk result (λ msgid. msgid ≡ msgid_in place board.now number) }
+{
+    let conference = conference_of(board, place).number;
+    let bbsid = board.ledger().setup.bbsid.as_slice();
+    generated(alloc, conference, bbsid, number)
+}
