@@ -8,13 +8,13 @@ use Rattle.door_outside.specs.File.{ledger_file, jhr_file, jdt_file, jdx_file, j
 use Rattle.intent_journal.specs.Patches.{Files, data_files}
 use Rattle.jam_base.specs.Change.{files_of_place}
 
-at_file : (f g : Files) (file : ℕ) → data_files f ≡ data_files g → is_data_file file ≡ true → f file ≡ g file
+pub at_file : (f g : Files) (file : ℕ) → data_files f ≡ data_files g → is_data_file file ≡ true → f file ≡ g file
 at_file f g file same is = sym (cond-true (is_data_file file) (f file) [] is) ∙ (ap (λ (h : Files). h file) same ∙ cond-true (is_data_file file) (g file) [] is)
 
-is_data : (file : ℕ) → 1 < file → file < 258 → is_data_file file ≡ true
+pub is_data : (file : ℕ) → 1 < file → file < 258 → is_data_file file ≡ true
 is_data file low high = and_from (nat_lt file 258) (not (file == 1)) (lt-ltb file 258 high) (not_from_false (file == 1) (ne_eqb file 1 (λ e. omega (arith, e, low))))
 
-place_moves : (place : ℕ) (f g : Files) → place < 64 → data_files f ≡ data_files g → files_of_place place f ≡ files_of_place place g
+pub place_moves : (place : ℕ) (f g : Files) → place < 64 → data_files f ≡ data_files g → files_of_place place f ≡ files_of_place place g
 place_moves place f g within same =
     let jhr = at_file f g (jhr_file place) same (is_data (jhr_file place) (omega arith) (omega (arith, within))) in
     let jdt = at_file f g (jdt_file place) same (is_data (jdt_file place) (omega arith) (omega (arith, within))) in

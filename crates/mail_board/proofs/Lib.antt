@@ -1,3 +1,4 @@
 pub mod DataLaws
+pub mod DataReading
 pub mod CommitLaws
 pub mod NextLaws

@@ -4,16 +4,23 @@ use Rattle.board_changes.specs.Changed.{enrolled}
 use Rattle.board_layout.specs.Board.{Board}
 use Rattle.board_layout.specs.Valid.{IsBoard}
 use Rattle.mail_board.specs.declared.change.Change.{Change}
-use Rattle.mail_board.specs.declared.change.Change.TheVariants.{Enroll}
+use Rattle.mail_board.specs.declared.change.Change.TheVariants.{Enroll, Append, Kill}
+use Rattle.slot_changes.specs.Changed.{appended, deleted, HasMessage}
 
 -- the board after it
 abbrev pub changed : Change → Board → Board
 changed (Enroll name net members) b = enrolled name net members b
+changed (Append place messages) b = appended place messages b
+changed (Kill place number) b = deleted place number b
 
 -- the user and the places that it names are there
 abbrev pub Exists : Change → Board → Type 0
 Exists (Enroll name net members) b = members < 2 ^ length b.conferences
+Exists (Append place messages) b = place < length b.conferences
+Exists (Kill place number) b = place < length b.conferences
 
 -- what it acts on is there, and the board after it is valid
 abbrev pub Fits : Change → Board → Type 0
 Fits (Enroll name net members) b = IsBoard (changed (Enroll name net members) b)
+Fits (Append place messages) b = Exists (Append place messages) b × IsBoard (changed (Append place messages) b)
+Fits (Kill place number) b = HasMessage place number b × IsBoard (changed (Kill place number) b)

@@ -5,6 +5,7 @@ use Rattle.intent_journal.specs.declared.recovery.JournalError.{JournalError}
 use Rattle.intent_journal.specs.declared.recovery.JournalError.TheVariants as recovery
 use Rattle.board_layout.specs.Board.{Board}
 use Rattle.board_layout.specs.Layout.{AreEmpty, IsLayout}
+use Rattle.board_layout.specs.Valid.{IsBoard}
 use Rattle.board_layout.specs.declared.error.ReadError.{ReadError}
 use Rattle.board_layout.specs.declared.error.ReadError.TheVariants.{Damaged, DiskFault, OutOfMemory}
 use Rattle.mail_board.specs.declared.loading.Loaded.{Loaded}
@@ -19,6 +20,11 @@ loaded_board (Ready held) = Some held.board
 abbrev pub IsSure : Loaded → Type 0
 IsSure NotMade = Unit {0}
 IsSure (Ready held) = held.doubtful ≡ false
+
+-- it is valid
+abbrev pub IsValid : Loaded → Type 0
+IsValid NotMade = Unit {0}
+IsValid (Ready held) = IsBoard held.board
 
 -- what was loaded stands in the files
 abbrev pub StandsIn : Files → Loaded → Type 0

@@ -7,6 +7,10 @@ use Rattle.board_ledger.specs.declared.user.User.{User}
 use Rattle.board_layout.specs.Board.{Board}
 use Rattle.board_layout.specs.Renewed.{contents_of}
 use Rattle.jam_base.specs.Contents.{pointer_of}
+use Rattle.jam_base.specs.Slots.{numbered}
+use Rattle.jam_records.specs.declared.message.Message.{Message}
+use Rattle.jam_records.specs.declared.message.Slot.{Slot}
+use Rattle.jam_records.specs.declared.message.Slot.TheVariants.{Gone, Held}
 
 -- the place of the conference of a number
 abbrev pub place_of : ℕ → Board → Option ℕ
@@ -15,6 +19,15 @@ place_of number b = position (λ c. c.number == number) b.ledger.setup.conferenc
 -- the last-read pointer of a user in the conference in a place
 abbrev pub pointer_at : ℕ → ℕ → Board → Option ℕ
 pointer_at place user b = option_and_then (λ base. pointer_of user base.shape.readers base.conference.pointers) (slice_get (contents_of b) place)
+
+-- what a slot holds
+abbrev pub held_in : Slot → Option Message
+held_in Gone = None
+held_in (Held message) = Some message
+
+-- the message of a number in a place
+abbrev pub message_at : ℕ → ℕ → Board → Option Message
+message_at place number b = option_and_then (λ base. held_in (numbered base.conference.slots number)) (slice_get (contents_of b) place)
 
 -- the user of an id, from 1
 abbrev pub user_of : ℕ → Board → Option User

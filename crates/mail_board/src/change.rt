@@ -14,6 +14,8 @@ use board_layout::StoredBoard;
 use byte_lists::Bytes;
 use door_outside::{DiskFault, Host};
 use intent_journal::commit;
+use jam_records::Messages;
+use slot_changes::{appended, deleted};
 use std::alloc::{AllocError, Global};
 use thiserror::Error;
 
@@ -28,6 +30,20 @@ pub enum Change {
         net: bool,
         /// The places of the conferences whose member the user is, bit k for place k. At least one is there.
         members: u64,
+    },
+    /// Messages more, at the end of a conference, one after the other.
+    Append {
+        /// The place of the conference, from 0.
+        place: u8,
+        /// The messages. One with an empty msgid gets the one that is generated for its number.
+        messages: Messages,
+    },
+    /// A message deleted.
+    Kill {
+        /// The place of its conference, from 0.
+        place: u8,
+        /// Its number, which is that of a message that isn't deleted.
+        number: u32,
     },
 }
 
@@ -70,6 +86,8 @@ fn next_of(alloc: Global, stored: &StoredBoard, change: &Change) -> Result<Board
         Change::Enroll { name, net, members } => {
             enrolled(alloc, stored, name.as_slice(), *net, *members)
         }
+        Change::Append { place, messages } => appended(alloc, stored, *place, messages),
+        Change::Kill { place, number } => deleted(alloc, stored, *place, *number),
     }
 }
 

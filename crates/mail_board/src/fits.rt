@@ -1,11 +1,23 @@
 // Whether a change may be made, and what size it gives.
 ghost use Rattle.std.specs.Prelude.{◌≡◌, ◌↔◌, ◌-◌, ◌^◌, min, IsTrue};
 ghost use Rattle.board_layout.specs.Layout.{board_size};
+ghost use Rattle.board_layout.specs.Valid.{IsBoard};
 ghost use Rattle.mail_board.specs.Changes.{changed, Exists, Fits};
 
 use crate::board::Board;
 use crate::change::Change;
 use board_changes::{fits_user, size_with_user};
+use board_layout::StoredBoard;
+use slot_changes::{fits_deletion, fits_messages, size_with_messages};
+
+/// How many bytes the data files of a valid board have.
+fn size_of(stored: &StoredBoard) -> u64
+    ensures size { result ≡ board_size stored.now }
+    ensures board { IsBoard stored.now }
+{
+    let _ledger = stored.ledger();
+    stored.size()
+}
 
 impl Board {
     /// Whether a change may be made: the users and places that it names are there, and so is what it acts on, and
@@ -17,6 +29,8 @@ impl Board {
             Change::Enroll { name, net, members } => {
                 fits_user(&self.stored, name.as_slice(), *net, *members)
             }
+            Change::Append { place, messages } => fits_messages(&self.stored, *place, messages),
+            Change::Kill { place, number } => fits_deletion(&self.stored, *place, *number),
         }
     }
 
@@ -30,6 +44,11 @@ impl Board {
             Change::Enroll { name, net, members } => {
                 size_with_user(&self.stored, name.as_slice(), *net, *members)
             }
+            Change::Append { place, messages } => {
+                size_with_messages(&self.stored, *place, messages)
+            }
+            // A mark takes no byte.
+            Change::Kill { .. } => size_of(&self.stored),
         }
     }
 }

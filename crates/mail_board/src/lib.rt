@@ -6,10 +6,11 @@ mod change;
 mod fits;
 mod loading;
 mod making;
+mod messages;
 mod readers;
 
 pub use board::Board;
-pub use board_layout::ReadError as LoadError;
+pub use board_layout::{ReadError, ReadError as LoadError};
 pub use change::{Change, ChangeError};
 pub use intent_journal::JournalError;
 pub use loading::Loaded;

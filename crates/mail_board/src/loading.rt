@@ -5,7 +5,7 @@ ghost use Rattle.door_outside.specs.Disk.{Disk, AllNow, Between, as_read};
 ghost use Rattle.intent_journal.specs.Hosts.{IsCalm, IsFirm, IsSettled};
 ghost use Rattle.intent_journal.specs.Patches.{data_files};
 ghost use Rattle.intent_journal.specs.Recovered.{recovered, Back};
-ghost use Rattle.mail_board.specs.Loading.{loaded_board, recovery_error, IsSure, IsTold, StandsIn};
+ghost use Rattle.mail_board.specs.Loading.{loaded_board, recovery_error, IsSure, IsTold, IsValid, StandsIn};
 
 use crate::board::Board;
 use board_layout::{ReadError, read_board};
@@ -51,10 +51,11 @@ impl Board {
         ensures calm { IsTold result → IsTrue H.tells → IsCalm (H.disk host.new) }
         ensures done { IsTold result → IsTrue H.tells → data_files (H.disk host.new).files ≡ recovered (H.disk host.old).files }
 
-        // The board whose layout the files are then, or none where all are empty, or the first damage.
-        ensures gives { IsTrue H.tells → Gives loaded_board result (board_in (H.disk host.new).files) }
+        // The board whose layout the recovered files are, or none where all are empty, or their first damage.
+        ensures gives { IsTrue H.tells → Gives loaded_board result (board_in (recovered (H.disk host.old).files)) }
         ensures stands { IsTrue H.tells → IfOk result (StandsIn (H.disk host.new).files) }
         ensures sure { IfOk result IsSure }
+        ensures valid { IfOk result IsValid }
 
         ensures cause { HasReadCause (H.disk_faults host.old) (H.disk_faults host.new) result }
         ensures voice { H.voice_faults host.new ≡ H.voice_faults host.old }

@@ -3,6 +3,7 @@ ghost use Rattle.std.specs.Prelude.{◌≡◌, ◌<◌, ◌==◌, length, positi
 ghost use Rattle.std.specs.Option.{option_copied, option_map};
 ghost use Rattle.std.specs.Str.{str_eq_ignore_ascii_case};
 ghost use Rattle.board_layout.specs.Layout.{board_size};
+ghost use Rattle.board_layout.specs.Valid.{IsBoard};
 ghost use Rattle.jam_layout.specs.Conference.{live_count as live_in};
 ghost use Rattle.jam_threads.specs.Children.{original};
 ghost use Rattle.mail_board.specs.Readers.{place_of, user_of, user_id as id_of, offer_of, pointer_at, upload_of as counts_of};
@@ -30,9 +31,10 @@ fn place_named(users: &[User], name: &[u8]) -> Option<usize>
 }
 
 impl Board {
-    /// What the board is made of.
+    /// What the board is made of. The board is valid.
     pub fn setup(&self) -> &Setup
-        ensures { result.now ≡ self.now.board.ledger.setup }
+        ensures setup { result.now ≡ self.now.board.ledger.setup }
+        ensures valid { IsBoard self.now.board }
     {
         &self.stored.ledger().setup
     }

@@ -8,7 +8,8 @@ use Rattle.mail_board.specs.Held.{HeldBoard}
 use Rattle.mail_board.specs.declared.change.Change.{Change}
 use Rattle.mail_board.proofs.CommitLaws.{calm_now, commit_moments, commit_now, commit_rests}
 use Rattle.mail_board.proofs.DataLaws.{layout_moves}
-use Rattle.mail_board.proofs.NextLaws.{fits_board, next_is, next_board, next_shapes}
+use Rattle.board_changes.proofs.NextLaws.{next_is, next_board, next_shapes}
+use Rattle.mail_board.proofs.NextLaws.{fits_board}
 use Rattle.mail_board.proofs.board.Board.change.Goals as goal
 
 -- the change of the board that is stored is one of the board as it is seen

@@ -1,0 +1,72 @@
+// The messages of a board, and the msgids that it generates.
+ghost use Rattle.std.specs.Prelude.{◌≡◌, ◌<◌, Err, length, IfOk, IsFalse, IsTrue};
+ghost use Rattle.std.specs.Option.{option_copied};
+ghost use Rattle.board_layout.specs.Rules.{HasReadCause};
+ghost use Rattle.door_outside.specs.Disk.{Disk, Unchanged};
+ghost use Rattle.jam_base.specs.Slots.{numbered};
+ghost use Rattle.jam_records.specs.declared.damage.Damage.{Damage};
+ghost use Rattle.mail_board.specs.Held.{Rests};
+ghost use Rattle.mail_board.specs.Readers.{held_in, message_at};
+ghost use Rattle.slot_changes.specs.Msgids.{msgid_in};
+
+use crate::board::Board;
+use board_layout::ReadError;
+use byte_lists::{Bytes, Duplicate};
+use door_outside::Host;
+use jam_base::Base;
+use jam_records::{Message, Slot};
+use slot_changes::msgid_of;
+use std::alloc::{AllocError, Global};
+
+/// The message of a number in a base, or None where no slot of that number holds one.
+fn held(base: &Base, number: u32) -> Option<&Message>
+    ensures { option_copied result ≡ held_in (numbered base.now.conference.slots number) }
+{
+    match base.slot(number) {
+        Some(Slot::Held(message)) => Some(message),
+        Some(Slot::Gone) => None,
+        None => None,
+    }
+}
+
+impl Board {
+    /// The msgid that is generated for a message number in a place: `CONFERENCE.NUMBER.BBSID`. The place is there.
+    ///
+    /// The error comes where there is no memory.
+    pub fn msgid_of(&self, alloc: Global, place: u8, number: u32) -> Result<Bytes, AllocError>
+        requires { place < length self.now.board.conferences }
+        ensures { IfOk result (λ msgid. msgid ≡ msgid_in place self.now.board number) }
+    {
+        msgid_of(alloc, &self.stored, place, number)
+    }
+
+    /// The message of a number in a place, or None where no slot of that number holds one. The board isn't
+    /// doubtful, and the host's files are those of this board. It says nothing and changes nothing of the host.
+    ///
+    /// `DiskFault` comes only where the host's count of disk faults rose. `Damaged` never comes from a host that
+    /// tells its files. `OutOfMemory` comes where there is no memory for the message.
+    pub fn message<H: Host>(
+        &self,
+        alloc: Global,
+        host: &mut H,
+        place: u8,
+        number: u32,
+    ) -> Result<Option<Message>, ReadError>
+        requires sure { IsFalse self.now.doubtful }
+        requires rests { IsTrue H.tells → Rests self.now.board (H.disk host.old) }
+        ensures message { IfOk result (λ found. found ≡ message_at place number self.now.board) }
+        ensures unchanged { IsTrue H.tells → Unchanged (H.disk host.old) (H.disk host.new) }
+        ensures rests { IsTrue H.tells → Rests self.now.board (H.disk host.new) }
+        ensures undamaged { IsTrue H.tells → (damage : Damage) → ¬ (result ≡ Err (ReadError.Damaged damage)) }
+        ensures cause { HasReadCause (H.disk_faults host.old) (H.disk_faults host.new) result }
+        ensures voice { H.voice_faults host.new ≡ H.voice_faults host.old }
+    {
+        let Some(base) = self.stored.bases().get(usize::from(place)) else {
+            return Ok(None);
+        };
+        match held(base, number) {
+            Some(message) => Ok(Some(message.duplicate(alloc)?)),
+            None => Ok(None),
+        }
+    }
+}
