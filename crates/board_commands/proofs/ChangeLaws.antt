@@ -1,0 +1,59 @@
+-- From what a change of a board gives to what a command takes of it.
+use Rattle.std.proofs.Common.{◌≡◌, ◌⊎◌, inl, inr, ⊎_elim, Option, Some, Result, Ok, Err, sym, ◌∙◌, ap, subst}
+use Rattle.std.specs.Prelude.{OnOk}
+use Rattle.door_outside.specs.Disk.{Disk, Image, AllNow, Between, as_read}
+use Rattle.door_outside.proofs.Moments.{reads_have, weaker}
+use Rattle.entry_runs.specs.Entry.{Changes, HasBoard, Recovers}
+use Rattle.intent_journal.proofs.Hosts.{calm_is_firm, calm_is_settled, calm_recovers}
+use Rattle.intent_journal.specs.Hosts.{IsFirm, IsSettled}
+use Rattle.intent_journal.specs.Patches.{Files, data_files}
+use Rattle.intent_journal.specs.Recovered.{recovered}
+use Rattle.board_layout.specs.Board.{Board}
+use Rattle.board_layout.specs.Layout.{IsLayout}
+use Rattle.board_layout.specs.Valid.{IsBoard}
+use Rattle.mail_board.proofs.DataLaws.{data_twice, layout_moves}
+use Rattle.mail_board.proofs.NextLaws.{fits_board}
+use Rattle.mail_board.specs.Changes.{changed, Fits}
+use Rattle.mail_board.specs.Held.{BeforeOrNext, HeldBoard, Rests}
+use Rattle.mail_board.specs.declared.change.Change.{Change}
+use Rattle.mail_board.specs.declared.loading.Loaded.{Loaded}
+use Rattle.mail_board.specs.declared.loading.Loaded.TheVariants.{Ready}
+use Rattle.board_commands.specs.Kept.{kept_board, unread}
+use Rattle.board_commands.specs.State.{State, Made, Stores}
+
+-- a host at rest that holds the layout of a valid board stands for it
+rests_stores : (b : Board) (disk : Disk) → IsBoard b → Rests b disk → Stores (Made b) (recovered disk.files)
+rests_stores b disk ok rests =
+    (ok, layout_moves b disk.files (recovered disk.files) (sym (ap data_files (calm_recovers disk rests.calm) ∙ data_twice disk.files)) rests.files)
+
+module _ (state : State) (P : Files → Type 0) (holds : (files : Files) → P files → Stores state files) (next : Board) (ok : IsBoard next) {old : Disk} where
+  each : (image : Image) → BeforeOrNext P next old image → Recovers (λ files. Stores state files ⊎ Stores (Made next) files) old.said image
+  each image it = record { files = ⊎_elim (λ before. inl (holds (recovered image.files) before)) (λ after. inr (ok, after)) it.files; said = it.said }
+
+  pub changes_to : {new : Disk} {T E : Type 0} (result : Result T E) → Between old new (BeforeOrNext P next old) → AllNow new (BeforeOrNext P next old) → IsSettled new → OnOk result (Rests next new)
+      → Changes Stores unread state (Made next) old new result
+  changes_to {new} result moments now settled rests = record {
+    keeps = record { moments = weaker moments each; reads = each (as_read new) (reads_have new _ now); settled = settled };
+    done = done result rests;
+  }
+    where
+      done : {T E : Type 0} (r : Result T E) → OnOk r (Rests next new) → OnOk r (HasBoard Stores unread (Made next) new × IsFirm new)
+      done (Ok value) is = (
+        record {
+          ready = record { settled = calm_is_settled new is.calm; calm = λ read. is.calm };
+          stores = rests_stores next new ok is;
+          fits = tt;
+        },
+        calm_is_firm new is.calm,
+      )
+      done (Err e) none = tt
+
+-- a change that fits of the board that is kept
+pub kept_same : (kept : Option Loaded) (held : HeldBoard) (b : Board) → Some (Ready held) ≡ kept → kept_board kept ≡ Some b → held.board ≡ b
+kept_same kept held b is board = let e : Some held.board ≡ Some b = ap kept_board is ∙ board in cc
+
+pub change_changes : (change : Change) (board b : Board) → board ≡ b → IsBoard board → Fits change board → {old new : Disk} {T E : Type 0} (result : Result T E) → Between old new (BeforeOrNext (IsLayout board) (changed change board) old)
+    → AllNow new (BeforeOrNext (IsLayout board) (changed change board) old) → IsSettled new → OnOk result (Rests (changed change board) new) → Changes Stores unread (Made b) (Made (changed change b)) old new result
+change_changes change board b same ok fits {old} {new} result moments now settled rests =
+    subst (λ (c : Board). Changes Stores unread (Made c) (Made (changed change c)) old new result) same
+    (changes_to (Made board) (IsLayout board) (λ files laid. (ok, laid)) (changed change board) (fits_board change board fits) result moments now settled rests)

@@ -1,0 +1,48 @@
+-- The exits of `enroll`.
+use Rattle.std.proofs.Common.{◌≡◌, List, ℕ, Option, Some, Ok, Err, refl, sym, ◌∙◌, ap, subst}
+use Rattle.door_outside.specs.Disk.{Disk, Unchanged}
+use Rattle.door_outside.specs.Shelf as Shelf
+use Rattle.entry_runs.specs.Door.{World}
+use Rattle.entry_runs.specs.Entry.{Changes, Finds, IsAt, Works}
+use Rattle.intent_journal.specs.declared.recovery.JournalError.{JournalError}
+use Rattle.intent_journal.specs.declared.recovery.JournalError.TheVariants.{OutOfMemory as Starved}
+use Rattle.board_layout.specs.Board.{Board}
+use Rattle.mail_board.specs.Changes.{changed}
+use Rattle.shelf_files.specs.Halts.{done}
+use Rattle.board_commands.specs.Enroll.{Enrolls, enrolled_line, enrolls}
+use Rattle.board_commands.specs.Enrolling.{MayEnroll}
+use Rattle.board_commands.specs.Halts.{told, of_journal}
+use Rattle.board_commands.specs.Kept.{unread}
+use Rattle.board_commands.specs.State.{State, Made, Stores, state_of}
+use Rattle.board_commands.specs.Turns.{Turn, refuses}
+use Rattle.board_commands.specs.declared.enrollment.Enrolling.{Enrolling}
+use Rattle.board_commands.specs.declared.halt.BoardHalt.{BoardHalt}
+use Rattle.board_commands.specs.declared.halt.BoardHalt.TheVariants.{Refused, Damaged, DiskFault, ShelfFault, OutOfMemory}
+use Rattle.board_commands.proofs.Exits.{answered, starved, turned, unturned}
+
+module _ (name flags conferences : List ℕ) {world : World State} {old mid : Disk} {shelf : Shelf.Files} (at : IsAt Stores unread world old shelf) (board : Option Board)
+    (finds : Finds Stores unread world.state old mid (Ok (tt {0}))) (is : world.state ≡ state_of board) where
+  pub unprepared : (e : BoardHalt) → MayEnroll name flags conferences board (Err e) → Works Stores (enrolls name flags conferences) unread world old mid shelf (told enrolled_line (Err e))
+  unprepared (Refused why) may = answered (λ files. Enrolls name flags conferences) at {board = board} finds is (refuses why board) may refl
+  unprepared OutOfMemory may = starved (λ files. Enrolls name flags conferences) at finds
+  unprepared (Damaged d) may = absurd may
+  unprepared DiskFault may = absurd may
+  unprepared ShelfFault may = absurd may
+
+  module _ (e : Enrolling) (may : MayEnroll name flags conferences board (Ok e)) where
+    state_is : world.state ≡ Made may.0
+    state_is = is ∙ ap state_of may.1
+
+    turn : Turn
+    turn = record { board = Some (changed e.change may.0); reply = done (enrolled_line e.user) }
+
+    pub enrolled : {new : Disk} {T E : Type 0} {value : T} → Changes Stores {E = E} unread (Made may.0) (Made (changed e.change may.0)) mid new (Ok value) → Works Stores (enrolls name flags conferences) unread world old new shelf (Ok (done (enrolled_line e.user)))
+    unfolding turn
+    enrolled {new} {T} {E} {value} changes = turned (λ files. Enrolls name flags conferences) at {board = Some may.0} finds state_is turn may.3
+        (subst (λ (s : State). Changes Stores {T = T} {E = E} unread s (Made (changed e.change may.0)) mid new (Ok value)) (sym state_is) changes)
+
+    pub unenrolled : {new : Disk} {T : Type 0} (error : JournalError) → Changes Stores {T = T} unread (Made may.0) (Made (changed e.change may.0)) mid new (Err error) → (error ≡ Starved → Unchanged mid new)
+        → Works Stores (enrolls name flags conferences) unread world old new shelf (told enrolled_line (Err (of_journal error)))
+    unfolding turn
+    unenrolled {new} {T} error changes same = unturned (λ files. Enrolls name flags conferences) at {board = Some may.0} finds state_is turn may.3 enrolled_line error
+        (subst (λ (s : State). Changes Stores {T = T} unread s (Made (changed e.change may.0)) mid new (Err error)) (sym state_is) changes) same

@@ -1,0 +1,45 @@
+-- The exits of `init`.
+use Rattle.std.proofs.Common.{◌≡◌, List, ℕ, length, None, Result, Ok, Err, refl, sym, subst}
+use Rattle.door_outside.specs.Disk.{Disk, Unchanged}
+use Rattle.door_outside.specs.Shelf as Shelf
+use Rattle.entry_runs.proofs.Commands.{works_same}
+use Rattle.entry_runs.specs.Door.{World}
+use Rattle.entry_runs.specs.Entry.{Changes, Finds, IsAt, Works}
+use Rattle.intent_journal.specs.declared.recovery.JournalError.{JournalError}
+use Rattle.intent_journal.specs.declared.recovery.JournalError.TheVariants.{OutOfMemory as Starved}
+use Rattle.board_changes.specs.Changed.{made}
+use Rattle.setup_file.specs.declared.setup.Setup.{Setup}
+use Rattle.shelf_files.specs.Halts.{Comes, done}
+use Rattle.shelf_files.specs.declared.halt.Halt.{Halt}
+use Rattle.shelf_files.specs.declared.halt.Halt.TheVariants.{Refused, ShelfFault, OutOfMemory}
+use Rattle.shelf_files.specs.declared.refusal.Refusal.{Refusal}
+use Rattle.board_commands.specs.Halts.{told, of_journal, of_shelf}
+use Rattle.board_commands.specs.Init.{Inits, SetupOf, inits, made_line, made_of}
+use Rattle.board_commands.specs.Kept.{unread}
+use Rattle.board_commands.specs.State.{State, NotMade, Made, Stores}
+use Rattle.board_commands.proofs.Exits.{answered, shelf_fails, starved, turned, unturned}
+
+module _ (file : List ℕ) (now : ℕ) {world : World State} {old mid : Disk} {shelf : Shelf.Files} (at : IsAt Stores unread world old shelf)
+    (finds : Finds Stores unread world.state old mid (Ok (tt {0}))) (is : world.state ≡ NotMade) where
+  of_world : (read : Result Setup Refusal) → SetupOf shelf file read → SetupOf world.shelf file read
+  of_world read setup = subst (λ (files : Shelf.Files). SetupOf files file read) at.shelf_is setup
+
+  -- the setup file is refused, or couldn't be read
+  pub unset : {later : Shelf.Files} (halt : Halt) → Comes {Value = Setup} (Err halt) (SetupOf shelf file) → later ≡ shelf → Works Stores (inits file now) unread world old mid later (told made_line (Err (of_shelf halt)))
+  unset (Refused why) comes same = works_same Stores (inits file now) same (answered (Inits file now) at {board = None} finds is (made_of now (Err why)) (Err why, of_world (Err why) comes, refl) refl)
+  unset ShelfFault comes same = works_same Stores (inits file now) same (shelf_fails (Inits file now) at finds)
+  unset OutOfMemory comes same = works_same Stores (inits file now) same (starved (Inits file now) at finds)
+
+  module _ (setup : Setup) (comes : SetupOf shelf file (Ok setup)) where
+    pub begun : {new : Disk} {later : Shelf.Files} {T E : Type 0} {value : T} (count : ℕ) → count ≡ length setup.conferences → Changes Stores {E = E} unread NotMade (Made (made setup now)) mid new (Ok value) → later ≡ shelf
+        → Works Stores (inits file now) unread world old new later (Ok (done (made_line count)))
+    begun {new} {later} {T} {E} {value} count counted changes same = works_same Stores (inits file now) same
+        (subst (λ (n : ℕ). Works Stores (inits file now) unread world old new shelf (Ok (done (made_line n)))) (sym counted)
+        (turned (Inits file now) at {board = None} finds is (made_of now (Ok setup)) (Ok setup, of_world (Ok setup) comes, refl)
+        (subst (λ (s : State). Changes Stores {T = T} {E = E} unread s (Made (made setup now)) mid new (Ok value)) (sym is) changes)))
+
+    pub unbegun : {new : Disk} {later : Shelf.Files} {T : Type 0} (error : JournalError) → Changes Stores {T = T} unread NotMade (Made (made setup now)) mid new (Err error) → (error ≡ Starved → Unchanged mid new) → later ≡ shelf
+        → Works Stores (inits file now) unread world old new later (told made_line (Err (of_journal error)))
+    unbegun {new} {later} {T} error changes still same = works_same Stores (inits file now) same
+        (unturned (Inits file now) at {board = None} finds is (made_of now (Ok setup)) (Ok setup, of_world (Ok setup) comes, refl) made_line error
+        (subst (λ (s : State). Changes Stores {T = T} unread s (Made (made setup now)) mid new (Err error)) (sym is) changes) still)

@@ -1,0 +1,9 @@
+pub mod BoardActs
+pub mod ChangeLaws
+pub mod EnrollExits
+pub mod EnrollLaws
+pub mod Exits
+pub mod FindLaws
+pub mod InitExits
+pub mod ReportLaws
+pub mod StateLaws

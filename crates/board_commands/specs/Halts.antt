@@ -1,0 +1,41 @@
+-- What a command that touches the board answers, and why it isn't carried out.
+use Rattle.std.specs.Prelude.{ℕ, List, Result, Ok, Err}
+use Rattle.entry_runs.specs.Entry.{Reply}
+use Rattle.entry_runs.specs.declared.stop.Stop.{Stop}
+use Rattle.entry_runs.specs.declared.stop.Stop.TheVariants as stop
+use Rattle.board_layout.specs.declared.error.ReadError.{ReadError}
+use Rattle.board_layout.specs.declared.error.ReadError.TheVariants as read
+use Rattle.intent_journal.specs.declared.recovery.JournalError.{JournalError}
+use Rattle.intent_journal.specs.declared.recovery.JournalError.TheVariants as journal
+use Rattle.shelf_files.specs.Halts.{done, refused}
+use Rattle.shelf_files.specs.declared.halt.Halt.{Halt}
+use Rattle.shelf_files.specs.declared.halt.Halt.TheVariants as halt
+use Rattle.board_commands.specs.Damages.{damaged}
+use Rattle.board_commands.specs.declared.halt.BoardHalt.{BoardHalt}
+use Rattle.board_commands.specs.declared.halt.BoardHalt.TheVariants.{Refused, Damaged, DiskFault, ShelfFault, OutOfMemory}
+
+-- what a command answers, as it is to be said, or why the run stops
+abbrev pub told : {Value : Type 0} → (Value → List ℕ) → Result Value BoardHalt → Result Reply Stop
+told text (Ok value) = Ok (done (text value))
+told text (Err (Refused why)) = Ok (refused why)
+told text (Err (Damaged d)) = Ok (damaged d)
+told text (Err DiskFault) = Err stop.DiskFault
+told text (Err ShelfFault) = Err stop.ShelfFault
+told text (Err OutOfMemory) = Err stop.OutOfMemory
+
+-- why a command isn't carried out where the board wasn't read
+abbrev pub of_read : ReadError → BoardHalt
+of_read (read.Damaged d) = Damaged d
+of_read read.DiskFault = DiskFault
+of_read read.OutOfMemory = OutOfMemory
+
+-- where the change wasn't made
+abbrev pub of_journal : JournalError → BoardHalt
+of_journal journal.DiskFault = DiskFault
+of_journal journal.OutOfMemory = OutOfMemory
+
+-- and where a file of the shelf was refused or not read
+abbrev pub of_shelf : Halt → BoardHalt
+of_shelf (halt.Refused why) = Refused why
+of_shelf halt.ShelfFault = ShelfFault
+of_shelf halt.OutOfMemory = OutOfMemory

@@ -1,0 +1,57 @@
+-- What is kept of a board between two entries of a run.
+use Rattle.std.specs.Prelude.{◌≡◌, false, Option, Some, None, Result, Ok, Err}
+use Rattle.door_outside.specs.Disk.{Disk}
+use Rattle.entry_runs.specs.Entry.{Known}
+use Rattle.entry_runs.specs.declared.stop.Stop.{Stop}
+use Rattle.entry_runs.specs.declared.stop.Stop.TheVariants as stop
+use Rattle.intent_journal.specs.Hosts.{IsCalm, IsSettled}
+use Rattle.board_layout.specs.Board.{Board}
+use Rattle.board_layout.specs.Damage.{board_damage}
+use Rattle.board_layout.specs.Layout.{AreEmpty}
+use Rattle.board_layout.specs.declared.error.ReadError.{ReadError}
+use Rattle.board_layout.specs.declared.error.ReadError.TheVariants.{Damaged, DiskFault, OutOfMemory}
+use Rattle.mail_board.specs.Held.{Rests}
+use Rattle.mail_board.specs.Loading.{IsSure, IsValid}
+use Rattle.mail_board.specs.declared.loading.Loaded.{Loaded}
+use Rattle.mail_board.specs.declared.loading.Loaded.TheVariants.{NotMade, Ready}
+use Rattle.board_commands.specs.State.{State, Spoiled}
+use Rattle.board_commands.specs.State as state
+
+-- what the promise of a run asks to be known: nothing, since what is kept is a clause on the host
+abbrev pub unread : {State : Type 0} → Known State
+unread = record { is_read = false; Fits = λ state. Unit {0} }
+
+-- what was read is what the host's files hold, at rest; where nothing was read the host is settled
+abbrev pub IsKept : Option Loaded → Disk → Type 0
+IsKept None disk = IsSettled disk
+IsKept (Some NotMade) disk = IsCalm disk × AreEmpty disk.files
+IsKept (Some (Ready held)) disk = Rests held.board disk
+
+-- and the board is valid, and in no doubt
+abbrev pub AreSure : Option Loaded → Type 0
+AreSure None = Unit {0}
+AreSure (Some loaded) = IsValid loaded × IsSure loaded
+
+-- the board that is kept
+abbrev pub kept_board : Option Loaded → Option Board
+kept_board None = None
+kept_board (Some NotMade) = None
+kept_board (Some (Ready held)) = Some held.board
+
+abbrev pub IsRead : Option Loaded → Type 0
+IsRead None = ⊥
+IsRead (Some loaded) = Unit {0}
+
+-- files that are no board's are an answer, and no stop
+abbrev pub found : Result (Unit {0}) ReadError → Result (Unit {0}) Stop
+found (Ok x) = Ok x
+found (Err (Damaged d)) = Ok (tt {0})
+found (Err DiskFault) = Err stop.DiskFault
+found (Err OutOfMemory) = Err stop.OutOfMemory
+
+-- what was found stands for the state: the board, or none, or the damage of its files
+abbrev pub IsFound : State → Option Loaded → Result (Unit {0}) ReadError → Type 0
+IsFound s kept (Ok x) = s ≡ state.state_of (kept_board kept)
+IsFound s kept (Err (Damaged d)) = (held : _) × (s ≡ Spoiled held) × (board_damage held ≡ Some d)
+IsFound s kept (Err DiskFault) = Unit {0}
+IsFound s kept (Err OutOfMemory) = Unit {0}

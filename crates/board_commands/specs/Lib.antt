@@ -1,0 +1,9 @@
+pub mod Check
+pub mod Damages
+pub mod Enroll
+pub mod Enrolling
+pub mod Halts
+pub mod Init
+pub mod Kept
+pub mod State
+pub mod Turns

@@ -1,0 +1,35 @@
+-- What the data files of a host stand for.
+use Rattle.std.specs.Prelude.{◌≡◌, Option, Some, None}
+use Rattle.intent_journal.specs.Patches.{Files, data_files}
+use Rattle.board_layout.specs.Board.{Board}
+use Rattle.board_layout.specs.Layout.{AreEmpty, IsLayout}
+use Rattle.board_layout.specs.Valid.{IsBoard}
+
+pub data State : Type 0 where
+  -- there is no board
+  NotMade : State
+  -- this board
+  Made : Board → State
+  -- files that are no board's
+  Spoiled : Files → State
+
+-- the files are neither all empty nor the layout of a board
+pub record AreSpoiled (files : Files) : Type 0 where
+  pub some : ¬ AreEmpty files
+  pub other : (b : Board) → IsBoard b → ¬ IsLayout b files
+
+-- these data files stand for the state
+abbrev pub Stores : State → Files → Type 0
+Stores NotMade files = AreEmpty files
+Stores (Made b) files = IsBoard b × IsLayout b files
+Stores (Spoiled held) files = (held ≡ data_files files) × AreSpoiled files
+
+abbrev pub IsSpoiled : State → Type 0
+IsSpoiled NotMade = ⊥
+IsSpoiled (Made b) = ⊥
+IsSpoiled (Spoiled held) = Unit {0}
+
+-- a board, or none
+abbrev pub state_of : Option Board → State
+state_of None = NotMade
+state_of (Some b) = Made b

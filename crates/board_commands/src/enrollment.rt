@@ -1,0 +1,172 @@
+//! The command `enroll`.
+ghost use Rattle.std.specs.Prelude.{◌≡◌, ◌<◌, ◌^◌, [], ◌∷◌, nat_lt, IfOk, IsTrue};
+ghost use Rattle.board_layout.specs.Layout.{board_size};
+ghost use Rattle.board_layout.specs.Valid.{board_limit};
+ghost use Rattle.command_words.specs.Choice.{ChoiceReads, places_from};
+ghost use Rattle.command_words.specs.declared.choice.Choice as Choices;
+ghost use Rattle.door_outside.specs.Shelf.{Files};
+ghost use Rattle.entry_runs.specs.Door.{World};
+ghost use Rattle.entry_runs.specs.Entry.{IsAt, Works};
+ghost use Rattle.entry_runs.specs.Promise.{counts, ended, HasCauses};
+ghost use Rattle.mail_board.specs.Changes.{changed, Exists};
+ghost use Rattle.mail_board.specs.declared.change.Change.TheVariants.{Enroll};
+ghost use Rattle.shelf_files.specs.declared.refusal.Refusal.TheVariants.{Size};
+ghost use Rattle.board_commands.specs.Enrolling.{MayEnroll};
+ghost use Rattle.board_commands.specs.Enroll.{enroll_refusals, enrolled_line, enrolls, first_refusal, is_net as is_net_of};
+ghost use Rattle.board_commands.specs.Halts.{told};
+ghost use Rattle.board_commands.specs.Kept.{AreSure, IsKept, IsRead, kept_board, unread};
+ghost use Rattle.board_commands.specs.State.{State, Stores};
+
+use crate::finding::find;
+use crate::halt::BoardHalt;
+use crate::making::make_change;
+use board_layout::BOARD_LIMIT;
+use byte_lists::Bytes;
+use command_words::Choice;
+use door_outside::Host;
+use mail_board::{Board, Change, Loaded};
+use setup_file::is_user_name;
+use shelf_files::Refusal;
+use std::alloc::{AllocError, Global};
+
+/// How many users a board may have.
+const USER_LIMIT: u32 = 500;
+
+/// A user who was enrolled.
+#[derive(Debug, Drop)]
+pub struct Enrolled {
+    /// The id, from 1.
+    pub id: u32,
+    /// The name.
+    pub name: Bytes,
+}
+
+/// Whether the flags say that the user may write net mail.
+fn is_net(flags: &[u8]) -> bool
+    ensures { result ≡ is_net_of flags.now }
+{
+    flags == b"n".as_slice()
+}
+
+/// The change that enrolls a user, a member of the chosen conferences.
+fn change_of(
+    alloc: Global,
+    board: &Board,
+    name: &[u8],
+    net: bool,
+    choice: &Choice,
+) -> Result<Change, AllocError>
+    ensures { IfOk result (λ change. change ≡ Enroll name.now net (places_from choice.now 0 board.now.board.ledger.setup.conferences)) }
+{
+    let members = choice.places(board.setup().conferences.as_slice());
+    Ok(Change::Enroll {
+        name: Bytes::from_slice(alloc, name)?,
+        net,
+        members,
+    })
+}
+
+/// Why the files would be too long after a change, where they would be.
+fn size_refusal(board: &Board, change: &Change) -> Option<Refusal>
+    requires exists { Exists change.now board.now.board }
+    requires short { board_size (changed change.now board.now.board) < 2 ^ 64 }
+    ensures { result ≡ first_refusal ((nat_lt board_limit (board_size (changed change.now board.now.board)), Size (board_size (changed change.now board.now.board))) ∷ []) }
+{
+    let size = board.size_after(change);
+    if size > BOARD_LIMIT {
+        return Some(Refusal::Size(size));
+    }
+    None
+}
+
+/// Why a user isn't enrolled by a change: the first that applies of a name that is no user name or is taken, a number
+/// of no conference, as many users as there may be, and files that would be too long.
+fn refusal_of(
+    board: &Board,
+    name: &[u8],
+    net: bool,
+    choice: &Choice,
+    change: &Change,
+) -> Option<Refusal>
+    requires { change.now ≡ Enroll name.now net (places_from choice.now 0 board.now.board.ledger.setup.conferences) }
+    ensures { result ≡ first_refusal (enroll_refusals name.now net choice.now board.now.board) }
+{
+    if !is_user_name(name) {
+        return Some(Refusal::Name);
+    }
+    if board.user_id(name).is_some() {
+        return Some(Refusal::DupUser);
+    }
+    if choice.has_unknown(board.setup().conferences.as_slice()) {
+        return Some(Refusal::NoConference);
+    }
+    if board.user_count() >= USER_LIMIT {
+        return Some(Refusal::Users);
+    }
+    size_refusal(board, change)
+}
+
+/// A user who may be enrolled: by which change, and what is answered.
+#[derive(Debug, Drop)]
+struct Enrolling {
+    change: Change,
+    user: Enrolled,
+}
+
+/// The enrolling of a user on the board that is kept, or why it is refused.
+fn prepared(
+    alloc: Global,
+    kept: &Option<Loaded>,
+    name: &[u8],
+    flags: &[u8],
+    conferences: &[u8],
+) -> Result<Enrolling, BoardHalt>
+    requires choice { (choice : Choices.Choice) × ChoiceReads conferences.now choice }
+    requires read { IsRead kept.now }
+    requires sure { AreSure kept.now }
+    ensures { MayEnroll name.now flags.now conferences.now (kept_board kept.now) result }
+{
+    let Some(Loaded::Ready(board)) = kept else {
+        return Err(BoardHalt::Refused(Refusal::NotMade));
+    };
+    let Some(choice) = Choice::parse(alloc, conferences)? else {
+        unreachable!()
+    };
+    let net = is_net(flags);
+    let change = change_of(alloc, board, name, net, &choice)?;
+    if let Some(refusal) = refusal_of(board, name, net, &choice, &change) {
+        return Err(BoardHalt::Refused(refusal));
+    }
+    let user = Enrolled {
+        id: board.user_count() + 1,
+        name: Bytes::from_slice(alloc, name)?,
+    };
+    Ok(Enrolling { change, user })
+}
+
+/// Enrolls a user of a name behind the others, a member of the conferences that the word CONFS names, and answers the
+/// id. The user may write net mail where the word FLAGS is `n`.
+///
+/// It is refused where there is no board, then as the first of these applies: the name is no user name, a user has
+/// it, a number is that of no conference, there are 500 users, or the files would be too long.
+pub fn enroll<H: Host>(
+    alloc: Global,
+    host: &mut H,
+    kept: &mut Option<Loaded>,
+    name: &[u8],
+    flags: &[u8],
+    conferences: &[u8],
+) -> Result<Enrolled, BoardHalt>
+    requires choice { (choice : Choices.Choice) × ChoiceReads conferences.now choice }
+    requires sure { AreSure kept.old }
+    requires kept { IsTrue H.tells → IsKept kept.old (H.disk host.old) }
+    ensures works { IsTrue H.tells → (world : World State) (shelf : Files) → IsAt Stores unread world (H.disk host.old) shelf → Works Stores (enrolls name.now flags.now conferences.now) unread world (H.disk host.old) (H.disk host.new) shelf (told enrolled_line result) }
+    ensures kept { IsTrue H.tells → IsKept kept.new (H.disk host.new) }
+    ensures sure { AreSure kept.new }
+    ensures causes { (shelf : _) → HasCauses (counts (H.disk_faults host.old) (H.voice_faults host.old) shelf) (counts (H.disk_faults host.new) (H.voice_faults host.new) shelf) (ended (told enrolled_line result)) }
+{
+    find(alloc, host, kept)?;
+    let enrolling = prepared(alloc, kept, name, flags, conferences)?;
+    make_change(alloc, host, kept, &enrolling.change)?;
+    Ok(enrolling.user)
+}

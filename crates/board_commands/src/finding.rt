@@ -1,0 +1,34 @@
+// The board that a host holds, read once in a run.
+ghost use Rattle.std.specs.Prelude.{◌≡◌, OnOk, IsTrue};
+ghost use Rattle.board_layout.specs.Rules.{HasReadCause};
+ghost use Rattle.entry_runs.specs.Entry.{Finds};
+ghost use Rattle.intent_journal.specs.Recovered.{recovered};
+ghost use Rattle.board_commands.specs.Kept.{AreSure, IsFound, IsKept, IsRead, found, unread};
+ghost use Rattle.board_commands.specs.State.{State, Stores};
+
+use door_outside::Host;
+use mail_board::{Board, LoadError, Loaded};
+use std::alloc::Global;
+
+/// Reads the board, or that there is none, where that isn't kept yet. Nothing is changed but that a crash's intent is
+/// carried out.
+pub fn find<H: Host>(
+    alloc: Global,
+    host: &mut H,
+    kept: &mut Option<Loaded>,
+) -> Result<(), LoadError>
+    requires sure { AreSure kept.old }
+    requires kept { IsTrue H.tells → IsKept kept.old (H.disk host.old) }
+    ensures finds { IsTrue H.tells → (state : State) → Stores state (recovered (H.disk host.old).files) → Finds Stores unread state (H.disk host.old) (H.disk host.new) (found result) }
+    ensures state { IsTrue H.tells → (state : State) → Stores state (recovered (H.disk host.old).files) → IsFound state kept.new result }
+    ensures kept { IsTrue H.tells → IsKept kept.new (H.disk host.new) }
+    ensures sure { AreSure kept.new }
+    ensures read { OnOk result (IsRead kept.new) }
+    ensures cause { HasReadCause (H.disk_faults host.old) (H.disk_faults host.new) result }
+    ensures voice { H.voice_faults host.new ≡ H.voice_faults host.old }
+{
+    if kept.is_none() {
+        *kept = Some(Board::load(alloc, host)?);
+    }
+    Ok(())
+}

@@ -1,0 +1,21 @@
+//! The commands that touch the board: each finds the board of the host, or uses the one that was kept, and then is
+//! refused, answers, or makes one change.
+#![tactic(auto)]
+
+mod checking;
+mod creation;
+mod damage;
+mod enrollment;
+mod finding;
+mod halt;
+mod making;
+mod report;
+mod setup;
+
+pub use checking::check;
+pub use creation::init;
+pub use damage::say_damage;
+pub use enrollment::{Enrolled, enroll};
+pub use finding::find;
+pub use halt::BoardHalt;
+pub use making::make_change;
