@@ -1,0 +1,96 @@
+-- The turns of `import` and `kill` give what a lawful act asks.
+use Rattle.std.proofs.Common.{◌≡◌, ◌≢◌, ℕ, List, [], Bool, true, false, cond, length, Option, Some, None, Result, Ok, Err, refl, sym, ◌∙◌, ap, subst}
+use Rattle.board_commands.proofs.BoardActs.{AreTurns}
+use Rattle.board_commands.specs.Enroll.{first_refusal}
+use Rattle.board_commands.specs.Turns.{Turn, refuses}
+use Rattle.board_layout.specs.Board.{Board}
+use Rattle.door_outside.specs.Shelf.{Files}
+use Rattle.entry_runs.specs.declared.class.Class.TheVariants as class
+use Rattle.import_sheet.specs.declared.sheet.Sheet.{Sheet}
+use Rattle.jam_records.specs.declared.message.Message.{Message}
+use Rattle.mail_board.specs.Readers.{place_of}
+use Rattle.shelf_files.proofs.Replies.{some_refusal}
+use Rattle.shelf_files.proofs.SheetLaws.{sheet_unique}
+use Rattle.shelf_files.specs.Halts.{done}
+use Rattle.shelf_files.specs.declared.refusal.Refusal.{Refusal}
+use Rattle.shelf_files.specs.declared.refusal.Refusal.TheVariants.{NotMade, NoConference, NoMessage}
+use Rattle.slot_changes.specs.Changed.{appended, deleted}
+use Rattle.message_commands.specs.Import.{Imports, ImportsAt, appending, import_refusals, imported_line, imported_messages, sheet_turn}
+use Rattle.message_commands.specs.Kill.{has_message, kill_at, kill_turn, killed_line}
+
+-- a turn of a board, or of none, that says something and no damage, and leaves the board where it refuses
+record IsTurn (board : Option Board) (turn : Turn) : Type 0 where
+  says : turn.reply.text ≢ []
+  refused : turn.reply.class ≡ class.Refused → turn.board ≡ board
+  undamaged : turn.reply.class ≢ class.Damaged
+
+refuses_is : (why : Refusal) (board : Option Board) → IsTurn board (refuses why board)
+refuses_is why board = record { says = some_refusal why; refused = λ is. refl; undamaged = λ is. absurd (cc is) }
+
+done_is : (board next : Option Board) (text : List ℕ) → text ≢ [] → IsTurn board (record { board = next; reply = done text })
+done_is board next text some = record { says = some; refused = λ is. absurd (cc is); undamaged = λ is. absurd (cc is) }
+
+-- ---- import
+imported_some : (conference count : ℕ) → imported_line conference count ≢ []
+imported_some conference count is = absurd (cc is)
+
+module _ (conference now : ℕ) where
+  appending_is : (place : ℕ) (messages : List Message) (b : Board) (why : Option Refusal) → IsTurn (Some b) (appending conference place messages b why)
+  appending_is place messages b (Some why) = refuses_is why (Some b)
+  appending_is place messages b None = done_is (Some b) (Some (appended place messages b)) (imported_line conference (length messages)) (imported_some conference (length messages))
+
+  sheet_is : (place : ℕ) (b : Board) (read : Result (List Sheet) Refusal) → IsTurn (Some b) (sheet_turn conference now place b read)
+  sheet_is place b (Err why) = refuses_is why (Some b)
+  sheet_is place b (Ok entries) =
+      let messages : List Message = imported_messages now place b entries in
+      appending_is place messages b (first_refusal (import_refusals place messages b))
+
+  module _ (file : List ℕ) (shelf : Files) where
+    at_is : (b : Board) (place : Option ℕ) (turn : Turn) → ImportsAt conference file now shelf b place turn → IsTurn (Some b) turn
+    at_is b None turn is = subst (IsTurn (Some b)) (sym is) (refuses_is NoConference (Some b))
+    at_is b (Some place) turn is = subst (IsTurn (Some b)) (sym is.2) (sheet_is place b is.0)
+
+    imports_is : (board : Option Board) (turn : Turn) → Imports conference file now shelf board turn → IsTurn board turn
+    imports_is None turn is = subst (IsTurn None) (sym is) (refuses_is NotMade None)
+    imports_is (Some b) turn is = at_is b (place_of conference b) turn is
+
+    at_once : (b : Board) (place : Option ℕ) (one other : Turn) → ImportsAt conference file now shelf b place one → ImportsAt conference file now shelf b place other → one ≡ other
+    at_once b None one other first second = first ∙ sym second
+    at_once b (Some place) one other first second = first.2 ∙ (ap (sheet_turn conference now place b) (sheet_unique shelf file first.0 second.0 first.1 second.1) ∙ sym second.2)
+
+    imports_once : (board : Option Board) (one other : Turn) → Imports conference file now shelf board one → Imports conference file now shelf board other → one ≡ other
+    imports_once None one other first second = first ∙ sym second
+    imports_once (Some b) one other first second = at_once b (place_of conference b) one other first second
+
+pub import_turns : (conference : ℕ) (file : List ℕ) (now : ℕ) → AreTurns (Imports conference file now)
+import_turns conference file now = record {
+  says = λ shelf board turn is. (imports_is conference now file shelf board turn is).says;
+  refused = λ shelf board turn is. (imports_is conference now file shelf board turn is).refused;
+  undamaged = λ shelf board turn is. (imports_is conference now file shelf board turn is).undamaged;
+  one_turn = λ shelf board one other first second. imports_once conference now file shelf board one other first second;
+}
+
+-- ---- kill
+killed_some : (conference number : ℕ) → killed_line conference number ≢ []
+killed_some conference number is = absurd (cc is)
+
+module _ (conference number : ℕ) where
+  killing_is : (b : Board) (place : ℕ) (has : Bool) → IsTurn (Some b) (cond has (record { board = Some (deleted place number b); reply = done (killed_line conference number) }) (refuses NoMessage (Some b)))
+  killing_is b place true = done_is (Some b) (Some (deleted place number b)) (killed_line conference number) (killed_some conference number)
+  killing_is b place false = refuses_is NoMessage (Some b)
+
+  kill_at_is : (b : Board) (place : Option ℕ) → IsTurn (Some b) (kill_at conference number b place)
+  kill_at_is b None = refuses_is NoConference (Some b)
+  kill_at_is b (Some place) = killing_is b place (has_message place number b)
+
+  kill_is : (board : Option Board) → IsTurn board (kill_turn conference number board)
+  kill_is None = refuses_is NotMade None
+  kill_is (Some b) = kill_at_is b (place_of conference b)
+
+pub kill_turns : (conference number : ℕ) → AreTurns (λ shelf board turn. turn ≡ kill_turn conference number board)
+kill_turns conference number = record {
+  says = λ shelf board turn is. (subst (IsTurn board) (sym is) (kill_is conference number board)).says;
+  refused = λ shelf board turn is. (subst (IsTurn board) (sym is) (kill_is conference number board)).refused;
+  undamaged = λ shelf board turn is. (subst (IsTurn board) (sym is) (kill_is conference number board)).undamaged;
+  one_turn = λ shelf board one other first second. first ∙ sym second;
+}

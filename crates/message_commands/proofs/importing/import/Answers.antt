@@ -1,0 +1,97 @@
+use Rattle.std.proofs.Common.{rules, ◌≡◌, ℕ, Some, None, Err, refl, sym, ◌∙◌, ap, subst}
+use Rattle.std.specs.Prelude.{Result}
+use Rattle.board_commands.proofs.Exits.{unfound}
+use Rattle.board_commands.proofs.FindLaws.{same_host}
+use Rattle.board_commands.specs.Halts.{told, of_read, of_shelf, of_journal}
+use Rattle.board_commands.specs.Kept.{kept_board, unread}
+use Rattle.board_commands.specs.State.{Stores}
+use Rattle.board_commands.specs.declared.halt.BoardHalt.{BoardHalt}
+use Rattle.board_layout.specs.Board.{Board}
+use Rattle.door_outside.specs.Disk.{Unchanged}
+use Rattle.entry_runs.specs.Entry.{Works}
+use Rattle.entry_runs.specs.Promise.{Counts, HasCauses, counts, ended}
+use Rattle.entry_runs.specs.declared.status.Status.TheVariants as status
+use Rattle.mail_board.specs.Changes.{Fits}
+use Rattle.shelf_files.specs.declared.refusal.Refusal.TheVariants.{NotMade, NoConference}
+use Rattle.message_commands.proofs.Exits.{refused_by}
+use Rattle.message_commands.proofs.ImportExits.{imported, no_fault, no_sheet, unimported, unplaced, unprepared}
+use Rattle.message_commands.specs.Import.{Imports, imported_line, imports}
+use Rattle.message_commands.proofs.importing.import.Goals as goal
+
+pub returns-in_err-find-clause-works : goal.returns-in_err-find-clause-works
+returns-in_err-find-clause-works g c tells shelf_tells world at =
+    let is : c.from_residual.result ≡ Err (of_read c.in_err-find.field-0.0) = search rules in
+    subst (λ (r : Result ℕ BoardHalt). Works Stores (imports c.args.conference c.args.file.now c.args.now) unread world (g.H.Host.disk c.args.host.now) (g.H.Host.disk c.find.new.host) (g.S.Shelf.files c.args.shelf.now) (told (imported_line c.args.conference) r)) (sym is)
+    (unfound (Imports c.args.conference c.args.file.now c.args.now) at (imported_line c.args.conference) c.find.new.kept c.in_err-find.field-0.0
+    (c.in_err-find.ensures.finds tells world.state at.board.stores) (c.in_err-find.ensures.state tells world.state at.board.stores))
+
+pub returns-in_err-board-clause-works : goal.returns-in_err-board-clause-works
+returns-in_err-board-clause-works g c tells shelf_tells world at =
+    let e : BoardHalt = c.in_err-board.field-0.0 in
+    let is : c.from_residual-in_err-board.result ≡ Err e = search rules in
+    subst (λ (r : Result ℕ BoardHalt). Works Stores (imports c.args.conference c.args.file.now c.args.now) unread world (g.H.Host.disk c.args.host.now) (g.H.Host.disk c.find.new.host) (g.S.Shelf.files c.args.shelf.now) (told (imported_line c.args.conference) r)) (sym is)
+    (refused_by (Imports c.args.conference c.args.file.now c.args.now) at (kept_board c.find.new.kept) (c.in_ok-find.ensures.finds tells world.state at.board.stores) (c.in_ok-find.ensures.state tells world.state at.board.stores)
+    (imported_line c.args.conference) None NotMade e c.in_err-board.ensures.board.1 c.in_err-board.ensures.board.0 refl)
+
+pub returns-in_err-place-clause-works : goal.returns-in_err-place-clause-works
+returns-in_err-place-clause-works g c tells shelf_tells world at =
+    let e : BoardHalt = c.in_err-place.field-0.0 in
+    let b : Board = c.in_ok-board.board.now.board in
+    let is : c.from_residual-in_err-place.result ≡ Err e = search rules in
+    subst (λ (r : Result ℕ BoardHalt). Works Stores (imports c.args.conference c.args.file.now c.args.now) unread world (g.H.Host.disk c.args.host.now) (g.H.Host.disk c.find.new.host) (g.S.Shelf.files c.args.shelf.now) (told (imported_line c.args.conference) r)) (sym is)
+    (refused_by (Imports c.args.conference c.args.file.now c.args.now) at (kept_board c.find.new.kept) (c.in_ok-find.ensures.finds tells world.state at.board.stores) (c.in_ok-find.ensures.state tells world.state at.board.stores)
+    (imported_line c.args.conference) (Some b) NoConference e c.in_ok-board.ensures.board c.in_err-place.ensures.place.0
+    (unplaced c.args.conference c.args.file.now c.args.now (g.S.Shelf.files c.args.shelf.now) b c.in_err-place.ensures.place.1))
+
+pub returns-in_err-entries-clause-works : goal.returns-in_err-entries-clause-works
+returns-in_err-entries-clause-works g c tells shelf_tells world at =
+    let halt = c.in_err-entries.field-0.0 in
+    let b : Board = c.in_ok-board.board.now.board in
+    let is : c.from_residual-in_err-entries.result ≡ Err (of_shelf halt) = search rules in
+    subst (λ (r : Result ℕ BoardHalt). Works Stores (imports c.args.conference c.args.file.now c.args.now) unread world (g.H.Host.disk c.args.host.now) (g.H.Host.disk c.find.new.host) (g.S.Shelf.files c.sheet_in.new.shelf) (told (imported_line c.args.conference) r)) (sym is)
+    (no_sheet c.args.conference c.args.file.now c.args.now at (kept_board c.find.new.kept) (c.in_ok-find.ensures.finds tells world.state at.board.stores) (c.in_ok-find.ensures.state tells world.state at.board.stores)
+    b c.in_ok-board.ensures.board c.in_ok-place.place c.in_ok-place.ensures.place (c.in_err-entries.ensures.unchanged shelf_tells) halt (c.in_err-entries.ensures.sheet shelf_tells))
+
+pub returns-in_err-importing-clause-works : goal.returns-in_err-importing-clause-works
+returns-in_err-importing-clause-works g c tells shelf_tells world at =
+    let e : BoardHalt = c.in_err-importing.field-0.0 in
+    let b : Board = c.in_ok-board.board.now.board in
+    let is : c.from_residual-in_err-importing.result ≡ Err e = search rules in
+    subst (λ (r : Result ℕ BoardHalt). Works Stores (imports c.args.conference c.args.file.now c.args.now) unread world (g.H.Host.disk c.args.host.now) (g.H.Host.disk c.find.new.host) (g.S.Shelf.files c.sheet_in.new.shelf) (told (imported_line c.args.conference) r)) (sym is)
+    (unprepared c.args.conference c.args.file.now c.args.now at (kept_board c.find.new.kept) (c.in_ok-find.ensures.finds tells world.state at.board.stores) (c.in_ok-find.ensures.state tells world.state at.board.stores)
+    b c.in_ok-board.ensures.board c.in_ok-place.place c.in_ok-place.ensures.place (c.in_ok-entries.ensures.unchanged shelf_tells) c.in_ok-entries.entries (c.in_ok-entries.ensures.sheet shelf_tells) e (c.in_err-importing.ensures c.args.conference))
+
+pub returns-in_err-make_change-clause-works : goal.returns-in_err-make_change-clause-works
+returns-in_err-make_change-clause-works g c tells shelf_tells world at =
+    let error = c.in_err-make_change.field-0.0 in
+    let b : Board = c.in_ok-board.board.now.board in
+    let is : c.from_residual-in_err-make_change.result ≡ Err (of_journal error) = search rules in
+    subst (λ (r : Result ℕ BoardHalt). Works Stores (imports c.args.conference c.args.file.now c.args.now) unread world (g.H.Host.disk c.args.host.now) (g.H.Host.disk c.make_change.new.host) (g.S.Shelf.files c.sheet_in.new.shelf) (told (imported_line c.args.conference) r)) (sym is)
+    (unimported c.args.conference c.args.file.now c.args.now at (kept_board c.find.new.kept) (c.in_ok-find.ensures.finds tells world.state at.board.stores) (c.in_ok-find.ensures.state tells world.state at.board.stores)
+    b c.in_ok-board.ensures.board c.in_ok-place.place c.in_ok-place.ensures.place (c.in_ok-entries.ensures.unchanged shelf_tells) c.in_ok-entries.entries (c.in_ok-entries.ensures.sheet shelf_tells)
+    c.in_ok-importing.importing (c.in_ok-importing.ensures c.args.conference) error (c.in_err-make_change.ensures.changes tells b c.in_ok-board.ensures.board)
+    (λ starved. subst (λ host. Unchanged (g.H.Host.disk c.find.new.host) (g.H.Host.disk host)) (sym (c.in_err-make_change.ensures.unchanged (ap Err starved))) (same_host (g.H.Host.disk c.find.new.host))))
+
+pub returns-clause-works : goal.returns-clause-works
+returns-clause-works g c tells shelf_tells world at =
+    let b : Board = c.in_ok-board.board.now.board in
+    imported c.args.conference c.args.file.now c.args.now at (kept_board c.find.new.kept) (c.in_ok-find.ensures.finds tells world.state at.board.stores) (c.in_ok-find.ensures.state tells world.state at.board.stores)
+    b c.in_ok-board.ensures.board c.in_ok-place.place c.in_ok-place.ensures.place (c.in_ok-entries.ensures.unchanged shelf_tells) c.in_ok-entries.entries (c.in_ok-entries.ensures.sheet shelf_tells)
+    c.in_ok-importing.importing (c.in_ok-importing.ensures c.args.conference) (c.in_ok-make_change.ensures.changes tells b c.in_ok-board.ensures.board)
+
+pub make_change-requires-clause-fits : goal.make_change-requires-clause-fits
+make_change-requires-clause-fits g c b is =
+    let here : Some c.in_ok-board.board.now.board ≡ Some b = sym c.in_ok-board.ensures.board ∙ is in
+    let same : c.in_ok-board.board.now.board ≡ b = cc in
+    subst (Fits c.in_ok-importing.importing.change) same (c.in_ok-importing.ensures 0).0
+
+pub returns-in_err-importing-clause-causes : goal.returns-in_err-importing-clause-causes
+returns-in_err-importing-clause-causes g c =
+    let e : BoardHalt = c.in_err-importing.field-0.0 in
+    let is : c.from_residual-in_err-importing.result ≡ Err e = search rules in
+    let old : Counts = counts (g.H.Host.disk_faults c.args.host.now) (g.H.Host.voice_faults c.args.host.now) (g.S.Shelf.faults c.args.shelf.now) in
+    let new : Counts = counts (g.H.Host.disk_faults c.find.new.host) (g.H.Host.voice_faults c.find.new.host) (g.S.Shelf.faults c.sheet_in.new.shelf) in
+    let done : HasCauses old new status.Done = search rules in
+    let starved : HasCauses old new status.OutOfMemory = search rules in
+    subst (λ (r : Result ℕ BoardHalt). HasCauses old new (ended (told (imported_line c.args.conference) r))) (sym is)
+    (no_fault c.args.conference c.args.now c.in_ok-place.place c.in_ok-entries.entries c.in_ok-board.board.now.board e (c.in_err-importing.ensures c.args.conference) done starved)

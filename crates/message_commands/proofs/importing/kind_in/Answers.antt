@@ -1,0 +1,13 @@
+use Rattle.std.proofs.Common.{◌≡◌, None, slice_get, sym, ap, ◌∙◌, arith}
+use Rattle.std.specs.Option.{option_copied}
+use Rattle.board_changes.proofs.UserSizes.{conferences_count}
+use Rattle.board_layout.specs.Board.{Board}
+use Rattle.slot_changes.proofs.PlaceKinds.{not_past}
+use Rattle.message_commands.proofs.importing.kind_in.Goals as goal
+
+pub unreachable-requires : goal.unreachable-requires
+unreachable-requires c =
+    let b : Board = c.args.board.now.board in
+    let none : slice_get b.ledger.setup.conferences c.args.place ≡ None =
+    sym (c.get.ensures ∙ (λ i. slice_get (c.setup.ensures.setup i).conferences (c.from.ensures i))) ∙ ap option_copied c.in-None.is in
+    not_past b.ledger.setup.conferences c.args.place (omega (arith, conferences_count b c.setup.ensures.valid, c.requires)) none

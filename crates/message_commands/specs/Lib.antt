@@ -1,0 +1,3 @@
+pub mod Import
+pub mod Importing
+pub mod Kill

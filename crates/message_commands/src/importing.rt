@@ -1,0 +1,131 @@
+//! The command `import`.
+ghost use Rattle.std.specs.Prelude.{◌≡◌, ◌<◌, ◌^◌, ℕ, [], ◌∷◌, ◌+◌, length, nat_lt, All, IsTrue};
+ghost use Rattle.board_commands.specs.Enroll.{first_refusal};
+ghost use Rattle.board_commands.specs.Halts.{told};
+ghost use Rattle.board_commands.specs.Kept.{AreSure, IsKept, unread};
+ghost use Rattle.board_commands.specs.State.{State, Stores};
+ghost use Rattle.board_layout.specs.Layout.{board_size};
+ghost use Rattle.board_layout.specs.Valid.{board_limit, IsBoard};
+ghost use Rattle.entry_runs.specs.Door.{World};
+ghost use Rattle.entry_runs.specs.Entry.{IsAt, Works};
+ghost use Rattle.entry_runs.specs.Promise.{counts, ended, HasCauses};
+ghost use Rattle.mail_board.specs.Changes.{changed, Exists};
+ghost use Rattle.shelf_files.specs.Sheets.{AreEntries};
+ghost use Rattle.shelf_files.specs.declared.refusal.Refusal.TheVariants.{Slots, Size};
+ghost use Rattle.message_commands.specs.Import.{imported_line, imports, kind_of, slot_count};
+ghost use Rattle.message_commands.specs.Importing.{MayImport};
+
+use crate::entries::messages_of;
+use crate::placing::{board_in, place_in};
+use board_commands::{BoardHalt, find, make_change};
+use board_layout::BOARD_LIMIT;
+use door_outside::{Host, Shelf, ShelfName};
+use import_sheet::Sheets;
+use jam_records::{Kind, Messages};
+use mail_board::{Board, Change, Loaded};
+use shelf_files::{Refusal, sheet_in};
+use std::alloc::Global;
+
+/// How many slots a conference may have.
+const SLOT_LIMIT: u64 = 9_999;
+
+/// The kind of the conference in a place.
+fn kind_in(board: &Board, place: u8) -> Kind
+    requires { place < length board.now.board.conferences }
+    ensures { result ≡ kind_of place board.now.board }
+{
+    match board.setup().conferences.get(usize::from(place)) {
+        Some(conference) => conference.kind,
+        None => unreachable!(),
+    }
+}
+
+/// Why the conference in a place would have too many slots with more messages, where it would.
+fn slots_refusal(board: &Board, place: u8, messages: &Messages) -> Option<Refusal>
+    requires { place < length board.now.board.conferences }
+    ensures { result ≡ first_refusal ((nat_lt 9999 (slot_count place board.now.board + length messages.now), Slots (slot_count place board.now.board + length messages.now)) ∷ []) }
+{
+    let slots = u64::from(board.slot_count(place)) + messages.as_slice().len() as u64;
+    if slots > SLOT_LIMIT {
+        return Some(Refusal::Slots(slots));
+    }
+    None
+}
+
+/// Why the files would be too long after a change, where they would be.
+fn size_refusal(board: &Board, change: &Change) -> Option<Refusal>
+    requires exists { Exists change.now board.now.board }
+    requires short { board_size (changed change.now board.now.board) < 2 ^ 64 }
+    ensures { result ≡ first_refusal ((nat_lt board_limit (board_size (changed change.now board.now.board)), Size (board_size (changed change.now board.now.board))) ∷ []) }
+{
+    let size = board.size_after(change);
+    if size > BOARD_LIMIT {
+        return Some(Refusal::Size(size));
+    }
+    None
+}
+
+/// An import that may be made: by which change, and of how many messages.
+#[derive(Debug, Drop)]
+struct Importing {
+    change: Change,
+    count: u32,
+}
+
+/// The import of entries into the conference in a place, or why it is refused: the first that applies of too many
+/// slots, and of files that would be too long.
+fn prepared(
+    alloc: Global,
+    board: &Board,
+    place: u8,
+    entries: Sheets,
+    now: u32,
+) -> Result<Importing, BoardHalt>
+    requires board { IsBoard board.now.board }
+    requires place { place < length board.now.board.conferences }
+    requires read { AreEntries entries }
+    ensures { (conference : ℕ) → MayImport conference now place entries board.now.board result }
+{
+    let messages = messages_of(alloc, kind_in(board, place), now, entries)?;
+    if let Some(refusal) = slots_refusal(board, place, &messages) {
+        return Err(BoardHalt::Refused(refusal));
+    }
+    let count = messages.len() as u32;
+    let change = Change::Append { place, messages };
+    if let Some(refusal) = size_refusal(board, &change) {
+        return Err(BoardHalt::Refused(refusal));
+    }
+    Ok(Importing { change, count })
+}
+
+/// Appends all messages of a sheet to the conference of a number in one change, and answers how many they are. `now` is
+/// the moment in Unix seconds at which they come into the base, and at which those without a date were written. In a
+/// net conference all are private. A sheet without messages changes nothing.
+///
+/// It is refused where there is no board, then as the first of these applies: no conference has the number; the sheet
+/// isn't there, is too long or has a fault; the conference would have more than 9,999 slots; the files would be too
+/// long.
+pub fn import<H: Host, S: Shelf>(
+    alloc: Global,
+    host: &mut H,
+    shelf: &mut S,
+    kept: &mut Option<Loaded>,
+    conference: u32,
+    file: &ShelfName,
+    now: u32,
+) -> Result<u32, BoardHalt>
+    requires sure { AreSure kept.old }
+    requires kept { IsTrue H.tells → IsKept kept.old (H.disk host.old) }
+    ensures works { IsTrue H.tells → IsTrue S.tells → (world : World State) → IsAt Stores unread world (H.disk host.old) (S.files shelf.old) → Works Stores (imports conference file.now now) unread world (H.disk host.old) (H.disk host.new) (S.files shelf.new) (told (imported_line conference) result) }
+    ensures kept { IsTrue H.tells → IsKept kept.new (H.disk host.new) }
+    ensures sure { AreSure kept.new }
+    ensures causes { HasCauses (counts (H.disk_faults host.old) (H.voice_faults host.old) (S.faults shelf.old)) (counts (H.disk_faults host.new) (H.voice_faults host.new) (S.faults shelf.new)) (ended (told (imported_line conference) result)) }
+{
+    find(alloc, host, kept)?;
+    let board = board_in(kept)?;
+    let place = place_in(board, conference)?;
+    let entries = sheet_in(alloc, shelf, file)?;
+    let importing = prepared(alloc, board, place, entries, now)?;
+    make_change(alloc, host, kept, &importing.change)?;
+    Ok(importing.count)
+}

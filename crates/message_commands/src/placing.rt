@@ -1,0 +1,47 @@
+// The board that is kept, and the conference that a command names.
+ghost use Rattle.std.specs.Prelude.{◌≡◌, ◌<◌, Some, None, length, IfOk, IfSome, MatchResult};
+ghost use Rattle.board_commands.specs.Kept.{AreSure, kept_board};
+ghost use Rattle.board_commands.specs.declared.halt.BoardHalt.TheVariants.{Refused};
+ghost use Rattle.board_layout.specs.Valid.{IsBoard};
+ghost use Rattle.mail_board.specs.Readers.{place_of};
+ghost use Rattle.shelf_files.specs.declared.refusal.Refusal.TheVariants as refusal;
+
+use board_commands::BoardHalt;
+use mail_board::{Board, Loaded};
+use shelf_files::Refusal;
+
+/// The board that is kept, refused where there is none.
+pub(crate) fn board_in(kept: &Option<Loaded>) -> Result<&Board, BoardHalt>
+    requires { AreSure kept.now }
+    ensures board { MatchResult result (λ board. kept_board kept.now ≡ Some board.now.board) (λ e. (e ≡ Refused refusal.NotMade) × (kept_board kept.now ≡ None)) }
+    ensures valid { IfOk result (λ board. IsBoard board.now.board) }
+{
+    match kept {
+        Some(Loaded::Ready(board)) => Ok(board),
+        _ => Err(BoardHalt::Refused(Refusal::NotMade)),
+    }
+}
+
+/// The place of the conference of a number, or None where no conference has it.
+fn place_numbered(board: &Board, conference: u32) -> Option<u8>
+    requires { IsBoard board.now.board }
+    ensures place { result ≡ place_of conference board.now.board }
+    ensures within { IfSome result (λ place. place < length board.now.board.conferences) }
+{
+    match u16::try_from(conference) {
+        Ok(number) => board.place_of(number),
+        Err(_) => None,
+    }
+}
+
+/// The place of the conference of a number, refused where no conference has it.
+pub(crate) fn place_in(board: &Board, conference: u32) -> Result<u8, BoardHalt>
+    requires { IsBoard board.now.board }
+    ensures place { MatchResult result (λ place. place_of conference board.now.board ≡ Some place) (λ e. (e ≡ Refused refusal.NoConference) × (place_of conference board.now.board ≡ None)) }
+    ensures within { IfOk result (λ place. place < length board.now.board.conferences) }
+{
+    match place_numbered(board, conference) {
+        Some(place) => Ok(place),
+        None => Err(BoardHalt::Refused(Refusal::NoConference)),
+    }
+}
