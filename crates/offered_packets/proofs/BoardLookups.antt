@@ -1,0 +1,97 @@
+-- What stands in a place of a board.
+use Rattle.std.proofs.Common.{◌≡◌, ℕ, zero, suc, ◌-◌, ◌<◌, ◌≤◌, false, cond, eqb, List, [], ◌∷◌, length, get_or, refl, sym, ap, ◌∙◌, inl, inr, arith, Bor}
+use Rattle.std.specs.Prelude.{Option, Some, None, option_map, option_copied, unwrap_or, slice_get, Contains, IfSome, IfNone}
+use Rattle.std.specs.List.{AllZip}
+use Rattle.std.proofs.lemmas.Bool.{cases_lt, cases_eq, cond-true, cond-false, eq-eqb, ne_eqb}
+use Rattle.std.proofs.lemmas.List.{length-map, get_or_past}
+use Rattle.std.proofs.lemmas.Option.{slice_get-map, slice_get_within, slice_get-get_or, get_or_from_slice_get, none-some}
+use Rattle.board_layout.specs.Board.{Board, conferences_in, shapes_of}
+use Rattle.board_layout.specs.Valid.{IsBoard}
+use Rattle.board_layout.proofs.BasePlaces.{shapes_count}
+use Rattle.jam_base.specs.Contents.{Contents}
+use Rattle.jam_layout.specs.Valid.{IsConference}
+use Rattle.jam_layout.specs.declared.conference.Conference.{Conference}
+use Rattle.jam_layout.specs.declared.shape.Shape.{Shape}
+use Rattle.jam_records.specs.declared.message.Slot.{Slot}
+use Rattle.jam_records.specs.declared.message.Slot.TheVariants.{Gone}
+use Rattle.jam_base.specs.Slots.{numbered}
+use Rattle.board_ledger.specs.declared.user.User.{User}
+use Rattle.setup_file.specs.Valid.{numbers_of}
+use Rattle.setup_file.specs.declared.conference.Conference.{Conference as SetupConference}
+use Rattle.offered_packets.specs.Sees.{slots_in, held_in}
+
+conferences_count : (shapes : List Shape) (conferences : List Conference) → AllZip IsConference shapes conferences → length shapes ≡ length conferences
+conferences_count [] [] zip = refl
+conferences_count [] (c ∷ conferences) zip = absurd zip
+conferences_count (s ∷ shapes) [] zip = absurd zip
+conferences_count (s ∷ shapes) (c ∷ conferences) zip = ap suc (conferences_count shapes conferences zip.1)
+
+-- the conference in a place is one of the shape there
+pub conference_fits : (shapes : List Shape) (conferences : List Conference) (k : ℕ) (s : Shape) (c : Conference) → AllZip IsConference shapes conferences → k < length conferences → IsConference (get_or shapes k s) (get_or conferences k c)
+conference_fits [] [] k s c zip within = absurd (omega arith)
+conference_fits [] (x ∷ conferences) k s c zip within = absurd zip
+conference_fits (y ∷ shapes) [] k s c zip within = absurd zip
+conference_fits (y ∷ shapes) (x ∷ conferences) zero s c zip within = zip.0
+conference_fits (y ∷ shapes) (x ∷ conferences) (suc k) s c zip within = conference_fits shapes conferences k s c zip.1 (omega arith)
+
+pub few_places : (b : Board) → IsBoard b → length b.conferences ≤ 64
+few_places b ok = omega (arith, conferences_count (shapes_of b.ledger) b.conferences ok.conferences, shapes_count b.ledger 0 b.ledger.setup.conferences, ok.ledger.setup.conferences.many)
+
+pub as_many_bases : (b : Board) (bases : List Contents) → conferences_in bases ≡ b.conferences → length bases ≡ length b.conferences
+as_many_bases b bases e = sym (length-map bases (λ (base : Contents). base.conference)) ∙ ap length e
+
+-- the conference in a place, by its base
+conference_at : (b : Board) (bases : List Contents) (place : ℕ) → conferences_in bases ≡ b.conferences → slice_get b.conferences place ≡ option_map (λ (base : Contents). base.conference) (slice_get bases place)
+conference_at b bases place e = ap (λ (xs : List Conference). slice_get xs place) (sym e) ∙ slice_get-map (λ (base : Contents). base.conference) bases place
+
+abbrev pub slots_of : Option Conference → List Slot
+slots_of c = unwrap_or (option_map (λ (c : Conference). c.slots) c) []
+
+pub base_slots : (b : Board) (bases : List Contents) (place : ℕ) (base : Contents) → conferences_in bases ≡ b.conferences → slice_get bases place ≡ Some base → base.conference.slots ≡ slots_in b place
+base_slots b bases place base e found = sym (ap slots_of (conference_at b bases place e ∙ ap (option_map (λ (base : Contents). base.conference)) found))
+
+pub no_slots : (b : Board) (bases : List Contents) (place : ℕ) → conferences_in bases ≡ b.conferences → slice_get bases place ≡ None → slots_in b place ≡ []
+no_slots b bases place e none = ap slots_of (conference_at b bases place e ∙ ap (option_map (λ (base : Contents). base.conference)) none)
+
+pub base_place : (b : Board) (bases : List Contents) (place : ℕ) (base : Contents) → IsBoard b → conferences_in bases ≡ b.conferences → slice_get bases place ≡ Some base → place < 64
+base_place b bases place base ok e found = omega (arith, few_places b ok, as_many_bases b bases e, slice_get_within bases place base found)
+
+pub few_bases : (b : Board) (bases : List Contents) → IsBoard b → conferences_in bases ≡ b.conferences → length bases ≤ 64
+few_bases b bases ok e = omega (arith, few_places b ok, as_many_bases b bases e)
+
+-- ---- what a look-up answers
+pub found_slots : (b : Board) (bases : List Contents) (place : ℕ) (found : Option (Bor Contents)) → conferences_in bases ≡ b.conferences → option_copied found ≡ slice_get bases place → IfSome found (λ base. base.now.conference.slots ≡ slots_in b place)
+found_slots b bases place None e is = tt
+found_slots b bases place (Some base) e is = base_slots b bases place base.now e (sym is)
+
+pub found_place : (b : Board) (bases : List Contents) (place : ℕ) (found : Option (Bor Contents)) → IsBoard b → conferences_in bases ≡ b.conferences → option_copied found ≡ slice_get bases place → IfSome found (λ _. place < 64)
+found_place b bases place None ok e is = tt
+found_place b bases place (Some base) ok e is = base_place b bases place base.now ok e (sym is)
+
+pub found_none : (b : Board) (bases : List Contents) (place : ℕ) (found : Option (Bor Contents)) → conferences_in bases ≡ b.conferences → option_copied found ≡ slice_get bases place → IfNone found (slots_in b place ≡ [])
+found_none b bases place None e is = no_slots b bases place e (sym is)
+found_none b bases place (Some base) e is = tt
+
+-- a slot that isn't there holds nothing
+pub none_held : (slots : List Slot) (number : ℕ) → None ≡ cond (eqb number 0) None (slice_get slots (number - 1)) → None ≡ held_in (numbered slots number)
+none_held slots number e = elim (cases_eq number 0) [
+  | inl none ↦ ap held_in (sym (cond-true (eqb number 0) Gone (get_or slots (number - 1) Gone) (eq-eqb number 0 none)))
+  | inr some ↦
+      let test : eqb number 0 ≡ false = ne_eqb number 0 some in
+      let missing : None ≡ slice_get slots (number - 1) = e ∙ cond-false (eqb number 0) None (slice_get slots (number - 1)) test in
+      elim (cases_lt (number - 1) (length slots)) [
+        | inl within ↦ absurd (none-some (get_or slots (number - 1) Gone) (missing ∙ slice_get-get_or slots (number - 1) Gone within))
+        | inr past ↦ ap held_in (sym (cond-false (eqb number 0) Gone (get_or slots (number - 1) Gone) test ∙ get_or_past slots (number - 1) Gone past))
+      ]
+]
+
+-- past the last conference the number is 0
+pub none_number : (conferences : List SetupConference) (place : ℕ) → None ≡ slice_get conferences place → 0 ≡ get_or (numbers_of conferences) place 0
+none_number [] place e = refl
+none_number (c ∷ conferences) zero e = absurd (none-some c e)
+none_number (c ∷ conferences) (suc place) e = none_number conferences place e
+
+-- a user of an id is one of the users
+pub found_user : (users : List User) (place : ℕ) (found : Option (Bor User)) → option_copied found ≡ slice_get users place → IfSome found (λ user. Contains users user.now)
+found_user users place None is = tt
+found_user users place (Some user) is = (place, slice_get_within users place user.now (sym is), get_or_from_slice_get users place user.now user.now (sym is))

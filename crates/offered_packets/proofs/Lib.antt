@@ -1,0 +1,12 @@
+pub mod BoardLookups
+pub mod Offers
+pub mod NewMessages
+pub mod HighLaws
+pub mod FieldLaws
+pub mod PlainTexts
+pub mod Packets
+pub mod Listings
+pub mod ShownMessages
+pub mod PacketSizes
+pub mod Controls
+pub mod EachShown

@@ -1,0 +1,4 @@
+pub mod Sees
+pub mod Offered
+pub mod Shown
+pub mod Control

@@ -1,0 +1,85 @@
+-- How a message is shown in a QWK packet.
+use Rattle.std.specs.Prelude.{ℕ, ◌-◌, List, [], ◌++◌, length, map, take, codes, decimal, slice_index, Option, Some, option_map, filter_map, ◌==◌, if◌then◌else◌}
+use Rattle.std.specs.List.{enumerate_from, slice_split}
+use Rattle.std.specs.Str.{str_to_ascii_uppercase}
+use Rattle.board_layout.specs.Board.{Board}
+use Rattle.jam_records.specs.declared.message.Message.{Message}
+use Rattle.jam_threads.specs.Children.{original}
+use Rattle.qwk_blocks.specs.declared.message.Header.{Header}
+use Rattle.qwk_blocks.specs.declared.message.QwkMessage.{QwkMessage}
+use Rattle.qwk_moments.specs.Moments.{date_text, time_text}
+use Rattle.setup_file.specs.Valid.{numbers_of}
+use Rattle.setup_file.specs.Words.{before_spaces}
+use Rattle.offered_packets.specs.Offered.{offered}
+use Rattle.offered_packets.specs.Sees.{slots_in, message_at}
+use Rattle.offered_packets.specs.declared.offered_message.OfferedMessage.{OfferedMessage}
+
+-- ---- one message
+-- a space for a public message, `+` for a private one that is unread, `*` for one that is read
+abbrev pub shown_status : Message → ℕ
+shown_status m = if m.private then (if m.seen then 42 else 43) else 32
+
+-- the first 25 bytes, without the spaces at their end
+abbrev pub shown_text : List ℕ → List ℕ
+shown_text text = before_spaces (take 25 text)
+
+-- the same in ASCII capitals
+abbrev pub shown_name : List ℕ → List ℕ
+shown_name name = str_to_ascii_uppercase (shown_text name)
+
+-- what stands before each 0Dh, behind the one before
+abbrev pub body_lines : List ℕ → List (List ℕ)
+body_lines body = let parts = slice_split (λ b. b == 0x0D) body in take (length parts - 1) parts
+
+-- each E3h as `?`
+abbrev pub shown_line : List ℕ → List ℕ
+shown_line line = map (λ b. if b == 0xE3 then 0x3F else b) line
+
+abbrev pub shown_lines : List ℕ → List (List ℕ)
+shown_lines body = map shown_line (body_lines body)
+
+-- the number of the conference in a place
+abbrev pub conference_number : Board → ℕ → ℕ
+conference_number b place = slice_index (numbers_of b.ledger.setup.conferences) place
+
+-- the header of a message of a number in a conference, which answers an original, under a logical number
+abbrev pub shown_header : ℕ → ℕ → ℕ → ℕ → Message → Header
+shown_header conference number answered logical m = record {
+  status = shown_status m;
+  number = Some number;
+  date = date_text m.written;
+  time = time_text m.written;
+  to = shown_name m.to;
+  from = shown_name m.from;
+  subject = shown_text m.subject;
+  password = [];
+  reference = Some answered;
+  activity = 0xE1;
+  conference = conference;
+  logical = logical;
+  tag = 32;
+}
+
+-- a message of a number in a place, under a logical number
+abbrev pub shown_message : Board → ℕ → ℕ → ℕ → Message → QwkMessage
+shown_message b place number logical m = record {
+  header = shown_header (conference_number b place) number (original (slots_in b place) number) logical m;
+  lines = shown_lines m.body;
+}
+
+-- the message of a number in a place as it is shown, where there is one
+unfoldable pub shown : Board → ℕ → ℕ → ℕ → Option QwkMessage
+shown b place number logical = option_map (shown_message b place number logical) (message_at b place number)
+
+-- ---- a packet
+-- messages as they are shown, with logical numbers from 1
+unfoldable pub shown_all : Board → List OfferedMessage → List QwkMessage
+shown_all b messages = filter_map (λ m. shown b m.1.place m.1.number m.0) (enumerate_from 1 messages)
+
+-- what is offered, shown
+abbrev pub packet : Board → ℕ → ℕ → List QwkMessage
+packet b id limit = shown_all b (offered b id limit)
+
+-- the notice of the packet of a number
+unfoldable pub notice : ℕ → List ℕ
+notice number = codes "Produced by qwkdoor, packet " ++ decimal number

@@ -1,0 +1,112 @@
+ghost use Rattle.std.specs.Prelude.{◌≡◌, ◌≤◌, ◌<◌, ◌+◌, ◌/◌, ◌%◌, length, option_map, Some, IfOk, IsSome};
+ghost use Rattle.std.specs.Str.{str_to_ascii_uppercase};
+ghost use Rattle.qwk_control.specs.Written.{Writable};
+ghost use Rattle.offered_packets.specs.Control.{five_digits as five_digits_of, listed as listed_of, control};
+ghost use Rattle.offered_packets.specs.Sees.{user_of};
+
+use crate::lookups::user_at;
+use board_layout::StoredBoard;
+use board_ledger::{Conference, User};
+use byte_lists::Bytes;
+use qwk_control::{Control, Listed};
+use qwk_moments::laws::written_bytes;
+use qwk_moments::stamp;
+use std::alloc::{AllocError, Global};
+
+/// The digit of a number that counts a unit.
+fn digit(number: u32, unit: u32) -> u8
+    requires { 0 < unit }
+    ensures { result ≡ 48 + number / unit % 10 }
+{
+    b'0' + (number / unit % 10) as u8
+}
+
+/// The last five decimal digits of a number.
+fn five_digits(number: u32) -> [u8; 5]
+    ensures { result ≡ five_digits_of number }
+{
+    [
+        digit(number, 10_000),
+        digit(number, 1000),
+        digit(number, 100),
+        digit(number, 10),
+        digit(number, 1),
+    ]
+}
+
+/// A name in ASCII capitals.
+fn in_capitals(alloc: Global, name: &[u8]) -> Result<Bytes, AllocError>
+    ensures { IfOk result (λ capitals. capitals ≡ str_to_ascii_uppercase name.now) }
+{
+    let mut capitals = name.to_vec(alloc)?;
+    capitals.make_ascii_uppercase();
+    Ok(Bytes::from_vec(capitals))
+}
+
+/// Of conferences, by place from 0, the number and the name of each whose member the user is.
+fn listed(alloc: Global, conferences: &[Conference], user: &User) -> Result<Listed, AllocError>
+    requires { length conferences.now ≤ 64 }
+    ensures { IfOk result (λ listed. listed ≡ listed_of conferences.now user.now) }
+{
+    let mut listed = Listed::new(alloc);
+    for (place, conference) in conferences.iter().enumerate() {
+        if user.is_member(place as u32) {
+            listed.add((conference.number, conference.name.copy(alloc)?))?;
+        }
+    }
+    Ok(listed)
+}
+
+/// The control of a user's packet of so many messages, made at a moment.
+#[tactic(auto, unfolding(crate::specs::Control::control))]
+fn control_for(
+    alloc: Global,
+    board: &StoredBoard,
+    user: &User,
+    count: u32,
+    now: u32,
+) -> Result<Control, AllocError>
+    ensures { IfOk result (λ made. made ≡ control board.now user.now count now) }
+{
+    let setup = &board.ledger().setup;
+    Ok(Control {
+        board: setup.board.copy(alloc)?,
+        city: setup.city.copy(alloc)?,
+        phone: setup.phone.copy(alloc)?,
+        sysop: setup.sysop.copy(alloc)?,
+        serial: Bytes::from_slice(alloc, &five_digits(setup.serial))?,
+        bbsid: setup.bbsid.copy(alloc)?,
+        stamp: Bytes::from_slice(alloc, &stamp(now))?,
+        user: in_capitals(alloc, user.name.as_slice())?,
+        menu: Bytes::new(alloc),
+        count,
+        conferences: listed(alloc, setup.conferences.as_slice(), user)?,
+        welcome: Bytes::from_slice(alloc, b"WELCOME")?,
+        news: Bytes::from_slice(alloc, b"NEWS")?,
+        goodbye: Bytes::from_slice(alloc, b"GOODBYE")?,
+    })
+}
+
+/// The control of a packet of so many messages, made at a moment in Unix seconds for the user of an id, from 1, who
+/// is there: the setup's texts, the user's name in capitals and the conferences whose member the user is. With at
+/// most 999,999,999 messages it can be written.
+///
+/// The error comes where there is no memory.
+pub fn control_of(
+    alloc: Global,
+    board: &StoredBoard,
+    user: u32,
+    count: u32,
+    now: u32,
+) -> Result<Control, AllocError>
+    requires { IsSome (user_of user board.now) }
+    ensures control { IfOk result (λ made. Some made ≡ option_map (λ u. control board.now u count now) (user_of user board.now)) }
+    ensures writable { count ≤ 999999999 → IfOk result Writable }
+{
+    let Some(user) = user_at(board, user) else {
+        unreachable!()
+    };
+    // A stamp has no line's end.
+    written_bytes();
+    control_for(alloc, board, user, count, now)
+}

@@ -1,0 +1,70 @@
+// What a packet shows of the fields of a message.
+ghost use Rattle.std.specs.Prelude.{◌≡◌, ◌==◌, IfOk, if◌then◌else◌};
+ghost use Rattle.offered_packets.specs.Shown.{shown_status as status_of, shown_text as text_of, shown_name as name_of, shown_line as line_of, shown_lines as lines_of};
+
+use byte_lists::{Bytes, Lines};
+use jam_records::Message;
+use std::alloc::{AllocError, Global};
+use text_fields::{Blank, split_at_byte, trimmed_end};
+
+/// The bytes that a name and a subject have room for.
+const FIELD: usize = 25;
+
+/// What ends a line of a packet.
+const LINE_END: u8 = 0xE3;
+
+/// The status byte: a space where the message is public, `+` where it is private and unread, `*` where it is
+/// private and read.
+pub(crate) fn shown_status(message: &Message) -> u8
+    ensures { result ≡ status_of message.now }
+{
+    match (message.private, message.seen) {
+        (false, _) => b' ',
+        (true, false) => b'+',
+        (true, true) => b'*',
+    }
+}
+
+/// The first 25 bytes, without the spaces at their end.
+pub(crate) fn shown_text(text: &[u8]) -> &[u8]
+    ensures { result.now ≡ text_of text.now }
+{
+    trimmed_end(&text[..text.len().min(FIELD)], Blank::Spaces)
+}
+
+/// The same in ASCII capitals.
+pub(crate) fn shown_name(alloc: Global, name: &[u8]) -> Result<Bytes, AllocError>
+    ensures { IfOk result (λ shown. shown ≡ name_of name.now) }
+{
+    let mut shown = shown_text(name).to_vec(alloc)?;
+    shown.make_ascii_uppercase();
+    Ok(Bytes::from_vec(shown))
+}
+
+/// The byte, or `?` for what would end a line of the packet.
+fn shown_byte(b: u8) -> u8
+    ensures { result ≡ if b == 0xE3 then 0x3F else b }
+{
+    if b == LINE_END { b'?' } else { b }
+}
+
+/// A line of a body.
+fn shown_line(alloc: Global, line: &[u8]) -> Result<Bytes, AllocError>
+    ensures { IfOk result (λ shown. shown ≡ line_of line.now) }
+{
+    let bytes = line.iter().map(|b| shown_byte(*b)).collect(alloc)?;
+    Ok(Bytes::from_vec(bytes))
+}
+
+/// The lines of a body, each of which ends with a carriage return.
+pub(crate) fn shown_lines(alloc: Global, body: &[u8]) -> Result<Lines, AllocError>
+    ensures { IfOk result (λ lines. lines ≡ lines_of body.now) }
+{
+    let mut lines = Lines::new(alloc);
+    let mut left = body;
+    while let Some((line, rest)) = split_at_byte(left, b'\r') {
+        lines.add(shown_line(alloc, line)?)?;
+        left = rest;
+    }
+    Ok(lines)
+}
