@@ -1,21 +1,24 @@
--- Every entry is lawful, and any files stand for exactly one state of the board.
-use Rattle.std.proofs.Common.{◌≡◌, ◌≢◌, ◌⊎◌, inl, inr, ⊎_elim, ℕ, ◌<◌, ◌≤◌, zero, suc, List, [], ◌∷◌, Bool, false, refl, sym, ◌∙◌, ap, subst, arith}
-use Rattle.std.specs.Prelude.{not, ◌&&◌, ◌==◌}
-use Rattle.door_outside.specs.File.{is_data_file}
-use Rattle.std.proofs.lemmas.Bool.{cases_eq, cases_lt, le-ltb, cond-false, true≢false}
-use Rattle.entry_runs.specs.Door.{World, AreLawful, touches}
+-- Every entry is lawful, and none but files that are no board's are answered as damaged.
+use Rattle.std.proofs.Common.{◌≡◌, ◌≢◌, ℕ, [], sym, subst}
+use Rattle.std.proofs.lemmas.Bool.{true≢false}
+use Rattle.entry_runs.specs.Door.{World, AreLawful}
 use Rattle.entry_runs.specs.Runs.{Stepped}
 use Rattle.entry_runs.specs.declared.class.Class.TheVariants.{Damaged}
-use Rattle.entry_runs.proofs.ShelfLaws.{lawful_on_shelf, lawful_saying}
-use Rattle.intent_journal.specs.Patches.{Files, data_files}
+use Rattle.entry_runs.proofs.ShelfLaws.{IsLawfulOnShelf, lawful_on_shelf, lawful_saying}
+use Rattle.entry_runs.specs.Entry.{ShelfAct, on_shelf}
+use Rattle.message_commands.proofs.MessageActs.{import_turns, kill_turns}
 use Rattle.packet_commands.proofs.PacketLaws.{lawful_lists, lawful_reads, lawful_scans, lawful_shows}
 use Rattle.packet_commands.specs.List.{lists}
 use Rattle.packet_commands.specs.Read.{reads, shows}
 use Rattle.packet_commands.specs.Scan.{scans}
+use Rattle.reply_commands.proofs.ReplyLaws.{lawful_composes, lawful_replies}
+use Rattle.reply_commands.specs.Compose.{composes}
+use Rattle.reply_commands.specs.Reply.{replies}
 use Rattle.shelf_files.proofs.Replies.{some_refusal}
 use Rattle.shelf_files.specs.Halts.{refused}
 use Rattle.mail_cli.specs.Answers.{usage, usage_line}
-use Rattle.mail_cli.specs.Board.{State, NotMade, Spoiled, Stores, IsSpoiled}
+use Rattle.board_commands.proofs.BoardActs.{KeepsState, check_turns, enroll_turns, init_turns, keeps_state, lawful_on_board}
+use Rattle.board_commands.specs.State.{State, IsSpoiled}
 use Rattle.mail_cli.specs.Step.{act, says, door}
 use Rattle.mail_cli.specs.declared.command.Command.TheVariants as command
 use Rattle.mail_cli.specs.declared.entry.Entry.{Entry}
@@ -27,60 +30,47 @@ some_usage : (words : Usage) → usage_line words ≢ []
 some_usage Words is = absurd (cc is)
 some_usage (Line line) is = absurd (cc is)
 
+-- a command that reaches the shelf alone leaves the state, and answers no damage
+keeps_on_shelf : (shelf_act : ShelfAct) → IsLawfulOnShelf shelf_act → KeepsState (on_shelf shelf_act)
+keeps_on_shelf shelf_act laws = record {
+  only_spoiled = λ world stepped step damaged. absurd (true≢false (sym ((lawful_on_shelf shelf_act laws).damage_of_board world stepped step damaged)));
+  still_spoiled = λ world stepped step spoiled. subst IsSpoiled step.1 spoiled;
+}
+
 -- one line for each command
 pub lawful : (now : ℕ) → AreLawful (door now)
+lawful now (Run command.Check) = lawful_on_board _ check_turns
+lawful now (Run (command.Compose folder conference sheet rep)) = lawful_on_shelf (composes folder conference sheet rep now) (lawful_composes folder conference sheet rep now)
+lawful now (Run (command.Enroll name flags conferences)) = lawful_on_board _ (enroll_turns name flags conferences)
+lawful now (Run (command.Import conference file)) = lawful_on_board _ (import_turns conference file now)
+lawful now (Run (command.Init file)) = lawful_on_board _ (init_turns file now)
+lawful now (Run (command.Kill conference number)) = lawful_on_board _ (kill_turns conference number)
 lawful now (Run (command.List file)) = lawful_on_shelf (lists file) (lawful_lists file)
 lawful now (Run (command.Read folder)) = lawful_on_shelf (reads folder) (lawful_reads folder)
+lawful now (Run (command.Reply folder place text rep)) = lawful_on_shelf (replies folder place text rep now) (lawful_replies folder place text rep now)
 lawful now (Run (command.Show folder place)) = lawful_on_shelf (shows folder place) (lawful_shows folder place)
 lawful now (Run (command.Scan file)) = lawful_on_shelf (scans file) (lawful_scans file)
 lawful now (Wrong which) = lawful_on_shelf (says (usage which)) (lawful_saying (usage which) (some_usage which) (λ is. absurd (cc is)))
 lawful now (Refuse why) = lawful_on_shelf (says (refused why)) (lawful_saying (refused why) (some_refusal why) (λ is. absurd (cc is)))
 
--- no entry touches the board yet
-off_board : (now : ℕ) (entry : Entry) → touches (door now) entry ≡ false
-off_board now (Run (command.List file)) = refl
-off_board now (Run (command.Read folder)) = refl
-off_board now (Run (command.Show folder place)) = refl
-off_board now (Run (command.Scan file)) = refl
-off_board now (Wrong which) = refl
-off_board now (Refuse why) = refl
+-- what else a run takes of an entry, a line for each command
+keeps : (now : ℕ) (entry : Entry) → KeepsState (act now entry)
+keeps now (Run command.Check) = keeps_state _ check_turns
+keeps now (Run (command.Compose folder conference sheet rep)) = keeps_on_shelf (composes folder conference sheet rep now) (lawful_composes folder conference sheet rep now)
+keeps now (Run (command.Enroll name flags conferences)) = keeps_state _ (enroll_turns name flags conferences)
+keeps now (Run (command.Import conference file)) = keeps_state _ (import_turns conference file now)
+keeps now (Run (command.Init file)) = keeps_state _ (init_turns file now)
+keeps now (Run (command.Kill conference number)) = keeps_state _ (kill_turns conference number)
+keeps now (Run (command.List file)) = keeps_on_shelf (lists file) (lawful_lists file)
+keeps now (Run (command.Read folder)) = keeps_on_shelf (reads folder) (lawful_reads folder)
+keeps now (Run (command.Reply folder place text rep)) = keeps_on_shelf (replies folder place text rep now) (lawful_replies folder place text rep now)
+keeps now (Run (command.Show folder place)) = keeps_on_shelf (shows folder place) (lawful_shows folder place)
+keeps now (Run (command.Scan file)) = keeps_on_shelf (scans file) (lawful_scans file)
+keeps now (Wrong which) = keeps_on_shelf (says (usage which)) (lawful_saying (usage which) (some_usage which) (λ is. absurd (cc is)))
+keeps now (Refuse why) = keeps_on_shelf (says (refused why)) (lawful_saying (refused why) (some_refusal why) (λ is. absurd (cc is)))
 
 pub only_spoiled : (now : ℕ) (world : World State) (entry : Entry) (stepped : Stepped (World State)) → (act now entry).Step world stepped → stepped.class ≡ Damaged → IsSpoiled world.state
-only_spoiled now world entry stepped step damaged = absurd (true≢false (sym ((lawful now entry).damage_of_board world stepped step damaged) ∙ off_board now entry))
+only_spoiled now world entry stepped step damaged = (keeps now entry).only_spoiled world stepped step damaged
 
 pub still_spoiled : (now : ℕ) (world : World State) (entry : Entry) (stepped : Stepped (World State)) → (act now entry).Step world stepped → IsSpoiled stepped.world.state → IsSpoiled world.state
-still_spoiled now world entry stepped step spoiled = subst IsSpoiled ((lawful now entry).leaves_board (off_board now entry) world stepped step) spoiled
-
--- the files up to a number are empty, or one of them isn't
-empty_cases : (count : ℕ) (files : Files) → ((file : ℕ) → file < count → files file ≡ []) ⊎ ((file : ℕ) × (files file ≢ []))
-empty_cases zero files = inl (λ file below. absurd (omega (arith, below)))
-empty_cases (suc count) files = ⊎_elim (λ front. last front (files count) refl) (λ some. inr some) (empty_cases count files)
-  where
-    last : ((file : ℕ) → file < count → files file ≡ []) → (bytes : List ℕ) → files count ≡ bytes → ((file : ℕ) → file < suc count → files file ≡ []) ⊎ ((file : ℕ) × (files file ≢ []))
-    last front [] is = inl (λ file below. elim (cases_eq file count) [
-      | inl same ↦ ap files same ∙ is
-      | inr other ↦ front file (omega (arith, below, other))
-    ])
-    last front (b ∷ bytes) is = inr (count, λ none. let never : b ∷ bytes ≡ [] = sym is ∙ none in absurd (cc never))
-
--- nothing is held at a number that no file has
-past_files : (files : Files) (file : ℕ) → 258 ≤ file → data_files files file ≡ []
-past_files files file past = cond-false (is_data_file file) _ _ (ap (λ (b : Bool). b && not (file == 1)) (le-ltb file 258 past))
-
-pub some_state : (files : Files) → (state : State) × Stores state files
-some_state files = ⊎_elim
-    (λ empty. (NotMade, λ i file. all empty file i))
-    (λ some. (Spoiled (data_files files), (refl, λ none. some.1 (λ i. none i some.0))))
-    (empty_cases 258 (data_files files))
-  where
-    all : ((file : ℕ) → file < 258 → data_files files file ≡ []) → (file : ℕ) → data_files files file ≡ []
-    all empty file = elim (cases_lt file 258) [
-      | inl below ↦ empty file below
-      | inr past ↦ past_files files file past
-    ]
-
-pub one_state : (files : Files) (a b : State) → Stores a files → Stores b files → a ≡ b
-one_state files NotMade NotMade x y = refl
-one_state files NotMade (Spoiled held) x y = absurd (y.1 x)
-one_state files (Spoiled held) NotMade x y = absurd (x.1 y)
-one_state files (Spoiled held) (Spoiled other) x y = ap Spoiled (x.0 ∙ sym y.0)
+still_spoiled now world entry stepped step spoiled = (keeps now entry).still_spoiled world stepped step spoiled

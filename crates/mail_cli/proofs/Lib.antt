@@ -1,3 +1,4 @@
+pub mod Arms
 pub mod EntryLaws
 pub mod OneCommand
 pub mod Wrongs

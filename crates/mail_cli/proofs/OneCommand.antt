@@ -3,15 +3,16 @@ use Rattle.std.proofs.Common.{◌≡◌, inl, inr, ℕ, List, [], ◌∷◌, Opt
 use Rattle.std.specs.List.{find}
 use Rattle.std.specs.Str.{bytes_eq}
 use Rattle.std.specs.Str.Parse.{digits_value}
+use Rattle.command_words.specs.NumberWord.{NumberWord}
 use Rattle.mail_cli.specs.declared.command.Command.{Command}
 use Rattle.mail_cli.specs.declared.command.Command.TheVariants as command
 use Rattle.mail_cli.specs.declared.verb.Verb.{Verb}
-use Rattle.mail_cli.specs.declared.verb.Verb.TheVariants.{ListFile, ReadFolder, ScanFile}
-use Rattle.mail_cli.specs.Words.{first_word, NumberWord, ReadsBehind, CommandReads}
+use Rattle.mail_cli.specs.declared.verb.Verb.TheVariants.{CheckBoard, ComposeSheet, EnrollUser, ImportSheet, InitBoard, KillMessage, ListFile, ReadFolder, ReplyTo, ScanFile}
+use Rattle.mail_cli.specs.Words.{first_word, ReadsBehind, CommandReads, WritingReads}
 
 -- all verbs in order
 verbs : List Verb
-verbs = ListFile ∷ ReadFolder ∷ ScanFile ∷ []
+verbs = CheckBoard ∷ ComposeSheet ∷ EnrollUser ∷ ImportSheet ∷ InitBoard ∷ KillMessage ∷ ListFile ∷ ReadFolder ∷ ReplyTo ∷ ScanFile ∷ []
 
 -- the verb of a first word
 verb_of : List ℕ → Option Verb
@@ -20,8 +21,15 @@ verb_of word = find (λ verb. bytes_eq (first_word verb) word) verbs
 -- a line for each: its first word is that of no verb before it
 verb_back : (verb : Verb) → verb_of (first_word verb) ≡ Some verb
 unfolding verb_of verbs
+verb_back CheckBoard = refl
+verb_back ComposeSheet = refl
+verb_back EnrollUser = refl
+verb_back ImportSheet = refl
+verb_back InitBoard = refl
+verb_back KillMessage = refl
 verb_back ListFile = refl
 verb_back ReadFolder = refl
+verb_back ReplyTo = refl
 verb_back ScanFile = refl
 
 one_verb : (a b : Verb) → first_word a ≡ first_word b → a ≡ b
@@ -30,8 +38,45 @@ one_verb a b same = let e : Some a ≡ Some b = sym (verb_back a) ∙ ap verb_of
 one_number : (word other : List ℕ) (m n : ℕ) → word ≡ other → NumberWord word m → NumberWord other n → m ≡ n
 one_number word other m n same a b = a.digits.value ∙ ap (λ (w : List ℕ). digits_value 10 w) same ∙ sym b.digits.value
 
+-- four words name one folder, number, file and reply packet at most
+module _ {words : List (List ℕ)} {folder file rep folder_b file_b rep_b : List ℕ} {number number_b : ℕ} (x : WritingReads words folder number file rep) (y : WritingReads words folder_b number_b file_b rep_b) where
+  same_folder : folder ≡ folder_b
+  same_folder = let e = sym x.whole ∙ y.whole in cc
+
+  same_file : file ≡ file_b
+  same_file = let e = sym x.whole ∙ y.whole in cc
+
+  same_rep : rep ≡ rep_b
+  same_rep = let e = sym x.whole ∙ y.whole in cc
+
+  same_number : number ≡ number_b
+  same_number = let e = sym x.whole ∙ y.whole in let word : x.word ≡ y.word = cc in one_number x.word y.word number number_b word x.number_is y.number_is
+
 -- behind a verb stands one command at most: a line for each
 behind_unique : (verb : Verb) (words : List (List ℕ)) (a b : Command) → ReadsBehind verb words a → ReadsBehind verb words b → a ≡ b
+behind_unique CheckBoard words a b x y = x.1 ∙ sym y.1
+behind_unique ComposeSheet words a b x y =
+    x.5 ∙ (λ i. command.Compose (same_folder x.4 y.4 i) (same_number x.4 y.4 i) (same_file x.4 y.4 i) (same_rep x.4 y.4 i)) ∙ sym y.5
+behind_unique EnrollUser words a b x y =
+    let e = sym x.3 ∙ y.3 in
+    let name : x.0 ≡ y.0 = cc in
+    let flags : x.1 ≡ y.1 = cc in
+    let conferences : x.2 ≡ y.2 = cc in
+    x.6 ∙ (λ i. command.Enroll (name i) (flags i) (conferences i)) ∙ sym y.6
+behind_unique ImportSheet words a b x y =
+    let e = sym x.3 ∙ y.3 in
+    let word : x.0 ≡ y.0 = cc in
+    let file : x.1 ≡ y.1 = cc in
+    let conference : x.2 ≡ y.2 = one_number x.0 y.0 x.2 y.2 word x.4 y.4 in
+    x.6 ∙ (λ i. command.Import (conference i) (file i)) ∙ sym y.6
+behind_unique InitBoard words a b x y = let e = sym x.1 ∙ y.1 in let file : x.0 ≡ y.0 = cc in x.3 ∙ ap command.Init file ∙ sym y.3
+behind_unique KillMessage words a b x y =
+    let e = sym x.4 ∙ y.4 in
+    let word : x.0 ≡ y.0 = cc in
+    let other : x.1 ≡ y.1 = cc in
+    let conference : x.2 ≡ y.2 = one_number x.0 y.0 x.2 y.2 word x.5 y.5 in
+    let number : x.3 ≡ y.3 = one_number x.1 y.1 x.3 y.3 other x.6 y.6 in
+    x.7 ∙ (λ i. command.Kill (conference i) (number i)) ∙ sym y.7
 behind_unique ListFile words a b x y = let e = sym x.1 ∙ y.1 in let file : x.0 ≡ y.0 = cc in x.3 ∙ ap command.List file ∙ sym y.3
 behind_unique ReadFolder words a b (inl x) (inl y) = let e = sym x.1 ∙ y.1 in let folder : x.0 ≡ y.0 = cc in x.3 ∙ ap command.Read folder ∙ sym y.3
 behind_unique ReadFolder words a b (inl x) (inr y) = let e = sym x.1 ∙ y.3 in cc
@@ -42,6 +87,8 @@ behind_unique ReadFolder words a b (inr x) (inr y) =
     let word : x.1 ≡ y.1 = cc in
     let place : x.2 ≡ y.2 = one_number x.1 y.1 x.2 y.2 word x.5 y.5 in
     x.6 ∙ (λ i. command.Show (folder i) (place i)) ∙ sym y.6
+behind_unique ReplyTo words a b x y =
+    x.5 ∙ (λ i. command.Reply (same_folder x.4 y.4 i) (same_number x.4 y.4 i) (same_file x.4 y.4 i) (same_rep x.4 y.4 i)) ∙ sym y.5
 behind_unique ScanFile words a b x y = let e = sym x.1 ∙ y.1 in let file : x.0 ≡ y.0 = cc in x.3 ∙ ap command.Scan file ∙ sym y.3
 
 -- what stands behind a first word is read by its verb

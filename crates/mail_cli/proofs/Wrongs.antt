@@ -15,7 +15,7 @@ use Rattle.door_outside.specs.Shelf.{Files}
 use Rattle.entry_runs.proofs.Running.{starts, survives}
 use Rattle.intent_journal.specs.Hosts.{IsSettled}
 use Rattle.mail_cli.proofs.EntryLaws.{lawful}
-use Rattle.mail_cli.specs.Board.{unread}
+use Rattle.board_commands.specs.Kept.{unread}
 use Rattle.mail_cli.specs.Run.{EntryReads, IsWrong, HasWrong, BeginsWrong, AnswersUsage, RunSurvives}
 use Rattle.mail_cli.specs.Step.{door}
 use Rattle.mail_cli.specs.Words.{IsNoCommand}

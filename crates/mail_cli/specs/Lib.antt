@@ -1,5 +1,5 @@
 pub mod Answers
-pub mod Board
 pub mod Run
 pub mod Step
 pub mod Words
+pub mod Writing

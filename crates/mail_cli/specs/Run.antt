@@ -5,6 +5,7 @@ use Rattle.door_outside.specs.Name.{HasParts}
 use Rattle.door_outside.specs.Shelf.{Files}
 use Rattle.entry_runs.specs.Door.{World, here, any_touches}
 use Rattle.entry_runs.specs.Entry as Entry
+use Rattle.entry_runs.specs.Entry.{Reply}
 use Rattle.entry_runs.specs.Promise as Promise
 use Rattle.entry_runs.specs.Promise.{Counts}
 use Rattle.entry_runs.specs.declared.class.Class.{Class}
@@ -12,9 +13,10 @@ use Rattle.entry_runs.specs.declared.status.Status.{Status}
 use Rattle.entry_runs.specs.declared.status.Status.TheVariants as status
 use Rattle.entry_runs.specs.declared.stop.Stop.{Stop}
 use Rattle.intent_journal.specs.Recovered.{recovered}
-use Rattle.mail_cli.specs.Board.{State, Stores, IsSpoiled, unread}
-use Rattle.mail_cli.specs.Step.{act, door}
-use Rattle.mail_cli.specs.Words.{CommandReads, IsNoCommand}
+use Rattle.board_commands.specs.Kept.{unread}
+use Rattle.board_commands.specs.State.{State, Stores, IsSpoiled}
+use Rattle.mail_cli.specs.Step.{act, does, door}
+use Rattle.mail_cli.specs.Words.{CommandReads, IsNoCommand, NamesConferences}
 use Rattle.mail_cli.specs.declared.command.Command.{Command}
 use Rattle.mail_cli.specs.declared.command.Command.TheVariants as command
 use Rattle.mail_cli.specs.declared.entry.Entry as entry
@@ -34,8 +36,15 @@ EntriesRead words entries = (one : entry.Entry) × EntryReads words one × (entr
 
 -- the names in a command are such as its words have
 abbrev pub CanRun : Command → Type 0
+CanRun command.Check = Unit {0}
+CanRun (command.Compose folder conference sheet rep) = HasParts 3 folder
+CanRun (command.Enroll name flags conferences) = NamesConferences conferences
+CanRun (command.Import conference file) = Unit {0}
+CanRun (command.Init file) = Unit {0}
+CanRun (command.Kill conference number) = Unit {0}
 CanRun (command.List file) = Unit {0}
 CanRun (command.Read folder) = HasParts 3 folder
+CanRun (command.Reply folder place text rep) = HasParts 3 folder
 CanRun (command.Show folder place) = HasParts 3 folder
 CanRun (command.Scan file) = Unit {0}
 
@@ -70,6 +79,11 @@ FromEntry old shelf P = (state : State) → Stores state (recovered old.files) �
 -- it ends as damaged only where the data files at entry are neither all empty nor a board
 abbrev pub DamagedOnlyIfSpoiled : Status → Disk → Files → Type 0
 DamagedOnlyIfSpoiled result old shelf = FromEntry old shelf (λ start. result ≡ status.Damaged → IsSpoiled start.state)
+
+-- in each world that stands at entry, this is what the command did, before its reply is said
+abbrev pub CommandWorks : ℕ → Command → Disk → Disk → Files → Files → Result Reply Stop → Type 0
+CommandWorks now c old new shelf later result =
+    (world : World State) → Entry.IsAt Stores unread world old shelf → Entry.Works Stores (does now c) unread world old new later result
 
 -- in each world that stands at entry, this is what the entry did, its reply included
 abbrev pub Performs : ℕ → entry.Entry → Disk → Disk → Files → Files → Result Class Stop → Type 0

@@ -2,30 +2,44 @@
 use Rattle.std.specs.Prelude.{◌≡◌, ℕ}
 use Rattle.entry_runs.specs.Door.{Act, Door}
 use Rattle.entry_runs.specs.Entry.{Reply, ShelfAct, on_shelf, looks}
+use Rattle.board_commands.specs.Check.{checks}
+use Rattle.board_commands.specs.Enroll.{enrolls}
+use Rattle.board_commands.specs.Init.{inits}
+use Rattle.board_commands.specs.State.{State, Stores}
+use Rattle.message_commands.specs.Import.{imports}
+use Rattle.message_commands.specs.Kill.{kills}
 use Rattle.packet_commands.specs.List.{lists}
 use Rattle.packet_commands.specs.Read.{reads, shows}
 use Rattle.packet_commands.specs.Scan.{scans}
+use Rattle.reply_commands.specs.Compose.{composes}
+use Rattle.reply_commands.specs.Reply.{replies}
 use Rattle.shelf_files.specs.Halts.{refused}
 use Rattle.mail_cli.specs.Answers.{usage}
-use Rattle.mail_cli.specs.Board.{State, Stores}
 use Rattle.mail_cli.specs.declared.command.Command.{Command}
 use Rattle.mail_cli.specs.declared.command.Command.TheVariants as command
 use Rattle.mail_cli.specs.declared.entry.Entry.{Entry}
 use Rattle.mail_cli.specs.declared.entry.Entry.TheVariants.{Run, Wrong, Refuse}
 
 -- one line for each command: what it does at a moment, and what it may reach
-abbrev pub does : ℕ → Command → ShelfAct
-does now (command.List file) = lists file
-does now (command.Read folder) = reads folder
-does now (command.Show folder place) = shows folder place
-does now (command.Scan file) = scans file
+abbrev pub does : ℕ → Command → Act State
+does now command.Check = checks
+does now (command.Compose folder conference sheet rep) = on_shelf (composes folder conference sheet rep now)
+does now (command.Enroll name flags conferences) = enrolls name flags conferences
+does now (command.Import conference file) = imports conference file now
+does now (command.Init file) = inits file now
+does now (command.Kill conference number) = kills conference number
+does now (command.List file) = on_shelf (lists file)
+does now (command.Read folder) = on_shelf (reads folder)
+does now (command.Reply folder place text rep) = on_shelf (replies folder place text rep now)
+does now (command.Show folder place) = on_shelf (shows folder place)
+does now (command.Scan file) = on_shelf (scans file)
 
 -- something is said, and nothing changes
 abbrev pub says : Reply → ShelfAct
 says reply = looks (λ shelf answer. answer ≡ reply)
 
 abbrev pub act : ℕ → Entry → Act State
-act now (Run command) = on_shelf (does now command)
+act now (Run command) = does now command
 act now (Wrong which) = on_shelf (says (usage which))
 act now (Refuse why) = on_shelf (says (refused why))
 

@@ -1,7 +1,19 @@
+ghost use Rattle.std.specs.Prelude.{◌≡◌, ◌++◌, decimal, IsTrue};
+ghost use Rattle.board_commands.specs.Enroll.{enrolled_line};
+ghost use Rattle.board_commands.specs.Init.{made_line};
+ghost use Rattle.door_outside.specs.Cause.{HasCause};
+ghost use Rattle.entry_runs.specs.Saying.{Voiced};
+ghost use Rattle.message_commands.specs.Import.{imported_line};
+ghost use Rattle.message_commands.specs.Kill.{killed_line};
+ghost use Rattle.reply_commands.specs.Writing.{total_text};
+
+use board_commands::{BoardHalt, Enrolled, say_damage};
 use byte_lists::Bytes;
-use door_outside::{Host, VoiceFault};
+use door_outside::{Host, ShelfName, VoiceFault};
 use entry_runs::{Class, Stop, say_all};
 use itoa::Buffer;
+use jam_records::Damage;
+use reply_commands::Added;
 use shelf_files::{Halt, Refusal};
 
 /// What a command answers.
@@ -11,16 +23,150 @@ pub enum Answer {
     Text(Bytes),
     /// It was carried out, and counted so many messages.
     Counted(u32),
+    /// It made a board of so many conferences.
+    Made(u8),
+    /// It enrolled a user.
+    Enrolled(Enrolled),
+    /// It appended so many messages in the conference of a number.
+    Imported {
+        conference: u32,
+        count: u32,
+    },
+    /// It deleted the message of a number in the conference of a number.
+    Killed {
+        conference: u32,
+        number: u32,
+    },
+    /// It added a reply to the message in a place to the reply packet of a name.
+    Replied {
+        place: u32,
+        rep: ShelfName,
+        added: Added,
+    },
+    /// It added messages to the reply packet of a name.
+    Composed {
+        rep: ShelfName,
+        added: Added,
+    },
     /// It was refused.
     Refused(Refusal),
+    /// The data files are no board's.
+    Damaged(Damage),
+}
+
+/// Says the line of a new board.
+fn say_made<H: Host>(host: &mut H, count: u8) -> Result<(), VoiceFault>
+    ensures voiced { IsTrue H.tells → Voiced (made_line count) (H.disk host.old) (H.disk host.new) result }
+    ensures cause { HasCause (H.voice_faults host.old) (H.voice_faults host.new) result }
+    ensures disk { H.disk_faults host.new ≡ H.disk_faults host.old }
+{
+    let mut buffer = Buffer::new();
+    say_all(
+        host,
+        &[b"made ", buffer.format(count).as_bytes(), b" conferences\n"],
+    )
+}
+
+/// Says the line of a new user.
+fn say_enrolled<H: Host>(host: &mut H, user: &Enrolled) -> Result<(), VoiceFault>
+    ensures voiced { IsTrue H.tells → Voiced (enrolled_line user.now) (H.disk host.old) (H.disk host.new) result }
+    ensures cause { HasCause (H.voice_faults host.old) (H.voice_faults host.new) result }
+    ensures disk { H.disk_faults host.new ≡ H.disk_faults host.old }
+{
+    let mut buffer = Buffer::new();
+    say_all(
+        host,
+        &[
+            b"user ",
+            buffer.format(user.id).as_bytes(),
+            b" ",
+            user.name.as_slice(),
+            b"\n",
+        ],
+    )
+}
+
+/// Says the line of imported messages.
+fn say_imported<H: Host>(host: &mut H, conference: u32, count: u32) -> Result<(), VoiceFault>
+    ensures voiced { IsTrue H.tells → Voiced (imported_line conference count) (H.disk host.old) (H.disk host.new) result }
+    ensures cause { HasCause (H.voice_faults host.old) (H.voice_faults host.new) result }
+    ensures disk { H.disk_faults host.new ≡ H.disk_faults host.old }
+{
+    let mut many = Buffer::new();
+    let mut number = Buffer::new();
+    say_all(
+        host,
+        &[
+            b"imported ",
+            many.format(count).as_bytes(),
+            b" into ",
+            number.format(conference).as_bytes(),
+            b"\n",
+        ],
+    )
+}
+
+/// Says the line of a deleted message.
+fn say_killed<H: Host>(host: &mut H, conference: u32, number: u32) -> Result<(), VoiceFault>
+    ensures voiced { IsTrue H.tells → Voiced (killed_line conference number) (H.disk host.old) (H.disk host.new) result }
+    ensures cause { HasCause (H.voice_faults host.old) (H.voice_faults host.new) result }
+    ensures disk { H.disk_faults host.new ≡ H.disk_faults host.old }
+{
+    let mut place = Buffer::new();
+    let mut message = Buffer::new();
+    say_all(
+        host,
+        &[
+            b"killed ",
+            place.format(conference).as_bytes(),
+            b" ",
+            message.format(number).as_bytes(),
+            b"\n",
+        ],
+    )
+}
+
+/// Says the line of a reply packet that was written: words, a number, and how many messages it has under its name.
+fn say_written<H: Host>(
+    host: &mut H,
+    words: &[u8],
+    number: u64,
+    total: u64,
+    rep: &ShelfName,
+) -> Result<(), VoiceFault>
+    ensures voiced { IsTrue H.tells → Voiced (words.now ++ (decimal number ++ total_text total rep.now)) (H.disk host.old) (H.disk host.new) result }
+    ensures cause { HasCause (H.voice_faults host.old) (H.voice_faults host.new) result }
+    ensures disk { H.disk_faults host.new ≡ H.disk_faults host.old }
+{
+    let mut first = Buffer::new();
+    let mut last = Buffer::new();
+    say_all(
+        host,
+        &[
+            words,
+            first.format(number).as_bytes(),
+            b", ",
+            last.format(total).as_bytes(),
+            b" in ",
+            rep.as_slice(),
+            b"\n",
+        ],
+    )
 }
 
 impl Answer {
-    ghost use Rattle.std.specs.Prelude.{◌≡◌, IsTrue};
+    ghost use Rattle.std.specs.Prelude.{◌≡◌, Err, IsTrue};
     ghost use Rattle.door_outside.specs.Cause.{HasCause};
     ghost use Rattle.entry_runs.specs.Saying.{Voiced};
     ghost use Rattle.packet_commands.specs.Scan.{count_line};
     ghost use Rattle.shelf_files.specs.Halts.{served};
+    ghost use Rattle.board_commands.specs.Enroll.{enrolled_line};
+    ghost use Rattle.board_commands.specs.Halts.{told};
+    ghost use Rattle.board_commands.specs.Init.{made_line};
+    ghost use Rattle.message_commands.specs.Import.{imported_line};
+    ghost use Rattle.message_commands.specs.Kill.{killed_line};
+    ghost use Rattle.reply_commands.specs.Compose.{composed_line};
+    ghost use Rattle.reply_commands.specs.Reply.{reply_line};
     ghost use Rattle.mail_cli.specs.Answers.{reply_of, answered};
 
     /// What a command over the shelf answers, whose reply is a text, or why the run stops.
@@ -47,13 +193,112 @@ impl Answer {
         }
     }
 
+    /// What a command that touches the board answers where it isn't carried out, or why the run stops.
+    fn of_halt(halt: BoardHalt) -> Result<Answer, Stop>
+        ensures { answered result ≡ told (λ text. text) (Err halt) }
+    {
+        match halt {
+            BoardHalt::Refused(refusal) => Ok(Answer::Refused(refusal)),
+            BoardHalt::Damaged(damage) => Ok(Answer::Damaged(damage)),
+            BoardHalt::DiskFault => Err(Stop::DiskFault),
+            BoardHalt::ShelfFault => Err(Stop::ShelfFault),
+            BoardHalt::OutOfMemory => Err(Stop::OutOfMemory),
+        }
+    }
+
+    /// What a command answers that touches the board and whose reply is a text, or why the run stops.
+    pub fn of_report(reply: Result<Bytes, BoardHalt>) -> Result<Answer, Stop>
+        ensures { answered result ≡ told (λ text. text) reply }
+    {
+        match reply {
+            Ok(text) => Ok(Answer::Text(text)),
+            Err(halt) => Answer::of_halt(halt),
+        }
+    }
+
+    /// What a command answers that makes a board of so many conferences, or why the run stops.
+    pub fn of_made(reply: Result<u8, BoardHalt>) -> Result<Answer, Stop>
+        ensures { answered result ≡ told made_line reply }
+    {
+        match reply {
+            Ok(count) => Ok(Answer::Made(count)),
+            Err(halt) => Answer::of_halt(halt),
+        }
+    }
+
+    /// What a command answers that enrolls a user, or why the run stops.
+    pub fn of_enrolled(reply: Result<Enrolled, BoardHalt>) -> Result<Answer, Stop>
+        ensures { answered result ≡ told enrolled_line reply }
+    {
+        match reply {
+            Ok(user) => Ok(Answer::Enrolled(user)),
+            Err(halt) => Answer::of_halt(halt),
+        }
+    }
+
+    /// What a command answers that appends messages in the conference of a number, or why the run stops.
+    pub fn of_imported(conference: u32, reply: Result<u32, BoardHalt>) -> Result<Answer, Stop>
+        ensures { answered result ≡ told (imported_line conference) reply }
+    {
+        match reply {
+            Ok(count) => Ok(Answer::Imported { conference, count }),
+            Err(halt) => Answer::of_halt(halt),
+        }
+    }
+
+    /// What a command answers that deletes a message, or why the run stops.
+    pub fn of_killed(
+        conference: u32,
+        number: u32,
+        reply: Result<(), BoardHalt>,
+    ) -> Result<Answer, Stop>
+        ensures { answered result ≡ told (λ _. killed_line conference number) reply }
+    {
+        match reply {
+            Ok(()) => Ok(Answer::Killed { conference, number }),
+            Err(halt) => Answer::of_halt(halt),
+        }
+    }
+
+    /// What a command answers that adds a reply to the reply packet of a name, or why the run stops.
+    pub fn of_replied(
+        place: u32,
+        rep: ShelfName,
+        reply: Result<Added, Halt>,
+    ) -> Result<Answer, Stop>
+        ensures { answered result ≡ served (reply_line place rep) reply }
+    {
+        match reply {
+            Ok(added) => Ok(Answer::Replied { place, rep, added }),
+            Err(Halt::Refused(refusal)) => Ok(Answer::Refused(refusal)),
+            Err(Halt::ShelfFault) => Err(Stop::ShelfFault),
+            Err(Halt::OutOfMemory) => Err(Stop::OutOfMemory),
+        }
+    }
+
+    /// What a command answers that adds messages to the reply packet of a name, or why the run stops.
+    pub fn of_composed(rep: ShelfName, reply: Result<Added, Halt>) -> Result<Answer, Stop>
+        ensures { answered result ≡ served (composed_line rep) reply }
+    {
+        match reply {
+            Ok(added) => Ok(Answer::Composed { rep, added }),
+            Err(Halt::Refused(refusal)) => Ok(Answer::Refused(refusal)),
+            Err(Halt::ShelfFault) => Err(Stop::ShelfFault),
+            Err(Halt::OutOfMemory) => Err(Stop::OutOfMemory),
+        }
+    }
+
     /// How the entry went that answers so.
     pub fn class(&self) -> Class
         ensures { result ≡ (reply_of self.now).class }
     {
         match self {
             Answer::Text(_) | Answer::Counted(_) => Class::Done,
+            Answer::Made(_) | Answer::Enrolled(_) => Class::Done,
+            Answer::Imported { .. } | Answer::Killed { .. } => Class::Done,
+            Answer::Replied { .. } | Answer::Composed { .. } => Class::Done,
             Answer::Refused(_) => Class::Refused,
+            Answer::Damaged(_) => Class::Damaged,
         }
     }
 
@@ -69,7 +314,18 @@ impl Answer {
                 let mut buffer = Buffer::new();
                 say_all(host, &[buffer.format(*count).as_bytes(), b" messages\n"])
             }
+            Answer::Made(count) => say_made(host, *count),
+            Answer::Enrolled(user) => say_enrolled(host, user),
+            Answer::Imported { conference, count } => say_imported(host, *conference, *count),
+            Answer::Killed { conference, number } => say_killed(host, *conference, *number),
+            Answer::Replied { place, rep, added } => {
+                say_written(host, b"replied to ", u64::from(*place), added.total, rep)
+            }
+            Answer::Composed { rep, added } => {
+                say_written(host, b"composed ", added.messages, added.total, rep)
+            }
             Answer::Refused(refusal) => refusal.say(host),
+            Answer::Damaged(damage) => say_damage(host, damage),
         }
     }
 }

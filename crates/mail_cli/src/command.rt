@@ -1,26 +1,161 @@
-ghost use Rattle.std.specs.Prelude.{◌≡◌, ◌∷◌, [], ℕ, IfOk, MatchOption};
-ghost use Rattle.door_outside.specs.Name.{HasParts};
-ghost use Rattle.mail_cli.specs.Words.{NumberWord, BehindOf};
-ghost use Rattle.mail_cli.specs.declared.verb.Verb.TheVariants.{ListFile, ReadFolder, ScanFile};
+ghost use Rattle.std.specs.Prelude.{◌↔◌, ◌∷◌, [], IfOk, IsTrue};
+ghost use Rattle.mail_cli.specs.Words.{BehindOf, IsFlags, NamesConferences};
+ghost use Rattle.mail_cli.specs.declared.verb.Verb.TheVariants.{CheckBoard, ComposeSheet, EnrollUser, ImportSheet, InitBoard, KillMessage, ListFile, ReadFolder, ReplyTo, ScanFile};
 
+use crate::names::folder_of;
 use crate::verb::Verb;
 use crate::words::Words;
+use crate::writing::writing_of;
 use byte_lists::Bytes;
+use command_words::{Choice, number_of};
 use door_outside::ShelfName;
 use std::alloc::{AllocError, Global};
-use text_fields::digits_of;
 
 /// A command of the door.
 #[derive(Debug, Drop)]
 pub enum Command {
+    /// `check`: says what the board has.
+    Check,
+    /// `compose FOLDER CONF SHEET REP`: adds the messages of a sheet, to the conference of a number, to the reply
+    /// packet of the name REP. The folder is a packet's, and has at most 3 parts.
+    Compose {
+        folder: ShelfName,
+        conference: u32,
+        sheet: ShelfName,
+        rep: ShelfName,
+    },
+    /// `enroll NAME FLAGS CONFS`: enrolls a user, who may send net mail where FLAGS is `n`, as a member of the
+    /// conferences that CONFS names.
+    Enroll {
+        name: Bytes,
+        flags: Bytes,
+        conferences: Bytes,
+    },
+    /// `import CONF FILE`: appends the messages of a sheet in the conference of a number.
+    Import {
+        conference: u32,
+        file: ShelfName,
+    },
+    /// `init FILE`: makes the board of a setup file.
+    Init {
+        file: ShelfName,
+    },
+    /// `kill CONF N`: deletes the message of the number N in the conference of a number.
+    Kill {
+        conference: u32,
+        number: u32,
+    },
     /// `list FILE`: lists the messages of a packet's file.
-    List { file: ShelfName },
+    List {
+        file: ShelfName,
+    },
     /// `read FOLDER`: lists the messages of a packet's folder, which has at most 3 parts.
-    Read { folder: ShelfName },
+    Read {
+        folder: ShelfName,
+    },
+    /// `reply FOLDER N TEXT REP`: adds a reply to the message in place N of the packet, from 1, to the reply packet of
+    /// the name REP. Its lines are those of the file TEXT, and the folder has at most 3 parts.
+    Reply {
+        folder: ShelfName,
+        place: u32,
+        text: ShelfName,
+        rep: ShelfName,
+    },
     /// `read FOLDER N`: shows the message in place N of the packet, from 1.
-    Show { folder: ShelfName, place: u32 },
+    Show {
+        folder: ShelfName,
+        place: u32,
+    },
     /// `scan FILE`: counts the messages of a packet's file, without memory for them.
-    Scan { file: ShelfName },
+    Scan {
+        file: ShelfName,
+    },
+}
+
+/// The command of `check` with the words behind it.
+fn parse_check(rest: &[Bytes]) -> Option<Command>
+    ensures { BehindOf CheckBoard rest.now result }
+{
+    match rest {
+        [] => Some(Command::Check),
+        _ => None,
+    }
+}
+
+/// Whether a word is `-` or `n`.
+fn are_flags(word: &[u8]) -> bool
+    ensures { IsTrue result ↔ IsFlags word.now }
+{
+    word == b"-".as_slice() || word == b"n".as_slice()
+}
+
+/// Whether a word names conferences: all, or some by their numbers.
+fn names_conferences(alloc: Global, word: &[u8]) -> Result<bool, AllocError>
+    ensures { IfOk result (λ names. IsTrue names ↔ NamesConferences word.now) }
+{
+    Ok(Choice::parse(alloc, word)?.is_some())
+}
+
+/// The command of `enroll` with the words behind it.
+fn parse_enroll(alloc: Global, rest: &[Bytes]) -> Result<Option<Command>, AllocError>
+    ensures { IfOk result (BehindOf EnrollUser rest.now) }
+{
+    let [name, flags, conferences] = rest else {
+        return Ok(None);
+    };
+    if !are_flags(flags.as_slice()) || !names_conferences(alloc, conferences.as_slice())? {
+        return Ok(None);
+    }
+    Ok(Some(Command::Enroll {
+        name: name.copy(alloc)?,
+        flags: flags.copy(alloc)?,
+        conferences: conferences.copy(alloc)?,
+    }))
+}
+
+/// The command of `import` with the words behind it.
+fn parse_import(alloc: Global, rest: &[Bytes]) -> Result<Option<Command>, AllocError>
+    ensures { IfOk result (BehindOf ImportSheet rest.now) }
+{
+    let [conference, file] = rest else {
+        return Ok(None);
+    };
+    let Some(conference) = number_of(conference.as_slice()) else {
+        return Ok(None);
+    };
+    match ShelfName::parse(alloc, file.as_slice())? {
+        Some(file) => Ok(Some(Command::Import { conference, file })),
+        None => Ok(None),
+    }
+}
+
+/// The command of `kill` with the words behind it.
+fn parse_kill(rest: &[Bytes]) -> Option<Command>
+    ensures { BehindOf KillMessage rest.now result }
+{
+    let [conference, number] = rest else {
+        return None;
+    };
+    let Some(conference) = number_of(conference.as_slice()) else {
+        return None;
+    };
+    match number_of(number.as_slice()) {
+        Some(number) => Some(Command::Kill { conference, number }),
+        None => None,
+    }
+}
+
+/// The command of `init` with the words behind it.
+fn parse_init(alloc: Global, rest: &[Bytes]) -> Result<Option<Command>, AllocError>
+    ensures { IfOk result (BehindOf InitBoard rest.now) }
+{
+    let [file] = rest else {
+        return Ok(None);
+    };
+    match ShelfName::parse(alloc, file.as_slice())? {
+        Some(file) => Ok(Some(Command::Init { file })),
+        None => Ok(None),
+    }
 }
 
 /// The command of `list` with the words behind it.
@@ -46,29 +181,6 @@ fn parse_scan(alloc: Global, rest: &[Bytes]) -> Result<Option<Command>, AllocErr
     match ShelfName::parse(alloc, file.as_slice())? {
         Some(file) => Ok(Some(Command::Scan { file })),
         None => Ok(None),
-    }
-}
-
-/// The folder that a word names: a shelf name of at most 3 parts.
-fn folder_of(alloc: Global, word: &[u8]) -> Result<Option<ShelfName>, AllocError>
-    ensures { IfOk result (λ found. MatchOption found (¬ HasParts 3 word.now) (λ name. HasParts 3 word.now × (name ≡ word.now))) }
-{
-    match ShelfName::parse(alloc, word)? {
-        Some(name) if name.is_folder() => Ok(Some(name)),
-        _ => Ok(None),
-    }
-}
-
-/// The number of a word.
-fn number_of(word: &[u8]) -> Option<u32>
-    ensures { MatchOption result ((n : ℕ) → ¬ NumberWord word.now n) (NumberWord word.now) }
-{
-    if word.len() > 10 {
-        return None;
-    }
-    match digits_of(word) {
-        Some(n) if n <= 4_294_967_295 => Some(n as u32),
-        _ => None,
     }
 }
 
@@ -106,13 +218,50 @@ fn parse_read(alloc: Global, rest: &[Bytes]) -> Result<Option<Command>, AllocErr
     }
 }
 
+/// The command of `reply` with the words behind it.
+fn parse_reply(alloc: Global, rest: &[Bytes]) -> Result<Option<Command>, AllocError>
+    ensures { IfOk result (BehindOf ReplyTo rest.now) }
+{
+    match writing_of(alloc, rest)? {
+        Some(writing) => Ok(Some(Command::Reply {
+            folder: writing.folder,
+            place: writing.number,
+            text: writing.file,
+            rep: writing.rep,
+        })),
+        None => Ok(None),
+    }
+}
+
+/// The command of `compose` with the words behind it.
+fn parse_compose(alloc: Global, rest: &[Bytes]) -> Result<Option<Command>, AllocError>
+    ensures { IfOk result (BehindOf ComposeSheet rest.now) }
+{
+    match writing_of(alloc, rest)? {
+        Some(writing) => Ok(Some(Command::Compose {
+            folder: writing.folder,
+            conference: writing.number,
+            sheet: writing.file,
+            rep: writing.rep,
+        })),
+        None => Ok(None),
+    }
+}
+
 /// The command of a verb with the words behind it.
 fn parse_behind(alloc: Global, verb: Verb, rest: &[Bytes]) -> Result<Option<Command>, AllocError>
     ensures { IfOk result (BehindOf verb rest.now) }
 {
     match verb {
+        Verb::CheckBoard => Ok(parse_check(rest)),
+        Verb::ComposeSheet => parse_compose(alloc, rest),
+        Verb::EnrollUser => parse_enroll(alloc, rest),
+        Verb::ImportSheet => parse_import(alloc, rest),
+        Verb::InitBoard => parse_init(alloc, rest),
+        Verb::KillMessage => Ok(parse_kill(rest)),
         Verb::ListFile => parse_list(alloc, rest),
         Verb::ReadFolder => parse_read(alloc, rest),
+        Verb::ReplyTo => parse_reply(alloc, rest),
         Verb::ScanFile => parse_scan(alloc, rest),
     }
 }

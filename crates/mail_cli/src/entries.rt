@@ -32,8 +32,9 @@ pub fn run_entries<H: Host, S: Shelf>(
     ensures wrong { BeginsWrong entries.now → AnswersUsage result }
 {
     let mut status = Status::Done;
+    let mut kept = None;
     for entry in entries {
-        let class = match perform(alloc, host, shelf, entry, now) {
+        let class = match perform(alloc, host, shelf, &mut kept, entry, now) {
             Ok(class) => class,
             Err(stop) => return stop.status(),
         };

@@ -3,7 +3,7 @@ ghost use Rattle.std.specs.Prelude.{◌≡◌, ℕ, List};
 ghost use Rattle.entry_runs.specs.Door.{World, AreLawful};
 ghost use Rattle.entry_runs.specs.Runs.{Stepped};
 ghost use Rattle.intent_journal.specs.Patches.{Files};
-ghost use Rattle.mail_cli.specs.Board.{State, Stores};
+ghost use Rattle.board_commands.specs.State.{State, Stores};
 ghost use Rattle.mail_cli.specs.Step.{act, door};
 ghost use Rattle.mail_cli.specs.Words.{CommandReads};
 ghost use Rattle.mail_cli.specs.declared.command.Command.{Command};

@@ -7,10 +7,12 @@ mod command;
 mod entries;
 mod entry;
 pub mod laws;
+mod names;
 mod perform;
 mod running;
 mod verb;
 mod words;
+mod writing;
 
 pub use command::Command;
 pub use entry::{Entry, Usage};

@@ -1,36 +1,134 @@
 //! One entry of a run.
 ghost use Rattle.std.specs.Prelude.{◌≡◌, ◌≢◌, ◌↔◌, IsTrue, IfOk, IfErr};
+ghost use Rattle.door_outside.specs.Name.{HasParts};
 ghost use Rattle.entry_runs.specs.Door.{touches};
 ghost use Rattle.entry_runs.specs.Entry.{Serves};
 ghost use Rattle.entry_runs.specs.Promise.{counts, ended, HasCauses};
-ghost use Rattle.intent_journal.specs.Hosts.{IsSettled};
-ghost use Rattle.mail_cli.specs.Answers.{answered, StopCauses};
-ghost use Rattle.mail_cli.specs.Run.{CanRun, EntryCanRun, IsWrong, Performs};
+ghost use Rattle.board_commands.specs.Kept.{AreSure, IsKept};
+ghost use Rattle.reply_commands.specs.Compose.{composes};
+ghost use Rattle.reply_commands.specs.Reply.{replies};
+ghost use Rattle.mail_cli.specs.Answers.{answered, reply_of, StopCauses};
+ghost use Rattle.mail_cli.specs.Run.{CanRun, CommandWorks, EntryCanRun, IsWrong, Performs};
 ghost use Rattle.mail_cli.specs.Step.{does, door};
 ghost use Rattle.mail_cli.specs.declared.entry.Entry.TheVariants.{Run};
 
 use crate::answer::Answer;
 use crate::command::Command;
 use crate::entry::Entry;
-use door_outside::{Host, Shelf};
+use board_commands::{check, enroll, init};
+use door_outside::{Host, Shelf, ShelfName};
 use entry_runs::{Class, Stop};
+use mail_board::Loaded;
+use message_commands::{import, kill};
 use packet_commands::{list, read, scan, show};
+use reply_commands::{compose, reply};
 use std::alloc::Global;
 
-/// Carries out a command, and answers what is to be said of it.
-fn carry_out<S: Shelf>(
+/// Adds a reply to a reply packet. The name is copied first, since no memory is taken once the packet is written.
+fn carry_out_reply<S: Shelf>(
     alloc: Global,
     shelf: &mut S,
+    folder: &ShelfName,
+    place: u32,
+    text: &ShelfName,
+    rep: &ShelfName,
+    now: u32,
+) -> Result<Answer, Stop>
+    requires { HasParts 3 folder.now }
+    ensures serves { IsTrue S.tells → Serves (replies folder.now place text.now rep.now now) (S.files shelf.old) (S.files shelf.new) (answered result) }
+    ensures causes { StopCauses (S.faults shelf.old) (S.faults shelf.new) result }
+    ensures undamaged { IfOk result (λ answer. (reply_of answer).class ≢ Class.Damaged) }
+{
+    let Ok(name) = rep.copy(alloc) else {
+        return Err(Stop::OutOfMemory);
+    };
+    Answer::of_replied(
+        place,
+        name,
+        reply(alloc, shelf, folder, place, text, rep, now),
+    )
+}
+
+/// Adds the messages of a sheet to a reply packet. The name is copied first.
+fn carry_out_compose<S: Shelf>(
+    alloc: Global,
+    shelf: &mut S,
+    folder: &ShelfName,
+    conference: u32,
+    sheet: &ShelfName,
+    rep: &ShelfName,
+    now: u32,
+) -> Result<Answer, Stop>
+    requires { HasParts 3 folder.now }
+    ensures serves { IsTrue S.tells → Serves (composes folder.now conference sheet.now rep.now now) (S.files shelf.old) (S.files shelf.new) (answered result) }
+    ensures causes { StopCauses (S.faults shelf.old) (S.faults shelf.new) result }
+    ensures undamaged { IfOk result (λ answer. (reply_of answer).class ≢ Class.Damaged) }
+{
+    let Ok(name) = rep.copy(alloc) else {
+        return Err(Stop::OutOfMemory);
+    };
+    Answer::of_composed(
+        name,
+        compose(alloc, shelf, folder, conference, sheet, rep, now),
+    )
+}
+
+/// Carries out a command, and answers what is to be said of it.
+fn carry_out<H: Host, S: Shelf>(
+    alloc: Global,
+    host: &mut H,
+    shelf: &mut S,
+    kept: &mut Option<Loaded>,
     command: &Command,
     now: u32,
 ) -> Result<Answer, Stop>
-    requires { CanRun command.now }
-    ensures serves { IsTrue S.tells → Serves (does now command.now) (S.files shelf.old) (S.files shelf.new) (answered result) }
-    ensures causes { StopCauses (S.faults shelf.old) (S.faults shelf.new) result }
+    requires can_run { CanRun command.now }
+    requires sure { AreSure kept.old }
+    requires kept { IsTrue H.tells → IsKept kept.old (H.disk host.old) }
+    ensures works { IsTrue H.tells → IsTrue S.tells → CommandWorks now command.now (H.disk host.old) (H.disk host.new) (S.files shelf.old) (S.files shelf.new) (answered result) }
+    ensures sure { AreSure kept.new }
+    ensures kept { IsTrue H.tells → IsKept kept.new (H.disk host.new) }
+    ensures causes { HasCauses (counts (H.disk_faults host.old) (H.voice_faults host.old) (S.faults shelf.old)) (counts (H.disk_faults host.new) (H.voice_faults host.new) (S.faults shelf.new)) (ended result) }
+    ensures damaged { IfOk result (λ answer. (reply_of answer).class ≡ Class.Damaged → IsTrue (does now command.now).reach.board) }
 {
     match command {
+        Command::Check => Answer::of_report(check(alloc, host, kept)),
+        Command::Compose {
+            folder,
+            conference,
+            sheet,
+            rep,
+        } => carry_out_compose(alloc, shelf, folder, *conference, sheet, rep, now),
+        Command::Enroll {
+            name,
+            flags,
+            conferences,
+        } => Answer::of_enrolled(enroll(
+            alloc,
+            host,
+            kept,
+            name.as_slice(),
+            flags.as_slice(),
+            conferences.as_slice(),
+        )),
+        Command::Import { conference, file } => Answer::of_imported(
+            *conference,
+            import(alloc, host, shelf, kept, *conference, file, now),
+        ),
+        Command::Init { file } => Answer::of_made(init(alloc, host, shelf, kept, file, now)),
+        Command::Kill { conference, number } => Answer::of_killed(
+            *conference,
+            *number,
+            kill(alloc, host, kept, *conference, *number),
+        ),
         Command::List { file } => Answer::of_text(list(alloc, shelf, file)),
         Command::Read { folder } => Answer::of_text(read(alloc, shelf, folder)),
+        Command::Reply {
+            folder,
+            place,
+            text,
+            rep,
+        } => carry_out_reply(alloc, shelf, folder, *place, text, rep, now),
         Command::Show { folder, place } => Answer::of_text(show(alloc, shelf, folder, *place)),
         Command::Scan { file } => Answer::of_count(scan(alloc, shelf, file)),
     }
@@ -41,17 +139,21 @@ fn perform_command<H: Host, S: Shelf>(
     alloc: Global,
     host: &mut H,
     shelf: &mut S,
+    kept: &mut Option<Loaded>,
     command: &Command,
     now: u32,
 ) -> Result<Class, Stop>
     requires can_run { CanRun command.now }
-    requires settled { IsTrue H.tells → IsSettled (H.disk host.old) }
-    ensures settled { IsTrue H.tells → IsSettled (H.disk host.new) }
+    requires sure { AreSure kept.old }
+    requires kept { IsTrue H.tells → IsKept kept.old (H.disk host.old) }
+    ensures sure { AreSure kept.new }
+    ensures kept { IsTrue H.tells → IsKept kept.new (H.disk host.new) }
     ensures performs { IsTrue H.tells → IsTrue S.tells → Performs now (Run command.now) (H.disk host.old) (H.disk host.new) (S.files shelf.old) (S.files shelf.new) result }
     ensures causes { HasCauses (counts (H.disk_faults host.old) (H.voice_faults host.old) (S.faults shelf.old)) (counts (H.disk_faults host.new) (H.voice_faults host.new) (S.faults shelf.new)) (ended result) }
-    ensures class { IfOk result (λ class. (class ≢ Class.Usage) × (class ≢ Class.Damaged)) }
+    ensures usage { IfOk result (λ class. class ≢ Class.Usage) }
+    ensures damaged { IfOk result (λ class. class ≡ Class.Damaged → IsTrue (does now command.now).reach.board) }
 {
-    let answer = match carry_out(alloc, shelf, command, now) {
+    let answer = match carry_out(alloc, host, shelf, kept, command, now) {
         Ok(answer) => answer,
         Err(stop) => return Err(stop),
     };
@@ -63,12 +165,15 @@ pub fn perform<H: Host, S: Shelf>(
     alloc: Global,
     host: &mut H,
     shelf: &mut S,
+    kept: &mut Option<Loaded>,
     entry: &Entry,
     now: u32,
 ) -> Result<Class, Stop>
     requires can_run { EntryCanRun entry.now }
-    requires settled { IsTrue H.tells → IsSettled (H.disk host.old) }
-    ensures settled { IsTrue H.tells → IsSettled (H.disk host.new) }
+    requires sure { AreSure kept.old }
+    requires kept { IsTrue H.tells → IsKept kept.old (H.disk host.old) }
+    ensures sure { AreSure kept.new }
+    ensures kept { IsTrue H.tells → IsKept kept.new (H.disk host.new) }
     ensures performs { IsTrue H.tells → IsTrue S.tells → Performs now entry.now (H.disk host.old) (H.disk host.new) (S.files shelf.old) (S.files shelf.new) result }
     ensures causes { HasCauses (counts (H.disk_faults host.old) (H.voice_faults host.old) (S.faults shelf.old)) (counts (H.disk_faults host.new) (H.voice_faults host.new) (S.faults shelf.new)) (ended result) }
     ensures usage { IfOk result (λ class. (class ≡ Class.Usage) ↔ IsWrong entry.now) }
@@ -76,7 +181,7 @@ pub fn perform<H: Host, S: Shelf>(
     ensures damaged { IfOk result (λ class. class ≡ Class.Damaged → IsTrue (touches (door now) entry.now)) }
 {
     match entry {
-        Entry::Run(command) => perform_command(alloc, host, shelf, command, now),
+        Entry::Run(command) => perform_command(alloc, host, shelf, kept, command, now),
         Entry::Wrong(usage) => Class::Usage.once_said(usage.say(host)),
         Entry::Refuse(refusal) => Class::Refused.once_said(refusal.say(host)),
     }

@@ -1,10 +1,24 @@
 /// What a command begins with.
 #[derive(Clone, Copy, Debug, PartialEq, Eq)]
 pub enum Verb {
+    /// `check`
+    CheckBoard,
+    /// `compose`
+    ComposeSheet,
+    /// `enroll`
+    EnrollUser,
+    /// `import`
+    ImportSheet,
+    /// `init`
+    InitBoard,
+    /// `kill`
+    KillMessage,
     /// `list`
     ListFile,
     /// `read`
     ReadFolder,
+    /// `reply`
+    ReplyTo,
     /// `scan`
     ScanFile,
 }
@@ -19,8 +33,15 @@ impl Verb {
         ensures { MatchOption result ((verb : Verb) → word.now ≢ first_word verb) (λ verb. word.now ≡ first_word verb) }
     {
         match word {
+            b"check" => Some(Verb::CheckBoard),
+            b"compose" => Some(Verb::ComposeSheet),
+            b"enroll" => Some(Verb::EnrollUser),
+            b"import" => Some(Verb::ImportSheet),
+            b"init" => Some(Verb::InitBoard),
+            b"kill" => Some(Verb::KillMessage),
             b"list" => Some(Verb::ListFile),
             b"read" => Some(Verb::ReadFolder),
+            b"reply" => Some(Verb::ReplyTo),
             b"scan" => Some(Verb::ScanFile),
             _ => None,
         }

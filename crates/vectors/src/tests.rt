@@ -1,2 +1,9 @@
+mod board_runs;
+mod boards;
+mod damage_runs;
+mod import_runs;
+mod packet_runs;
 mod packets;
+mod reply_runs;
 mod runs;
+mod stopped_runs;

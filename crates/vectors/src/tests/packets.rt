@@ -1,5 +1,6 @@
 //! The files that the examples put on the shelf.
-use door_outside::{Bytes, CallNumbers, FaultPlan, MemoryShelf, ShelfName};
+use super::runs::put;
+use door_outside::{Bytes, MemoryShelf};
 use std::alloc::{AllocError, Global};
 use std::test::Fail;
 
@@ -39,20 +40,6 @@ fn packet(alloc: Global, messages: usize, count: &[u8], pad: u8) -> Result<Bytes
         add_field(&mut file, b"First line\xE3", 128, pad)?;
     }
     Ok(file)
-}
-
-/// A plan by which no call fails.
-pub fn no_faults(alloc: Global) -> FaultPlan {
-    FaultPlan {
-        fails: CallNumbers::new(alloc),
-        stop: None,
-    }
-}
-
-fn put(shelf: &mut MemoryShelf, alloc: Global, name: &str, file: &[u8]) -> Result<(), Fail> {
-    let name = ShelfName::parse(alloc, name.as_bytes())?.ok_or("no name")?;
-    shelf.put(&name, file)?;
-    Ok(())
 }
 
 /// Puts the first bytes of a file.

@@ -6,7 +6,7 @@ use Rattle.entry_runs.proofs.Running.{next_entry, at_next, starts, runs_on, ends
 use Rattle.entry_runs.specs.Door.{touches}
 use Rattle.entry_runs.specs.Runs.{with_class}
 use Rattle.entry_runs.specs.declared.class.Class.TheVariants.{Done}
-use Rattle.mail_cli.specs.Board.{IsSpoiled}
+use Rattle.board_commands.specs.State.{IsSpoiled}
 use Rattle.mail_cli.specs.Step.{door}
 use Rattle.mail_cli.proofs.EntryLaws.{lawful, only_spoiled, still_spoiled}
 use Rattle.mail_cli.proofs.Wrongs.{wrong_head, not_begun, has_wrong, some_from, ends_usage, ends_damaged, quiet_usage, quiet_damaged, stopped_usage, stopped_damaged, unsaid_usage, goes_right}
@@ -14,7 +14,8 @@ use Rattle.mail_cli.proofs.entries.run_entries.Goals as goal
 
 pub loop-entry-init : goal.loop-entry-init
 loop-entry-init g c = record {
-  settled = c.requires.settled;
+  sure = tt;
+  kept = c.requires.settled;
   running = λ tells shelf_tells state stores. starts (door c.args.now) c.args.entries.now (record {
     board = record { ready = record { settled = c.requires.settled tells; calm = λ read. absurd (cc read) }; stores = stores; fits = tt };
     shelf_is = refl;
@@ -116,7 +117,8 @@ returns-clause-wrong g c begins = absurd (c.loop-entry.invariant.first (omega (a
 
 pub loop-entry-preserved : goal.loop-entry-preserved
 loop-entry-preserved g c = record {
-  settled = λ tells. c.perform.ensures.settled tells;
+  sure = c.perform.ensures.sure;
+  kept = c.perform.ensures.kept;
   running = λ tells shelf_tells state stores.
       let more = next_entry c.args.entries.now c.loop-entry.entry-index c.entry-item.result (omega arith) c.entry-item.is in
       let running = at_next (door c.args.now) more (c.loop-entry.invariant.running tells shelf_tells state stores) in

@@ -26,3 +26,6 @@ returns-clause-usage g c is = reads_wrong c.args.words.now c.in-Ok.entry c.in-Ok
 
 pub returns-clause-no_command : goal.returns-clause-no_command
 returns-clause-no_command g c none = c.run_entries.ensures.wrong ([], c.in-Ok.entry, none_wrong c.args.words.now c.in-Ok.entry c.in-Ok.ensures.reads none, refl)
+
+pub returns-clause-touched : goal.returns-clause-touched
+returns-clause-touched g c is = (c.in-Ok.entry ∷ [], (c.in-Ok.entry, c.in-Ok.ensures.reads, refl), c.run_entries.ensures.touched is)
