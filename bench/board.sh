@@ -1,0 +1,90 @@
+#!/bin/sh
+# Enrolls 500 users on a board in real folders, one run each, and then checks it. Then checks a full board, of 64
+# conferences and 33 MB. Times each, beside `sha256sum` of the board's files. It is no part of the gate.
+# usage: bench/board.sh [RUNS]
+
+runs=${1:-3}
+top=$(dirname -- "$(readlink -f -- "$0")")/..
+# shellcheck source=/dev/null
+. "$top/bench/best.sh"
+program=$top/crates/qwkdoor/out/qwkdoor
+shelf=$top/crates/qwkdoor/data/shelf
+work=$(mktemp -d) || exit 1
+trap 'rm -rf -- "$work"' EXIT
+trap 'exit 1' HUP INT TERM
+
+fail() {
+    printf '%s\n' "$1" >&2
+    exit 1
+}
+
+door() {
+    "$program" "$work/data" "$shelf" "$@"
+}
+
+# Enrolls the users from one number to another, and says so where one isn't.
+enroll() {
+    number=$1
+    while [ "$number" -le "$2" ]; do
+        name=$(printf 'User %03d' "$number")
+        door enroll "$name" n all >"$work/reply" || return 1
+        [ "$(cat "$work/reply")" = "user $number $name" ] || return 1
+        number=$((number + 1))
+    done
+}
+
+# The first run builds the program where that is missing.
+"$top/bin/qwkdoor" "$work/data" "$shelf" init setup.txt || fail "init failed with status $?"
+
+first=$(runs=1 && best enroll 1 100) || fail 'a user was not enrolled'
+middle=$(runs=1 && best enroll 101 400) || fail 'a user was not enrolled'
+last=$(runs=1 && best enroll 401 500) || fail 'a user was not enrolled'
+awk -v first="$first" -v middle="$middle" -v last="$last" 'BEGIN {
+    printf "enrolling 500 users: %.3f s\n", first + middle + last
+    printf "a run of the first 100: %.4f s, of the last 100: %.4f s\n", first / 100, last / 100
+}'
+
+# The new board has 3,191 bytes. Each user has a record of 39 bytes and three of 16.
+door check >"$work/reply" || fail "check failed with status $?"
+tail -n 1 "$work/reply"
+[ "$(tail -n 1 "$work/reply")" = '500 users, 0 uploads, 46691 bytes' ] || fail 'the board is not as it should be'
+[ "$(door enroll 'One More' - 0)" = 'refused users' ] || fail 'one user more was not refused'
+
+# Times `check` beside `sha256sum` of the files.
+time_check() {
+    checking=$(best door check) || fail "check failed with status $?"
+    printf 'check: %s s, the best of %s\n' "$checking" "$runs"
+    if command -v sha256sum >/dev/null; then
+        hashing=$(best sha256sum "$work"/data/*) || exit 1
+        printf 'sha256sum of %s files: %s s\ncheck / sha256sum: %s\n' "$(find "$work/data" -type f | wc -l)" "$hashing" \
+            "$(awk -v a="$checking" -v b="$hashing" 'BEGIN { printf "%.1f", a / b }')"
+    fi
+}
+time_check
+
+# A setup of 64 conferences, and a sheet of 31 messages with bodies as long as they may be.
+shelf=$work/shelf
+mkdir "$shelf" || exit 1
+awk 'BEGIN {
+    print "board: Full\ncity: Springfield\nphone: 555-0100\nsysop: Sam Sysop\nbbsid: FULL\nserial: 1\nzones:"
+    for (i = 0; i < 64; i++) {
+        printf "conference: %d local - C%d\n", i, i
+    }
+}' >"$shelf/setup.txt"
+awk 'BEGIN {
+    for (i = 1; i < 16384; i++) {
+        line = line "x"
+    }
+    for (i = 0; i < 31; i++) {
+        printf "From: Bob Ray\nTo: All\nSubject: Hello\n\n%s\n.\n", line
+    }
+}' >"$shelf/sheet"
+rm -rf -- "$work/data"
+door init setup.txt >/dev/null || fail "init failed with status $?"
+number=0
+while [ "$number" -lt 64 ]; do
+    door import "$number" sheet >/dev/null || fail "import failed with status $?"
+    number=$((number + 1))
+done
+door check | tail -n 1
+time_check
