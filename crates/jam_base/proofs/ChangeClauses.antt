@@ -1,14 +1,14 @@
 -- What a change does to the files of a base, from what its base and its patches are.
-use Rattle.std.proofs.Common.{◌≡◌, ℕ, List, [], Result, Ok, Err, refl, sym, ap, ◌∙◌, subst}
+use Rattle.std.proofs.Common.{◌≡◌, ℕ, List, [], Result, Ok, Err, sym, ap, ◌∙◌, subst}
 use Rattle.std.specs.Prelude.{IfOk}
 use Rattle.intent_journal.specs.declared.patch.Patch.{Patch}
 use Rattle.jam_layout.specs.Layout.{layout}
 use Rattle.jam_layout.specs.declared.files.BaseFiles.{BaseFiles}
 use Rattle.jam_layout.specs.declared.shape.Shape.{Shape}
-use Rattle.jam_base.specs.Change.{whole_jhr, whole_jlr, whole_messages, whole_files, Turns, SuitsIntent}
+use Rattle.jam_base.specs.Change.{whole_jhr, whole_jlr, whole_reading, whole_messages, whole_files, Turns, SuitsIntent}
 use Rattle.jam_base.specs.Contents.{Contents, no_slots}
 use Rattle.jam_base.specs.declared.change.BaseChange.{BaseChange}
-use Rattle.jam_base.proofs.PatchLaws.{jhr_turns, jlr_turns, messages_turn, whole_turns, nothing_turns, jhr_small, jlr_small, messages_small, whole_small, nothing_small}
+use Rattle.jam_base.proofs.PatchLaws.{jhr_turns, jlr_turns, reading_turns, messages_turn, whole_turns, nothing_turns, jhr_small, jlr_small, reading_small, messages_small, whole_small, nothing_small}
 
 abbrev files_in : Contents → BaseFiles
 files_in base = layout base.shape base.conference
@@ -58,6 +58,19 @@ module _ {E : Type 0} (place : ℕ) (old : BaseFiles) (new made : Contents) (r :
   jlr_suits is here base patches =
       both_ok (λ (change : BaseChange). change.base ≡ made) (λ (change : BaseChange). change.patches ≡ whole_jlr made.shape.place (files_in made)) (λ (change : BaseChange). SuitsIntent place (files_in change.base) change.patches) r
       (λ change b p. suits_moved place new change.base (whole_jlr place (files_in new)) change.patches (b ∙ is) (p ∙ (ap (λ (c : Contents). whole_jlr c.shape.place (files_in c)) is ∙ ap (λ k. whole_jlr k (files_in new)) here)) (jlr_small place (files_in new))) base patches
+
+  pub reading_changes : made ≡ new → new.shape.place ≡ place → record old { jhr = (files_in new).jhr; jlr = (files_in new).jlr } ≡ files_in new
+      → IfOk r (λ change. change.base ≡ made) → IfOk r (λ change. change.patches ≡ whole_reading made.shape.place (files_in made)) → IfOk r (λ change. Turns place old (files_in change.base) change.patches)
+  reading_changes is here same base patches =
+      let turns : Turns place old (files_in new) (whole_reading place (files_in new)) = subst (λ (f : BaseFiles). Turns place old f (whole_reading place (files_in new))) same (reading_turns place old (files_in new).jhr (files_in new).jlr) in
+      both_ok (λ (change : BaseChange). change.base ≡ made) (λ (change : BaseChange). change.patches ≡ whole_reading made.shape.place (files_in made)) (λ (change : BaseChange). Turns place old (files_in change.base) change.patches) r
+      (λ change b p. turns_moved place old new change.base (whole_reading place (files_in new)) change.patches (b ∙ is) (p ∙ (ap (λ (c : Contents). whole_reading c.shape.place (files_in c)) is ∙ ap (λ k. whole_reading k (files_in new)) here)) turns) base patches
+
+  pub reading_suits : made ≡ new → new.shape.place ≡ place
+      → IfOk r (λ change. change.base ≡ made) → IfOk r (λ change. change.patches ≡ whole_reading made.shape.place (files_in made)) → IfOk r (λ change. SuitsIntent place (files_in change.base) change.patches)
+  reading_suits is here base patches =
+      both_ok (λ (change : BaseChange). change.base ≡ made) (λ (change : BaseChange). change.patches ≡ whole_reading made.shape.place (files_in made)) (λ (change : BaseChange). SuitsIntent place (files_in change.base) change.patches) r
+      (λ change b p. suits_moved place new change.base (whole_reading place (files_in new)) change.patches (b ∙ is) (p ∙ (ap (λ (c : Contents). whole_reading c.shape.place (files_in c)) is ∙ ap (λ k. whole_reading k (files_in new)) here)) (reading_small place (files_in new))) base patches
 
   pub messages_change : made ≡ new → new.shape.place ≡ place → record old { jhr = (files_in new).jhr; jdt = (files_in new).jdt; jdx = (files_in new).jdx } ≡ files_in new
       → IfOk r (λ change. change.base ≡ made) → IfOk r (λ change. change.patches ≡ whole_messages made.shape.place (files_in made)) → IfOk r (λ change. Turns place old (files_in change.base) change.patches)

@@ -3,3 +3,4 @@ pub mod ReaderLaws
 pub mod SlotChanges
 pub mod MarkedSlots
 pub mod ChangeClauses
+pub mod ReadingLaws

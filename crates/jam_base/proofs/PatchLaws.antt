@@ -8,7 +8,7 @@ use Rattle.intent_journal.specs.Journal.{patch_text, patches_text}
 use Rattle.intent_journal.specs.declared.patch.Patch.{Patch}
 use Rattle.intent_journal.specs.declared.patch.Patch.TheVariants.{Whole}
 use Rattle.door_outside.specs.File.{jhr_file, jdt_file, jdx_file, jlr_file}
-use Rattle.jam_base.specs.Change.{whole_jhr, whole_jlr, whole_messages, whole_files, IsOfPlace, IsElsewhere, Turns, SuitsIntent}
+use Rattle.jam_base.specs.Change.{whole_jhr, whole_jlr, whole_reading, whole_messages, whole_files, IsOfPlace, IsElsewhere, Turns, SuitsIntent}
 use Rattle.jam_layout.specs.Layout.{files_size}
 use Rattle.jam_layout.specs.declared.files.BaseFiles.{BaseFiles}
 
@@ -101,6 +101,11 @@ turns_then place old between new patch patches one others = record {
 }
 
 -- ---- several files
+pub reading_turns : (place : ℕ) (old : BaseFiles) (jhr jlr : List ℕ) → Turns place old (record old { jhr = jhr; jlr = jlr }) (Whole (jhr_file place) jhr ∷ Whole (jlr_file place) jlr ∷ [])
+reading_turns place old jhr jlr =
+    let one : BaseFiles = record old { jhr = jhr } in
+    turns_then place old one (record one { jlr = jlr }) (Whole (jhr_file place) jhr) (Whole (jlr_file place) jlr ∷ []) (jhr_turns place old jhr) (jlr_turns place one jlr)
+
 pub messages_turn : (place : ℕ) (old : BaseFiles) (jhr jdt jdx : List ℕ) → Turns place old (record old { jhr = jhr; jdt = jdt; jdx = jdx }) (Whole (jhr_file place) jhr ∷ Whole (jdt_file place) jdt ∷ Whole (jdx_file place) jdx ∷ [])
 messages_turn place old jhr jdt jdx =
     let one : BaseFiles = record old { jhr = jhr } in
@@ -202,6 +207,17 @@ module _ (place : ℕ) (new : BaseFiles) where
   pub jlr_small : SuitsIntent place new (whole_jlr place new)
   unfolding OfPlace Ends
   jlr_small = record { within = jlr_within [] none; once = refl; ends = jlr_ends [] no_ends; short = at_most _ _ _ (text_more (jlr_file place) new.jlr []) (omega arith) }
+
+  pub reading_small : SuitsIntent place new (whole_reading place new)
+  unfolding OfPlace Ends
+  reading_small = record {
+    ends = jhr_ends (Whole (jlr_file place) new.jlr ∷ []) (jlr_ends [] no_ends);
+    within = jhr_within (Whole (jlr_file place) new.jlr ∷ []) (jlr_within [] none);
+    once = rw (differ (jhr_file place) (jlr_file place) (omega arith)) refl;
+    short = at_most _ _ _
+        (text_more (jhr_file place) new.jhr (patches_text (Whole (jlr_file place) new.jlr ∷ [])) ∙ ap (λ n. 11 + (length new.jhr + n)) (text_more (jlr_file place) new.jlr []))
+        (omega arith);
+  }
 
   pub messages_small : SuitsIntent place new (whole_messages place new)
   unfolding OfPlace Ends

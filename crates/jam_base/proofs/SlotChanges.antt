@@ -146,7 +146,7 @@ received_all kind name r n (s ∷ slots) small all =
     All-cons (IsSlot kind) (slot_received name r n s) (slots_received name r (n + 1) slots) (received_slot kind name r n s small (All-head (IsSlot kind) s slots all))
     (received_all kind name r (n + 1) slots small (All-tail (IsSlot kind) s slots all))
 
-received_length : (name : List ℕ) (r : Receipt) (n : ℕ) (slots : List Slot) → length (slots_received name r n slots) ≡ length slots
+pub received_length : (name : List ℕ) (r : Receipt) (n : ℕ) (slots : List Slot) → length (slots_received name r n slots) ≡ length slots
 received_length name r n [] = refl
 received_length name r n (s ∷ slots) = ap suc (received_length name r (n + 1) slots)
 

@@ -45,6 +45,9 @@ whole_jhr place files = Whole (jhr_file place) files.jhr ∷ []
 abbrev pub whole_jlr : ℕ → BaseFiles → List Patch
 whole_jlr place files = Whole (jlr_file place) files.jlr ∷ []
 
+abbrev pub whole_reading : ℕ → BaseFiles → List Patch
+whole_reading place files = Whole (jhr_file place) files.jhr ∷ Whole (jlr_file place) files.jlr ∷ []
+
 abbrev pub whole_messages : ℕ → BaseFiles → List Patch
 whole_messages place files = Whole (jhr_file place) files.jhr ∷ Whole (jdt_file place) files.jdt ∷ Whole (jdx_file place) files.jdx ∷ []
 

@@ -1,5 +1,5 @@
 -- What a base is seen as, and what is asked of it.
-use Rattle.std.specs.Prelude.{ℕ, ◌+◌, min, List, [], ◌∷◌, ◌++◌, length, replicate, position, slice_get, slice_set, Option, None, Some, option_and_then, ◌==◌, if◌then◌else◌}
+use Rattle.std.specs.Prelude.{ℕ, ◌+◌, min, List, [], ◌∷◌, ◌++◌, length, replicate, position, slice_get, slice_set, Option, None, Some, option_and_then, unwrap_or, ◌==◌, if◌then◌else◌}
 use Rattle.jam_records.specs.declared.message.Message.{Message}
 use Rattle.jam_records.specs.declared.message.Slot.{Slot}
 use Rattle.jam_base.specs.Slots.{slots_with_all, slots_deleted, any_due, slots_received}
@@ -64,3 +64,11 @@ abbrev pub with_pointer : ℕ → ℕ → Contents → Contents
 with_pointer user number base = record base {
   conference = record base.conference { pointers = pointers_with (reader_place user base.shape.readers) number base.conference.pointers };
 }
+
+-- what a reader receives whose pointer goes to a number at a moment: all above the pointer, up to that number
+abbrev pub receipt_to : ℕ → ℕ → ℕ → Contents → Receipt
+receipt_to user upto now base = record { above = unwrap_or (pointer_of user base.shape.readers base.conference.pointers) 0; upto = upto; now = now }
+
+-- so it is received, in the reader's name, and then the pointer goes there
+abbrev pub with_acknowledged : ℕ → List ℕ → ℕ → ℕ → Contents → Contents
+with_acknowledged user name upto now base = with_pointer user upto (with_received name (receipt_to user upto now base) base)

@@ -65,7 +65,7 @@ impl Base {
     }
 
     /// The conference and its shape, each as it has to be.
-    fn parts(&self) -> (&Shape, &Conference)
+    pub(crate) fn parts(&self) -> (&Shape, &Conference)
         ensures shape { result.0.now ≡ self.now.shape }
         ensures conference { result.1.now ≡ self.now.conference }
         ensures is_shape { IsShape self.now.shape }

@@ -1,6 +1,6 @@
 ghost use Rattle.std.specs.Prelude.{◌≡◌, [], IfOk};
 ghost use Rattle.jam_layout.specs.Layout.{layout};
-ghost use Rattle.jam_base.specs.Change.{whole_jhr, whole_messages, whole_jlr, whole_files};
+ghost use Rattle.jam_base.specs.Change.{whole_jhr, whole_jlr, whole_reading, whole_messages, whole_files};
 
 use crate::base::Base;
 use byte_lists::Bytes;
@@ -46,6 +46,18 @@ impl BaseChange {
     {
         let mut patches = Patches::new(alloc);
         patches.add(whole(FileId::jlr(base.place()), base.jlr(alloc)?))?;
+        Ok(BaseChange { base, patches })
+    }
+
+    /// The change to this base that writes its .JHR and .JLR.
+    pub(crate) fn of_reading(alloc: Global, base: Base) -> Result<BaseChange, AllocError>
+        ensures base { IfOk result (λ change. change.base ≡ base) }
+        ensures patches { IfOk result (λ change. change.patches ≡ whole_reading base.shape.place (layout base.shape base.conference)) }
+    {
+        let place = base.place();
+        let mut patches = Patches::new(alloc);
+        patches.add(whole(FileId::jhr(place), base.jhr(alloc)?))?;
+        patches.add(whole(FileId::jlr(place), base.jlr(alloc)?))?;
         Ok(BaseChange { base, patches })
     }
 

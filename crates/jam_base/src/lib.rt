@@ -1,6 +1,7 @@
 //! One conference over its four JAM files: read exactly where they are its layout, and changed with them.
 #![tactic(auto)]
 
+mod acknowledged;
 mod base;
 mod change;
 #[cfg(test)]

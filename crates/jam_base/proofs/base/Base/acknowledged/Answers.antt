@@ -1,0 +1,66 @@
+use Rattle.std.proofs.Common.{◌≡◌, ◌∙◌, ℕ, true, Option, Some, refl, sym, ap, subst, arith}
+use Rattle.std.specs.Prelude.{unwrap_or}
+use Rattle.jam_layout.specs.Layout.{layout}
+use Rattle.jam_layout.specs.Valid.{IsConference}
+use Rattle.jam_layout.specs.declared.conference.Conference.{Conference}
+use Rattle.jam_layout.specs.declared.shape.Shape.{Shape}
+use Rattle.jam_base.specs.Contents.{Contents, pointer_of, reader_place, receipt_to, with_acknowledged, with_pointer}
+use Rattle.jam_base.specs.Slots.{any_due, slots_received}
+use Rattle.jam_base.specs.declared.change.BaseChange.{BaseChange}
+use Rattle.jam_base.proofs.ChangeClauses.{one_ok, reading_changes, reading_suits}
+use Rattle.jam_base.proofs.ReadingLaws.{reading_files, reading_is, reading_next, received_to, slots_to, some_due}
+use Rattle.jam_base.proofs.base.Base.acknowledged.Goals as goal
+
+pub linked-requires-clause-conference : goal.linked-requires-clause-conference
+linked-requires-clause-conference c =
+    let base : Contents = c.args.self.now in
+    let above : c.unwrap_or-above.result ≡ unwrap_or (pointer_of c.args.user base.shape.readers base.conference.pointers) 0 = c.unwrap_or-above.ensures ∙ ap (λ (p : Option ℕ). unwrap_or p 0) c.pointer.ensures in
+    let receipt : record { above = c.unwrap_or-above.result; upto = c.args.upto; now = c.args.now } ≡ receipt_to c.args.user c.args.upto c.args.now base = λ i. record { above = above i; upto = c.args.upto; now = c.args.now } in
+    let was : c.as_slice-slots.result.now ≡ base.conference.slots = c.as_slice-slots.ensures ∙ ap (λ (k : Conference). k.slots) c.parts.ensures.conference in
+    let slots : c.in_ok-slots.slots ≡ slots_to base c.args.user c.args.name.now c.args.upto c.args.now = c.in_ok-slots.ensures ∙ (λ i. slots_received c.args.name.now (receipt i) 1 (was i)) in
+    let there : reader_place c.args.user base.shape.readers ≡ Some c.in-Some.place = ap (λ (s : Shape). reader_place c.args.user s.readers) (sym c.parts.ensures.shape) ∙ (sym c.position.ensures.place ∙ c.in-Some.is) in
+    let new : Contents = with_pointer c.args.user c.args.upto (received_to base c.args.user c.args.name.now c.args.upto c.args.now) in
+    let next : c.in_ok-next.next ≡ new.conference = reading_next base c.args.user c.args.name.now c.args.upto c.args.now c.parts.result.1.now c.in_ok-next.next c.in_ok-slots.slots c.in-Some.place c.parts.ensures.conference c.in_ok-next.ensures slots there in
+    let is = reading_is base c.args.user c.args.name.now c.args.upto c.args.now c.requires.within (omega arith) c.parts.ensures.is_conference in
+    subst (λ (k : Conference). IsConference c.parts.result.0.now k) (sym next) (subst (λ (s : Shape). IsConference s new.conference) (sym c.parts.ensures.shape) is)
+
+pub returns-clause-base : goal.returns-clause-base
+returns-clause-base c =
+    let base : Contents = c.args.self.now in
+    let above : c.unwrap_or-above.result ≡ unwrap_or (pointer_of c.args.user base.shape.readers base.conference.pointers) 0 = c.unwrap_or-above.ensures ∙ ap (λ (p : Option ℕ). unwrap_or p 0) c.pointer.ensures in
+    let receipt : record { above = c.unwrap_or-above.result; upto = c.args.upto; now = c.args.now } ≡ receipt_to c.args.user c.args.upto c.args.now base = λ i. record { above = above i; upto = c.args.upto; now = c.args.now } in
+    let was : c.as_slice-slots.result.now ≡ base.conference.slots = c.as_slice-slots.ensures ∙ ap (λ (k : Conference). k.slots) c.parts.ensures.conference in
+    let slots : c.in_ok-slots.slots ≡ slots_to base c.args.user c.args.name.now c.args.upto c.args.now = c.in_ok-slots.ensures ∙ (λ i. slots_received c.args.name.now (receipt i) 1 (was i)) in
+    let there : reader_place c.args.user base.shape.readers ≡ Some c.in-Some.place = ap (λ (s : Shape). reader_place c.args.user s.readers) (sym c.parts.ensures.shape) ∙ (sym c.position.ensures.place ∙ c.in-Some.is) in
+    let new : Contents = with_pointer c.args.user c.args.upto (received_to base c.args.user c.args.name.now c.args.upto c.args.now) in
+    let next : c.in_ok-next.next ≡ new.conference = reading_next base c.args.user c.args.name.now c.args.upto c.args.now c.parts.result.1.now c.in_ok-next.next c.in_ok-slots.slots c.in-Some.place c.parts.ensures.conference c.in_ok-next.ensures slots there in
+    let due : any_due c.args.name.now (receipt_to c.args.user c.args.upto c.args.now base) 1 base.conference.slots ≡ true = sym (c.any_due.ensures ∙ (λ i. any_due c.args.name.now (receipt i) 1 (was i))) ∙ c.if-not-any_due.false in
+    let made : c.in_ok-linked.field-0 ≡ new = c.in_ok-linked.ensures ∙ (λ i. record { shape = c.parts.ensures.shape i; conference = next i }) in
+    let all : c.in_ok-linked.field-0 ≡ with_acknowledged c.args.user c.args.name.now c.args.upto c.args.now base = made ∙ sym (some_due base c.args.user c.args.name.now c.args.upto c.args.now due) in
+    one_ok (λ (change : BaseChange). change.base ≡ c.in_ok-linked.field-0) (λ (change : BaseChange). change.base ≡ with_acknowledged c.args.user c.args.name.now c.args.upto c.args.now base) c.of_reading.result (λ change is. is ∙ all) c.of_reading.ensures.base
+
+pub returns-clause-files : goal.returns-clause-files
+returns-clause-files c =
+    let base : Contents = c.args.self.now in
+    let above : c.unwrap_or-above.result ≡ unwrap_or (pointer_of c.args.user base.shape.readers base.conference.pointers) 0 = c.unwrap_or-above.ensures ∙ ap (λ (p : Option ℕ). unwrap_or p 0) c.pointer.ensures in
+    let receipt : record { above = c.unwrap_or-above.result; upto = c.args.upto; now = c.args.now } ≡ receipt_to c.args.user c.args.upto c.args.now base = λ i. record { above = above i; upto = c.args.upto; now = c.args.now } in
+    let was : c.as_slice-slots.result.now ≡ base.conference.slots = c.as_slice-slots.ensures ∙ ap (λ (k : Conference). k.slots) c.parts.ensures.conference in
+    let slots : c.in_ok-slots.slots ≡ slots_to base c.args.user c.args.name.now c.args.upto c.args.now = c.in_ok-slots.ensures ∙ (λ i. slots_received c.args.name.now (receipt i) 1 (was i)) in
+    let there : reader_place c.args.user base.shape.readers ≡ Some c.in-Some.place = ap (λ (s : Shape). reader_place c.args.user s.readers) (sym c.parts.ensures.shape) ∙ (sym c.position.ensures.place ∙ c.in-Some.is) in
+    let new : Contents = with_pointer c.args.user c.args.upto (received_to base c.args.user c.args.name.now c.args.upto c.args.now) in
+    let next : c.in_ok-next.next ≡ new.conference = reading_next base c.args.user c.args.name.now c.args.upto c.args.now c.parts.result.1.now c.in_ok-next.next c.in_ok-slots.slots c.in-Some.place c.parts.ensures.conference c.in_ok-next.ensures slots there in
+    let made : c.in_ok-linked.field-0 ≡ new = c.in_ok-linked.ensures ∙ (λ i. record { shape = c.parts.ensures.shape i; conference = next i }) in
+    reading_changes base.shape.place (layout base.shape base.conference) new c.in_ok-linked.field-0 c.of_reading.result made refl (reading_files base c.args.user c.args.name.now c.args.upto c.args.now) c.of_reading.ensures.base c.of_reading.ensures.patches
+
+pub returns-clause-intent : goal.returns-clause-intent
+returns-clause-intent c =
+    let base : Contents = c.args.self.now in
+    let above : c.unwrap_or-above.result ≡ unwrap_or (pointer_of c.args.user base.shape.readers base.conference.pointers) 0 = c.unwrap_or-above.ensures ∙ ap (λ (p : Option ℕ). unwrap_or p 0) c.pointer.ensures in
+    let receipt : record { above = c.unwrap_or-above.result; upto = c.args.upto; now = c.args.now } ≡ receipt_to c.args.user c.args.upto c.args.now base = λ i. record { above = above i; upto = c.args.upto; now = c.args.now } in
+    let was : c.as_slice-slots.result.now ≡ base.conference.slots = c.as_slice-slots.ensures ∙ ap (λ (k : Conference). k.slots) c.parts.ensures.conference in
+    let slots : c.in_ok-slots.slots ≡ slots_to base c.args.user c.args.name.now c.args.upto c.args.now = c.in_ok-slots.ensures ∙ (λ i. slots_received c.args.name.now (receipt i) 1 (was i)) in
+    let there : reader_place c.args.user base.shape.readers ≡ Some c.in-Some.place = ap (λ (s : Shape). reader_place c.args.user s.readers) (sym c.parts.ensures.shape) ∙ (sym c.position.ensures.place ∙ c.in-Some.is) in
+    let new : Contents = with_pointer c.args.user c.args.upto (received_to base c.args.user c.args.name.now c.args.upto c.args.now) in
+    let next : c.in_ok-next.next ≡ new.conference = reading_next base c.args.user c.args.name.now c.args.upto c.args.now c.parts.result.1.now c.in_ok-next.next c.in_ok-slots.slots c.in-Some.place c.parts.ensures.conference c.in_ok-next.ensures slots there in
+    let made : c.in_ok-linked.field-0 ≡ new = c.in_ok-linked.ensures ∙ (λ i. record { shape = c.parts.ensures.shape i; conference = next i }) in
+    reading_suits base.shape.place (layout base.shape base.conference) new c.in_ok-linked.field-0 c.of_reading.result made refl c.of_reading.ensures.base c.of_reading.ensures.patches

@@ -1,0 +1,69 @@
+// What a reader was offered of a conference, once it is acknowledged.
+ghost use Rattle.std.specs.Prelude.{◌≡◌, ◌≤◌, ◌<◌, length, slice_set, IfOk, IsSome};
+ghost use Rattle.jam_base.specs.Change.{Turns, SuitsIntent};
+ghost use Rattle.jam_base.specs.Contents.{reader_place, counter_after, with_acknowledged};
+ghost use Rattle.jam_layout.specs.Layout.{layout};
+
+use crate::base::Base;
+use crate::change::BaseChange;
+use crate::pointers::moved;
+use crate::receipt::{Receipt, any_due, slots_received};
+use jam_layout::Conference;
+use jam_records::Slots;
+use std::alloc::{AllocError, Global};
+
+/// The conference with other slots, by one change, and the pointer in a place, from 0, at a message number.
+fn with_reading(
+    alloc: Global,
+    old: &Conference,
+    slots: Slots,
+    place: usize,
+    number: u32,
+) -> Result<Conference, AllocError>
+    requires { place < length old.now.pointers }
+    ensures { IfOk result (λ new. new ≡ record { counter = counter_after old.now.counter; slots = slots; pointers = slice_set old.now.pointers place number }) }
+{
+    Ok(Conference {
+        counter: old.counter.saturating_add(1),
+        slots,
+        pointers: moved(alloc, &old.pointers, place, number)?,
+    })
+}
+
+impl Base {
+    /// The base in which a reader, the user of this id and name, has acknowledged what there is up to a message
+    /// number, 0 or one of a slot: each message to the name, ignoring case, marked read at a moment in Unix seconds
+    /// that isn't deleted, isn't read and has a number above the pointer and at most this one, and then the pointer
+    /// at this number. Its patches make its files of those of this base. Where there is such a message, the change
+    /// counter rises by one, and stays at 4,294,967,295.
+    ///
+    /// The error comes where there is no memory.
+    pub fn acknowledged(
+        &self,
+        alloc: Global,
+        user: u32,
+        name: &[u8],
+        upto: u32,
+        now: u32,
+    ) -> Result<BaseChange, AllocError>
+        requires reader { IsSome (reader_place user self.now.shape.readers) }
+        requires within { upto ≤ length self.now.conference.slots }
+        ensures base { IfOk result (λ change. change.base ≡ with_acknowledged user name.now upto now self.now) }
+        ensures files { IfOk result (λ change. Turns self.now.shape.place (layout self.now.shape self.now.conference) (layout change.base.shape change.base.conference) change.patches) }
+        ensures intent { IfOk result (λ change. SuitsIntent self.now.shape.place (layout change.base.shape change.base.conference) change.patches) }
+    {
+        let above = self.pointer(user).unwrap_or(0);
+        let receipt = Receipt { above, upto, now };
+        let (shape, old) = self.parts();
+        let slots = old.slots.as_slice();
+        if !any_due(name, receipt, slots) {
+            return self.pointed(alloc, user, upto);
+        }
+        let Some(place) = shape.readers.position(user) else {
+            unreachable!()
+        };
+        let slots = slots_received(alloc, name, receipt, slots)?;
+        let next = with_reading(alloc, old, slots, place, upto)?;
+        BaseChange::of_reading(alloc, Base::linked(alloc, shape, next)?)
+    }
+}
