@@ -1,5 +1,6 @@
 pub mod Board
 pub mod Renewed
+pub mod Lookups
 pub mod Layout
 pub mod Valid
 pub mod Damage

@@ -10,8 +10,8 @@ use door_outside::FileId;
 use jam_base::Base;
 use jam_records::{Damage, DamageRule};
 
-/// Whether each high is at most the count of slots of its conference.
-fn highs_fit(bases: &[Base], highs: &[u32]) -> bool
+/// Whether each high, by place, is at most the count of slots of its conference. It takes no memory.
+pub fn highs_fit(bases: &[Base], highs: &[u32]) -> bool
     ensures { result ≡ are_within (conferences_in bases.now) highs.now }
 {
     for (base, high) in bases.iter().zip(highs) {

@@ -18,5 +18,6 @@ mod tests;
 
 pub use board::{BOARD_LIMIT, Bases, StoredBoard};
 pub use error::ReadError;
+pub use highs::highs_fit;
 pub use read::read_board;
 pub use shape::shape_at;

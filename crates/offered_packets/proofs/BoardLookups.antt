@@ -18,7 +18,8 @@ use Rattle.jam_base.specs.Slots.{numbered}
 use Rattle.board_ledger.specs.declared.user.User.{User}
 use Rattle.setup_file.specs.Valid.{numbers_of}
 use Rattle.setup_file.specs.declared.conference.Conference.{Conference as SetupConference}
-use Rattle.offered_packets.specs.Sees.{slots_in, held_in}
+use Rattle.board_layout.specs.Lookups.{held_in}
+use Rattle.offered_packets.specs.Sees.{slots_in}
 
 conferences_count : (shapes : List Shape) (conferences : List Conference) → AllZip IsConference shapes conferences → length shapes ≡ length conferences
 conferences_count [] [] zip = refl

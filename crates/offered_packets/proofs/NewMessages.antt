@@ -5,7 +5,8 @@ use Rattle.std.proofs.lemmas.Bool.{and_from, and_left, and_right, lt-ltb, le-ltb
 use Rattle.board_layout.specs.Board.{Board}
 use Rattle.board_layout.specs.Renewed.{contents_of}
 use Rattle.jam_base.specs.Contents.{Contents, pointer_of}
-use Rattle.offered_packets.specs.Offered.{pointer_at, is_above, is_new}
+use Rattle.board_layout.specs.Lookups.{pointer_at}
+use Rattle.offered_packets.specs.Offered.{is_above, is_new}
 use Rattle.offered_packets.specs.Sees.{sees}
 use Rattle.offered_packets.proofs.Offers.{numbered_at}
 

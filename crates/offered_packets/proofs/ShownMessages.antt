@@ -33,7 +33,8 @@ use Rattle.qwk_blocks.specs.declared.message.QwkMessage.{QwkMessage}
 use Rattle.setup_file.specs.Valid.{IsSetupConference, numbers_of}
 use Rattle.setup_file.specs.declared.conference.Conference.{Conference as SetupConference}
 use Rattle.text_fields.proofs.Trimming.{nothing_ends}
-use Rattle.offered_packets.specs.Sees.{slots_in, held_in, message_at}
+use Rattle.board_layout.specs.Lookups.{held_in}
+use Rattle.offered_packets.specs.Sees.{slots_in, message_at}
 use Rattle.offered_packets.specs.Shown.{shown_text, shown_name, shown_lines, conference_number, shown_header, shown_message}
 use Rattle.offered_packets.proofs.FieldLaws.{ends_from, bare_len, bare_end, are_lines, lines_length}
 use Rattle.offered_packets.proofs.BoardLookups.{slots_of, conference_fits}

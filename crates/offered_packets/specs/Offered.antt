@@ -2,8 +2,7 @@
 use Rattle.std.specs.Prelude.{ℕ, List, length, map, filter, take, fold, max, slice_get, Option, Some, None, option_and_then, flat_map, Bool, false, ◌&&◌, ◌==◌, nat_lt}
 use Rattle.std.specs.List.{range_with_len}
 use Rattle.board_layout.specs.Board.{Board}
-use Rattle.board_layout.specs.Renewed.{contents_of}
-use Rattle.jam_base.specs.Contents.{pointer_of}
+use Rattle.board_layout.specs.Lookups.{pointer_at}
 use Rattle.offered_packets.specs.Sees.{slots_in, sees}
 use Rattle.offered_packets.specs.declared.offered_message.OfferedMessage.{OfferedMessage}
 
@@ -14,10 +13,6 @@ numbers_in b place = map (λ number. record { place = place; number = number }) 
 -- all message numbers of a board, by place
 abbrev pub all_numbers : Board → List OfferedMessage
 all_numbers b = flat_map (numbers_in b) (range_with_len 0 (length b.conferences))
-
--- the last-read pointer of the user of an id in the conference in a place
-abbrev pub pointer_at : ℕ → ℕ → Board → Option ℕ
-pointer_at place id b = option_and_then (λ base. pointer_of id base.shape.readers base.conference.pointers) (slice_get (contents_of b) place)
 
 -- there is a pointer, and the number is above it
 abbrev pub is_above : Option ℕ → ℕ → Bool

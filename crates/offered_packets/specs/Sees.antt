@@ -5,24 +5,16 @@ use Rattle.board_ledger.specs.Users.{is_member}
 use Rattle.board_ledger.specs.declared.ledger.Ledger.{Ledger}
 use Rattle.board_ledger.specs.declared.user.User.{User}
 use Rattle.board_layout.specs.Board.{Board}
+use Rattle.board_layout.specs.Lookups.{user_of, held_in}
 use Rattle.jam_base.specs.Slots.{numbered, has_live}
 use Rattle.jam_records.specs.declared.message.Message.{Message}
 use Rattle.jam_records.specs.declared.message.Slot.{Slot}
 use Rattle.jam_records.specs.declared.message.Slot.TheVariants.{Gone, Held}
 
 -- ---- what a board has
--- the user of an id, from 1
-abbrev pub user_of : ℕ → Board → Option User
-user_of id b = if id == 0 then None else slice_get b.ledger.users (id - 1)
-
 -- the slots of the conference in a place, none where no conference is there
 abbrev pub slots_in : Board → ℕ → List Slot
 slots_in b place = unwrap_or (option_map (λ c. c.slots) (slice_get b.conferences place)) []
-
--- the message that a slot holds
-abbrev pub held_in : Slot → Option Message
-held_in Gone = None
-held_in (Held m) = Some m
 
 -- the message of a number in a place
 abbrev pub message_at : Board → ℕ → ℕ → Option Message

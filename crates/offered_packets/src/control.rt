@@ -2,7 +2,7 @@ ghost use Rattle.std.specs.Prelude.{◌≡◌, ◌≤◌, ◌<◌, ◌+◌, ◌/
 ghost use Rattle.std.specs.Str.{str_to_ascii_uppercase};
 ghost use Rattle.qwk_control.specs.Written.{Writable};
 ghost use Rattle.offered_packets.specs.Control.{five_digits as five_digits_of, listed as listed_of, control};
-ghost use Rattle.offered_packets.specs.Sees.{user_of};
+ghost use Rattle.board_layout.specs.Lookups.{user_of};
 
 use crate::lookups::user_at;
 use board_layout::StoredBoard;

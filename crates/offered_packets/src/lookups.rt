@@ -4,7 +4,8 @@ ghost use Rattle.std.specs.Option.{option_copied};
 ghost use Rattle.board_layout.specs.Renewed.{contents_of};
 ghost use Rattle.board_layout.specs.Valid.{IsBoard};
 ghost use Rattle.jam_base.specs.Slots.{numbered};
-ghost use Rattle.offered_packets.specs.Sees.{user_of, slots_in, held_in};
+ghost use Rattle.board_layout.specs.Lookups.{user_of, held_in};
+ghost use Rattle.offered_packets.specs.Sees.{slots_in};
 
 use board_layout::StoredBoard;
 use board_ledger::User;

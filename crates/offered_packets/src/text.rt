@@ -3,7 +3,7 @@ ghost use Rattle.std.specs.Prelude.{◌≡◌, ◌≤◌, ◌<◌, ◌^◌, leng
 ghost use Rattle.qwk_blocks.specs.Written.{spelling, Writable};
 ghost use Rattle.qwk_control.specs.Written.{control_text as text_of_control};
 ghost use Rattle.offered_packets.specs.Control.{control};
-ghost use Rattle.offered_packets.specs.Sees.{user_of};
+ghost use Rattle.board_layout.specs.Lookups.{user_of};
 ghost use Rattle.offered_packets.specs.Shown.{notice as notice_of};
 
 use crate::control::control_of;

@@ -3,7 +3,7 @@ use Rattle.std.specs.Prelude.{Some, option_map}
 use Rattle.std.proofs.lemmas.Result.{IfOk-weaker}
 use Rattle.qwk_control.specs.Written.{control_text}
 use Rattle.offered_packets.specs.Control.{control}
-use Rattle.offered_packets.specs.Sees.{user_of}
+use Rattle.board_layout.specs.Lookups.{user_of}
 use Rattle.offered_packets.proofs.Controls.{text_of_made}
 use Rattle.offered_packets.proofs.text.control_text.Goals as goal
 
