@@ -28,13 +28,13 @@ highs_stay members place [] highs = refl
 highs_stay members place (c ∷ conferences) [] = refl
 highs_stay members place (c ∷ conferences) (high ∷ highs) = λ i. nat_le high (length (slots_stay members place c i)) && highs_stay members (place + 1) conferences highs i
 
-zeros_fit : (conferences : List Conference) (count : ℕ) → highs_fit conferences (replicate count 0) ≡ true
+pub zeros_fit : (conferences : List Conference) (count : ℕ) → highs_fit conferences (replicate count 0) ≡ true
 zeros_fit [] count = refl
 zeros_fit (c ∷ conferences) zero = refl
 zeros_fit (c ∷ conferences) (suc n) = and_from (nat_le 0 (length c.slots)) (highs_fit conferences (replicate n 0)) (search rules) (zeros_fit conferences n)
 
 -- ---- the new user
-zeros_right : (u : User) (place n : ℕ) → right_highs u place (replicate n 0) ≡ true
+pub zeros_right : (u : User) (place n : ℕ) → right_highs u place (replicate n 0) ≡ true
 zeros_right u place zero = refl
 zeros_right u place (suc n) = zeros_right u (place + 1) n
 

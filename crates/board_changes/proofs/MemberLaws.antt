@@ -139,7 +139,7 @@ contents_few (shape ∷ shapes) [] = omega arith
 contents_few (shape ∷ shapes) (c ∷ conferences) = omega (arith, contents_few shapes conferences)
 
 -- a board has at most 64 places
-place_known : (b : Board) (k : ℕ) (base : Contents) → slice_get (contents_of b) k ≡ Some base → k < length (shapes_of b.ledger)
+pub place_known : (b : Board) (k : ℕ) (base : Contents) → slice_get (contents_of b) k ≡ Some base → k < length (shapes_of b.ledger)
 place_known b k base is = omega (arith, slice_get_within (contents_of b) k base is, contents_few (shapes_of b.ledger) b.conferences)
 
 pub place_small : (b : Board) (k : ℕ) (base : Contents) → IsBoard b → slice_get (contents_of b) k ≡ Some base → k < 64

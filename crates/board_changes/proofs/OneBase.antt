@@ -43,7 +43,7 @@ shapes_back [] (c ∷ conferences) all = absurd all
 shapes_back (shape ∷ shapes) [] all = absurd all
 shapes_back (shape ∷ shapes) (c ∷ conferences) all = ap (λ (ss : List Shape). shape ∷ ss) (shapes_back shapes conferences all.1)
 
-are_bases : (shapes : List Shape) (conferences : List Conference) → AllZip IsConference shapes conferences → All IsBase (contents shapes conferences)
+pub are_bases : (shapes : List Shape) (conferences : List Conference) → AllZip IsConference shapes conferences → All IsBase (contents shapes conferences)
 are_bases [] conferences all = All-nil IsBase
 are_bases (shape ∷ shapes) [] all = All-nil IsBase
 are_bases (shape ∷ shapes) (c ∷ conferences) all = All-cons IsBase (record { shape = shape; conference = c }) (contents shapes conferences) all.0 (are_bases shapes conferences all.1)
@@ -58,7 +58,7 @@ none_some x e = cc
 pub all_at : {A : Type 0} (P : A → Type 0) (xs : List A) (place : ℕ) (x : A) → slice_get xs place ≡ Some x → All P xs → P x
 all_at P xs place x here all = subst P (get_or_from_slice_get xs place x x here) (all place x (slice_get_within xs place x here))
 
-set_there : {A : Type 0} (xs : List A) (place : ℕ) (old new : A) → slice_get xs place ≡ Some old → slice_get (set xs place new) place ≡ Some new
+pub set_there : {A : Type 0} (xs : List A) (place : ℕ) (old new : A) → slice_get xs place ≡ Some old → slice_get (set xs place new) place ≡ Some new
 set_there [] place old new here = absurd (none_some old here)
 set_there (x ∷ xs) zero old new here = refl
 set_there (x ∷ xs) (suc place) old new here = set_there xs place old new here

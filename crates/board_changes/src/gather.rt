@@ -22,8 +22,10 @@ pub fn add_all(intent: &mut Intent, patches: Patches) -> Result<(), AllocError>
     Ok(())
 }
 
-/// The intent of a ledger alone.
-pub(crate) fn ledger_intent(alloc: Global, ledger: &Ledger) -> Result<Intent, AllocError>
+/// The intent that makes the file of a ledger, which is valid, and no other.
+///
+/// The error comes where there is no memory.
+pub fn ledger_intent(alloc: Global, ledger: &Ledger) -> Result<Intent, AllocError>
     requires { IsLedger ledger.now }
     ensures { IfOk result (λ intent. intent ≡ Patch.Whole ledger_file (ledger_text ledger.now) ∷ []) }
 {

@@ -1,0 +1,7 @@
+pub mod UserLaws
+pub mod LedgerLaws
+pub mod OfferLaws
+pub mod ReadLaws
+pub mod AcknowledgeLaws
+pub mod PlaceSteps
+pub mod FitLaws

@@ -1,0 +1,70 @@
+-- Boards after the offer of a packet, and after its acknowledgement.
+use Rattle.std.specs.Prelude.{◌≢◌, ℕ, ◌+◌, ◌-◌, ◌<◌, List, [], ◌∷◌, length, replicate, slice_get, slice_set, Option, Some, None, Bool, false, IsSome, IsSomeAnd, ◌==◌, nat_lt, if◌then◌else◌}
+use Rattle.board_layout.specs.Board.{Board, board_with}
+use Rattle.board_layout.specs.Lookups.{user_of}
+use Rattle.board_layout.specs.Renewed.{contents_of}
+use Rattle.board_ledger.specs.declared.ledger.Ledger.{Ledger}
+use Rattle.board_ledger.specs.declared.user.User.{User}
+use Rattle.jam_base.specs.Contents.{Contents, pointer_of, with_acknowledged}
+
+-- ---- the users of a board
+-- there is a user of an id, from 1
+abbrev pub HasUser : ℕ → Board → Type 0
+HasUser id b = IsSome (user_of id b)
+
+-- there is one, and his last packet isn't the last that there can be
+abbrev pub MayOffer : ℕ → Board → Type 0
+MayOffer id b = IsSomeAnd (user_of id b) (λ u. u.last < 0xFFFF_FFFF)
+
+-- there is one, and a packet is offered to him
+abbrev pub HasOffer : ℕ → Board → Type 0
+HasOffer id b = IsSomeAnd (user_of id b) (λ u. u.offered ≢ 0)
+
+-- another user in place of the one of an id
+abbrev pub with_user : ℕ → User → Ledger → Ledger
+with_user id u l = record l { users = slice_set l.users (id - 1) u }
+
+-- what is made of the user of an id, where there is one
+abbrev pub for_user : (User → Board → Board) → Option User → Board → Board
+for_user f None b = b
+for_user f (Some u) b = f u b
+
+-- ---- an offer
+-- one packet more is offered to the user, with these highs
+abbrev pub with_offer : List ℕ → User → User
+with_offer highs u = record u { last = u.last + 1; offered = u.last + 1; highs = highs }
+
+abbrev pub offered_to : ℕ → List ℕ → User → Board → Board
+offered_to id highs u b = record { ledger = with_user id (with_offer highs u) b.ledger; conferences = b.conferences }
+
+-- the board on which one packet more is offered to the user of an id, with these highs
+abbrev pub offered : ℕ → List ℕ → Board → Board
+offered id highs b = for_user (offered_to id highs) (user_of id b) b
+
+-- ---- its acknowledgement
+-- nothing is offered to the user any more
+abbrev pub without_offer : User → User
+without_offer u = record u { offered = 0; highs = replicate (length u.highs) 0 }
+
+-- a high is above a last-read pointer that there is
+abbrev pub is_above : ℕ → Option ℕ → Bool
+is_above high None = false
+is_above high (Some pointer) = nat_lt pointer high
+
+-- the user of an id and a name has acknowledged a base up to a high at a moment, where the high is above his pointer
+abbrev pub read_up_to : ℕ → List ℕ → ℕ → ℕ → Contents → Contents
+read_up_to id name now high base =
+    if is_above high (pointer_of id base.shape.readers base.conference.pointers) then with_acknowledged id name high now base else base
+
+-- so he has each base, up to its high
+abbrev pub all_read : ℕ → List ℕ → ℕ → List Contents → List ℕ → List Contents
+all_read id name now [] highs = []
+all_read id name now (base ∷ bases) [] = base ∷ bases
+all_read id name now (base ∷ bases) (high ∷ highs) = read_up_to id name now high base ∷ all_read id name now bases highs
+
+abbrev pub read_by : ℕ → ℕ → User → Board → Board
+read_by id now u b = board_with (with_user id (without_offer u) b.ledger) (all_read id u.name now (contents_of b) u.highs)
+
+-- the board on which the user of an id has acknowledged what is offered to him, at a moment
+abbrev pub acknowledged : ℕ → ℕ → Board → Board
+acknowledged id now b = for_user (read_by id now) (user_of id b) b

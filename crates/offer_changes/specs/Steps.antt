@@ -1,0 +1,13 @@
+-- The change of one place, where there is one.
+use Rattle.std.specs.Prelude.{List, [], Option, option_map, unwrap_or}
+use Rattle.intent_journal.specs.declared.patch.Patch.{Patch}
+use Rattle.jam_base.specs.Contents.{Contents}
+use Rattle.jam_base.specs.declared.change.BaseChange.{BaseChange}
+
+-- the base after it, or the old one where there is none
+abbrev pub base_after : Contents → Option BaseChange → Contents
+base_after old change = unwrap_or (option_map (λ c. c.base) change) old
+
+-- its patches, or none
+abbrev pub patches_of : Option BaseChange → List Patch
+patches_of change = unwrap_or (option_map (λ c. c.patches) change) []

@@ -1,0 +1,132 @@
+ghost use Rattle.std.specs.Prelude.{◌≡◌, ◌≤◌, ◌++◌, Some, length, option_map, slice_index, IfOk, IfSome, OnOk};
+ghost use Rattle.board_changes.specs.Change.{Becomes, Changes};
+ghost use Rattle.board_changes.specs.Gathered.{Gathered, Joins};
+ghost use Rattle.board_layout.specs.Layout.{IsLayout, base_files};
+ghost use Rattle.board_layout.specs.Renewed.{contents_of, renewed};
+ghost use Rattle.board_ledger.specs.Ledger.{ledger_text};
+ghost use Rattle.board_layout.specs.Lookups.{user_of as user_in};
+ghost use Rattle.offer_changes.specs.Changed.{acknowledged as acknowledged_of, read_by, read_up_to as read_of, without_offer as without_offer_of, HasUser};
+ghost use Rattle.offer_changes.specs.Steps.{base_after, patches_of};
+
+use crate::user::{user_of, with_user};
+use board_changes::{BoardChange, add_all, ledger_intent};
+use board_layout::StoredBoard;
+use board_ledger::{Highs, User};
+use byte_lists::List;
+use intent_journal::Intent;
+use jam_base::{Base, BaseChange};
+use std::alloc::{AllocError, Global};
+
+/// The user to whom nothing is offered any more.
+fn without_offer(alloc: Global, user: &User) -> Result<User, AllocError>
+    ensures { IfOk result (λ next. next ≡ without_offer_of user.now) }
+{
+    let mut highs = Highs::new(alloc);
+    highs.fill(alloc, &0, user.highs.len())?;
+    Ok(User {
+        name: user.name.copy(alloc)?,
+        net: user.net,
+        members: user.members,
+        last: user.last,
+        offered: 0,
+        highs,
+    })
+}
+
+/// The high of a place, or 0 where there is none.
+fn high_of(user: &User, place: usize) -> u32
+    ensures { result ≡ slice_index user.now.highs place }
+{
+    match user.highs.get(place) {
+        Some(high) => *high,
+        None => 0,
+    }
+}
+
+/// The change of a base by which the user of an id and a name acknowledges it up to a high at a moment, or None
+/// where the high isn't above the user's last-read pointer, or there is none.
+fn read_up_to(
+    alloc: Global,
+    base: &Base,
+    id: u32,
+    name: &[u8],
+    high: u32,
+    now: u32,
+) -> Result<Option<BaseChange>, AllocError>
+    requires { high ≤ length base.now.conference.slots }
+    ensures base { IfOk result (λ change. base_after base.now change ≡ read_of id name.now now high base.now) }
+    ensures changes { IfOk result (λ change. IfSome change (Changes base.now)) }
+{
+    let Some(pointer) = base.pointer(id) else {
+        return Ok(None);
+    };
+    if high <= pointer {
+        return Ok(None);
+    }
+    Ok(Some(base.acknowledged(alloc, id, name, high, now)?))
+}
+
+/// The base after a change, where there is one, whose patches stand behind those of the intent.
+fn gather(change: Option<BaseChange>, intent: &mut Intent) -> Result<Option<Base>, AllocError>
+    requires { IfSome change (λ c. Joins intent.old c.patches) }
+    ensures base { IfOk result (λ base. base ≡ option_map (λ c. c.base) change) }
+    ensures gathers { OnOk result (intent.new ≡ intent.old ++ patches_of change) }
+{
+    match change {
+        None => Ok(None),
+        Some(change) => {
+            add_all(intent, change.patches)?;
+            Ok(Some(change.base))
+        }
+    }
+}
+
+/// The bases that the user of an id acknowledges up to their highs at a moment, whose files the intent makes too.
+fn bases_read(
+    alloc: Global,
+    board: &StoredBoard,
+    id: u32,
+    user: &User,
+    now: u32,
+    intent: &mut Intent,
+) -> Result<List<Option<Base>>, AllocError>
+    requires user { user_in id board.now ≡ Some user.now }
+    requires gathered { Gathered (IsLayout board.now) (ledger_text (read_by id now user.now board.now).ledger) (base_files board.now) (base_files (read_by id now user.now board.now)) 0 intent.old }
+    ensures bases { IfOk result (λ bases. renewed (contents_of board.now) bases ≡ contents_of (read_by id now user.now board.now)) }
+    ensures gathers { OnOk result (Gathered (IsLayout board.now) (ledger_text (read_by id now user.now board.now).ledger) (base_files board.now) (base_files (read_by id now user.now board.now)) (length board.now.conferences) intent.new) }
+{
+    let mut bases = List::new(alloc);
+    for (place, base) in board.bases().iter().enumerate() {
+        let high = high_of(user, place);
+        let change = read_up_to(alloc, base, id, user.name.as_slice(), high, now)?;
+        bases.add(gather(change, intent)?)?;
+    }
+    Ok(bases)
+}
+
+/// The change of a board by which the user of an id, from 1, acknowledges what is offered to him at a moment in Unix
+/// seconds: in each conference whose high is above his last-read pointer, each message to him, ignoring case, is
+/// marked read that isn't deleted, isn't read and has a number above the pointer and at most the high, and then the
+/// pointer is the high. The offer goes, and all his highs are 0. The user is there.
+///
+/// The error comes where there is no memory.
+pub fn acknowledged(
+    alloc: Global,
+    board: &StoredBoard,
+    user: u32,
+    now: u32,
+) -> Result<BoardChange, AllocError>
+    requires { HasUser user board.now }
+    ensures { IfOk result (λ change. Becomes board.now (acknowledged_of user now board.now) change) }
+{
+    let reader = user_of(board, user);
+    let next = without_offer(alloc, reader)?;
+    let ledger = with_user(alloc, board.ledger(), user, next)?;
+    let mut intent = ledger_intent(alloc, &ledger)?;
+    let bases = bases_read(alloc, board, user, reader, now, &mut intent)?;
+    Ok(BoardChange {
+        ledger,
+        bases,
+        intent,
+    })
+}

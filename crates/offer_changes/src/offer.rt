@@ -1,0 +1,51 @@
+ghost use Rattle.std.specs.Prelude.{◌≡◌, ◌<◌, IfOk};
+ghost use Rattle.board_changes.specs.Change.{Becomes};
+ghost use Rattle.board_layout.specs.Valid.{IsBoard};
+ghost use Rattle.offer_changes.specs.Changed.{offered as offered_of, with_offer as with_offer_of, HasUser};
+
+use crate::user::{user_of, with_user};
+use board_changes::{BoardChange, ledger_intent};
+use board_layout::StoredBoard;
+use board_ledger::{Highs, User};
+use byte_lists::List;
+use std::alloc::{AllocError, Global};
+
+/// The user to whom one packet more is offered, with these highs.
+fn with_offer(alloc: Global, user: &User, highs: &Highs) -> Result<User, AllocError>
+    requires { user.now.last < 0xFFFF_FFFF }
+    ensures { IfOk result (λ next. next ≡ with_offer_of highs.now user.now) }
+{
+    let packet = user.last + 1;
+    Ok(User {
+        name: user.name.copy(alloc)?,
+        net: user.net,
+        members: user.members,
+        last: packet,
+        offered: packet,
+        highs: highs.copy(alloc)?,
+    })
+}
+
+/// The change of a board by which one packet more is offered to the user of an id, from 1: it is his last one, and
+/// these are its highs. An older offer is superseded. The user is there, and the board that it makes is valid.
+///
+/// The error comes where there is no memory.
+pub fn offered(
+    alloc: Global,
+    board: &StoredBoard,
+    user: u32,
+    highs: &Highs,
+) -> Result<BoardChange, AllocError>
+    requires user { HasUser user board.now }
+    requires next { IsBoard (offered_of user highs.now board.now) }
+    ensures { IfOk result (λ change. Becomes board.now (offered_of user highs.now board.now) change) }
+{
+    let next = with_offer(alloc, user_of(board, user), highs)?;
+    let ledger = with_user(alloc, board.ledger(), user, next)?;
+    let intent = ledger_intent(alloc, &ledger)?;
+    Ok(BoardChange {
+        ledger,
+        bases: List::new(alloc),
+        intent,
+    })
+}

@@ -1,0 +1,56 @@
+// One of the users of a board.
+ghost use Rattle.std.specs.Prelude.{◌≡◌, ◌≤◌, ◌<◌, Some, length, IfOk};
+ghost use Rattle.std.specs.Option.{option_copied};
+ghost use Rattle.board_layout.specs.Valid.{IsBoard};
+ghost use Rattle.board_layout.specs.Lookups.{user_of as user_in};
+ghost use Rattle.offer_changes.specs.Changed.{with_user as with_user_of, HasUser};
+
+use board_layout::StoredBoard;
+use board_ledger::{Ledger, User};
+use byte_lists::List;
+use std::alloc::{AllocError, Global};
+
+/// The user of an id, from 1, or None where there is none.
+pub(crate) fn user_at(board: &StoredBoard, id: u32) -> Option<&User>
+    ensures user { option_copied result ≡ user_in id board.now }
+    ensures board { IsBoard board.now }
+{
+    let users = &board.ledger().users;
+    if id == 0 {
+        return None;
+    }
+    users.get(id as usize - 1)
+}
+
+/// The user of an id that one has.
+pub(crate) fn user_of(board: &StoredBoard, id: u32) -> &User
+    requires { HasUser id board.now }
+    ensures user { user_in id board.now ≡ Some result.now }
+    ensures board { IsBoard board.now }
+{
+    match user_at(board, id) {
+        Some(user) => user,
+        None => unreachable!(),
+    }
+}
+
+/// The ledger with another user in place of the one of an id.
+pub(crate) fn with_user(
+    alloc: Global,
+    ledger: &Ledger,
+    id: u32,
+    user: User,
+) -> Result<Ledger, AllocError>
+    requires above { 0 < id }
+    requires within { id ≤ length ledger.now.users }
+    ensures { IfOk result (λ next. next ≡ with_user_of id user ledger.now) }
+{
+    let mut users = ledger.users.copy(alloc)?.into_vec();
+    users[id as usize - 1] = user;
+    Ok(Ledger {
+        setup: ledger.setup.copy(alloc)?,
+        created: ledger.created,
+        users: List::from_vec(users),
+        uploads: ledger.uploads.copy(alloc)?,
+    })
+}
