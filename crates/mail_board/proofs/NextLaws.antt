@@ -3,9 +3,11 @@ use Rattle.board_layout.specs.Board.{Board}
 use Rattle.board_layout.specs.Valid.{IsBoard}
 use Rattle.mail_board.specs.Changes.{changed, Fits}
 use Rattle.mail_board.specs.declared.change.Change.{Change}
-use Rattle.mail_board.specs.declared.change.Change.TheVariants.{Enroll, Append, Kill}
+use Rattle.mail_board.specs.declared.change.Change.TheVariants.{Enroll, Append, Kill, Offer, Acknowledge}
 
 pub fits_board : (change : Change) (b : Board) → Fits change b → IsBoard (changed change b)
 fits_board (Enroll name net members) b fits = fits
 fits_board (Append place messages) b fits = fits.1
 fits_board (Kill place number) b fits = fits.1
+fits_board (Offer user highs) b fits = fits.1
+fits_board (Acknowledge user now) b fits = fits.1

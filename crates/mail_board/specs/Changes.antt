@@ -1,10 +1,11 @@
 -- What a change makes of a board, and where it may be made.
-use Rattle.std.specs.Prelude.{◌^◌, ◌<◌, length}
+use Rattle.std.specs.Prelude.{◌≡◌, ◌^◌, ◌<◌, length}
 use Rattle.board_changes.specs.Changed.{enrolled}
 use Rattle.board_layout.specs.Board.{Board}
 use Rattle.board_layout.specs.Valid.{IsBoard}
 use Rattle.mail_board.specs.declared.change.Change.{Change}
-use Rattle.mail_board.specs.declared.change.Change.TheVariants.{Enroll, Append, Kill}
+use Rattle.mail_board.specs.declared.change.Change.TheVariants.{Enroll, Append, Kill, Offer, Acknowledge}
+use Rattle.offer_changes.specs.Changed.{acknowledged, offered, HasOffer, HasUser, MayOffer}
 use Rattle.slot_changes.specs.Changed.{appended, deleted, HasMessage}
 
 -- the board after it
@@ -12,15 +13,21 @@ abbrev pub changed : Change → Board → Board
 changed (Enroll name net members) b = enrolled name net members b
 changed (Append place messages) b = appended place messages b
 changed (Kill place number) b = deleted place number b
+changed (Offer user highs) b = offered user highs b
+changed (Acknowledge user now) b = acknowledged user now b
 
 -- the user and the places that it names are there
 abbrev pub Exists : Change → Board → Type 0
 Exists (Enroll name net members) b = members < 2 ^ length b.conferences
 Exists (Append place messages) b = place < length b.conferences
 Exists (Kill place number) b = place < length b.conferences
+Exists (Offer user highs) b = HasUser user b × (length highs ≡ length b.conferences)
+Exists (Acknowledge user now) b = HasUser user b
 
 -- what it acts on is there, and the board after it is valid
 abbrev pub Fits : Change → Board → Type 0
 Fits (Enroll name net members) b = IsBoard (changed (Enroll name net members) b)
 Fits (Append place messages) b = Exists (Append place messages) b × IsBoard (changed (Append place messages) b)
 Fits (Kill place number) b = HasMessage place number b × IsBoard (changed (Kill place number) b)
+Fits (Offer user highs) b = MayOffer user b × IsBoard (changed (Offer user highs) b)
+Fits (Acknowledge user now) b = HasOffer user b × IsBoard (changed (Acknowledge user now) b)

@@ -5,6 +5,7 @@ use Rattle.std.specs.Str.{bytes_eq, str_eq_ignore_ascii_case}
 use Rattle.board_ledger.specs.declared.upload.Counts.{Counts}
 use Rattle.board_ledger.specs.declared.user.User.{User}
 use Rattle.board_layout.specs.Board.{Board}
+use Rattle.board_layout.specs.Lookups.{user_of, held_in}
 use Rattle.board_layout.specs.Renewed.{contents_of}
 use Rattle.jam_base.specs.Contents.{pointer_of}
 use Rattle.jam_base.specs.Slots.{numbered}
@@ -16,22 +17,9 @@ use Rattle.jam_records.specs.declared.message.Slot.TheVariants.{Gone, Held}
 abbrev pub place_of : ℕ → Board → Option ℕ
 place_of number b = position (λ c. c.number == number) b.ledger.setup.conferences
 
--- the last-read pointer of a user in the conference in a place
-abbrev pub pointer_at : ℕ → ℕ → Board → Option ℕ
-pointer_at place user b = option_and_then (λ base. pointer_of user base.shape.readers base.conference.pointers) (slice_get (contents_of b) place)
-
--- what a slot holds
-abbrev pub held_in : Slot → Option Message
-held_in Gone = None
-held_in (Held message) = Some message
-
 -- the message of a number in a place
 abbrev pub message_at : ℕ → ℕ → Board → Option Message
 message_at place number b = option_and_then (λ base. held_in (numbered base.conference.slots number)) (slice_get (contents_of b) place)
-
--- the user of an id, from 1
-abbrev pub user_of : ℕ → Board → Option User
-user_of id b = if id == 0 then None else slice_get b.ledger.users (id - 1)
 
 -- the id of the user of a name, ignoring ASCII case
 abbrev pub user_id : List ℕ → Board → Option ℕ

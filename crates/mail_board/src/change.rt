@@ -11,10 +11,12 @@ ghost use Rattle.mail_board.specs.declared.change.ChangeError.TheVariants.{DiskF
 use crate::board::Board;
 use board_changes::{BoardChange, enrolled};
 use board_layout::StoredBoard;
+use board_ledger::Highs;
 use byte_lists::Bytes;
 use door_outside::{DiskFault, Host};
 use intent_journal::commit;
 use jam_records::Messages;
+use offer_changes::{acknowledged, offered};
 use slot_changes::{appended, deleted};
 use std::alloc::{AllocError, Global};
 use thiserror::Error;
@@ -44,6 +46,20 @@ pub enum Change {
         place: u8,
         /// Its number, which is that of a message that isn't deleted.
         number: u32,
+    },
+    /// A packet more offered to a user, in place of an older offer. It is the user's last one.
+    Offer {
+        /// The user's id, from 1. The last packet before is below 4,294,967,295.
+        user: u32,
+        /// For each conference, by place, the greatest message number that is offered, or 0.
+        highs: Highs,
+    },
+    /// The acknowledgement of the packet that a user is offered.
+    Acknowledge {
+        /// The user's id, from 1.
+        user: u32,
+        /// The moment at which the messages to the user are received, in Unix seconds.
+        now: u32,
     },
 }
 
@@ -88,6 +104,8 @@ fn next_of(alloc: Global, stored: &StoredBoard, change: &Change) -> Result<Board
         }
         Change::Append { place, messages } => appended(alloc, stored, *place, messages),
         Change::Kill { place, number } => deleted(alloc, stored, *place, *number),
+        Change::Offer { user, highs } => offered(alloc, stored, *user, highs),
+        Change::Acknowledge { user, now } => acknowledged(alloc, stored, *user, *now),
     }
 }
 

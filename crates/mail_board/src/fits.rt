@@ -8,6 +8,7 @@ use crate::board::Board;
 use crate::change::Change;
 use board_changes::{fits_user, size_with_user};
 use board_layout::StoredBoard;
+use offer_changes::{fits_acknowledgement, fits_offer};
 use slot_changes::{fits_deletion, fits_messages, size_with_messages};
 
 /// How many bytes the data files of a valid board have.
@@ -31,11 +32,14 @@ impl Board {
             }
             Change::Append { place, messages } => fits_messages(&self.stored, *place, messages),
             Change::Kill { place, number } => fits_deletion(&self.stored, *place, *number),
+            Change::Offer { user, highs } => fits_offer(&self.stored, *user, highs),
+            Change::Acknowledge { user, now } => { fits_acknowledgement(&self.stored, *user, *now) }
         }
     }
 
     /// How many bytes the data files have together after a change, or 18,446,744,073,709,551,615 where they are
-    /// more. The users and places that it names are there. It takes no memory.
+    /// more. The users and places that it names are there, and an offer has a high for each conference. It takes no
+    /// memory.
     pub fn size_after(&self, change: &Change) -> u64
         requires { Exists change.now self.now.board }
         ensures { result ≡ min (board_size (changed change.now self.now.board)) (2 ^ 64 - 1) }
@@ -49,6 +53,9 @@ impl Board {
             }
             // A mark takes no byte.
             Change::Kill { .. } => size_of(&self.stored),
+            // The numbers of an offer stand where older ones stood.
+            Change::Offer { .. } => size_of(&self.stored),
+            Change::Acknowledge { .. } => size_of(&self.stored),
         }
     }
 }

@@ -6,7 +6,8 @@ ghost use Rattle.door_outside.specs.Disk.{Disk, Unchanged};
 ghost use Rattle.jam_base.specs.Slots.{numbered};
 ghost use Rattle.jam_records.specs.declared.damage.Damage.{Damage};
 ghost use Rattle.mail_board.specs.Held.{Rests};
-ghost use Rattle.mail_board.specs.Readers.{held_in, message_at};
+ghost use Rattle.board_layout.specs.Lookups.{held_in};
+ghost use Rattle.mail_board.specs.Readers.{message_at};
 ghost use Rattle.slot_changes.specs.Msgids.{msgid_in};
 
 use crate::board::Board;

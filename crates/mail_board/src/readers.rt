@@ -6,11 +6,15 @@ ghost use Rattle.board_layout.specs.Layout.{board_size};
 ghost use Rattle.board_layout.specs.Valid.{IsBoard};
 ghost use Rattle.jam_layout.specs.Conference.{live_count as live_in};
 ghost use Rattle.jam_threads.specs.Children.{original};
-ghost use Rattle.mail_board.specs.Readers.{place_of, user_of, user_id as id_of, offer_of, pointer_at, upload_of as counts_of};
+ghost use Rattle.offered_packets.specs.Sees.{sees as is_seen};
+ghost use Rattle.board_layout.specs.Lookups.{user_of, pointer_at};
+ghost use Rattle.mail_board.specs.Readers.{place_of, user_id as id_of, offer_of, upload_of as counts_of};
 
 use crate::board::Board;
+use board_layout::StoredBoard;
 use board_ledger::{Conference, Counts, Setup, User};
 use jam_base::Base;
+use offered_packets::sees;
 
 /// The place of the conference of a number, or None where none has it.
 fn place_in(conferences: &[Conference], number: u16) -> Option<usize>
@@ -37,6 +41,15 @@ impl Board {
         ensures valid { IsBoard self.now.board }
     {
         &self.stored.ledger().setup
+    }
+
+    /// The board itself, for what reads boards in memory. It is valid.
+    pub fn stored(&self) -> &StoredBoard
+        ensures board { result.now ≡ self.now.board }
+        ensures valid { IsBoard self.now.board }
+    {
+        let _ledger = self.stored.ledger();
+        &self.stored
     }
 
     /// Whether a change ended with a disk fault, so that the files hold the board before it or the one after it.
@@ -103,6 +116,15 @@ impl Board {
             Some(base) => base.pointer(user),
             None => None,
         }
+    }
+
+    /// Whether the user of an id, from 1, sees the message of a number, from 1, in a place, from 0: all three are
+    /// there, the message isn't deleted, the user is a member of its conference, and it isn't private, or is to the
+    /// user or from the user, ignoring ASCII case, or the user is the sysop. It takes no memory.
+    pub fn sees(&self, user: u32, place: u8, number: u32) -> bool
+        ensures { result ≡ is_seen self.now.board user place number }
+    {
+        sees(&self.stored, user, place, number)
     }
 
     /// How many users there are, at most 500. Their ids are those from 1 to this number.

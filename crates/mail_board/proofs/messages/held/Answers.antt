@@ -1,6 +1,6 @@
 use Rattle.std.proofs.Common.{sym, ap, ◌∙◌}
 use Rattle.std.specs.Option.{option_copied}
-use Rattle.mail_board.specs.Readers.{held_in}
+use Rattle.board_layout.specs.Lookups.{held_in}
 use Rattle.slot_changes.proofs.DeleteLaws.{gone_past}
 use Rattle.mail_board.proofs.messages.held.Goals as goal
 
