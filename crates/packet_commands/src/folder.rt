@@ -30,7 +30,7 @@ pub fn control_name(alloc: Global, folder: &ShelfName) -> Result<ShelfName, Allo
 }
 
 /// The name of MESSAGES.DAT in a folder.
-fn messages_name(alloc: Global, folder: &ShelfName) -> Result<ShelfName, AllocError>
+pub fn messages_name(alloc: Global, folder: &ShelfName) -> Result<ShelfName, AllocError>
     requires { HasParts 3 folder.now }
     ensures { IfOk result (λ name. name ≡ folder.now ++ codes "/MESSAGES.DAT") }
 {

@@ -9,7 +9,7 @@ mod reading;
 mod scanning;
 
 pub use control_file::control_in;
-pub use folder::{Packet, control_name, folder_in};
+pub use folder::{Packet, control_name, folder_in, messages_name};
 pub use listing::list;
 pub use reading::{read, show};
 pub use scanning::scan;

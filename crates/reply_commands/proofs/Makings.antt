@@ -10,7 +10,7 @@ use Rattle.shelf_files.specs.declared.refusal.Refusal.{Refusal}
 use Rattle.reply_commands.specs.Writing.{writes, with_rep, Puts}
 use Rattle.reply_commands.specs.declared.enlarging.Enlarged.{Enlarged}
 use Rattle.reply_commands.specs.declared.putting.Added.{Added}
-use Rattle.reply_commands.proofs.Shelves.{same_at}
+use Rattle.shelf_files.proofs.Shelves.{same_at}
 
 -- the reply packet was made, and then it was put
 pub serves_put : (name : List ℕ) (Makes : Files → Result Enlarged Refusal → Type 0) (text : Added → List ℕ) (old mid new : Files) (made : Enlarged) (result : Result Added Halt)

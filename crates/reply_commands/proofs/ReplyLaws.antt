@@ -26,7 +26,7 @@ use Rattle.shelf_files.specs.Halts.{replied}
 use Rattle.shelf_files.specs.Sheets.{SheetOf}
 use Rattle.shelf_files.specs.declared.refusal.Refusal.{Refusal}
 use Rattle.shelf_files.specs.declared.refusal.Refusal.TheVariants.{Text}
-use Rattle.reply_commands.proofs.Shelves.{other_stays, same_at}
+use Rattle.shelf_files.proofs.Shelves.{other_stays, same_at}
 use Rattle.reply_commands.specs.Compose.{ConferenceIn, ComposeMakes, composes, composed_line}
 use Rattle.reply_commands.specs.RepFile.{RepFrom, RepOf, DraftsFit, EnlargedBy, EnlargesRep, Enlarges, IsForBoard, rep_refusal}
 use Rattle.reply_commands.specs.Reply.{MessageIn, TextOf, ReplyMakes, replies, reply_line}

@@ -1,6 +1,6 @@
 -- What is said of a command over the shelf is something, and one thing.
 use Rattle.std.proofs.Common.{◌≡◌, ◌≢◌, ℕ, List, [], refl, sym, ◌∙◌, ap, subst}
-use Rattle.std.specs.Prelude.{Result, Ok, Err}
+use Rattle.std.specs.Prelude.{Result, Ok, Err, Some, None}
 use Rattle.door_outside.specs.Shelf.{Files, held}
 use Rattle.entry_runs.specs.Entry.{Reply, Serves, looks}
 use Rattle.entry_runs.proofs.ShelfLaws.{IsLawfulOnShelf, lawful_look}
@@ -12,7 +12,7 @@ use Rattle.shelf_files.specs.ShelfFile.{ReadAs}
 use Rattle.shelf_files.specs.declared.halt.Halt.{Halt}
 use Rattle.shelf_files.specs.declared.halt.Halt.TheVariants.{Refused, ShelfFault, OutOfMemory}
 use Rattle.shelf_files.specs.declared.refusal.Refusal.{Refusal}
-use Rattle.shelf_files.specs.declared.refusal.Refusal.TheVariants.{NoFile, TooLarge, Broken, ControlShort, ControlNumber, ControlId, NoMessage, NoBoardId, OtherBoard, NoConference, Sheet, Text, NotMade, Exists, Name, DupUser, Users, Setup, Slots, Size}
+use Rattle.shelf_files.specs.declared.refusal.Refusal.TheVariants.{NoFile, TooLarge, Broken, ControlShort, ControlNumber, ControlId, NoMessage, NoBoardId, OtherBoard, NoConference, Sheet, Text, NotMade, Exists, Name, DupUser, Users, NoUser, Limit, Packets, NoPacket, Uploads, Count, Setup, Slots, Size}
 
 pub some_refusal : (refusal : Refusal) → refusal_line refusal ≢ []
 some_refusal (NoFile name) is = absurd (cc is)
@@ -33,6 +33,13 @@ some_refusal Exists is = absurd (cc is)
 some_refusal Name is = absurd (cc is)
 some_refusal DupUser is = absurd (cc is)
 some_refusal Users is = absurd (cc is)
+some_refusal NoUser is = absurd (cc is)
+some_refusal Limit is = absurd (cc is)
+some_refusal Packets is = absurd (cc is)
+some_refusal (NoPacket None) is = absurd (cc is)
+some_refusal (NoPacket (Some packet)) is = absurd (cc is)
+some_refusal Uploads is = absurd (cc is)
+some_refusal Count is = absurd (cc is)
 some_refusal (Setup line rule) is = absurd (cc is)
 some_refusal (Slots count) is = absurd (cc is)
 some_refusal (Size bytes) is = absurd (cc is)

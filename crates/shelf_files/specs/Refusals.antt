@@ -1,11 +1,11 @@
 -- What is said of a refused command.
-use Rattle.std.specs.Prelude.{ℕ, List, [], ◌++◌, codes, decimal}
+use Rattle.std.specs.Prelude.{ℕ, List, [], ◌++◌, codes, decimal, Option, Some, None}
 use Rattle.import_sheet.specs.RuleWord.{rule_word}
 use Rattle.qwk_blocks.specs.declared.fault.QwkFault.TheVariants.{Truncated, BadBlocks}
 use Rattle.setup_file.specs.declared.error.SetupRule.{SetupRule}
 use Rattle.setup_file.specs.declared.error.SetupRule.TheVariants as setup
 use Rattle.shelf_files.specs.declared.refusal.Refusal.{Refusal}
-use Rattle.shelf_files.specs.declared.refusal.Refusal.TheVariants.{NoFile, TooLarge, Broken, ControlShort, ControlNumber, ControlId, NoMessage, NoBoardId, OtherBoard, NoConference, Sheet, Text, NotMade, Exists, Name, DupUser, Users, Setup, Slots, Size}
+use Rattle.shelf_files.specs.declared.refusal.Refusal.TheVariants.{NoFile, TooLarge, Broken, ControlShort, ControlNumber, ControlId, NoMessage, NoBoardId, OtherBoard, NoConference, Sheet, Text, NotMade, Exists, Name, DupUser, Users, NoUser, Limit, Packets, NoPacket, Uploads, Count, Setup, Slots, Size}
 
 -- the line of a refusal, of its words and what stands behind them
 abbrev pub line_of : List ℕ → List ℕ → List ℕ
@@ -29,6 +29,11 @@ setup_word setup.Order = codes "order"
 setup_word setup.Many = codes "many"
 setup_word setup.Missing = codes "missing"
 
+-- the line that names the packet which is offered, if one is
+abbrev pub packet_line : Option ℕ → List ℕ
+packet_line None = line_of (codes "nopacket ") (codes "none")
+packet_line (Some packet) = line_of (codes "nopacket ") (decimal packet)
+
 -- one line for each refusal
 abbrev pub refusal_line : Refusal → List ℕ
 refusal_line (NoFile name) = line_of (codes "nofile ") name
@@ -49,6 +54,12 @@ refusal_line Exists = line_of (codes "exists") []
 refusal_line Name = line_of (codes "name") []
 refusal_line DupUser = line_of (codes "dupuser") []
 refusal_line Users = line_of (codes "users") []
+refusal_line NoUser = line_of (codes "nouser") []
+refusal_line Limit = line_of (codes "limit") []
+refusal_line Packets = line_of (codes "packets") []
+refusal_line (NoPacket packet) = packet_line packet
+refusal_line Uploads = line_of (codes "uploads 100000") []
+refusal_line Count = line_of (codes "count") []
 refusal_line (Setup line rule) = ruled_line (codes "setup ") line (setup_word rule)
 refusal_line (Slots count) = line_of (codes "slots ") (decimal count)
 refusal_line (Size bytes) = line_of (codes "size ") (decimal bytes)

@@ -5,8 +5,10 @@ mod halt;
 mod refusal;
 mod sheet_file;
 mod shelf_file;
+mod writing;
 
 pub use halt::Halt;
 pub use refusal::Refusal;
 pub use sheet_file::sheet_in;
 pub use shelf_file::{FILE_LIMIT, PACKET_LIMIT, file_in};
+pub use writing::write_file;

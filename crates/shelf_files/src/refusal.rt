@@ -1,7 +1,7 @@
 ghost use Rattle.std.specs.Prelude.{◌≡◌, IsTrue, decimal};
 ghost use Rattle.door_outside.specs.Cause.{HasCause};
 ghost use Rattle.entry_runs.specs.Saying.{Voiced};
-ghost use Rattle.shelf_files.specs.Refusals.{line_of, ruled_line, setup_word as setup_word_of};
+ghost use Rattle.shelf_files.specs.Refusals.{line_of, packet_line, ruled_line, setup_word as setup_word_of};
 
 use door_outside::{Host, ShelfName, VoiceFault};
 use entry_runs::say_all;
@@ -47,6 +47,18 @@ pub enum Refusal {
     DupUser,
     /// There are as many users as there may be.
     Users,
+    /// No user has the name.
+    NoUser,
+    /// The limit of a packet's messages isn't one that it may have.
+    Limit,
+    /// The user's last packet has the last number that there is.
+    Packets,
+    /// The packet isn't the one of this number that is offered to the user, or none is.
+    NoPacket(Option<u32>),
+    /// There are as many upload records as may be kept.
+    Uploads,
+    /// The count of messages isn't one that may be asked for.
+    Count,
     /// This line of the setup file, from 1, is the first that breaks a rule, and this is the rule.
     Setup { line: u32, rule: SetupRule },
     /// The conference would have so many slots, more than it may.
@@ -104,6 +116,18 @@ fn say_rule<H: Host>(host: &mut H, words: &[u8], line: u32, rule: &[u8]) -> Resu
     say_all(host, &[b"refused ", words, digits, b" ", rule, b"\n"])
 }
 
+/// Says the line of the packet that is offered, or that none is.
+fn say_packet<H: Host>(host: &mut H, packet: Option<u32>) -> Result<(), VoiceFault>
+    ensures voiced { IsTrue H.tells → Voiced (packet_line packet) (H.disk host.old) (H.disk host.new) result }
+    ensures cause { HasCause (H.voice_faults host.old) (H.voice_faults host.new) result }
+    ensures disk { H.disk_faults host.new ≡ H.disk_faults host.old }
+{
+    match packet {
+        None => say_line(host, b"nopacket ", b"none"),
+        Some(number) => say_number(host, b"nopacket ", u64::from(number)),
+    }
+}
+
 impl Refusal {
     ghost use Rattle.std.specs.Prelude.{◌≡◌, IsTrue};
     ghost use Rattle.door_outside.specs.Cause.{HasCause};
@@ -143,6 +167,12 @@ impl Refusal {
             Refusal::Name => say_line(host, b"name", b""),
             Refusal::DupUser => say_line(host, b"dupuser", b""),
             Refusal::Users => say_line(host, b"users", b""),
+            Refusal::NoUser => say_line(host, b"nouser", b""),
+            Refusal::Limit => say_line(host, b"limit", b""),
+            Refusal::Packets => say_line(host, b"packets", b""),
+            Refusal::NoPacket(packet) => say_packet(host, *packet),
+            Refusal::Uploads => say_line(host, b"uploads 100000", b""),
+            Refusal::Count => say_line(host, b"count", b""),
             Refusal::Setup { line, rule } => say_rule(host, b"setup ", *line, setup_word(*rule)),
             Refusal::Slots(count) => say_number(host, b"slots ", *count),
             Refusal::Size(bytes) => say_number(host, b"size ", *bytes),

@@ -35,3 +35,21 @@ returns-in-Setup-clause-voiced g c tells = rw (c.in-Setup.is, ← c.setup_word.e
 
 pub returns-in-Size-clause-voiced : goal.returns-in-Size-clause-voiced
 returns-in-Size-clause-voiced g c tells = rw c.in-Size.is (c.say_number-in-Size.ensures.voiced tells)
+
+pub returns-in-NoUser-clause-voiced : goal.returns-in-NoUser-clause-voiced
+returns-in-NoUser-clause-voiced g c tells = rw c.in-NoUser.is (c.say_line-in-NoUser.ensures.voiced tells)
+
+pub returns-in-Limit-clause-voiced : goal.returns-in-Limit-clause-voiced
+returns-in-Limit-clause-voiced g c tells = rw c.in-Limit.is (c.say_line-in-Limit.ensures.voiced tells)
+
+pub returns-in-Packets-clause-voiced : goal.returns-in-Packets-clause-voiced
+returns-in-Packets-clause-voiced g c tells = rw c.in-Packets.is (c.say_line-in-Packets.ensures.voiced tells)
+
+pub returns-in-NoPacket-clause-voiced : goal.returns-in-NoPacket-clause-voiced
+returns-in-NoPacket-clause-voiced g c tells = rw c.in-NoPacket.is (c.say_packet.ensures.voiced tells)
+
+pub returns-in-Uploads-clause-voiced : goal.returns-in-Uploads-clause-voiced
+returns-in-Uploads-clause-voiced g c tells = rw c.in-Uploads.is (c.say_line-in-Uploads.ensures.voiced tells)
+
+pub returns-in-Count-clause-voiced : goal.returns-in-Count-clause-voiced
+returns-in-Count-clause-voiced g c tells = rw c.in-Count.is (c.say_line-in-Count.ensures.voiced tells)

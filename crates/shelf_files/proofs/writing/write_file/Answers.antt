@@ -1,5 +1,5 @@
-use Rattle.reply_commands.proofs.Shelves.{begun_or_not, begun_then}
-use Rattle.reply_commands.proofs.putting.write_file.Goals as goal
+use Rattle.shelf_files.proofs.Shelves.{begun_or_not, begun_then}
+use Rattle.shelf_files.proofs.writing.write_file.Goals as goal
 
 pub returns-in-Ok-clause-done : goal.returns-in-Ok-clause-done
 returns-in-Ok-clause-done g c tells =
