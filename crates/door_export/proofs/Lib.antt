@@ -1,0 +1,4 @@
+pub mod FolderLaws
+pub mod HighsFit
+pub mod ExportLaws
+pub mod AckLaws

@@ -1,0 +1,5 @@
+pub mod Folder
+pub mod Export
+pub mod Exporting
+pub mod Ack
+pub mod Acknowledging

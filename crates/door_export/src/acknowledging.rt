@@ -1,0 +1,115 @@
+//! An acknowledgement: what was offered to a user is read up to it.
+ghost use Rattle.std.specs.Prelude.{◌≡◌, ◌↔◌, true, Ok, Err, IfOk, IfErr, IsErrOf, IsOk, IsTrue, IsFalse, OnOk};
+ghost use Rattle.std.specs.Result.{result_err};
+ghost use Rattle.board_layout.specs.Layout.{IsLayout};
+ghost use Rattle.door_outside.specs.Disk.{Disk, AllNow, Between};
+ghost use Rattle.intent_journal.specs.Hosts.{IsSettled};
+ghost use Rattle.mail_board.specs.Causes.{HasFault};
+ghost use Rattle.mail_board.specs.Changes.{changed, Fits};
+ghost use Rattle.mail_board.specs.Held.{BeforeOrNext, Rests, sure};
+ghost use Rattle.door_export.specs.Ack.{ack_of, board_after};
+ghost use Rattle.door_export.specs.Acknowledging.{IsEarly, LeavesAll, refusal_in};
+
+use crate::reader::reader_of;
+use door_outside::Host;
+use mail_board::{Board, Change, ChangeError};
+use std::alloc::Global;
+use thiserror::Error;
+
+/// Why no packet was acknowledged, or perhaps not.
+#[derive(Clone, Copy, Debug, PartialEq, Eq, Error)]
+pub enum AckError {
+    /// No user has the name.
+    #[error("no such user")]
+    NoUser,
+    /// The packet isn't the one of this number that is offered to the user, or none is.
+    #[error("not the packet that is offered")]
+    NoPacket(Option<u32>),
+    /// A file call of the host failed. The files hold the board before the acknowledgement or the one after it.
+    #[error("disk fault")]
+    DiskFault,
+    /// An earlier change ended with a disk fault, so nothing was done.
+    #[error("the board is in doubt")]
+    Doubt,
+    /// There is no memory for the change. Nothing was done.
+    #[error("out of memory")]
+    OutOfMemory,
+}
+
+impl From<ChangeError> for AckError {
+    ghost use Rattle.std.specs.Prelude.{◌≡◌};
+    ghost use Rattle.door_export.specs.Acknowledging.{of_change};
+
+    ghost from_gives = { λ error e. e ≡ of_change error };
+
+    fn from(error: ChangeError) -> AckError {
+        match error {
+            ChangeError::DiskFault => AckError::DiskFault,
+            ChangeError::Doubt => AckError::Doubt,
+            ChangeError::OutOfMemory => AckError::OutOfMemory,
+        }
+    }
+}
+
+/// The change by which the user of a name acknowledges a packet, or why he can't.
+fn prepared(board: &Board, name: &[u8], packet: u32, now: u32) -> Result<Change, AckError>
+    ensures refused { refusal_in result ≡ result_err (ack_of name.now packet now board.now.board) }
+    ensures early { IfErr result IsEarly }
+    ensures doubt { (result ≡ Err AckError.Doubt) ↔ (IsOk (ack_of name.now packet now board.now.board) × IsTrue board.now.doubtful) }
+    ensures sure { OnOk result (IsFalse board.now.doubtful) }
+    ensures fits { IfOk result (λ change. Fits change board.now.board) }
+    ensures board { IfOk result (λ change. Ok (changed change board.now.board) ≡ ack_of name.now packet now board.now.board) }
+{
+    let Some(reader) = reader_of(board, name) else {
+        return Err(AckError::NoUser);
+    };
+    let offer = board.offer(reader.id);
+    if offer != Some(packet) {
+        return Err(AckError::NoPacket(offer));
+    }
+    if board.doubtful() {
+        return Err(AckError::Doubt);
+    }
+    Ok(Change::Acknowledge {
+        user: reader.id,
+        now,
+    })
+}
+
+/// Acknowledges a packet for the user of a name, ignoring ASCII case: in each conference with a high above his
+/// last-read pointer the messages to him up to that high are marked read at a moment in Unix seconds, and then the
+/// pointer is the high. The offer goes. Where the board isn't doubtful, the host's files are those of this board, and
+/// the host rests. It says nothing.
+///
+/// `NoUser` comes where no user has the name, else `NoPacket` where the packet isn't the one that is offered to him,
+/// with the one that is, else `Doubt` where the board is doubtful, and `OutOfMemory` before the first write: all of
+/// them leave all as it was. `DiskFault` comes only where the host's count of disk faults rose, and then the board is
+/// doubtful.
+pub fn acknowledge<H: Host>(
+    alloc: Global,
+    board: &mut Board,
+    host: &mut H,
+    user: &[u8],
+    packet: u32,
+    now: u32,
+) -> Result<(), AckError>
+    requires rests { IsTrue H.tells → IsFalse board.old.doubtful → Rests board.old.board (H.disk host.old) }
+
+    // A crash at any moment leaves the board before the acknowledgement or the one after it.
+    ensures moments { IsTrue H.tells → IsFalse board.old.doubtful → Between (H.disk host.old) (H.disk host.new) (BeforeOrNext (IsLayout board.old.board) (board_after board.old.board (ack_of user.now packet now board.old.board)) (H.disk host.old)) }
+    ensures now { IsTrue H.tells → IsFalse board.old.doubtful → AllNow (H.disk host.new) (BeforeOrNext (IsLayout board.old.board) (board_after board.old.board (ack_of user.now packet now board.old.board)) (H.disk host.old)) }
+    ensures settled { IsTrue H.tells → IsFalse board.old.doubtful → IsSettled (H.disk host.new) }
+
+    ensures refused { refusal_in result ≡ result_err (ack_of user.now packet now board.old.board) }
+    ensures doubt { (result ≡ Err AckError.Doubt) ↔ (IsOk (ack_of user.now packet now board.old.board) × IsTrue board.old.doubtful) }
+    ensures unchanged { LeavesAll result → (board.new ≡ board.old) × (host.new ≡ host.old) }
+    ensures board { OnOk result (board.new ≡ sure (board_after board.old.board (ack_of user.now packet now board.old.board))) }
+    ensures rests { OnOk result (IsTrue H.tells → Rests (board_after board.old.board (ack_of user.now packet now board.old.board)) (H.disk host.new)) }
+    ensures fault { IsErrOf result AckError.DiskFault → board.new ≡ record { board = board.old.board; doubtful = true } }
+    ensures disk_cause { HasFault AckError.DiskFault (H.disk_faults host.old) (H.disk_faults host.new) result }
+    ensures voice { H.voice_faults host.new ≡ H.voice_faults host.old }
+{
+    let change = prepared(board, user, packet, now)?;
+    board.change(alloc, host, &change)?;
+    Ok(())
+}

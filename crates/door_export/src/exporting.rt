@@ -1,0 +1,233 @@
+//! An export: a packet is made of what a user is offered, offered to him, and written.
+ghost use Rattle.std.specs.Prelude.{◌≡◌, ◌≢◌, true, ◌↔◌, ◌≤◌, Ok, Err, Some, None, IfOk, IfErr, IsErrOf, IsOk, IsTrue, IsFalse, OnOk, MatchResult, option_map};
+ghost use Rattle.std.specs.Result.{result_err, result_ok};
+ghost use Rattle.board_layout.specs.Layout.{IsLayout};
+ghost use Rattle.board_layout.specs.Lookups.{user_of};
+ghost use Rattle.board_layout.specs.Valid.{IsBoard};
+ghost use Rattle.door_outside.specs.Disk.{Disk, AllNow, Between};
+ghost use Rattle.door_outside.specs.Name.{HasParts};
+ghost use Rattle.entry_runs.specs.Door.{SameBut};
+ghost use Rattle.intent_journal.specs.Hosts.{IsSettled};
+ghost use Rattle.mail_board.specs.Causes.{HasFault};
+ghost use Rattle.mail_board.specs.Changes.{Fits};
+ghost use Rattle.mail_board.specs.Held.{BeforeOrNext, Rests, sure};
+ghost use Rattle.mail_board.specs.Readers.{user_id};
+ghost use Rattle.offered_packets.specs.Offered.{offered as offered_of};
+ghost use Rattle.door_export.specs.Export.{board_after, export_of, packet_to, user_refusal};
+ghost use Rattle.door_export.specs.Exporting.{error_of, IsEarly, IsKept, LeavesAll, packet_of as packet_made, refusal_in};
+ghost use Rattle.door_export.specs.Folder.{folder_names, with_packet};
+ghost use Rattle.door_export.specs.declared.exporting.ExportError.TheVariants.{DiskFault as DiskFails, Doubt as InDoubt, OutOfMemory};
+
+use crate::folder::{names_in, write_packet};
+use crate::offering::offered;
+use crate::reader::reader_of;
+use board_ledger::User;
+use byte_lists::Bytes;
+use door_outside::{Host, Shelf, ShelfName};
+use mail_board::{Board, Change, ChangeError};
+use offered_packets::laws::shown_can_be_written;
+use offered_packets::{Offered, control_text, highs_of, packet_of, packet_text};
+use std::alloc::{AllocError, Global};
+use thiserror::Error;
+
+/// The most messages of a packet.
+const MESSAGE_LIMIT: u32 = 2000;
+
+/// A packet that was handed out.
+#[derive(Clone, Copy, Debug, PartialEq, Eq)]
+pub struct Exported {
+    /// Its number, of the user's packets, from 1.
+    pub packet: u32,
+    /// How many messages it has, at most 2,000.
+    pub count: u32,
+}
+
+/// Why no packet was handed out, or not whole.
+#[derive(Clone, Copy, Debug, PartialEq, Eq, Error)]
+pub enum ExportError {
+    /// No user has the name.
+    #[error("no such user")]
+    NoUser,
+    /// The limit isn't 1 to 2,000.
+    #[error("not a limit")]
+    Limit,
+    /// The user's last packet has the number 4,294,967,295.
+    #[error("no packet number is left")]
+    Packets,
+    /// A file call of the host failed. The files hold the board before the offer or the one after it.
+    #[error("disk fault")]
+    DiskFault,
+    /// An earlier change ended with a disk fault, so nothing was done.
+    #[error("the board is in doubt")]
+    Doubt,
+    /// A call of the shelf failed. The offer is kept, and the next export offers the same messages.
+    #[error("shelf fault")]
+    ShelfFault,
+    /// There is no memory for the packet. Nothing was done.
+    #[error("out of memory")]
+    OutOfMemory,
+}
+
+impl From<ChangeError> for ExportError {
+    ghost use Rattle.std.specs.Prelude.{◌≡◌};
+    ghost use Rattle.door_export.specs.Exporting.{of_change};
+
+    ghost from_gives = { λ error e. e ≡ of_change error };
+
+    fn from(error: ChangeError) -> ExportError {
+        match error {
+            ChangeError::DiskFault => ExportError::DiskFault,
+            ChangeError::Doubt => ExportError::Doubt,
+            ChangeError::OutOfMemory => ExportError::OutOfMemory,
+        }
+    }
+}
+
+impl From<AllocError> for ExportError {
+    ghost from_gives = { λ _ e. e ≡ OutOfMemory };
+
+    fn from(_error: AllocError) -> ExportError {
+        ExportError::OutOfMemory
+    }
+}
+
+/// A packet that may be handed out: by which change of the board, and as which files.
+#[derive(Debug, Drop)]
+struct Exporting {
+    change: Change,
+    controls: Bytes,
+    messages: Bytes,
+    exported: Exported,
+}
+
+/// Why no packet is handed out to a user: the limit isn't 1 to 2,000, or his last packet's number is the last that
+/// there is.
+fn refusal_of(limit: u32, user: &User) -> Option<ExportError>
+    ensures { result ≡ option_map error_of (user_refusal limit user.now) }
+{
+    if limit == 0 || limit > MESSAGE_LIMIT {
+        return Some(ExportError::Limit);
+    }
+    if user.last == u32::MAX {
+        return Some(ExportError::Packets);
+    }
+    None
+}
+
+/// The packet of what is offered to a user, made at a moment. All memory of an export but that of the names is taken
+/// here.
+fn packet_for(
+    alloc: Global,
+    board: &Board,
+    id: u32,
+    user: &User,
+    limit: u32,
+    now: u32,
+) -> Result<Exporting, AllocError>
+    requires user { user_of id board.now.board ≡ Some user.now }
+    requires may { user_refusal limit user.now ≡ None }
+    ensures fits { IfOk result (λ e. Fits e.change board.now.board) }
+    ensures packet { IfOk result (λ e. packet_made e board.now.board ≡ packet_to limit now board.now.board id user.now) }
+{
+    let messages = offered(alloc, board, id, limit)?;
+    let stored = board.stored();
+    let packet = user.last + 1;
+    let count = messages.len() as u32;
+    let shown = packet_of(alloc, stored, &messages)?;
+    Ok(Exporting {
+        change: Change::Offer {
+            user: id,
+            highs: highs_of(alloc, stored, &messages)?,
+        },
+        controls: control_text(alloc, stored, id, count, now)?,
+        messages: packet_text(alloc, packet, &shown)?,
+        exported: Exported { packet, count },
+    })
+}
+
+/// What is handed out to the user of a name, or why nothing is.
+fn prepared(
+    alloc: Global,
+    board: &Board,
+    name: &[u8],
+    limit: u32,
+    now: u32,
+) -> Result<Exporting, ExportError>
+    ensures refused { refusal_in result ≡ result_err (export_of name.now limit now board.now.board) }
+    ensures early { IfErr result IsEarly }
+    ensures doubt { (result ≡ Err ExportError.Doubt) ↔ (IsOk (export_of name.now limit now board.now.board) × IsTrue board.now.doubtful) }
+    ensures sure { OnOk result (IsFalse board.now.doubtful) }
+    ensures fits { IfOk result (λ e. Fits e.change board.now.board) }
+    ensures packet { IfOk result (λ e. Ok (packet_made e board.now.board) ≡ export_of name.now limit now board.now.board) }
+{
+    let Some(reader) = reader_of(board, name) else {
+        return Err(ExportError::NoUser);
+    };
+    if let Some(refusal) = refusal_of(limit, reader.user) {
+        return Err(refusal);
+    }
+    if board.doubtful() {
+        return Err(ExportError::Doubt);
+    }
+    Ok(packet_for(alloc, board, reader.id, reader.user, limit, now)?)
+}
+
+/// Hands out to the user of a name, ignoring ASCII case, the messages that are offered to him, at most as many as the
+/// limit: it keeps the offer, and then writes CONTROL.DAT and MESSAGES.DAT of the folder. No last-read pointer moves.
+/// `now` is in Unix seconds. Where the board isn't doubtful, the host's files are those of this board, and the host
+/// rests. It says nothing.
+///
+/// `NoUser` comes where no user has the name, else `Limit` where the limit isn't 1 to 2,000, else `Packets` where his
+/// last packet has the number 4,294,967,295, else `Doubt` where the board is doubtful, and `OutOfMemory` before the
+/// first write: all of them leave all as it was. `DiskFault` comes only where the host's count of disk faults rose,
+/// and then the board is doubtful. `ShelfFault` comes only where the shelf's count of faults rose: the offer is kept,
+/// and the two files may hold anything.
+pub fn export<H: Host, S: Shelf>(
+    alloc: Global,
+    board: &mut Board,
+    host: &mut H,
+    shelf: &mut S,
+    user: &[u8],
+    limit: u32,
+    folder: &ShelfName,
+    now: u32,
+) -> Result<Exported, ExportError>
+    requires folder { HasParts 3 folder.now }
+    requires rests { IsTrue H.tells → IsFalse board.old.doubtful → Rests board.old.board (H.disk host.old) }
+
+    // A crash at any moment leaves the board before the offer or the one after it.
+    ensures moments { IsTrue H.tells → IsFalse board.old.doubtful → Between (H.disk host.old) (H.disk host.new) (BeforeOrNext (IsLayout board.old.board) (board_after board.old.board (export_of user.now limit now board.old.board)) (H.disk host.old)) }
+    ensures now { IsTrue H.tells → IsFalse board.old.doubtful → AllNow (H.disk host.new) (BeforeOrNext (IsLayout board.old.board) (board_after board.old.board (export_of user.now limit now board.old.board)) (H.disk host.old)) }
+    ensures settled { IsTrue H.tells → IsFalse board.old.doubtful → IsSettled (H.disk host.new) }
+
+    ensures refused { refusal_in result ≡ result_err (export_of user.now limit now board.old.board) }
+    ensures doubt { (result ≡ Err ExportError.Doubt) ↔ (IsOk (export_of user.now limit now board.old.board) × IsTrue board.old.doubtful) }
+    ensures unchanged { LeavesAll result → (board.new ≡ board.old) × (host.new ≡ host.old) × (shelf.new ≡ shelf.old) }
+
+    // The packet, and its files.
+    ensures answer { IfOk result (λ exported. option_map (λ p. p.answer) (result_ok (export_of user.now limit now board.old.board)) ≡ Some exported) }
+    ensures files { IsTrue S.tells → OnOk result (Some (S.files shelf.new) ≡ option_map (λ p. with_packet folder.now p.controls p.messages (S.files shelf.old)) (result_ok (export_of user.now limit now board.old.board))) }
+    ensures others { IsTrue S.tells → IsErrOf result ExportError.ShelfFault → SameBut (folder_names folder.now) (S.files shelf.old) (S.files shelf.new) }
+
+    // The offer, which a shelf fault leaves kept.
+    ensures board { IsKept result → board.new ≡ sure (board_after board.old.board (export_of user.now limit now board.old.board)) }
+    ensures rests { IsKept result → IsTrue H.tells → Rests (board_after board.old.board (export_of user.now limit now board.old.board)) (H.disk host.new) }
+    ensures fault { IsErrOf result ExportError.DiskFault → (board.new ≡ record { board = board.old.board; doubtful = true }) × (shelf.new ≡ shelf.old) }
+
+    ensures disk_cause { HasFault ExportError.DiskFault (H.disk_faults host.old) (H.disk_faults host.new) result }
+    ensures shelf_cause { HasFault ExportError.ShelfFault (S.faults shelf.old) (S.faults shelf.new) result }
+    ensures voice { H.voice_faults host.new ≡ H.voice_faults host.old }
+{
+    let exporting = prepared(alloc, board, user, limit, now)?;
+    let names = names_in(alloc, folder)?;
+    board.change(alloc, host, &exporting.change)?;
+    match write_packet(
+        shelf,
+        &names,
+        exporting.controls.as_slice(),
+        exporting.messages.as_slice(),
+    ) {
+        Ok(()) => Ok(exporting.exported),
+        Err(_) => Err(ExportError::ShelfFault),
+    }
+}

@@ -1,0 +1,12 @@
+//! A caller's mail: what is offered is exported as a packet, and exported again until it is acknowledged.
+#![tactic(auto)]
+
+mod acknowledging;
+mod exporting;
+mod folder;
+mod offering;
+mod reader;
+
+pub use acknowledging::{AckError, acknowledge};
+pub use exporting::{ExportError, Exported, export};
+pub use offering::offered;
