@@ -7,3 +7,4 @@ pub mod FindLaws
 pub mod InitExits
 pub mod ReportLaws
 pub mod StateLaws
+pub mod KeptLaws

@@ -1,5 +1,5 @@
 -- What is kept of a board between two entries of a run.
-use Rattle.std.specs.Prelude.{◌≡◌, false, Option, Some, None, Result, Ok, Err}
+use Rattle.std.specs.Prelude.{◌≡◌, false, if◌then◌else◌, Option, Some, None, Result, Ok, Err}
 use Rattle.door_outside.specs.Disk.{Disk}
 use Rattle.entry_runs.specs.Entry.{Known}
 use Rattle.entry_runs.specs.declared.stop.Stop.{Stop}
@@ -10,7 +10,7 @@ use Rattle.board_layout.specs.Damage.{board_damage}
 use Rattle.board_layout.specs.Layout.{AreEmpty}
 use Rattle.board_layout.specs.declared.error.ReadError.{ReadError}
 use Rattle.board_layout.specs.declared.error.ReadError.TheVariants.{Damaged, DiskFault, OutOfMemory}
-use Rattle.mail_board.specs.Held.{Rests}
+use Rattle.mail_board.specs.Held.{HeldBoard, Rests}
 use Rattle.mail_board.specs.Loading.{IsSure, IsValid}
 use Rattle.mail_board.specs.declared.loading.Loaded.{Loaded}
 use Rattle.mail_board.specs.declared.loading.Loaded.TheVariants.{NotMade, Ready}
@@ -31,6 +31,10 @@ IsKept (Some (Ready held)) disk = Rests held.board disk
 abbrev pub AreSure : Option Loaded → Type 0
 AreSure None = Unit {0}
 AreSure (Some loaded) = IsValid loaded × IsSure loaded
+
+-- a board is kept, unless it is in doubt
+abbrev pub unless_doubtful : HeldBoard → Option Loaded
+unless_doubtful held = if held.doubtful then None else Some (Ready held)
 
 -- the board that is kept
 abbrev pub kept_board : Option Loaded → Option Board

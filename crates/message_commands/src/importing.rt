@@ -16,8 +16,8 @@ ghost use Rattle.message_commands.specs.Import.{imported_line, imports, kind_of,
 ghost use Rattle.message_commands.specs.Importing.{MayImport};
 
 use crate::entries::messages_of;
-use crate::placing::{board_in, place_in};
-use board_commands::{BoardHalt, find, make_change};
+use crate::placing::place_in;
+use board_commands::{BoardHalt, board_in, find, make_change};
 use board_layout::BOARD_LIMIT;
 use door_outside::{Host, Shelf, ShelfName};
 use import_sheet::Sheets;

@@ -14,8 +14,8 @@ ghost use Rattle.mail_board.specs.declared.change.Change.TheVariants.{Kill};
 ghost use Rattle.shelf_files.specs.declared.refusal.Refusal.TheVariants.{NoMessage};
 ghost use Rattle.message_commands.specs.Kill.{has_message, killed_line, kills};
 
-use crate::placing::{board_in, place_in};
-use board_commands::{BoardHalt, find, make_change};
+use crate::placing::place_in;
+use board_commands::{BoardHalt, board_in, find, make_change};
 use door_outside::Host;
 use mail_board::{Board, Change, Loaded};
 use shelf_files::Refusal;

@@ -1,26 +1,13 @@
-// The board that is kept, and the conference that a command names.
+// The conference that a command names.
 ghost use Rattle.std.specs.Prelude.{◌≡◌, ◌<◌, Some, None, length, IfOk, IfSome, MatchResult};
-ghost use Rattle.board_commands.specs.Kept.{AreSure, kept_board};
 ghost use Rattle.board_commands.specs.declared.halt.BoardHalt.TheVariants.{Refused};
 ghost use Rattle.board_layout.specs.Valid.{IsBoard};
 ghost use Rattle.mail_board.specs.Readers.{place_of};
 ghost use Rattle.shelf_files.specs.declared.refusal.Refusal.TheVariants as refusal;
 
 use board_commands::BoardHalt;
-use mail_board::{Board, Loaded};
+use mail_board::Board;
 use shelf_files::Refusal;
-
-/// The board that is kept, refused where there is none.
-pub(crate) fn board_in(kept: &Option<Loaded>) -> Result<&Board, BoardHalt>
-    requires { AreSure kept.now }
-    ensures board { MatchResult result (λ board. kept_board kept.now ≡ Some board.now.board) (λ e. (e ≡ Refused refusal.NotMade) × (kept_board kept.now ≡ None)) }
-    ensures valid { IfOk result (λ board. IsBoard board.now.board) }
-{
-    match kept {
-        Some(Loaded::Ready(board)) => Ok(board),
-        _ => Err(BoardHalt::Refused(Refusal::NotMade)),
-    }
-}
 
 /// The place of the conference of a number, or None where no conference has it.
 fn place_numbered(board: &Board, conference: u32) -> Option<u8>

@@ -1,0 +1,5 @@
+pub mod Handing
+pub mod Export
+pub mod Exporting
+pub mod Ack
+pub mod Acknowledging
