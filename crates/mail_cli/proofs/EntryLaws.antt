@@ -6,6 +6,7 @@ use Rattle.entry_runs.specs.Runs.{Stepped}
 use Rattle.entry_runs.specs.declared.class.Class.TheVariants.{Damaged}
 use Rattle.entry_runs.proofs.ShelfLaws.{IsLawfulOnShelf, lawful_on_shelf, lawful_saying}
 use Rattle.entry_runs.specs.Entry.{ShelfAct, on_shelf}
+use Rattle.export_commands.proofs.ExportActs.{ack_turns, keeps_exports, lawful_exports}
 use Rattle.message_commands.proofs.MessageActs.{import_turns, kill_turns}
 use Rattle.packet_commands.proofs.PacketLaws.{lawful_lists, lawful_reads, lawful_scans, lawful_shows}
 use Rattle.packet_commands.specs.List.{lists}
@@ -39,9 +40,11 @@ keeps_on_shelf shelf_act laws = record {
 
 -- one line for each command
 pub lawful : (now : ℕ) → AreLawful (door now)
+lawful now (Run (command.Ack user packet)) = lawful_on_board _ (ack_turns user packet now)
 lawful now (Run command.Check) = lawful_on_board _ check_turns
 lawful now (Run (command.Compose folder conference sheet rep)) = lawful_on_shelf (composes folder conference sheet rep now) (lawful_composes folder conference sheet rep now)
 lawful now (Run (command.Enroll name flags conferences)) = lawful_on_board _ (enroll_turns name flags conferences)
+lawful now (Run (command.Export user limit folder)) = lawful_exports user limit folder now
 lawful now (Run (command.Import conference file)) = lawful_on_board _ (import_turns conference file now)
 lawful now (Run (command.Init file)) = lawful_on_board _ (init_turns file now)
 lawful now (Run (command.Kill conference number)) = lawful_on_board _ (kill_turns conference number)
@@ -55,9 +58,11 @@ lawful now (Refuse why) = lawful_on_shelf (says (refused why)) (lawful_saying (r
 
 -- what else a run takes of an entry, a line for each command
 keeps : (now : ℕ) (entry : Entry) → KeepsState (act now entry)
+keeps now (Run (command.Ack user packet)) = keeps_state _ (ack_turns user packet now)
 keeps now (Run command.Check) = keeps_state _ check_turns
 keeps now (Run (command.Compose folder conference sheet rep)) = keeps_on_shelf (composes folder conference sheet rep now) (lawful_composes folder conference sheet rep now)
 keeps now (Run (command.Enroll name flags conferences)) = keeps_state _ (enroll_turns name flags conferences)
+keeps now (Run (command.Export user limit folder)) = keeps_exports user limit folder now
 keeps now (Run (command.Import conference file)) = keeps_state _ (import_turns conference file now)
 keeps now (Run (command.Init file)) = keeps_state _ (init_turns file now)
 keeps now (Run (command.Kill conference number)) = keeps_state _ (kill_turns conference number)

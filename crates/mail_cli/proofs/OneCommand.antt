@@ -7,12 +7,12 @@ use Rattle.command_words.specs.NumberWord.{NumberWord}
 use Rattle.mail_cli.specs.declared.command.Command.{Command}
 use Rattle.mail_cli.specs.declared.command.Command.TheVariants as command
 use Rattle.mail_cli.specs.declared.verb.Verb.{Verb}
-use Rattle.mail_cli.specs.declared.verb.Verb.TheVariants.{CheckBoard, ComposeSheet, EnrollUser, ImportSheet, InitBoard, KillMessage, ListFile, ReadFolder, ReplyTo, ScanFile}
+use Rattle.mail_cli.specs.declared.verb.Verb.TheVariants.{AckPacket, CheckBoard, ComposeSheet, EnrollUser, ExportPacket, ImportSheet, InitBoard, KillMessage, ListFile, ReadFolder, ReplyTo, ScanFile}
 use Rattle.mail_cli.specs.Words.{first_word, ReadsBehind, CommandReads, WritingReads}
 
 -- all verbs in order
 verbs : List Verb
-verbs = CheckBoard ∷ ComposeSheet ∷ EnrollUser ∷ ImportSheet ∷ InitBoard ∷ KillMessage ∷ ListFile ∷ ReadFolder ∷ ReplyTo ∷ ScanFile ∷ []
+verbs = AckPacket ∷ CheckBoard ∷ ComposeSheet ∷ EnrollUser ∷ ExportPacket ∷ ImportSheet ∷ InitBoard ∷ KillMessage ∷ ListFile ∷ ReadFolder ∷ ReplyTo ∷ ScanFile ∷ []
 
 -- the verb of a first word
 verb_of : List ℕ → Option Verb
@@ -21,9 +21,11 @@ verb_of word = find (λ verb. bytes_eq (first_word verb) word) verbs
 -- a line for each: its first word is that of no verb before it
 verb_back : (verb : Verb) → verb_of (first_word verb) ≡ Some verb
 unfolding verb_of verbs
+verb_back AckPacket = refl
 verb_back CheckBoard = refl
 verb_back ComposeSheet = refl
 verb_back EnrollUser = refl
+verb_back ExportPacket = refl
 verb_back ImportSheet = refl
 verb_back InitBoard = refl
 verb_back KillMessage = refl
@@ -54,6 +56,12 @@ module _ {words : List (List ℕ)} {folder file rep folder_b file_b rep_b : List
 
 -- behind a verb stands one command at most: a line for each
 behind_unique : (verb : Verb) (words : List (List ℕ)) (a b : Command) → ReadsBehind verb words a → ReadsBehind verb words b → a ≡ b
+behind_unique AckPacket words a b x y =
+    let e = sym x.3 ∙ y.3 in
+    let user : x.0 ≡ y.0 = cc in
+    let word : x.1 ≡ y.1 = cc in
+    let packet : x.2 ≡ y.2 = one_number x.1 y.1 x.2 y.2 word x.4 y.4 in
+    x.5 ∙ (λ i. command.Ack (user i) (packet i)) ∙ sym y.5
 behind_unique CheckBoard words a b x y = x.1 ∙ sym y.1
 behind_unique ComposeSheet words a b x y =
     x.5 ∙ (λ i. command.Compose (same_folder x.4 y.4 i) (same_number x.4 y.4 i) (same_file x.4 y.4 i) (same_rep x.4 y.4 i)) ∙ sym y.5
@@ -63,6 +71,13 @@ behind_unique EnrollUser words a b x y =
     let flags : x.1 ≡ y.1 = cc in
     let conferences : x.2 ≡ y.2 = cc in
     x.6 ∙ (λ i. command.Enroll (name i) (flags i) (conferences i)) ∙ sym y.6
+behind_unique ExportPacket words a b x y =
+    let e = sym x.4 ∙ y.4 in
+    let user : x.0 ≡ y.0 = cc in
+    let word : x.1 ≡ y.1 = cc in
+    let folder : x.2 ≡ y.2 = cc in
+    let limit : x.3 ≡ y.3 = one_number x.1 y.1 x.3 y.3 word x.5 y.5 in
+    x.7 ∙ (λ i. command.Export (user i) (limit i) (folder i)) ∙ sym y.7
 behind_unique ImportSheet words a b x y =
     let e = sym x.3 ∙ y.3 in
     let word : x.0 ≡ y.0 = cc in

@@ -7,6 +7,8 @@ use Rattle.entry_runs.specs.Entry.{Reply}
 use Rattle.entry_runs.specs.Promise.{counts, ended, HasCauses}
 use Rattle.entry_runs.specs.declared.class.Class.TheVariants as class
 use Rattle.entry_runs.specs.declared.stop.Stop.{Stop}
+use Rattle.export_commands.specs.Ack.{acknowledged_line}
+use Rattle.export_commands.specs.Export.{packet_line}
 use Rattle.message_commands.specs.Import.{imported_line}
 use Rattle.message_commands.specs.Kill.{killed_line}
 use Rattle.packet_commands.specs.Scan.{count_line}
@@ -14,7 +16,7 @@ use Rattle.reply_commands.specs.Compose.{composed_line}
 use Rattle.reply_commands.specs.Reply.{reply_line}
 use Rattle.shelf_files.specs.Halts.{done, refused}
 use Rattle.mail_cli.specs.declared.answer.Answer.{Answer}
-use Rattle.mail_cli.specs.declared.answer.Answer.TheVariants.{Text, Counted, Made, Enrolled, Imported, Killed, Replied, Composed, Refused, Damaged}
+use Rattle.mail_cli.specs.declared.answer.Answer.TheVariants.{Text, Counted, Made, Enrolled, Imported, Killed, Exported, Acknowledged, Replied, Composed, Refused, Damaged}
 use Rattle.mail_cli.specs.declared.entry.Usage.{Usage}
 use Rattle.mail_cli.specs.declared.entry.Usage.TheVariants.{Words, Line}
 
@@ -26,6 +28,8 @@ reply_of (Made count) = done (made_line count)
 reply_of (Enrolled user) = done (enrolled_line user)
 reply_of (Imported conference count) = done (imported_line conference count)
 reply_of (Killed conference number) = done (killed_line conference number)
+reply_of (Exported packet) = done (packet_line packet)
+reply_of (Acknowledged packet) = done (acknowledged_line packet)
 reply_of (Replied place rep added) = done (reply_line place rep added)
 reply_of (Composed rep added) = done (composed_line rep added)
 reply_of (Refused refusal) = refused refusal

@@ -36,9 +36,11 @@ EntriesRead words entries = (one : entry.Entry) × EntryReads words one × (entr
 
 -- the names in a command are such as its words have
 abbrev pub CanRun : Command → Type 0
+CanRun (command.Ack user packet) = Unit {0}
 CanRun command.Check = Unit {0}
 CanRun (command.Compose folder conference sheet rep) = HasParts 3 folder
 CanRun (command.Enroll name flags conferences) = NamesConferences conferences
+CanRun (command.Export user limit folder) = HasParts 3 folder
 CanRun (command.Import conference file) = Unit {0}
 CanRun (command.Init file) = Unit {0}
 CanRun (command.Kill conference number) = Unit {0}

@@ -6,6 +6,8 @@ use Rattle.board_commands.specs.Check.{checks}
 use Rattle.board_commands.specs.Enroll.{enrolls}
 use Rattle.board_commands.specs.Init.{inits}
 use Rattle.board_commands.specs.State.{State, Stores}
+use Rattle.export_commands.specs.Ack.{acknowledges}
+use Rattle.export_commands.specs.Export.{exports}
 use Rattle.message_commands.specs.Import.{imports}
 use Rattle.message_commands.specs.Kill.{kills}
 use Rattle.packet_commands.specs.List.{lists}
@@ -22,9 +24,11 @@ use Rattle.mail_cli.specs.declared.entry.Entry.TheVariants.{Run, Wrong, Refuse}
 
 -- one line for each command: what it does at a moment, and what it may reach
 abbrev pub does : ℕ → Command → Act State
+does now (command.Ack user packet) = acknowledges user packet now
 does now command.Check = checks
 does now (command.Compose folder conference sheet rep) = on_shelf (composes folder conference sheet rep now)
 does now (command.Enroll name flags conferences) = enrolls name flags conferences
+does now (command.Export user limit folder) = exports user limit folder now
 does now (command.Import conference file) = imports conference file now
 does now (command.Init file) = inits file now
 does now (command.Kill conference number) = kills conference number

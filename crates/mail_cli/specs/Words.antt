@@ -7,7 +7,7 @@ use Rattle.command_words.specs.declared.choice.Choice.{Choice}
 use Rattle.mail_cli.specs.declared.command.Command.{Command}
 use Rattle.mail_cli.specs.declared.command.Command.TheVariants as command
 use Rattle.mail_cli.specs.declared.verb.Verb.{Verb}
-use Rattle.mail_cli.specs.declared.verb.Verb.TheVariants.{CheckBoard, ComposeSheet, EnrollUser, ImportSheet, InitBoard, KillMessage, ListFile, ReadFolder, ReplyTo, ScanFile}
+use Rattle.mail_cli.specs.declared.verb.Verb.TheVariants.{AckPacket, CheckBoard, ComposeSheet, EnrollUser, ExportPacket, ImportSheet, InitBoard, KillMessage, ListFile, ReadFolder, ReplyTo, ScanFile}
 
 -- `-`, or `n`: the user may send net mail
 abbrev pub IsFlags : List ℕ → Type 0
@@ -19,9 +19,11 @@ NamesConferences word = (choice : Choice) × ChoiceReads word choice
 
 -- the first word of a verb: no two are alike
 abbrev pub first_word : Verb → List ℕ
+first_word AckPacket = codes "ack"
 first_word CheckBoard = codes "check"
 first_word ComposeSheet = codes "compose"
 first_word EnrollUser = codes "enroll"
+first_word ExportPacket = codes "export"
 first_word ImportSheet = codes "import"
 first_word InitBoard = codes "init"
 first_word KillMessage = codes "kill"
@@ -41,12 +43,16 @@ pub record WritingReads (words : List (List ℕ)) (folder : List ℕ) (number : 
 
 -- the words behind it, and the command that they are
 abbrev pub ReadsBehind : Verb → List (List ℕ) → Command → Type 0
+ReadsBehind AckPacket words c = (user word : List ℕ) × (packet : ℕ) × (words ≡ user ∷ word ∷ []) × NumberWord word packet × (c ≡ command.Ack user packet)
 ReadsBehind CheckBoard words c = (words ≡ []) × (c ≡ command.Check)
 ReadsBehind ComposeSheet words c =
     (folder : List ℕ) × (conference : ℕ) × (sheet rep : List ℕ) × WritingReads words folder conference sheet rep × (c ≡ command.Compose folder conference sheet rep)
 ReadsBehind EnrollUser words c =
     (name flags conferences : List ℕ) × (words ≡ name ∷ flags ∷ conferences ∷ []) × IsFlags flags × NamesConferences conferences
     × (c ≡ command.Enroll name flags conferences)
+ReadsBehind ExportPacket words c =
+    (user word folder : List ℕ) × (limit : ℕ) × (words ≡ user ∷ word ∷ folder ∷ []) × NumberWord word limit × HasParts 3 folder
+    × (c ≡ command.Export user limit folder)
 ReadsBehind ImportSheet words c =
     (word file : List ℕ) × (conference : ℕ) × (words ≡ word ∷ file ∷ []) × NumberWord word conference × IsShelfName file × (c ≡ command.Import conference file)
 ReadsBehind InitBoard words c = (file : List ℕ) × (words ≡ file ∷ []) × IsShelfName file × (c ≡ command.Init file)

@@ -3,6 +3,8 @@ ghost use Rattle.board_commands.specs.Enroll.{enrolled_line};
 ghost use Rattle.board_commands.specs.Init.{made_line};
 ghost use Rattle.door_outside.specs.Cause.{HasCause};
 ghost use Rattle.entry_runs.specs.Saying.{Voiced};
+ghost use Rattle.export_commands.specs.Ack.{acknowledged_line};
+ghost use Rattle.export_commands.specs.Export.{packet_line};
 ghost use Rattle.message_commands.specs.Import.{imported_line};
 ghost use Rattle.message_commands.specs.Kill.{killed_line};
 ghost use Rattle.reply_commands.specs.Writing.{total_text};
@@ -11,6 +13,7 @@ use board_commands::{BoardHalt, Enrolled, say_damage};
 use byte_lists::Bytes;
 use door_outside::{Host, ShelfName, VoiceFault};
 use entry_runs::{Class, Stop, say_all};
+use export_commands::Exported;
 use itoa::Buffer;
 use jam_records::Damage;
 use reply_commands::Added;
@@ -37,6 +40,10 @@ pub enum Answer {
         conference: u32,
         number: u32,
     },
+    /// It exported a packet.
+    Exported(Exported),
+    /// It acknowledged the packet of a number.
+    Acknowledged(u32),
     /// It added a reply to the message in a place to the reply packet of a name.
     Replied {
         place: u32,
@@ -126,6 +133,39 @@ fn say_killed<H: Host>(host: &mut H, conference: u32, number: u32) -> Result<(),
     )
 }
 
+/// Says the line of an exported packet.
+fn say_exported<H: Host>(host: &mut H, packet: &Exported) -> Result<(), VoiceFault>
+    ensures voiced { IsTrue H.tells → Voiced (packet_line packet.now) (H.disk host.old) (H.disk host.new) result }
+    ensures cause { HasCause (H.voice_faults host.old) (H.voice_faults host.new) result }
+    ensures disk { H.disk_faults host.new ≡ H.disk_faults host.old }
+{
+    let mut number = Buffer::new();
+    let mut many = Buffer::new();
+    say_all(
+        host,
+        &[
+            b"packet ",
+            number.format(packet.packet).as_bytes(),
+            b": ",
+            many.format(packet.count).as_bytes(),
+            b" messages\n",
+        ],
+    )
+}
+
+/// Says the line of an acknowledged packet.
+fn say_acknowledged<H: Host>(host: &mut H, packet: u32) -> Result<(), VoiceFault>
+    ensures voiced { IsTrue H.tells → Voiced (acknowledged_line packet) (H.disk host.old) (H.disk host.new) result }
+    ensures cause { HasCause (H.voice_faults host.old) (H.voice_faults host.new) result }
+    ensures disk { H.disk_faults host.new ≡ H.disk_faults host.old }
+{
+    let mut buffer = Buffer::new();
+    say_all(
+        host,
+        &[b"acknowledged ", buffer.format(packet).as_bytes(), b"\n"],
+    )
+}
+
 /// Says the line of a reply packet that was written: words, a number, and how many messages it has under its name.
 fn say_written<H: Host>(
     host: &mut H,
@@ -163,6 +203,8 @@ impl Answer {
     ghost use Rattle.board_commands.specs.Enroll.{enrolled_line};
     ghost use Rattle.board_commands.specs.Halts.{told};
     ghost use Rattle.board_commands.specs.Init.{made_line};
+    ghost use Rattle.export_commands.specs.Ack.{acknowledged_line};
+    ghost use Rattle.export_commands.specs.Export.{packet_line};
     ghost use Rattle.message_commands.specs.Import.{imported_line};
     ghost use Rattle.message_commands.specs.Kill.{killed_line};
     ghost use Rattle.reply_commands.specs.Compose.{composed_line};
@@ -260,6 +302,26 @@ impl Answer {
         }
     }
 
+    /// What a command answers that exports a packet, or why the run stops.
+    pub fn of_exported(reply: Result<Exported, BoardHalt>) -> Result<Answer, Stop>
+        ensures { answered result ≡ told packet_line reply }
+    {
+        match reply {
+            Ok(packet) => Ok(Answer::Exported(packet)),
+            Err(halt) => Answer::of_halt(halt),
+        }
+    }
+
+    /// What a command answers that acknowledges the packet of a number, or why the run stops.
+    pub fn of_acknowledged(packet: u32, reply: Result<(), BoardHalt>) -> Result<Answer, Stop>
+        ensures { answered result ≡ told (λ _. acknowledged_line packet) reply }
+    {
+        match reply {
+            Ok(()) => Ok(Answer::Acknowledged(packet)),
+            Err(halt) => Answer::of_halt(halt),
+        }
+    }
+
     /// What a command answers that adds a reply to the reply packet of a name, or why the run stops.
     pub fn of_replied(
         place: u32,
@@ -296,6 +358,7 @@ impl Answer {
             Answer::Text(_) | Answer::Counted(_) => Class::Done,
             Answer::Made(_) | Answer::Enrolled(_) => Class::Done,
             Answer::Imported { .. } | Answer::Killed { .. } => Class::Done,
+            Answer::Exported(_) | Answer::Acknowledged(_) => Class::Done,
             Answer::Replied { .. } | Answer::Composed { .. } => Class::Done,
             Answer::Refused(_) => Class::Refused,
             Answer::Damaged(_) => Class::Damaged,
@@ -318,6 +381,8 @@ impl Answer {
             Answer::Enrolled(user) => say_enrolled(host, user),
             Answer::Imported { conference, count } => say_imported(host, *conference, *count),
             Answer::Killed { conference, number } => say_killed(host, *conference, *number),
+            Answer::Exported(packet) => say_exported(host, packet),
+            Answer::Acknowledged(packet) => say_acknowledged(host, *packet),
             Answer::Replied { place, rep, added } => {
                 say_written(host, b"replied to ", u64::from(*place), added.total, rep)
             }

@@ -1,6 +1,6 @@
 ghost use Rattle.std.specs.Prelude.{◌↔◌, ◌∷◌, [], IfOk, IsTrue};
 ghost use Rattle.mail_cli.specs.Words.{BehindOf, IsFlags, NamesConferences};
-ghost use Rattle.mail_cli.specs.declared.verb.Verb.TheVariants.{CheckBoard, ComposeSheet, EnrollUser, ImportSheet, InitBoard, KillMessage, ListFile, ReadFolder, ReplyTo, ScanFile};
+ghost use Rattle.mail_cli.specs.declared.verb.Verb.TheVariants.{AckPacket, CheckBoard, ComposeSheet, EnrollUser, ExportPacket, ImportSheet, InitBoard, KillMessage, ListFile, ReadFolder, ReplyTo, ScanFile};
 
 use crate::names::folder_of;
 use crate::verb::Verb;
@@ -14,6 +14,11 @@ use std::alloc::{AllocError, Global};
 /// A command of the door.
 #[derive(Debug, Drop)]
 pub enum Command {
+    /// `ack USER PACKET`: acknowledges a packet for the user of a name.
+    Ack {
+        user: Bytes,
+        packet: u32,
+    },
     /// `check`: says what the board has.
     Check,
     /// `compose FOLDER CONF SHEET REP`: adds the messages of a sheet, to the conference of a number, to the reply
@@ -30,6 +35,13 @@ pub enum Command {
         name: Bytes,
         flags: Bytes,
         conferences: Bytes,
+    },
+    /// `export USER LIMIT FOLDER`: hands out to the user of a name what is offered to him, at most so many messages,
+    /// as the packet of a folder, which has at most 3 parts.
+    Export {
+        user: Bytes,
+        limit: u32,
+        folder: ShelfName,
     },
     /// `import CONF FILE`: appends the messages of a sheet in the conference of a number.
     Import {
@@ -72,6 +84,22 @@ pub enum Command {
     },
 }
 
+/// The command of `ack` with the words behind it.
+fn parse_ack(alloc: Global, rest: &[Bytes]) -> Result<Option<Command>, AllocError>
+    ensures { IfOk result (BehindOf AckPacket rest.now) }
+{
+    let [user, packet] = rest else {
+        return Ok(None);
+    };
+    let Some(packet) = number_of(packet.as_slice()) else {
+        return Ok(None);
+    };
+    Ok(Some(Command::Ack {
+        user: user.copy(alloc)?,
+        packet,
+    }))
+}
+
 /// The command of `check` with the words behind it.
 fn parse_check(rest: &[Bytes]) -> Option<Command>
     ensures { BehindOf CheckBoard rest.now result }
@@ -111,6 +139,26 @@ fn parse_enroll(alloc: Global, rest: &[Bytes]) -> Result<Option<Command>, AllocE
         flags: flags.copy(alloc)?,
         conferences: conferences.copy(alloc)?,
     }))
+}
+
+/// The command of `export` with the words behind it.
+fn parse_export(alloc: Global, rest: &[Bytes]) -> Result<Option<Command>, AllocError>
+    ensures { IfOk result (BehindOf ExportPacket rest.now) }
+{
+    let [user, limit, folder] = rest else {
+        return Ok(None);
+    };
+    let Some(limit) = number_of(limit.as_slice()) else {
+        return Ok(None);
+    };
+    match folder_of(alloc, folder.as_slice())? {
+        Some(folder) => Ok(Some(Command::Export {
+            user: user.copy(alloc)?,
+            limit,
+            folder,
+        })),
+        None => Ok(None),
+    }
 }
 
 /// The command of `import` with the words behind it.
@@ -253,9 +301,11 @@ fn parse_behind(alloc: Global, verb: Verb, rest: &[Bytes]) -> Result<Option<Comm
     ensures { IfOk result (BehindOf verb rest.now) }
 {
     match verb {
+        Verb::AckPacket => parse_ack(alloc, rest),
         Verb::CheckBoard => Ok(parse_check(rest)),
         Verb::ComposeSheet => parse_compose(alloc, rest),
         Verb::EnrollUser => parse_enroll(alloc, rest),
+        Verb::ExportPacket => parse_export(alloc, rest),
         Verb::ImportSheet => parse_import(alloc, rest),
         Verb::InitBoard => parse_init(alloc, rest),
         Verb::KillMessage => Ok(parse_kill(rest)),

@@ -18,6 +18,7 @@ use crate::entry::Entry;
 use board_commands::{check, enroll, init};
 use door_outside::{Host, Shelf, ShelfName};
 use entry_runs::{Class, Stop};
+use export_commands::{ack, export};
 use mail_board::Loaded;
 use message_commands::{import, kill};
 use packet_commands::{list, read, scan, show};
@@ -73,6 +74,72 @@ fn carry_out_compose<S: Shelf>(
     )
 }
 
+/// Carries out a command that touches the board, and answers what is to be said of it.
+fn carry_out_on_board<H: Host, S: Shelf>(
+    alloc: Global,
+    host: &mut H,
+    shelf: &mut S,
+    kept: &mut Option<Loaded>,
+    command: &Command,
+    now: u32,
+) -> Result<Answer, Stop>
+    requires can_run { CanRun command.now }
+    requires board { IsTrue (does now command.now).reach.board }
+    requires sure { AreSure kept.old }
+    requires kept { IsTrue H.tells → IsKept kept.old (H.disk host.old) }
+    ensures works { IsTrue H.tells → IsTrue S.tells → CommandWorks now command.now (H.disk host.old) (H.disk host.new) (S.files shelf.old) (S.files shelf.new) (answered result) }
+    ensures sure { AreSure kept.new }
+    ensures kept { IsTrue H.tells → IsKept kept.new (H.disk host.new) }
+    ensures causes { HasCauses (counts (H.disk_faults host.old) (H.voice_faults host.old) (S.faults shelf.old)) (counts (H.disk_faults host.new) (H.voice_faults host.new) (S.faults shelf.new)) (ended result) }
+    ensures damaged { IfOk result (λ answer. (reply_of answer).class ≡ Class.Damaged → IsTrue (does now command.now).reach.board) }
+{
+    match command {
+        Command::Ack { user, packet } => Answer::of_acknowledged(
+            *packet,
+            ack(alloc, host, kept, user.as_slice(), *packet, now),
+        ),
+        Command::Check => Answer::of_report(check(alloc, host, kept)),
+        Command::Enroll {
+            name,
+            flags,
+            conferences,
+        } => Answer::of_enrolled(enroll(
+            alloc,
+            host,
+            kept,
+            name.as_slice(),
+            flags.as_slice(),
+            conferences.as_slice(),
+        )),
+        Command::Export {
+            user,
+            limit,
+            folder,
+        } => Answer::of_exported(export(
+            alloc,
+            host,
+            shelf,
+            kept,
+            user.as_slice(),
+            *limit,
+            folder,
+            now,
+        )),
+        Command::Import { conference, file } => Answer::of_imported(
+            *conference,
+            import(alloc, host, shelf, kept, *conference, file, now),
+        ),
+        Command::Init { file } => Answer::of_made(init(alloc, host, shelf, kept, file, now)),
+        Command::Kill { conference, number } => Answer::of_killed(
+            *conference,
+            *number,
+            kill(alloc, host, kept, *conference, *number),
+        ),
+        Command::Compose { .. } | Command::List { .. } | Command::Read { .. } => unreachable!(),
+        Command::Reply { .. } | Command::Show { .. } | Command::Scan { .. } => unreachable!(),
+    }
+}
+
 /// Carries out a command, and answers what is to be said of it.
 fn carry_out<H: Host, S: Shelf>(
     alloc: Global,
@@ -92,35 +159,12 @@ fn carry_out<H: Host, S: Shelf>(
     ensures damaged { IfOk result (λ answer. (reply_of answer).class ≡ Class.Damaged → IsTrue (does now command.now).reach.board) }
 {
     match command {
-        Command::Check => Answer::of_report(check(alloc, host, kept)),
         Command::Compose {
             folder,
             conference,
             sheet,
             rep,
         } => carry_out_compose(alloc, shelf, folder, *conference, sheet, rep, now),
-        Command::Enroll {
-            name,
-            flags,
-            conferences,
-        } => Answer::of_enrolled(enroll(
-            alloc,
-            host,
-            kept,
-            name.as_slice(),
-            flags.as_slice(),
-            conferences.as_slice(),
-        )),
-        Command::Import { conference, file } => Answer::of_imported(
-            *conference,
-            import(alloc, host, shelf, kept, *conference, file, now),
-        ),
-        Command::Init { file } => Answer::of_made(init(alloc, host, shelf, kept, file, now)),
-        Command::Kill { conference, number } => Answer::of_killed(
-            *conference,
-            *number,
-            kill(alloc, host, kept, *conference, *number),
-        ),
         Command::List { file } => Answer::of_text(list(alloc, shelf, file)),
         Command::Read { folder } => Answer::of_text(read(alloc, shelf, folder)),
         Command::Reply {
@@ -131,6 +175,13 @@ fn carry_out<H: Host, S: Shelf>(
         } => carry_out_reply(alloc, shelf, folder, *place, text, rep, now),
         Command::Show { folder, place } => Answer::of_text(show(alloc, shelf, folder, *place)),
         Command::Scan { file } => Answer::of_count(scan(alloc, shelf, file)),
+        Command::Ack { .. }
+        | Command::Check
+        | Command::Enroll { .. }
+        | Command::Export { .. }
+        | Command::Import { .. }
+        | Command::Init { .. }
+        | Command::Kill { .. } => { carry_out_on_board(alloc, host, shelf, kept, command, now) }
     }
 }
 

@@ -1,12 +1,16 @@
 /// What a command begins with.
 #[derive(Clone, Copy, Debug, PartialEq, Eq)]
 pub enum Verb {
+    /// `ack`
+    AckPacket,
     /// `check`
     CheckBoard,
     /// `compose`
     ComposeSheet,
     /// `enroll`
     EnrollUser,
+    /// `export`
+    ExportPacket,
     /// `import`
     ImportSheet,
     /// `init`
@@ -33,9 +37,11 @@ impl Verb {
         ensures { MatchOption result ((verb : Verb) → word.now ≢ first_word verb) (λ verb. word.now ≡ first_word verb) }
     {
         match word {
+            b"ack" => Some(Verb::AckPacket),
             b"check" => Some(Verb::CheckBoard),
             b"compose" => Some(Verb::ComposeSheet),
             b"enroll" => Some(Verb::EnrollUser),
+            b"export" => Some(Verb::ExportPacket),
             b"import" => Some(Verb::ImportSheet),
             b"init" => Some(Verb::InitBoard),
             b"kill" => Some(Verb::KillMessage),

@@ -5,35 +5,8 @@ use Rattle.packet_commands.specs.Read.{reads, shows}
 use Rattle.packet_commands.specs.Scan.{count_line, scans}
 use Rattle.reply_commands.specs.Compose.{composes}
 use Rattle.reply_commands.specs.Reply.{replies}
-use Rattle.mail_cli.proofs.Arms.{causes_answered, may_be_damaged, never_damaged, shelf_causes, undamaged}
+use Rattle.mail_cli.proofs.Arms.{causes_answered, never_damaged, shelf_causes, undamaged}
 use Rattle.mail_cli.proofs.perform.carry_out.Goals as goal
-
-pub returns-in-Check-clause-works : goal.returns-in-Check-clause-works
-returns-in-Check-clause-works g c tells shelf_tells world at = rw (c.in-Check.is, c.of_report.ensures) (c.check.ensures.works tells world _ at)
-
-pub returns-in-Check-clause-causes : goal.returns-in-Check-clause-causes
-returns-in-Check-clause-causes g c = causes_answered c.of_report.result (rw c.of_report.ensures (c.check.ensures.causes _))
-
-pub returns-in-Check-clause-damaged : goal.returns-in-Check-clause-damaged
-returns-in-Check-clause-damaged g c = rw c.in-Check.is (may_be_damaged c.of_report.result)
-
-pub returns-in-Enroll-clause-works : goal.returns-in-Enroll-clause-works
-returns-in-Enroll-clause-works g c tells shelf_tells world at = rw (c.in-Enroll.is, c.of_enrolled.ensures, ← c.as_slice.ensures.same, ← c.as_slice-in-Enroll.ensures.same, ← c.as_slice-in-Enroll-2.ensures.same) (c.enroll.ensures.works tells world _ at)
-
-pub returns-in-Enroll-clause-causes : goal.returns-in-Enroll-clause-causes
-returns-in-Enroll-clause-causes g c = causes_answered c.of_enrolled.result (rw c.of_enrolled.ensures (c.enroll.ensures.causes _))
-
-pub returns-in-Enroll-clause-damaged : goal.returns-in-Enroll-clause-damaged
-returns-in-Enroll-clause-damaged g c = rw c.in-Enroll.is (may_be_damaged c.of_enrolled.result)
-
-pub returns-in-Init-clause-works : goal.returns-in-Init-clause-works
-returns-in-Init-clause-works g c tells shelf_tells world at = rw (c.in-Init.is, c.of_made.ensures) (c.init.ensures.works tells shelf_tells world at)
-
-pub returns-in-Init-clause-causes : goal.returns-in-Init-clause-causes
-returns-in-Init-clause-causes g c = causes_answered c.of_made.result (rw c.of_made.ensures c.init.ensures.causes)
-
-pub returns-in-Init-clause-damaged : goal.returns-in-Init-clause-damaged
-returns-in-Init-clause-damaged g c = rw c.in-Init.is (may_be_damaged c.of_made.result)
 
 pub returns-in-List-clause-works : goal.returns-in-List-clause-works
 returns-in-List-clause-works g c tells shelf_tells world at = rw (c.in-List.is, c.of_text.ensures) (serves Stores (lists c.in-List.file) at _ (c.list.ensures.serves shelf_tells))
@@ -88,21 +61,3 @@ returns-in-Reply-clause-causes g c = c.carry_out_reply.ensures.causes _ _
 
 pub returns-in-Reply-clause-damaged : goal.returns-in-Reply-clause-damaged
 returns-in-Reply-clause-damaged g c = never_damaged _ c.carry_out_reply.result c.carry_out_reply.ensures.undamaged
-
-pub returns-in-Import-clause-works : goal.returns-in-Import-clause-works
-returns-in-Import-clause-works g c tells shelf_tells world at = rw (c.in-Import.is, c.of_imported.ensures) (c.import.ensures.works tells shelf_tells world at)
-
-pub returns-in-Import-clause-causes : goal.returns-in-Import-clause-causes
-returns-in-Import-clause-causes g c = causes_answered c.of_imported.result (rw c.of_imported.ensures c.import.ensures.causes)
-
-pub returns-in-Import-clause-damaged : goal.returns-in-Import-clause-damaged
-returns-in-Import-clause-damaged g c = rw c.in-Import.is (may_be_damaged c.of_imported.result)
-
-pub returns-in-Kill-clause-works : goal.returns-in-Kill-clause-works
-returns-in-Kill-clause-works g c tells shelf_tells world at = rw (c.in-Kill.is, c.of_killed.ensures) (c.kill.ensures.works tells world _ at)
-
-pub returns-in-Kill-clause-causes : goal.returns-in-Kill-clause-causes
-returns-in-Kill-clause-causes g c = causes_answered c.of_killed.result (rw c.of_killed.ensures (c.kill.ensures.causes _))
-
-pub returns-in-Kill-clause-damaged : goal.returns-in-Kill-clause-damaged
-returns-in-Kill-clause-damaged g c = rw c.in-Kill.is (may_be_damaged c.of_killed.result)
