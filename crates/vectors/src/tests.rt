@@ -1,6 +1,7 @@
 mod board_runs;
 mod boards;
 mod damage_runs;
+mod export_runs;
 mod import_runs;
 mod packet_runs;
 mod packets;

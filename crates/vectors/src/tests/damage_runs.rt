@@ -1,9 +1,10 @@
 //! Boards whose files are damaged, and what `check` says of them.
-use super::import_runs::{after_runs, put_sheets};
+use super::boards::{after_runs, put_sheets};
 use super::runs::{assert_run, empty_shelf, no_faults};
-use door_outside::{Bytes, FileId, ImageChoice, MemoryHost};
+use door_outside::{Bytes, FileId, ImageChoice, MemoryHost, MemoryShelf};
 use mail_cli::Status;
 use std::alloc::Global;
+use std::process::Abort;
 use std::test::Fail;
 
 /// How a file is damaged.
@@ -74,18 +75,39 @@ fn damaged_host(
     Ok(host)
 }
 
+/// Looks whether each damage of a board is named.
+fn assert_damages(
+    rt: &impl Abort,
+    alloc: Global,
+    board: &MemoryHost,
+    shelf: &mut MemoryShelf,
+) -> Result<(), Fail> {
+    for (number, damage, reply) in DAMAGES {
+        let host = damaged_host(alloc, board, number, damage)?;
+        assert_run(rt, alloc, &host, shelf, ("check", reply, Status::Damaged))?;
+    }
+    Ok(())
+}
+
+/// The byte of the ledger that Ann's high in the first conference begins with: the records before the users' have 119
+/// bytes, and 26 of hers stand before her highs.
+const HIGH: usize = 145;
+
 #[test]
 fn each_damage_is_named(rt: HostRuntime) -> Result<(), Fail> {
     let alloc = rt.alloc();
     let mut shelf = empty_shelf(alloc, no_faults(alloc));
     put_sheets(&mut shelf, alloc)?;
-    let runs = [("import 0 two", "imported 2 into 0\n", Status::Done)];
+    let runs = [
+        ("import 0 two", "imported 2 into 0\n", Status::Done),
+        (
+            "export \"Ann Lee\" 10 out",
+            "packet 1: 2 messages\n",
+            Status::Done,
+        ),
+    ];
     let whole = after_runs(&rt, alloc, &mut shelf, &runs)?;
-    for (number, damage, reply) in DAMAGES {
-        let host = damaged_host(alloc, &whole, number, damage)?;
-        let run = ("check", reply, Status::Damaged);
-        assert_run(&rt, alloc, &host, &mut shelf, run)?;
-    }
+    assert_damages(&rt, alloc, &whole, &mut shelf)?;
     let gone = damaged_host(alloc, &whole, 4, Damage::Longer(&[0xFF; 8]))?;
     let run = (
         "check",
@@ -93,5 +115,9 @@ fn each_damage_is_named(rt: HostRuntime) -> Result<(), Fail> {
         Status::Done,
     );
     assert_run(&rt, alloc, &gone, &mut shelf, run)?;
-    Ok(())
+    // A high above the slots is named last, so beside any other damage it isn't.
+    let high = damaged_host(alloc, &whole, 0, Damage::Becomes(HIGH, 3))?;
+    let run = ("check", "damaged 0 4 high\n", Status::Damaged);
+    assert_run(&rt, alloc, &high, &mut shelf, run)?;
+    assert_damages(&rt, alloc, &high, &mut shelf)
 }

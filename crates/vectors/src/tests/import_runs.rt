@@ -1,14 +1,9 @@
 //! Runs of the commands by which a sysop changes messages: `import` and `kill`.
-use super::boards::{board_b, put_setups};
-use super::runs::{Run, assert_in_turn, assert_run, empty_host, empty_shelf, no_faults, put};
-use door_outside::{Bytes, FileId, MemoryHost, MemoryShelf};
+use super::boards::{after_runs, put_sheets, sheets};
+use super::runs::{assert_in_turn, assert_run, empty_host, empty_shelf, no_faults, put};
+use door_outside::{Bytes, FileId, MemoryHost};
 use mail_cli::Status;
-use std::alloc::{AllocError, Global};
-use std::process::Abort;
 use std::test::Fail;
-
-/// The sheet H of the examples.
-const SHEET: &[u8] = b"From: Bob Ray\nTo: All\nSubject: Hello\n\nFirst line\n.\n";
 
 /// The files of the conference 0 after the sheet given twice. 1000 zeros follow the first 24 bytes of the .JHR.
 const BASE: &[u8] = b"JAM\0\0\xCA\x9A;\x01\0\0\0\x02\0\0\0\xFF\xFF\xFF\xFF\x01\0\0\0";
@@ -25,33 +20,6 @@ const JDX: &[u8] = b"\x22\x8E\xE7\xC4\0\x04\0\0\x22\x8E\xE7\xC4\x86\x04\0\0";
 
 const JLR: &[u8] =
     b"\x99W\x03\x9F\x01\0\0\0\0\0\0\0\0\0\0\0\x91d\x92\xC6\x02\0\0\0\0\0\0\0\0\0\0\0#9\xC6m\x03\0\0\0\0\0\0\0\0\0\0\0\xAA\xFEL\x8E\x04\0\0\0\0\0\0\0\0\0\0\0";
-
-/// The sheet H so many times.
-fn sheets(alloc: Global, count: usize) -> Result<Bytes, AllocError> {
-    let mut file = Bytes::new(alloc);
-    for _ in 0..count {
-        file.add(SHEET)?;
-    }
-    Ok(file)
-}
-
-/// Puts the sheet H under the name `one`, and twice under `two`.
-pub fn put_sheets(shelf: &mut MemoryShelf, alloc: Global) -> Result<(), Fail> {
-    put(shelf, alloc, "one", SHEET)?;
-    put(shelf, alloc, "two", sheets(alloc, 2)?.as_slice())
-}
-
-/// The host after these runs on the board B.
-pub fn after_runs(
-    rt: &impl Abort,
-    alloc: Global,
-    shelf: &mut MemoryShelf,
-    runs: &[Run],
-) -> Result<MemoryHost, Fail> {
-    put_setups(shelf, alloc)?;
-    let start = board_b(rt, alloc, shelf)?;
-    assert_in_turn(rt, alloc, start, shelf, runs)
-}
 
 #[test]
 fn two_messages_are_imported(rt: HostRuntime) -> Result<(), Fail> {

@@ -1,10 +1,8 @@
 //! Runs of the commands over packets.
-use super::packets::{put_folders, put_packets};
+use super::packets::{LISTED, READ_FIRST, READ_FOLDER, put_folders, put_packets};
 use super::runs::{assert_runs, empty_host, empty_shelf, fails_at, has_said, no_faults, run_next};
 use mail_cli::Status;
 use std::test::Fail;
-
-const LISTED: &str = "1 0/1 public BOB RAY > ALL: Hello [1]\n1 messages\n";
 
 #[test]
 fn packets_are_listed(rt: HostRuntime) -> Result<(), Fail> {
@@ -60,16 +58,8 @@ fn folders_are_read(rt: HostRuntime) -> Result<(), Fail> {
     let mut shelf = empty_shelf(alloc, no_faults(alloc));
     put_folders(&mut shelf, alloc)?;
     let runs = [
-        (
-            "read out",
-            "board Test Board\nuser ANN LEE\n1 0/1 public BOB RAY > ALL: Hello [1]\n1 messages\n",
-            Status::Done,
-        ),
-        (
-            "read out 1",
-            "From: BOB RAY\nTo: ALL\nSubject: Hello\nDate: 09-09-01 01:46\nConference: 0\nNumber: 1\nReference: 0\n\nFirst line\n",
-            Status::Done,
-        ),
+        ("read out", READ_FOLDER, Status::Done),
+        ("read out 1", READ_FIRST, Status::Done),
     ];
     assert_runs(&rt, alloc, &mut shelf, &runs)
 }

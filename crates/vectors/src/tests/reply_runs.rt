@@ -1,15 +1,10 @@
 //! Runs of the commands by which a caller writes back: `reply` and `compose`.
-use super::packets::put_folders;
+use super::packets::{SPACES, assert_blocks, joined, put_blocks, put_folders};
 use super::runs::{Run, assert_runs, empty_shelf, no_faults, put};
 use door_outside::{Bytes, MemoryShelf, ShelfName};
 use mail_cli::Status;
-use std::alloc::{AllocError, Global};
-use std::process::Abort;
+use std::alloc::Global;
 use std::test::Fail;
-
-/// A block of spaces.
-const SPACES: &[u8; 128] =
-    b"                                                                                                                                ";
 
 /// The first block of a reply packet of the board.
 const BOARD: &[u8; 128] =
@@ -40,39 +35,6 @@ const TO_UNNUMBERED: &[u8; 128] =
 /// A CONTROL.DAT whose user has a name of 26 bytes.
 const LONG_NAME: &[u8] =
     b"Test Board\nSpringfield\n555-0100\nSam Sysop\n12345,TESTBBS\n09-09-2001,01:46:40\nABCDEFGHIJKLMNOPQRSTUVWXYZ\n\n0\n1\n0\n0\nGENERAL\n";
-
-/// Blocks, one after the other.
-fn joined(alloc: Global, blocks: &[&[u8; 128]]) -> Result<Bytes, AllocError> {
-    let mut file = Bytes::new(alloc);
-    for block in blocks {
-        file.add(block.as_slice())?;
-    }
-    Ok(file)
-}
-
-/// Puts a file of blocks.
-fn put_blocks(
-    shelf: &mut MemoryShelf,
-    alloc: Global,
-    name: &str,
-    blocks: &[&[u8; 128]],
-) -> Result<(), Fail> {
-    put(shelf, alloc, name, joined(alloc, blocks)?.as_slice())
-}
-
-/// Looks whether a file has these blocks.
-fn assert_blocks(
-    rt: &impl Abort,
-    alloc: Global,
-    shelf: &MemoryShelf,
-    name: &str,
-    blocks: &[&[u8; 128]],
-) -> Result<(), Fail> {
-    let name = ShelfName::parse(alloc, name.as_bytes())?.ok_or("no name")?;
-    let wanted = joined(alloc, blocks)?;
-    assert!(rt; shelf.get(&name) == Some(wanted.as_slice()));
-    Ok(())
-}
 
 #[test]
 fn a_message_is_replied_to_twice(rt: HostRuntime) -> Result<(), Fail> {

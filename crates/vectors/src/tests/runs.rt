@@ -15,6 +15,9 @@ const NOW: u32 = 1_000_000_000;
 /// The words of a run, what it says and how it ends.
 pub type Run<'a> = (&'a str, &'a str, Status);
 
+/// The words of a command that is carried out or refused, and what it says.
+pub type Said<'a> = (&'a str, &'a str);
+
 /// A plan by which no call fails.
 pub fn no_faults(alloc: Global) -> FaultPlan {
     stops_at(alloc, None)
@@ -88,6 +91,23 @@ fn after_crash(
     host.after_crash(alloc, choice, plan)
 }
 
+/// Runs a line at a moment on a crash image of a host, with calls that fail by a plan, and answers the host after it
+/// and how the run ends.
+fn run_image(
+    alloc: Global,
+    last: &MemoryHost,
+    choice: ImageChoice,
+    plan: FaultPlan,
+    shelf: &mut MemoryShelf,
+    line: &str,
+    now: u32,
+) -> Result<(MemoryHost, Status), AllocError> {
+    let mut host = after_crash(alloc, last, choice, plan)?;
+    let words = words_of(alloc, line)?;
+    let status = run(alloc, &words, &mut host, shelf, now);
+    Ok((host, status))
+}
+
 /// Runs a line on a crash image of a host, with calls that fail by a plan, and answers the host after it and how
 /// the run ends.
 pub fn run_after_crash(
@@ -98,10 +118,7 @@ pub fn run_after_crash(
     shelf: &mut MemoryShelf,
     line: &str,
 ) -> Result<(MemoryHost, Status), AllocError> {
-    let mut host = after_crash(alloc, last, choice, plan)?;
-    let words = words_of(alloc, line)?;
-    let status = run(alloc, &words, &mut host, shelf, NOW);
-    Ok((host, status))
+    run_image(alloc, last, choice, plan, shelf, line, NOW)
 }
 
 /// Runs a line on what the last run has synced.
@@ -124,19 +141,33 @@ fn has_memory(shelf: &MemoryShelf) -> bool {
     shelf.starved() == 0
 }
 
-/// Runs a line on what the last run has synced, looks at what it says and how it ends, and answers the host.
+/// Runs a line at a moment on what the last run has synced, looks at what it says and how it ends, and answers the
+/// host.
+pub fn assert_run_at(
+    rt: &impl Abort,
+    alloc: Global,
+    last: &MemoryHost,
+    shelf: &mut MemoryShelf,
+    now: u32,
+    (line, reply, status): Run,
+) -> Result<MemoryHost, Fail> {
+    let plan = no_faults(alloc);
+    let (host, ended) = run_image(alloc, last, ImageChoice::Synced, plan, shelf, line, now)?;
+    assert!(rt; has_said(&host, last, reply), "{line}");
+    assert_eq!(rt; ended, status, "{line}");
+    assert!(rt; has_memory(shelf), "{line}");
+    Ok(host)
+}
+
+/// The same at the moment of the examples.
 pub fn assert_run(
     rt: &impl Abort,
     alloc: Global,
     last: &MemoryHost,
     shelf: &mut MemoryShelf,
-    (line, reply, status): Run,
+    run: Run,
 ) -> Result<MemoryHost, Fail> {
-    let (host, ended) = run_next(alloc, last, no_faults(alloc), shelf, line)?;
-    assert!(rt; has_said(&host, last, reply), "{line}");
-    assert_eq!(rt; ended, status, "{line}");
-    assert!(rt; has_memory(shelf), "{line}");
-    Ok(host)
+    assert_run_at(rt, alloc, last, shelf, NOW, run)
 }
 
 /// Runs each line on what was synced before it, and answers the last host.
@@ -150,6 +181,33 @@ pub fn assert_in_turn(
     let mut last = start;
     for run in runs {
         last = assert_run(rt, alloc, &last, shelf, *run)?;
+    }
+    Ok(last)
+}
+
+/// How a command ends that says this: refused, or else done.
+fn status_of(reply: &str) -> Status {
+    if reply.as_bytes().starts_with(b"refused ") {
+        Status::Refused
+    } else {
+        Status::Done
+    }
+}
+
+/// Runs each line of a session on what was synced before it, and answers the last host. The reply says whether the
+/// line is refused.
+pub fn assert_session(
+    rt: &impl Abort,
+    alloc: Global,
+    start: MemoryHost,
+    shelf: &mut MemoryShelf,
+    session: &[Said],
+) -> Result<MemoryHost, Fail> {
+    let mut last = start;
+    for said in session {
+        let (line, reply) = *said;
+        let run = (line, reply, status_of(reply));
+        last = assert_run(rt, alloc, &last, shelf, run)?;
     }
     Ok(last)
 }
