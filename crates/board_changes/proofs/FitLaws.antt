@@ -50,20 +50,20 @@ new_user_is name net members count named placed = record {
 }
 
 -- ---- one item behind others
-each_more : {A : Type 0} (right : List A → A → Type 0) (before xs : List A) (x : A) → EachBehind right before xs → right (before ++ xs) x → EachBehind right before (xs ++ x ∷ [])
+pub each_more : {A : Type 0} (right : List A → A → Type 0) (before xs : List A) (x : A) → EachBehind right before xs → right (before ++ xs) x → EachBehind right before (xs ++ x ∷ [])
 each_more {A = A} right before [] x each here = (subst (λ (ys : List A). right ys x) (append-nil before) here, tt)
 each_more {A = A} right before (y ∷ xs) x each here =
     (each.0, each_more right (before ++ y ∷ []) xs x each.1 (subst (λ (ys : List A). right ys x) (sym (append_assoc before (y ∷ []) xs)) here))
 
-each_last : {A : Type 0} (right : List A → A → Type 0) (before xs : List A) (x : A) → EachBehind right before (xs ++ x ∷ []) → right (before ++ xs) x
+pub each_last : {A : Type 0} (right : List A → A → Type 0) (before xs : List A) (x : A) → EachBehind right before (xs ++ x ∷ []) → right (before ++ xs) x
 each_last {A = A} right before [] x each = subst (λ (ys : List A). right ys x) (sym (append-nil before)) each.0
 each_last {A = A} right before (y ∷ xs) x each = subst (λ (ys : List A). right ys x) (append_assoc before (y ∷ []) xs) (each_last right (before ++ y ∷ []) xs x each.1)
 
-last_of : {A : Type 0} (P : A → Type 0) (xs : List A) (x : A) → All P (xs ++ x ∷ []) → P x
+pub last_of : {A : Type 0} (P : A → Type 0) (xs : List A) (x : A) → All P (xs ++ x ∷ []) → P x
 last_of P [] x all = all 0 x (omega arith)
 last_of P (y ∷ xs) x all = last_of P xs x (All-drop P 1 (y ∷ (xs ++ x ∷ [])) all)
 
-one_all : {A : Type 0} (P : A → Type 0) (x : A) → P x → All P (x ∷ [])
+pub one_all : {A : Type 0} (P : A → Type 0) (x : A) → P x → All P (x ∷ [])
 one_all P x here = All-cons P x [] here (All-nil P)
 
 -- ---- the ledger with a user more

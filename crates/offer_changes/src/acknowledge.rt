@@ -66,8 +66,11 @@ fn read_up_to(
     Ok(Some(base.acknowledged(alloc, id, name, high, now)?))
 }
 
-/// The base after a change, where there is one, whose patches stand behind those of the intent.
-fn gather(change: Option<BaseChange>, intent: &mut Intent) -> Result<Option<Base>, AllocError>
+/// The base after a change, where there is one, whose patches are added at the end of an intent, which may have them
+/// all.
+///
+/// The error comes where there is no memory. Some of the patches were added then.
+pub fn gather(change: Option<BaseChange>, intent: &mut Intent) -> Result<Option<Base>, AllocError>
     requires { IfSome change (λ c. Joins intent.old c.patches) }
     ensures base { IfOk result (λ base. base ≡ option_map (λ c. c.base) change) }
     ensures gathers { OnOk result (intent.new ≡ intent.old ++ patches_of change) }

@@ -12,8 +12,11 @@ use byte_lists::Duplicate;
 use jam_records::{Message, Messages};
 use std::alloc::{AllocError, Global};
 
-/// A copy of a message, with the msgid that is generated for a number, where it has none.
-fn identified(
+/// A copy of a message, with the msgid that is generated for a message number in the conference of a number, where it
+/// has none.
+///
+/// The error comes where there is no memory.
+pub fn identified(
     alloc: Global,
     conference: u16,
     bbsid: &[u8],

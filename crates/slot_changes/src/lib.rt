@@ -9,8 +9,10 @@ mod place;
 mod size;
 mod value;
 
-pub use append::appended;
+pub use append::{appended, identified};
 pub use delete::deleted;
 pub use fits::{fits_deletion, fits_messages};
-pub use msgid::msgid_of;
-pub use size::size_with_messages;
+pub use msgid::{generated_len, msgid_of};
+pub use place::conference_of;
+pub use size::{message_size, size_with_messages};
+pub use value::may_hold;

@@ -35,8 +35,9 @@ fn digit_count(number: u64) -> u64
     buffer.format(number).len() as u64
 }
 
-/// How many bytes such a msgid has.
-pub(crate) fn generated_len(conference: u16, bbsid: &[u8], number: u64) -> u64
+/// How many bytes the msgid has that is generated for a message number in the conference of a number. It takes no
+/// memory.
+pub fn generated_len(conference: u16, bbsid: &[u8], number: u64) -> u64
     ensures { result ≡ length (generated_of conference bbsid.now number) }
 {
     digit_count(u64::from(conference)) + digit_count(number) + bbsid.len() as u64 + 2

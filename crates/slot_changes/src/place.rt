@@ -19,8 +19,8 @@ pub(crate) fn base_of(board: &StoredBoard, place: u8) -> &Base
     }
 }
 
-/// What the setup says of the conference in a place that has one.
-pub(crate) fn conference_of(board: &StoredBoard, place: u8) -> &Conference
+/// What the setup says of the conference in a place, from 0, that has one.
+pub fn conference_of(board: &StoredBoard, place: u8) -> &Conference
     requires { place < length board.now.conferences }
     ensures { slice_get board.now.ledger.setup.conferences place ≡ Some result.now }
 {

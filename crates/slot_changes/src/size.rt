@@ -38,8 +38,9 @@ fn msgid_len(message: &Message, generated: u64) -> u64
 }
 
 /// How many bytes of a conference's files a message takes, or 18,446,744,073,709,551,615 where they are more, once it
-/// has a msgid of so many bytes, where it has none: its header, its subfields, its body and its index record.
-fn message_size(message: &Message, generated: u64) -> u64
+/// has a msgid of so many bytes, where it has none: its header, its subfields, its body and its index record. It takes
+/// no memory.
+pub fn message_size(message: &Message, generated: u64) -> u64
     ensures { (msgid : List ℕ) → length msgid ≡ generated → result ≡ min (slot_size (Held (identified msgid message.now))) (2 ^ 64 - 1) }
 {
     let addresses = text_size(&message.origin) + text_size(&message.destination);

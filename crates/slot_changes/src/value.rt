@@ -131,8 +131,8 @@ fn is_right(kind: Kind, message: &Message) -> bool
     (texts && body) && private
 }
 
-/// Whether a conference of this kind may hold a message, once it has a msgid.
-fn may_hold(kind: Kind, message: &Message) -> bool
+/// Whether a conference of this kind may hold a message, once it has a msgid. It takes no memory.
+pub fn may_hold(kind: Kind, message: &Message) -> bool
     ensures { IsTrue result ↔ MayHold kind message.now }
 {
     is_right(kind, message)

@@ -1,0 +1,5 @@
+pub mod PlacePosts
+pub mod PostLaws
+pub mod RecordLaws
+pub mod SizeLaws
+pub mod FitLaws

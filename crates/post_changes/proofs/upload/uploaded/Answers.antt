@@ -1,0 +1,64 @@
+use Rattle.std.proofs.Common.{◌≡◌, length, sym, ap, ◌∙◌, subst, arith}
+use Rattle.std.specs.Prelude.{IfOk}
+use Rattle.board_changes.proofs.GatherLaws.{gathered_none}
+use Rattle.board_changes.specs.Change.{Becomes}
+use Rattle.board_changes.specs.Gathered.{Gathered}
+use Rattle.board_layout.specs.Board.{Board, shapes_of}
+use Rattle.board_layout.specs.Layout.{IsLayout, base_files}
+use Rattle.board_layout.specs.Valid.{IsBoard}
+use Rattle.board_ledger.specs.Ledger.{ledger_text}
+use Rattle.board_ledger.specs.Valid.{IsLedger}
+use Rattle.board_ledger.specs.declared.ledger.Ledger.{Ledger}
+use Rattle.board_ledger.specs.declared.upload.UploadRecord.{UploadRecord}
+use Rattle.post_changes.proofs.RecordLaws.{record_counts, record_shapes}
+use Rattle.post_changes.specs.Posted.{posted_with, record_of, with_record}
+use Rattle.post_changes.proofs.upload.uploaded.Goals as goal
+
+-- the ledger that is made is that of the next board
+made : (l was next : Ledger) (r upload : UploadRecord) → next ≡ with_record upload was → upload ≡ r → was ≡ l → next ≡ with_record r l
+made l was next r upload is same old = is ∙ (λ i. with_record (same i) (old i))
+
+pub record_of-upload-requires : goal.record_of-upload-requires
+record_of-upload-requires c =
+    let r : UploadRecord = record_of c.args.user c.args.digest.now c.args.refused c.args.posts.now in
+    omega (arith, record_counts c.args.board.now.ledger r c.requires.next.ledger, ap length c.as_slice-posts.ensures)
+
+pub ledger_intent-requires : goal.ledger_intent-requires
+ledger_intent-requires c =
+    let b : Board = c.args.board.now in
+    let r : UploadRecord = record_of c.args.user c.args.digest.now c.args.refused c.args.posts.now in
+    let same : c.in_ok-ledger.ledger ≡ with_record r b.ledger =
+    made b.ledger c.ledger.result.now c.in_ok-ledger.ledger r c.record_of-upload.result c.in_ok-ledger.ensures (c.record_of-upload.ensures ∙ ap (record_of c.args.user c.args.digest.now c.args.refused) c.as_slice-posts.ensures) c.ledger.ensures.ledger in
+    subst IsLedger (sym same) c.requires.next.ledger
+
+pub posted-requires-clause-shapes : goal.posted-requires-clause-shapes
+posted-requires-clause-shapes c =
+    let b : Board = c.args.board.now in
+    let r : UploadRecord = record_of c.args.user c.args.digest.now c.args.refused c.args.posts.now in
+    let same : c.in_ok-ledger.ledger ≡ with_record r b.ledger =
+    made b.ledger c.ledger.result.now c.in_ok-ledger.ledger r c.record_of-upload.result c.in_ok-ledger.ensures (c.record_of-upload.ensures ∙ ap (record_of c.args.user c.args.digest.now c.args.refused) c.as_slice-posts.ensures) c.ledger.ensures.ledger in
+    ap shapes_of same ∙ record_shapes b.ledger r
+
+pub posted-requires-clause-next : goal.posted-requires-clause-next
+posted-requires-clause-next c =
+    let b : Board = c.args.board.now in
+    let r : UploadRecord = record_of c.args.user c.args.digest.now c.args.refused c.args.posts.now in
+    let same : c.in_ok-ledger.ledger ≡ with_record r b.ledger =
+    made b.ledger c.ledger.result.now c.in_ok-ledger.ledger r c.record_of-upload.result c.in_ok-ledger.ensures (c.record_of-upload.ensures ∙ ap (record_of c.args.user c.args.digest.now c.args.refused) c.as_slice-posts.ensures) c.ledger.ensures.ledger in
+    subst IsBoard (λ i. posted_with (sym same i) (sym c.as_slice-posts.ensures i) b) c.requires.next
+
+pub posted-requires-clause-gathered : goal.posted-requires-clause-gathered
+posted-requires-clause-gathered c =
+    let b : Board = c.args.board.now in
+    let l : Ledger = c.in_ok-ledger.ledger in
+    let next : Board = posted_with l c.as_slice-posts.result.now b in
+    subst (Gathered (IsLayout b) (ledger_text l) (base_files b) (base_files next) 0) (sym c.in_ok-intent.ensures)
+    (gathered_none (IsLayout b) (ledger_text l) (base_files b) (base_files next) (λ files is. is.places))
+
+pub returns : goal.returns
+returns c =
+    let b : Board = c.args.board.now in
+    let r : UploadRecord = record_of c.args.user c.args.digest.now c.args.refused c.args.posts.now in
+    let same : c.in_ok-ledger.ledger ≡ with_record r b.ledger =
+    made b.ledger c.ledger.result.now c.in_ok-ledger.ledger r c.record_of-upload.result c.in_ok-ledger.ensures (c.record_of-upload.ensures ∙ ap (record_of c.args.user c.args.digest.now c.args.refused) c.as_slice-posts.ensures) c.ledger.ensures.ledger in
+    subst (λ (next : Board). IfOk c.posted.result (Becomes b next)) (λ i. posted_with (same i) (c.as_slice-posts.ensures i) b) c.posted.ensures
