@@ -1,8 +1,9 @@
 //! Runs of the commands by which a sysop changes messages: `import` and `kill`.
-use super::boards::{after_runs, put_sheets, sheets};
+use super::boards::{after_runs, copies, put_sheets, sheets};
 use super::runs::{assert_in_turn, assert_run, empty_host, empty_shelf, no_faults, put};
 use door_outside::{Bytes, FileId, MemoryHost};
 use mail_cli::Status;
+use std::alloc::Global;
 use std::test::Fail;
 
 /// The files of the conference 0 after the sheet given twice. 1000 zeros follow the first 24 bytes of the .JHR.
@@ -209,5 +210,46 @@ fn other_words_change_no_message(rt: HostRuntime) -> Result<(), Fail> {
         let run = (line, "usage\n", Status::Usage);
         assert_run(&rt, alloc, &empty_host(alloc), &mut shelf, run)?;
     }
+    Ok(())
+}
+
+/// A setup file with eight conferences.
+const EIGHT: &[u8] =
+    b"board: Full\ncity: Springfield\nphone: 555-0100\nsysop: Sam Sysop\nbbsid: FULL\nserial: 1\nzones:\nconference: 0 local - C0\nconference: 1 local - C1\nconference: 2 local - C2\nconference: 3 local - C3\nconference: 4 local - C4\nconference: 5 local - C5\nconference: 6 local - C6\nconference: 7 local - C7\n";
+
+/// Puts a copy of a file in the place of another.
+fn put_copy(alloc: Global, host: &mut MemoryHost, from: FileId, to: FileId) -> Result<(), Fail> {
+    let file = Bytes::from_slice(alloc, host.file(from))?;
+    let file = file.as_slice();
+    if file.len() > 0x7FFF_FFFF {
+        return Err("too long".into());
+    }
+    host.put(to, file)?;
+    Ok(())
+}
+
+#[test]
+fn a_sheet_that_makes_the_files_too_long_is_refused(rt: HostRuntime) -> Result<(), Fail> {
+    let alloc = rt.alloc();
+    let mut shelf = empty_shelf(alloc, no_faults(alloc));
+    put(&mut shelf, alloc, "eight", EIGHT)?;
+    let mut message = Bytes::from_slice(alloc, b"From: Bob Ray\nTo: All\n\n")?;
+    message.add(copies(alloc, b"x", 16_383)?.as_slice())?;
+    message.add(b"\n.\n")?;
+    let sheet = copies(alloc, message.as_slice(), 255)?;
+    put(&mut shelf, alloc, "long", sheet.as_slice())?;
+    let runs = [
+        ("init eight", "made 8 conferences\n", Status::Done),
+        ("import 0 long", "imported 255 into 0\n", Status::Done),
+    ];
+    let mut host = assert_in_turn(&rt, alloc, empty_host(alloc), &mut shelf, &runs)?;
+    // The other conferences get the same files, without a run for each: nothing in these depends on their conference.
+    for place in 1..7 {
+        put_copy(alloc, &mut host, FileId::jhr(0), FileId::jhr(place))?;
+        put_copy(alloc, &mut host, FileId::jdt(0), FileId::jdt(place))?;
+        put_copy(alloc, &mut host, FileId::jdx(0), FileId::jdx(place))?;
+    }
+    let refused = ("import 7 long", "refused size 33691942\n", Status::Refused);
+    assert_run(&rt, alloc, &host, &mut shelf, refused)?;
     Ok(())
 }
