@@ -19,5 +19,6 @@ mod view;
 pub use address::Address;
 pub use net_line::{NetLine, address_line};
 pub use rule::Rule;
+pub use size::new_bytes;
 pub use verdict::{Verdict, judge};
 pub use view::{ConferenceView, View};

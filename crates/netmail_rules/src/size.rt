@@ -23,8 +23,8 @@ fn text_size(text: &Bytes) -> u128
 }
 
 /// How many bytes of a conference's files a draft takes with a msgid of so many bytes: its header, its
-/// subfields, its body and its index record.
-pub(crate) fn new_bytes(draft: &Message, msgid_len: u32) -> u128
+/// subfields, its body and its index record. It takes no memory.
+pub fn new_bytes(draft: &Message, msgid_len: u32) -> u128
     ensures { result ≡ new_bytes_of draft.now msgid_len }
 {
     let addresses = text_size(&draft.origin) + text_size(&draft.destination);

@@ -21,7 +21,7 @@ pub(crate) fn place_count(board: &StoredBoard) -> u8
 }
 
 /// The user of an id, from 1, or None where there is none.
-pub(crate) fn user_at(board: &StoredBoard, id: u32) -> Option<&User>
+pub fn user_at(board: &StoredBoard, id: u32) -> Option<&User>
     ensures user { option_copied result ≡ user_of id board.now }
     ensures there { IfSome result (λ user. Contains board.now.ledger.users user.now) }
     ensures board { IsBoard board.now }
@@ -40,8 +40,8 @@ fn base_in(bases: &[Base], place: u8) -> Option<&Base>
     bases.get(usize::from(place))
 }
 
-/// The base of a place, or None past the last.
-pub(crate) fn base_at(board: &StoredBoard, place: u8) -> Option<&Base>
+/// The base of a place, from 0, or None past the last.
+pub fn base_at(board: &StoredBoard, place: u8) -> Option<&Base>
     ensures contents { option_copied result ≡ slice_get (contents_of board.now) place }
     ensures slots { IfSome result (λ base. base.now.conference.slots ≡ slots_in board.now place) }
     ensures place { IfSome result (λ base. place < 64) }
@@ -51,8 +51,8 @@ pub(crate) fn base_at(board: &StoredBoard, place: u8) -> Option<&Base>
     base_in(board.bases(), place)
 }
 
-/// The message of a number, or None where no slot of it holds one.
-pub(crate) fn message_of(base: &Base, number: u32) -> Option<&Message>
+/// The message of a number, from 1, or None where no slot of it holds one.
+pub fn message_of(base: &Base, number: u32) -> Option<&Message>
     ensures { option_copied result ≡ held_in (numbered base.now.conference.slots number) }
 {
     match base.slot(number) {

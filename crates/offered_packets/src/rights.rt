@@ -7,8 +7,8 @@ use board_layout::StoredBoard;
 use board_ledger::{Ledger, User};
 use jam_records::Message;
 
-/// Whether the user's name is the sysop's, ignoring ASCII case.
-fn is_sysop(ledger: &Ledger, user: &User) -> bool
+/// Whether the user's name is the sysop's, ignoring ASCII case. It takes no memory.
+pub fn is_sysop(ledger: &Ledger, user: &User) -> bool
     ensures { result ≡ is_sysop_of ledger.now user.now }
 {
     let name = user.name.as_slice();
@@ -25,8 +25,10 @@ fn names_user(user: &User, message: &Message) -> bool
     is_to || is_from
 }
 
-/// Whether a user may see a message of the conference in a place.
-fn may_see(ledger: &Ledger, place: u8, user: &User, message: &Message) -> bool
+/// Whether a user may see a message of the conference in a place, from 0 to 63: the user is a member there, and the
+/// message isn't private, or is to the user or from the user, or the user is the sysop. Names are compared ignoring
+/// ASCII case. It takes no memory.
+pub fn may_see(ledger: &Ledger, place: u8, user: &User, message: &Message) -> bool
     requires { place < 64 }
     ensures { result ≡ is_seen_by ledger.now place user.now message.now }
 {
