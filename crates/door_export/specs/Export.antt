@@ -32,14 +32,14 @@ control_file b id u limit now = control_text (control b u (length (offered b id 
 abbrev pub messages_file : Board → ℕ → User → ℕ → List ℕ
 messages_file b id u limit = spelling (notice (u.last + 1)) (packet b id limit)
 
--- a packet that is handed out: the board after it, what its files hold, its number and its count of messages
-pub record Packet : Type 0 where
+-- what is handed out as a packet: the board after it, what its files hold, its number and its count of messages
+pub record Handout : Type 0 where
   pub board : Board
   pub controls : List ℕ
   pub messages : List ℕ
   pub answer : Exported
 
-abbrev pub packet_to : ℕ → ℕ → Board → ℕ → User → Packet
+abbrev pub packet_to : ℕ → ℕ → Board → ℕ → User → Handout
 packet_to limit now b id u = record {
   board = exported id limit b;
   controls = control_file b id u limit now;
@@ -51,23 +51,23 @@ packet_to limit now b id u = record {
 abbrev pub user_refusal : ℕ → User → Option ExportRefusal
 user_refusal limit u = if limit == 0 || nat_lt 2000 limit then Some Limit else (if u.last == 0xFFFF_FFFF then Some Packets else None)
 
-abbrev pub unless_refused : Packet → Option ExportRefusal → Result Packet ExportRefusal
+abbrev pub unless_refused : Handout → Option ExportRefusal → Result Handout ExportRefusal
 unless_refused p None = Ok p
 unless_refused p (Some why) = Err why
 
-abbrev pub export_to : ℕ → ℕ → Board → ℕ → Option User → Result Packet ExportRefusal
+abbrev pub export_to : ℕ → ℕ → Board → ℕ → Option User → Result Handout ExportRefusal
 export_to limit now b id None = Err NoUser
 export_to limit now b id (Some u) = unless_refused (packet_to limit now b id u) (user_refusal limit u)
 
-abbrev pub export_as : ℕ → ℕ → Board → Option ℕ → Result Packet ExportRefusal
+abbrev pub export_as : ℕ → ℕ → Board → Option ℕ → Result Handout ExportRefusal
 export_as limit now b None = Err NoUser
 export_as limit now b (Some id) = export_to limit now b id (user_of id b)
 
 -- the packet for the user of a name, or why there is none
-abbrev pub export_of : List ℕ → ℕ → ℕ → Board → Result Packet ExportRefusal
+abbrev pub export_of : List ℕ → ℕ → ℕ → Board → Result Handout ExportRefusal
 export_of name limit now b = export_as limit now b (user_id name b)
 
 -- the board after it
-abbrev pub board_after : Board → Result Packet ExportRefusal → Board
+abbrev pub board_after : Board → Result Handout ExportRefusal → Board
 board_after b (Ok p) = p.board
 board_after b (Err why) = b

@@ -4,7 +4,7 @@ use Rattle.board_layout.specs.Board.{Board}
 use Rattle.mail_board.specs.Changes.{changed}
 use Rattle.mail_board.specs.declared.change.ChangeError.{ChangeError}
 use Rattle.mail_board.specs.declared.change.ChangeError.TheVariants as change
-use Rattle.door_export.specs.Export.{ExportRefusal, Packet}
+use Rattle.door_export.specs.Export.{ExportRefusal, Handout}
 use Rattle.door_export.specs.Export as refusal
 use Rattle.door_export.specs.declared.exporting.ExportError.{ExportError}
 use Rattle.door_export.specs.declared.exporting.ExportError.TheVariants.{NoUser, Limit, Packets, DiskFault, Doubt, ShelfFault, OutOfMemory}
@@ -17,7 +17,7 @@ of_change change.Doubt = Doubt
 of_change change.OutOfMemory = OutOfMemory
 
 -- the packet that is prepared for a board
-abbrev pub packet_of : Exporting → Board → Packet
+abbrev pub packet_of : Exporting → Board → Handout
 packet_of e b = record { board = changed e.change b; controls = e.controls; messages = e.messages; answer = e.exported }
 
 -- the error as which a refusal is answered
@@ -57,12 +57,12 @@ LeavesAll (Ok value) = ⊥
 LeavesAll (Err e) = IsEarly e
 
 -- the offer is kept
-abbrev pub IsKept : {T : Type 0} → Result T ExportError → Type 0
-IsKept (Ok value) = Unit {0}
-IsKept (Err NoUser) = ⊥
-IsKept (Err Limit) = ⊥
-IsKept (Err Packets) = ⊥
-IsKept (Err DiskFault) = ⊥
-IsKept (Err Doubt) = ⊥
-IsKept (Err ShelfFault) = Unit {0}
-IsKept (Err OutOfMemory) = ⊥
+abbrev pub KeepsOffer : {T : Type 0} → Result T ExportError → Type 0
+KeepsOffer (Ok value) = Unit {0}
+KeepsOffer (Err NoUser) = ⊥
+KeepsOffer (Err Limit) = ⊥
+KeepsOffer (Err Packets) = ⊥
+KeepsOffer (Err DiskFault) = ⊥
+KeepsOffer (Err Doubt) = ⊥
+KeepsOffer (Err ShelfFault) = Unit {0}
+KeepsOffer (Err OutOfMemory) = ⊥

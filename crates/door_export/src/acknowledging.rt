@@ -2,7 +2,7 @@
 ghost use Rattle.std.specs.Prelude.{◌≡◌, ◌↔◌, true, Ok, Err, IfOk, IfErr, IsErrOf, IsOk, IsTrue, IsFalse, OnOk};
 ghost use Rattle.std.specs.Result.{result_err};
 ghost use Rattle.board_layout.specs.Layout.{IsLayout};
-ghost use Rattle.door_outside.specs.Disk.{Disk, AllNow, Between};
+ghost use Rattle.door_outside.specs.Disk.{AllNow, Between};
 ghost use Rattle.intent_journal.specs.Hosts.{IsSettled};
 ghost use Rattle.mail_board.specs.Causes.{HasFault};
 ghost use Rattle.mail_board.specs.Changes.{changed, Fits};

@@ -1,22 +1,19 @@
 //! An export: a packet is made of what a user is offered, offered to him, and written.
-ghost use Rattle.std.specs.Prelude.{◌≡◌, ◌≢◌, true, ◌↔◌, ◌≤◌, Ok, Err, Some, None, IfOk, IfErr, IsErrOf, IsOk, IsTrue, IsFalse, OnOk, MatchResult, option_map};
+ghost use Rattle.std.specs.Prelude.{◌≡◌, true, ◌↔◌, Ok, Err, Some, None, IfOk, IfErr, IsErrOf, IsOk, IsTrue, IsFalse, OnOk, option_map};
 ghost use Rattle.std.specs.Result.{result_err, result_ok};
 ghost use Rattle.board_layout.specs.Layout.{IsLayout};
 ghost use Rattle.board_layout.specs.Lookups.{user_of};
-ghost use Rattle.board_layout.specs.Valid.{IsBoard};
-ghost use Rattle.door_outside.specs.Disk.{Disk, AllNow, Between};
+ghost use Rattle.door_outside.specs.Disk.{AllNow, Between};
 ghost use Rattle.door_outside.specs.Name.{HasParts};
 ghost use Rattle.entry_runs.specs.Door.{SameBut};
 ghost use Rattle.intent_journal.specs.Hosts.{IsSettled};
 ghost use Rattle.mail_board.specs.Causes.{HasFault};
 ghost use Rattle.mail_board.specs.Changes.{Fits};
 ghost use Rattle.mail_board.specs.Held.{BeforeOrNext, Rests, sure};
-ghost use Rattle.mail_board.specs.Readers.{user_id};
-ghost use Rattle.offered_packets.specs.Offered.{offered as offered_of};
 ghost use Rattle.door_export.specs.Export.{board_after, export_of, packet_to, user_refusal};
-ghost use Rattle.door_export.specs.Exporting.{error_of, IsEarly, IsKept, LeavesAll, packet_of as packet_made, refusal_in};
+ghost use Rattle.door_export.specs.Exporting.{error_of, IsEarly, KeepsOffer, LeavesAll, packet_of as packet_made, refusal_in};
 ghost use Rattle.door_export.specs.Folder.{folder_names, with_packet};
-ghost use Rattle.door_export.specs.declared.exporting.ExportError.TheVariants.{DiskFault as DiskFails, Doubt as InDoubt, OutOfMemory};
+ghost use Rattle.door_export.specs.declared.exporting.ExportError.TheVariants.{OutOfMemory};
 
 use crate::folder::{names_in, write_packet};
 use crate::offering::offered;
@@ -25,8 +22,7 @@ use board_ledger::User;
 use byte_lists::Bytes;
 use door_outside::{Host, Shelf, ShelfName};
 use mail_board::{Board, Change, ChangeError};
-use offered_packets::laws::shown_can_be_written;
-use offered_packets::{Offered, control_text, highs_of, packet_of, packet_text};
+use offered_packets::{control_text, highs_of, packet_of, packet_text};
 use std::alloc::{AllocError, Global};
 use thiserror::Error;
 
@@ -210,8 +206,8 @@ pub fn export<H: Host, S: Shelf>(
     ensures others { IsTrue S.tells → IsErrOf result ExportError.ShelfFault → SameBut (folder_names folder.now) (S.files shelf.old) (S.files shelf.new) }
 
     // The offer, which a shelf fault leaves kept.
-    ensures board { IsKept result → board.new ≡ sure (board_after board.old.board (export_of user.now limit now board.old.board)) }
-    ensures rests { IsKept result → IsTrue H.tells → Rests (board_after board.old.board (export_of user.now limit now board.old.board)) (H.disk host.new) }
+    ensures board { KeepsOffer result → board.new ≡ sure (board_after board.old.board (export_of user.now limit now board.old.board)) }
+    ensures rests { KeepsOffer result → IsTrue H.tells → Rests (board_after board.old.board (export_of user.now limit now board.old.board)) (H.disk host.new) }
     ensures fault { IsErrOf result ExportError.DiskFault → (board.new ≡ record { board = board.old.board; doubtful = true }) × (shelf.new ≡ shelf.old) }
 
     ensures disk_cause { HasFault ExportError.DiskFault (H.disk_faults host.old) (H.disk_faults host.new) result }

@@ -1,5 +1,5 @@
 // The two files of a packet, in their folder.
-ghost use Rattle.std.specs.Prelude.{◌≡◌, ◌∷◌, [], IfOk, IsTrue, MatchResult};
+ghost use Rattle.std.specs.Prelude.{◌≡◌, IfOk, IsTrue, MatchResult};
 ghost use Rattle.door_outside.specs.Cause.{HasCause};
 ghost use Rattle.door_outside.specs.Name.{HasParts};
 ghost use Rattle.entry_runs.specs.Door.{SameBut};

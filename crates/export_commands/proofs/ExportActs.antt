@@ -6,7 +6,7 @@ use Rattle.board_commands.specs.Turns.{Turn}
 use Rattle.board_layout.specs.Board.{Board}
 use Rattle.door_export.proofs.FolderLaws.{packet_stays}
 use Rattle.door_export.specs.Ack.{AckRefusal, ack_of}
-use Rattle.door_export.specs.Export.{ExportRefusal, Packet, export_of}
+use Rattle.door_export.specs.Export.{ExportRefusal, Handout, export_of}
 use Rattle.door_export.specs.Folder.{folder_names}
 use Rattle.door_export.specs.declared.exporting.Exported.{Exported}
 use Rattle.door_outside.specs.Shelf.{Files}
@@ -42,7 +42,7 @@ refuses_is names why shelf board = record {
 }
 
 module _ (name : List ℕ) (limit : ℕ) (folder : List ℕ) (now : ℕ) where
-  handing_is : (shelf : Files) (b : Board) (r : Result Packet ExportRefusal) → IsHanding (folder_names folder) shelf (Some b) (handing_of folder shelf b r)
+  handing_is : (shelf : Files) (b : Board) (r : Result Handout ExportRefusal) → IsHanding (folder_names folder) shelf (Some b) (handing_of folder shelf b r)
   handing_is shelf b (Err why) = refuses_is (folder_names folder) (refusal_of why) shelf (Some b)
   handing_is shelf b (Ok p) = record {
     says = packet_said p.answer;

@@ -10,9 +10,9 @@ use Rattle.board_layout.specs.Board.{Board}
 use Rattle.board_layout.specs.Layout.{IsLayout}
 use Rattle.board_layout.specs.Valid.{IsBoard}
 use Rattle.door_export.proofs.ExportLaws.{export_board}
-use Rattle.door_export.specs.Export.{ExportRefusal, Packet, board_after, export_of}
+use Rattle.door_export.specs.Export.{ExportRefusal, Handout, board_after, export_of}
 use Rattle.door_export.specs.Export as why
-use Rattle.door_export.specs.Exporting.{IsKept, LeavesAll, refusal_in}
+use Rattle.door_export.specs.Exporting.{KeepsOffer, LeavesAll, refusal_in}
 use Rattle.door_export.specs.Folder.{folder_names, with_packet}
 use Rattle.door_export.specs.declared.exporting.ExportError.{ExportError}
 use Rattle.door_export.specs.declared.exporting.ExportError.TheVariants.{NoUser, Limit, Packets, DiskFault, Doubt, ShelfFault, OutOfMemory}
@@ -37,7 +37,7 @@ abbrev hands : List ℕ → ℕ → List ℕ → ℕ → Files → Option Board 
 hands name limit folder now files board h = h ≡ export_handing name limit folder now files board
 
 -- what an export of a board left, by what it comes to
-pub record Leaves (b : Board) (folder : List ℕ) (mid new : Disk) (shelf later : Files) (r : Result Packet ExportRefusal) (result : Result Exported ExportError) : Type 0 where
+pub record Leaves (b : Board) (folder : List ℕ) (mid new : Disk) (shelf later : Files) (r : Result Handout ExportRefusal) (result : Result Exported ExportError) : Type 0 where
   pub moments : Between mid new (BeforeOrNext (IsLayout b) (board_after b r) mid)
   pub now_is : AllNow new (BeforeOrNext (IsLayout b) (board_after b r) mid)
   pub settled : IsSettled new
@@ -48,17 +48,17 @@ pub record Leaves (b : Board) (folder : List ℕ) (mid new : Disk) (shelf later 
   pub files : OnOk result (Some later ≡ option_map (λ p. with_packet folder p.controls p.messages shelf) (result_ok r))
   pub others : IsErrOf result ShelfFault → SameBut (folder_names folder) shelf later
   pub fault : IsErrOf result DiskFault → later ≡ shelf
-  pub rests : IsKept result → Rests (board_after b r) new
+  pub rests : KeepsOffer result → Rests (board_after b r) new
 
 module _ (name : List ℕ) (limit : ℕ) (folder : List ℕ) (now : ℕ) (b : Board) (ok : IsBoard b) where
-  next_board : (r : Result Packet ExportRefusal) → export_of name limit now b ≡ r → IsBoard (board_after b r)
-  next_board r r_is = subst (λ (r : Result Packet ExportRefusal). IsBoard (board_after b r)) r_is (export_board name limit now b ok)
+  next_board : (r : Result Handout ExportRefusal) → export_of name limit now b ≡ r → IsBoard (board_after b r)
+  next_board r r_is = subst (λ (r : Result Handout ExportRefusal). IsBoard (board_after b r)) r_is (export_board name limit now b ok)
 
-  takes : (files : Files) (r : Result Packet ExportRefusal) → export_of name limit now b ≡ r → hands name limit folder now files (Some b) (handing_of folder files b r)
+  takes : (files : Files) (r : Result Handout ExportRefusal) → export_of name limit now b ≡ r → hands name limit folder now files (Some b) (handing_of folder files b r)
   takes files r r_is = sym (ap (handing_of folder files b) r_is)
 
   module _ {world : World State} {old mid : Disk} {shelf : Files} (at : IsAt Stores unread world old shelf) (finds : Finds Stores unread world.state old mid (Ok (tt {0}))) (is : world.state ≡ Made b) where
-    changes : {new : Disk} {later : Files} (r : Result Packet ExportRefusal) → export_of name limit now b ≡ r → (result : Result Exported ExportError) → Leaves b folder mid new shelf later r result
+    changes : {new : Disk} {later : Files} (r : Result Handout ExportRefusal) → export_of name limit now b ≡ r → (result : Result Exported ExportError) → Leaves b folder mid new shelf later r result
         → {T E : Type 0} (part : Result T E) → OnOk part (Rests (board_after b r) new) → Changes Stores unread world.state (Made (board_after b r)) mid new part
     changes {new} r r_is result leaves part rests =
         subst (λ (s : State). Changes Stores unread s (Made (board_after b r)) mid new part) (sym is)
@@ -86,7 +86,7 @@ module _ (name : List ℕ) (limit : ℕ) (folder : List ℕ) (now : ℕ) (b : Bo
         refused same reason (r_is ∙ ap Err one)
 
     -- a packet was handed out
-    exported : {new : Disk} {later : Files} (p : Packet) (e : Exported) → export_of name limit now b ≡ Ok p → Leaves b folder mid new shelf later (Ok p) (Ok e)
+    exported : {new : Disk} {later : Files} (p : Handout) (e : Exported) → export_of name limit now b ≡ Ok p → Leaves b folder mid new shelf later (Ok p) (Ok e)
         → Works Stores (exports name limit folder now) unread world old new later (Ok (done (packet_line e)))
     exported {new} {later} p e r_is leaves =
         let answer : p.answer ≡ e = let a = leaves.answer in cc in
@@ -96,7 +96,7 @@ module _ (name : List ℕ) (limit : ℕ) (folder : List ℕ) (now : ℕ) (b : Bo
         (changes (Ok p) r_is (Ok e) leaves {E = JournalError} (Ok (tt {0})) (leaves.rests tt))
         (written ∙ ap (with_packet folder p.controls p.messages) at.shelf_is))
 
-    pub works : {new : Disk} {later : Files} (r : Result Packet ExportRefusal) → export_of name limit now b ≡ r → (result : Result Exported ExportError) → Leaves b folder mid new shelf later r result
+    pub works : {new : Disk} {later : Files} (r : Result Handout ExportRefusal) → export_of name limit now b ≡ r → (result : Result Exported ExportError) → Leaves b folder mid new shelf later r result
         → Works Stores (exports name limit folder now) unread world old new later (told packet_line (halted result))
     works (Ok p) r_is (Ok e) leaves = exported p e r_is leaves
     works (Ok p) r_is (Err NoUser) leaves = absurd (cc leaves.refused_is)

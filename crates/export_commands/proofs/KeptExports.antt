@@ -45,7 +45,7 @@ module _ (before after : HeldBoard) (next : Board) (certain : before.doubtful �
   none_sure : after ≡ doubted → AreSure (unless_doubtful after)
   none_sure is = lost_sure after (ap (λ (h : HeldBoard). h.doubtful) is)
 
-  pub export_kept : (result : Result Exported ExportError) (disk : Disk) → (export.IsKept result → after ≡ sure next) → (export.IsKept result → Rests next disk) → (export.LeavesAll result → after ≡ before) → (export.LeavesAll result → Rests before.board disk)
+  pub export_kept : (result : Result Exported ExportError) (disk : Disk) → (export.KeepsOffer result → after ≡ sure next) → (export.KeepsOffer result → Rests next disk) → (export.LeavesAll result → after ≡ before) → (export.LeavesAll result → Rests before.board disk)
       → (IsErrOf result error.DiskFault → after ≡ doubted) → IsSettled disk → IsKept (unless_doubtful after) disk
   export_kept (Ok e) disk board rests same still fault settled = next_kept disk (board tt) (rests tt)
   export_kept (Err error.NoUser) disk board rests same still fault settled = same_kept disk (same tt) (still tt)
@@ -56,7 +56,7 @@ module _ (before after : HeldBoard) (next : Board) (certain : before.doubtful �
   export_kept (Err error.ShelfFault) disk board rests same still fault settled = next_kept disk (board tt) (rests tt)
   export_kept (Err error.OutOfMemory) disk board rests same still fault settled = same_kept disk (same tt) (still tt)
 
-  pub export_sure : (result : Result Exported ExportError) → IsBoard before.board → IsBoard next → (export.IsKept result → after ≡ sure next) → (export.LeavesAll result → after ≡ before) → (IsErrOf result error.DiskFault → after ≡ doubted)
+  pub export_sure : (result : Result Exported ExportError) → IsBoard before.board → IsBoard next → (export.KeepsOffer result → after ≡ sure next) → (export.LeavesAll result → after ≡ before) → (IsErrOf result error.DiskFault → after ≡ doubted)
       → AreSure (unless_doubtful after)
   export_sure (Ok e) ok later board same fault = next_sure (board tt) later
   export_sure (Err error.NoUser) ok later board same fault = same_sure (same tt) ok

@@ -2,7 +2,7 @@
 use Rattle.std.specs.Prelude.{◌≡◌, ℕ, List, ◌++◌, codes, decimal, Option, Some, None, Result, Ok, Err}
 use Rattle.board_commands.specs.State.{State}
 use Rattle.board_layout.specs.Board.{Board}
-use Rattle.door_export.specs.Export.{ExportRefusal, Packet, export_of}
+use Rattle.door_export.specs.Export.{ExportRefusal, Handout, export_of}
 use Rattle.door_export.specs.Export as why
 use Rattle.door_export.specs.Folder.{folder_names, with_packet}
 use Rattle.door_export.specs.declared.exporting.Exported.{Exported}
@@ -24,7 +24,7 @@ refusal_of why.Limit = Limit
 refusal_of why.Packets = Packets
 
 -- the packet is handed out into the folder, unless it is refused
-abbrev pub handing_of : List ℕ → Files → Board → Result Packet ExportRefusal → Handing
+abbrev pub handing_of : List ℕ → Files → Board → Result Handout ExportRefusal → Handing
 handing_of folder shelf b (Ok p) = record {
   board = Some p.board;
   shelf = with_packet folder p.controls p.messages shelf;
