@@ -1,0 +1,12 @@
+pub mod PostLists
+pub mod Spreading
+pub mod SpreadSizes
+pub mod ReplyLaws
+pub mod Indexes
+pub mod DraftLists
+pub mod Outcomes
+pub mod Places
+pub mod Validity
+pub mod Steps
+pub mod Fitting
+pub mod Counting

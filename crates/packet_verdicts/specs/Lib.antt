@@ -1,0 +1,5 @@
+pub mod Views
+pub mod Typed
+pub mod Judged
+pub mod Accepted
+pub mod Judging

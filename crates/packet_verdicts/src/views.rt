@@ -1,0 +1,111 @@
+// What the rules see of a board with the drafts that were accepted so far.
+ghost use Rattle.std.specs.Prelude.{◌≡◌, ◌<◌, ◌≤◌, [], length, Some, None, is_none, IfOk, IfSome};
+ghost use Rattle.board_layout.specs.Valid.{IsBoard};
+ghost use Rattle.offered_packets.specs.Sees.{slots_in};
+ghost use Rattle.packet_verdicts.specs.Accepted.{IsIndexed};
+ghost use Rattle.post_changes.specs.Posted.{spread};
+ghost use Rattle.packet_verdicts.specs.Views.{view_with, conference_seen as seen_of};
+ghost use Rattle.slot_changes.specs.Msgids.{msgid_in};
+
+use crate::accepted::Accepted;
+use crate::lookups::{conference_at, kept_count};
+use board_layout::StoredBoard;
+use board_ledger::User;
+use byte_lists::Bytes;
+use netmail_rules::{ConferenceView, View};
+use offered_packets::is_sysop;
+use slot_changes::msgid_of;
+use std::alloc::{AllocError, Global};
+
+/// What the rules see of a board for a user, without a conference and a reply.
+pub(crate) fn user_view(
+    alloc: Global,
+    board: &StoredBoard,
+    user: &User,
+    room: u64,
+) -> Result<View, AllocError>
+    ensures { IfOk result (λ view. view ≡ view_with board.now.ledger user.now None [] room) }
+{
+    let ledger = board.ledger();
+    Ok(View {
+        user: user.name.copy(alloc)?,
+        net: user.net,
+        is_sysop: is_sysop(ledger, user),
+        sysop: ledger.setup.sysop.copy(alloc)?,
+        zones: ledger.setup.zones.copy(alloc)?,
+        conference: None,
+        reply: Bytes::new(alloc),
+        room,
+    })
+}
+
+/// How many slots the conference in a place has with the drafts at its end.
+fn slot_count(board: &StoredBoard, accepted: &Accepted, place: u8) -> u32
+    requires indexed { IsIndexed accepted.now }
+    requires place { place < length board.now.ledger.setup.conferences }
+    requires few { length accepted.now.posts ≤ 8191 }
+    ensures count { result ≡ length (slots_in (spread accepted.now.posts board.now) place) }
+    ensures few { result ≤ 18190 }
+    ensures board { IsBoard board.now }
+{
+    kept_count(board, place) + accepted.count(place) as u32
+}
+
+/// How many bytes the msgid has that is generated for a message number in a place.
+fn msgid_len(alloc: Global, board: &StoredBoard, place: u8, number: u32) -> Result<u32, AllocError>
+    requires board { IsBoard board.now }
+    requires place { place < length board.now.ledger.setup.conferences }
+    requires number { number < 100000 }
+    ensures { IfOk result (λ len. len ≡ length (msgid_in place board.now number)) }
+{
+    let msgid = msgid_of(alloc, board, place, number)?;
+    Ok(msgid.as_slice().len() as u32)
+}
+
+/// What the rules see of the conference in a place.
+fn conference_view(
+    alloc: Global,
+    board: &StoredBoard,
+    user: &User,
+    accepted: &Accepted,
+    place: u8,
+) -> Result<ConferenceView, AllocError>
+    requires indexed { IsIndexed accepted.now }
+    requires place { place < length board.now.ledger.setup.conferences }
+    requires few { length accepted.now.posts ≤ 8191 }
+    ensures view { IfOk result (λ view. Some view ≡ seen_of (spread accepted.now.posts board.now) user.now (Some place)) }
+    ensures slots { IfOk result (λ view. view.slots ≤ 18190) }
+{
+    let conference = conference_at(board, place);
+    let slots = slot_count(board, accepted, place);
+    Ok(ConferenceView {
+        number: conference.number,
+        kind: conference.kind,
+        readonly: conference.readonly,
+        private: conference.private,
+        member: user.is_member(u32::from(place)),
+        slots,
+        msgid_len: msgid_len(alloc, board, place, slots + 1)?,
+    })
+}
+
+/// What the rules see of the conference in a place, where there is one.
+pub(crate) fn conference_seen(
+    alloc: Global,
+    board: &StoredBoard,
+    user: &User,
+    accepted: &Accepted,
+    place: Option<u8>,
+) -> Result<Option<ConferenceView>, AllocError>
+    requires indexed { IsIndexed accepted.now }
+    requires place { IfSome place (λ place. place < length board.now.ledger.setup.conferences) }
+    requires few { length accepted.now.posts ≤ 8191 }
+    ensures seen { IfOk result (λ seen. seen ≡ seen_of (spread accepted.now.posts board.now) user.now place) }
+    ensures there { IfOk result (λ seen. is_none place ≡ is_none seen) }
+    ensures slots { IfOk result (λ seen. IfSome seen (λ view. view.slots ≤ 18190)) }
+{
+    match place {
+        Some(place) => Ok(Some(conference_view(alloc, board, user, accepted, place)?)),
+        None => Ok(None),
+    }
+}
