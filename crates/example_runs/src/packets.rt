@@ -1,26 +1,13 @@
-//! The files that the examples put on the shelf, and a look at those that a run wrote.
-use super::runs::put;
-use door_outside::{Bytes, MemoryShelf, ShelfName};
+//! The packets of the examples.
+use crate::files::put;
+use crate::miss::Miss;
+use byte_lists::Bytes;
+use door_outside::MemoryShelf;
 use std::alloc::{AllocError, Global};
-use std::process::Abort;
-use std::test::Fail;
 
 /// The CONTROL.DAT of the example, in lines that end with CR LF.
 pub const CONTROL: &[u8] =
     b"Test Board\r\nSpringfield\r\n555-0100\r\nSam Sysop\r\n12345,TESTBBS\r\n09-09-2001,01:46:40\r\nANN LEE\r\n\r\n0\r\n1\r\n2\r\n0\r\nGENERAL\r\n1\r\nNETMAIL\r\n7\r\nNEWS\r\nWELCOME\r\nNEWS\r\nGOODBYE\r\n";
-
-/// What `list` says of the example's packet, `read` of its folder, and `read` of its first message.
-pub const LISTED: &str = "1 0/1 public BOB RAY > ALL: Hello [1]\n1 messages\n";
-
-pub const READ_FOLDER: &str =
-    "board Test Board\nuser ANN LEE\n1 0/1 public BOB RAY > ALL: Hello [1]\n1 messages\n";
-
-pub const READ_FIRST: &str =
-    "From: BOB RAY\nTo: ALL\nSubject: Hello\nDate: 09-09-01 01:46\nConference: 0\nNumber: 1\nReference: 0\n\nFirst line\n";
-
-/// A block of spaces.
-pub const SPACES: &[u8; 128] =
-    b"                                                                                                                                ";
 
 /// Adds a text, and a byte up to a width.
 fn add_field(file: &mut Bytes, text: &[u8], width: usize, pad: u8) -> Result<(), AllocError> {
@@ -63,7 +50,7 @@ fn put_front(
     name: &str,
     file: &Bytes,
     len: usize,
-) -> Result<(), Fail> {
+) -> Result<(), Miss> {
     put(
         shelf,
         alloc,
@@ -73,7 +60,7 @@ fn put_front(
 }
 
 /// Puts the packets of the examples.
-pub fn put_packets(shelf: &mut MemoryShelf, alloc: Global) -> Result<(), Fail> {
+pub fn put_packets(shelf: &mut MemoryShelf, alloc: Global) -> Result<(), Miss> {
     let one = packet(alloc, 1, b"2", b' ')?;
     put(shelf, alloc, "P1", one.as_slice())?;
     for (name, len) in [("p0", 0), ("p127", 127), ("p128", 128)] {
@@ -98,7 +85,7 @@ pub fn put_packets(shelf: &mut MemoryShelf, alloc: Global) -> Result<(), Fail> {
 }
 
 /// Puts the folders of packets: a whole one, and ones in which each refusal comes first.
-pub fn put_folders(shelf: &mut MemoryShelf, alloc: Global) -> Result<(), Fail> {
+pub fn put_folders(shelf: &mut MemoryShelf, alloc: Global) -> Result<(), Miss> {
     let one = packet(alloc, 1, b"2", b' ')?;
     put(shelf, alloc, "out/CONTROL.DAT", CONTROL)?;
     put(shelf, alloc, "out/MESSAGES.DAT", one.as_slice())?;
@@ -112,48 +99,4 @@ pub fn put_folders(shelf: &mut MemoryShelf, alloc: Global) -> Result<(), Fail> {
     put(shelf, alloc, "bare/CONTROL.DAT", CONTROL)?;
     put(shelf, alloc, "broken/CONTROL.DAT", CONTROL)?;
     put_front(shelf, alloc, "broken/MESSAGES.DAT", &one, 383)
-}
-
-/// Blocks, one after the other.
-pub fn joined(alloc: Global, blocks: &[&[u8; 128]]) -> Result<Bytes, AllocError> {
-    let mut file = Bytes::new(alloc);
-    for block in blocks {
-        file.add(block.as_slice())?;
-    }
-    Ok(file)
-}
-
-/// Puts a file of blocks.
-pub fn put_blocks(
-    shelf: &mut MemoryShelf,
-    alloc: Global,
-    name: &str,
-    blocks: &[&[u8; 128]],
-) -> Result<(), Fail> {
-    put(shelf, alloc, name, joined(alloc, blocks)?.as_slice())
-}
-
-/// Looks whether a file has these bytes.
-pub fn assert_file(
-    rt: &impl Abort,
-    alloc: Global,
-    shelf: &MemoryShelf,
-    name: &str,
-    wanted: &[u8],
-) -> Result<(), Fail> {
-    let key = ShelfName::parse(alloc, name.as_bytes())?.ok_or("no name")?;
-    assert!(rt; shelf.get(&key) == Some(wanted), "{name}");
-    Ok(())
-}
-
-/// Looks whether a file has these blocks.
-pub fn assert_blocks(
-    rt: &impl Abort,
-    alloc: Global,
-    shelf: &MemoryShelf,
-    name: &str,
-    blocks: &[&[u8; 128]],
-) -> Result<(), Fail> {
-    let wanted = joined(alloc, blocks)?;
-    assert_file(rt, alloc, shelf, name, wanted.as_slice())
 }

@@ -1,0 +1,190 @@
+//! Runs of the commands over a board: `init`, `enroll` and `check`.
+use super::damages::damaged_host;
+use door_outside::FileId;
+use example_runs::{
+    Miss, board_b, empty_host, empty_shelf, play, play_each, play_on_board_b, put_data, put_setups,
+};
+
+/// The ledger of the new board has 119 bytes, and each of the three headers 1,024.
+const MADE: &str = r#"
+> check
+refused notmade
+> init long-id.txt
+refused setup 5 id
+> init none.txt
+refused nofile none.txt
+> check
+refused notmade
+> enroll "" - 5
+refused notmade
+> init setup.txt
+made 3 conferences
+> check
+board TESTBBS
+0 GENERAL: 0 slots, 0 live
+1 NETMAIL: 0 slots, 0 live
+7 NEWS: 0 slots, 0 live
+0 users, 0 uploads, 3191 bytes
+> init setup.txt
+refused exists
+> init none.txt
+refused exists
+> check
+board TESTBBS
+0 GENERAL: 0 slots, 0 live
+1 NETMAIL: 0 slots, 0 live
+7 NEWS: 0 slots, 0 live
+0 users, 0 uploads, 3191 bytes
+"#;
+
+#[test]
+fn a_board_is_made_once(rt: HostRuntime) -> Result<(), Miss> {
+    let alloc = rt.alloc();
+    let mut shelf = empty_shelf(alloc);
+    put_setups(&mut shelf, alloc)?;
+    play(alloc, empty_host(alloc), &mut shelf, MADE)?;
+    Ok(())
+}
+
+/// On the board B the users' records have 153 bytes more than the new board, and the eight last-read records 128. The
+/// record of Ed Poe, a member of two conferences, has 37, and his last-read records 32. Each refusal is the first of
+/// those that apply.
+const ENROLLED: &str = r#"
+> check
+board TESTBBS
+0 GENERAL: 0 slots, 0 live
+1 NETMAIL: 0 slots, 0 live
+7 NEWS: 0 slots, 0 live
+4 users, 0 uploads, 3472 bytes
+> enroll "" - 5
+refused name
+> enroll " Ann Lee" - 5
+refused name
+> enroll ABCDEFGHIJKLMNOPQRSTUVWXYZ - 0
+refused name
+> enroll "ANN LEE" - 5
+refused dupuser
+> enroll "cy day" n all
+refused dupuser
+> enroll "Ed Poe" - 5
+refused noconference
+> enroll "Ed Poe" - 0,2,7
+refused noconference
+> enroll "Ed Poe" - 65536
+refused noconference
+> check
+board TESTBBS
+0 GENERAL: 0 slots, 0 live
+1 NETMAIL: 0 slots, 0 live
+7 NEWS: 0 slots, 0 live
+4 users, 0 uploads, 3472 bytes
+> enroll "Ed Poe" - 7,0,0000000007
+user 5 Ed Poe
+> check
+board TESTBBS
+0 GENERAL: 0 slots, 0 live
+1 NETMAIL: 0 slots, 0 live
+7 NEWS: 0 slots, 0 live
+5 users, 0 uploads, 3541 bytes
+"#;
+
+#[test]
+fn users_are_enrolled_or_refused(rt: HostRuntime) -> Result<(), Miss> {
+    let alloc = rt.alloc();
+    let mut shelf = empty_shelf(alloc);
+    play_on_board_b(alloc, &mut shelf, ENROLLED)?;
+    Ok(())
+}
+
+const OTHER_WORDS: &str = r#"
+> check now
+usage
+> init
+usage
+> init setup.txt 1
+usage
+> init ../setup.txt
+usage
+> enroll
+usage
+> enroll "Ed Poe" -
+usage
+> enroll "Ed Poe" - 0 7
+usage
+> enroll "Ed Poe" "" 0
+usage
+> enroll "Ed Poe" N 0
+usage
+> enroll "Ed Poe" nn 0
+usage
+> enroll "Ed Poe" - ""
+usage
+> enroll "Ed Poe" - ALL
+usage
+> enroll "Ed Poe" - all,0
+usage
+> enroll "Ed Poe" - 0,
+usage
+> enroll "Ed Poe" - +0
+usage
+> enroll "Ed Poe" - 4294967296
+usage
+> enroll "Ed Poe" - 00000000000
+usage
+"#;
+
+#[test]
+fn other_words_are_no_command(rt: HostRuntime) -> Result<(), Miss> {
+    let alloc = rt.alloc();
+    let mut shelf = empty_shelf(alloc);
+    play_each(alloc, &empty_host(alloc), &mut shelf, OTHER_WORDS)
+}
+
+const CLOSED: &str = r#"
+> check
+board TESTBBS
+0 GENERAL: 0 slots, 0 live
+1 NETMAIL: 0 slots, 0 live
+7 NEWS: 0 slots, 0 live
+4 users, 0 uploads, 3472 bytes
+> enroll "Ed Poe" n 1,7
+user 5 Ed Poe
+> check
+board TESTBBS
+0 GENERAL: 0 slots, 0 live
+1 NETMAIL: 0 slots, 0 live
+7 NEWS: 0 slots, 0 live
+5 users, 0 uploads, 3541 bytes
+"#;
+
+#[test]
+fn a_journal_of_one_byte_is_closed(rt: HostRuntime) -> Result<(), Miss> {
+    let alloc = rt.alloc();
+    let mut shelf = empty_shelf(alloc);
+    let mut host = board_b(alloc, &mut shelf)?;
+    put_data(&mut host, FileId::journal(), b"O")?;
+    play(alloc, host, &mut shelf, CLOSED)?;
+    Ok(())
+}
+
+const DAMAGED: &str = r#"
+> check
+damaged 0 0 magic
+> init none.txt
+damaged 0 0 magic
+> enroll "Ann Lee" - 5
+damaged 0 0 magic
+> check
+damaged 0 0 magic
+"#;
+
+#[test]
+fn damage_comes_before_each_refusal(rt: HostRuntime) -> Result<(), Miss> {
+    let alloc = rt.alloc();
+    let mut shelf = empty_shelf(alloc);
+    let board = board_b(alloc, &mut shelf)?;
+    // The letters at the front of the ledger become QMDX.
+    let host = damaged_host(alloc, &board, "0 becomes 3 88")?;
+    play(alloc, host, &mut shelf, DAMAGED)?;
+    Ok(())
+}

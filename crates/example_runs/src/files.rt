@@ -1,0 +1,55 @@
+//! Files of a shelf.
+use crate::miss::Miss;
+use byte_lists::Bytes;
+use door_outside::{MemoryShelf, ShelfName};
+use std::alloc::{AllocError, Global};
+
+/// The name that a text is.
+fn name_of(alloc: Global, name: &str) -> Result<ShelfName, Miss> {
+    let parsed = ShelfName::parse(alloc, name.as_bytes())?;
+    Ok(parsed.ok_or("no name of a file")?)
+}
+
+/// Puts a file on the shelf.
+pub fn put(shelf: &mut MemoryShelf, alloc: Global, name: &str, file: &[u8]) -> Result<(), Miss> {
+    let name = name_of(alloc, name)?;
+    shelf.put(&name, file)?;
+    Ok(())
+}
+
+/// A text so many times.
+pub fn copies(alloc: Global, text: &[u8], count: usize) -> Result<Bytes, AllocError> {
+    let mut file = Bytes::new(alloc);
+    for _ in 0..count {
+        file.add(text)?;
+    }
+    Ok(file)
+}
+
+/// Looks whether a file has these bytes.
+pub fn expect_file(
+    alloc: Global,
+    shelf: &MemoryShelf,
+    name: &str,
+    wanted: &[u8],
+) -> Result<(), Miss> {
+    let key = name_of(alloc, name)?;
+    if shelf.get(&key) != Some(wanted) {
+        return Err(Miss::file(alloc, name)?);
+    }
+    Ok(())
+}
+
+/// Looks whether a file has so many bytes.
+pub fn expect_file_length(
+    alloc: Global,
+    shelf: &MemoryShelf,
+    name: &str,
+    length: usize,
+) -> Result<(), Miss> {
+    let key = name_of(alloc, name)?;
+    match shelf.get(&key) {
+        Some(file) if file.len() == length => Ok(()),
+        _ => Err(Miss::file(alloc, name)?),
+    }
+}

@@ -1,0 +1,107 @@
+//! Commands with what they say, as text.
+use crate::miss::Miss;
+use crate::outside::no_faults;
+use crate::runs::{NOW, expect_said, expect_status, run_image};
+use door_outside::{ImageChoice, MemoryHost, MemoryShelf};
+use mail_cli::Status;
+use std::alloc::Global;
+
+/// What stands before each command line of a transcript.
+const PROMPT: &str = "\n> ";
+
+/// What stands behind the first prompt, without the last line end.
+fn after_prompt(transcript: &str) -> Option<&str> {
+    transcript.strip_prefix(PROMPT)?.strip_suffix('\n')
+}
+
+/// How a command ends that says this.
+fn status_of(reply: &str) -> Status {
+    if reply.starts_with("refused ") {
+        Status::Refused
+    } else if reply.starts_with("damaged ") {
+        Status::Damaged
+    } else if reply == "usage\n" {
+        Status::Usage
+    } else {
+        Status::Done
+    }
+}
+
+/// Runs a line at a moment on what the last run has synced, and looks at what it says and how it ends.
+fn run_line(
+    alloc: Global,
+    last: &MemoryHost,
+    shelf: &mut MemoryShelf,
+    now: u32,
+    line: &str,
+    reply: &str,
+) -> Result<MemoryHost, Miss> {
+    let plan = no_faults(alloc);
+    let (host, ended) = run_image(alloc, last, ImageChoice::Synced, plan, shelf, line, now)?;
+    expect_said(alloc, &host, last, line, reply)?;
+    expect_status(alloc, line, ended, status_of(reply))?;
+    if shelf.starved() > 0 {
+        return Err(Miss::starved(alloc, line)?);
+    }
+    Ok(host)
+}
+
+/// Runs a command of a transcript, whose last line has no line end.
+fn run_command(
+    alloc: Global,
+    last: &MemoryHost,
+    shelf: &mut MemoryShelf,
+    now: u32,
+    command: &str,
+) -> Result<MemoryHost, Miss> {
+    let Some((line, said)) = command.split_once('\n') else {
+        return run_line(alloc, last, shelf, now, command, "");
+    };
+    let mut reply = String::from_str(alloc, said)?;
+    reply.push_str("\n")?;
+    run_line(alloc, last, shelf, now, line, reply.as_str())
+}
+
+/// Runs each command at a moment on what was synced before it, and answers the last host.
+pub fn play_at(
+    alloc: Global,
+    start: MemoryHost,
+    shelf: &mut MemoryShelf,
+    now: u32,
+    transcript: &str,
+) -> Result<MemoryHost, Miss> {
+    let Some(commands) = after_prompt(transcript) else {
+        return Err(Miss::no_transcript(alloc, transcript)?);
+    };
+    let mut last = start;
+    for command in commands.split(PROMPT) {
+        last = run_command(alloc, &last, shelf, now, command)?;
+    }
+    Ok(last)
+}
+
+/// The same at the moment of the examples, 2001-09-09 01:46:40 UTC.
+pub fn play(
+    alloc: Global,
+    start: MemoryHost,
+    shelf: &mut MemoryShelf,
+    transcript: &str,
+) -> Result<MemoryHost, Miss> {
+    play_at(alloc, start, shelf, NOW, transcript)
+}
+
+/// Runs each command on what the same host has synced.
+pub fn play_each(
+    alloc: Global,
+    start: &MemoryHost,
+    shelf: &mut MemoryShelf,
+    transcript: &str,
+) -> Result<(), Miss> {
+    let Some(commands) = after_prompt(transcript) else {
+        return Err(Miss::no_transcript(alloc, transcript)?);
+    };
+    for command in commands.split(PROMPT) {
+        run_command(alloc, start, shelf, NOW, command)?;
+    }
+    Ok(())
+}

@@ -1,0 +1,2 @@
+mod packet_runs;
+mod reply_runs;
