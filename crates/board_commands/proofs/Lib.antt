@@ -8,3 +8,4 @@ pub mod InitExits
 pub mod ReportLaws
 pub mod StateLaws
 pub mod KeptLaws
+pub mod CauseLaws

@@ -1,5 +1,5 @@
 -- A packet that isn't refused is an offer that fits, so the board after it is valid.
-use Rattle.std.proofs.Common.{◌≡◌, ℕ, zero, suc, ◌+◌, ◌<◌, ◌≤◌, ◌^◌, Bool, true, false, cond, ◌||◌, eqb, ltb, List, Option, Some, None, refl, sym, ap, ◌∙◌, inl, inr, arith}
+use Rattle.std.proofs.Common.{◌≡◌, ℕ, zero, suc, ◌+◌, ◌<◌, ◌≤◌, ◌^◌, Bool, true, false, cond, ◌||◌, eqb, ltb, List, Option, Some, None, Result, Err, refl, sym, ap, ◌∙◌, subst, inl, inr, arith}
 use Rattle.std.proofs.lemmas.Bool.{cases_lt, eqb-false, ltb-false}
 use Rattle.board_layout.specs.Board.{Board}
 use Rattle.board_layout.specs.Lookups.{user_of}
@@ -8,13 +8,16 @@ use Rattle.board_ledger.specs.declared.user.User.{User}
 use Rattle.mail_board.specs.Changes.{Fits}
 use Rattle.mail_board.specs.Readers.{user_id}
 use Rattle.mail_board.specs.declared.change.Change.TheVariants.{Offer}
+use Rattle.mail_board.specs.declared.change.ChangeError.{ChangeError}
+use Rattle.mail_board.specs.declared.change.ChangeError.TheVariants as change
 use Rattle.offer_changes.proofs.FitLaws.{offer_fits}
 use Rattle.offer_changes.proofs.LedgerLaws.{user_was}
 use Rattle.offer_changes.proofs.UserLaws.{Alike, user_there}
 use Rattle.offered_packets.specs.Offered.{highs, offered}
 use Rattle.door_export.proofs.HighsFit.{offer_may}
 use Rattle.door_export.specs.Export.{ExportRefusal, NoUser, Limit, Packets, board_after, export_as, export_of, export_to, packet_to, unless_refused, user_refusal}
-use Rattle.door_export.specs.Exporting.{error_of, refusal_of}
+use Rattle.door_export.specs.Exporting.{KeepsOffer, error_of, of_change, refusal_of}
+use Rattle.door_export.specs.declared.exporting.ExportError.{ExportError}
 
 -- ---- a user who isn't refused
 -- the limit is one, and there is a number for his next packet
@@ -82,3 +85,9 @@ error_back Packets = refl
 -- what an export comes to, once the user is found
 pub export_found : (name : List ℕ) (limit now : ℕ) (b : Board) (id : ℕ) (u : User) → user_id name b ≡ Some id → user_of id b ≡ Some u → export_of name limit now b ≡ unless_refused (packet_to limit now b id u) (user_refusal limit u)
 export_found name limit now b id u id_is user_is = ap (export_as limit now b) id_is ∙ ap (export_to limit now b id) user_is
+
+-- an error of the board's change keeps no offer
+pub unkept : {T : Type 0} (e : ChangeError) (result : Result T ExportError) → result ≡ Err (of_change e) → KeepsOffer result → ⊥
+unkept change.DiskFault result is kept = subst KeepsOffer is kept
+unkept change.Doubt result is kept = subst KeepsOffer is kept
+unkept change.OutOfMemory result is kept = subst KeepsOffer is kept

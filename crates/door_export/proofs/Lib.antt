@@ -2,3 +2,4 @@ pub mod FolderLaws
 pub mod HighsFit
 pub mod ExportLaws
 pub mod AckLaws
+pub mod ExportedReads

@@ -4,6 +4,7 @@
 mod acknowledging;
 mod exporting;
 mod folder;
+pub mod laws;
 mod offering;
 mod reader;
 

@@ -17,6 +17,7 @@ use door_outside::{DiskFault, Host};
 use intent_journal::commit;
 use jam_records::Messages;
 use offer_changes::{acknowledged, offered};
+use post_changes::{Posts, spread, uploaded};
 use slot_changes::{appended, deleted};
 use std::alloc::{AllocError, Global};
 use thiserror::Error;
@@ -40,6 +41,11 @@ pub enum Change {
         /// The messages. One with an empty msgid gets the one that is generated for its number.
         messages: Messages,
     },
+    /// Messages more, at the ends of their conferences.
+    Spread {
+        /// Each with the place of its conference. One with an empty msgid gets the one that is generated for its number.
+        posts: Posts,
+    },
     /// A message deleted.
     Kill {
         /// The place of its conference, from 0.
@@ -60,6 +66,17 @@ pub enum Change {
         user: u32,
         /// The moment at which the messages to the user are received, in Unix seconds.
         now: u32,
+    },
+    /// The messages of a reply packet, at the ends of their conferences, and the record of the packet.
+    Upload {
+        /// The id of the user who sent it, from 1, who sent none of this SHA-256.
+        user: u32,
+        /// The SHA-256 of the packet.
+        digest: [u8; 32],
+        /// How many of its messages are refused.
+        refused: u32,
+        /// The messages that are posted, as in `Spread`. The record counts them.
+        posts: Posts,
     },
 }
 
@@ -103,9 +120,16 @@ fn next_of(alloc: Global, stored: &StoredBoard, change: &Change) -> Result<Board
             enrolled(alloc, stored, name.as_slice(), *net, *members)
         }
         Change::Append { place, messages } => appended(alloc, stored, *place, messages),
+        Change::Spread { posts } => spread(alloc, stored, posts),
         Change::Kill { place, number } => deleted(alloc, stored, *place, *number),
         Change::Offer { user, highs } => offered(alloc, stored, *user, highs),
         Change::Acknowledge { user, now } => acknowledged(alloc, stored, *user, *now),
+        Change::Upload {
+            user,
+            digest,
+            refused,
+            posts,
+        } => uploaded(alloc, stored, *user, digest, *refused, posts),
     }
 }
 

@@ -1,14 +1,16 @@
 // Whether a change may be made, and what size it gives.
-ghost use Rattle.std.specs.Prelude.{◌≡◌, ◌↔◌, ◌-◌, ◌^◌, min, IsTrue};
+ghost use Rattle.std.specs.Prelude.{◌≡◌, ◌↔◌, ◌-◌, ◌^◌, ℕ, min, IsTrue};
 ghost use Rattle.board_layout.specs.Layout.{board_size};
 ghost use Rattle.board_layout.specs.Valid.{IsBoard};
 ghost use Rattle.mail_board.specs.Changes.{changed, Exists, Fits};
+ghost use Rattle.post_changes.specs.Posted.{ArePlaced, uploaded};
 
 use crate::board::Board;
 use crate::change::Change;
 use board_changes::{fits_user, size_with_user};
 use board_layout::StoredBoard;
 use offer_changes::{fits_acknowledgement, fits_offer};
+use post_changes::{Posts, fits_posts, fits_upload, size_with_posts, size_with_upload};
 use slot_changes::{fits_deletion, fits_messages, size_with_messages};
 
 /// How many bytes the data files of a valid board have.
@@ -18,6 +20,17 @@ fn size_of(stored: &StoredBoard) -> u64
 {
     let _ledger = stored.ledger();
     stored.size()
+}
+
+/// How many bytes the data files have together once the posts of a packet of a SHA-256 stand at the ends of their
+/// conferences and its record is kept, or 18,446,744,073,709,551,615 where they are more.
+fn size_with_packet(stored: &StoredBoard, digest: &[u8; 32], posts: &Posts) -> u64
+    requires { ArePlaced posts.now stored.now }
+    ensures { (user refused : ℕ) → result ≡ min (board_size (uploaded user digest.now refused posts.now stored.now)) (2 ^ 64 - 1) }
+{
+    // Whichever digest it is, it has 32 bytes.
+    let _digest = *digest;
+    size_with_upload(stored, posts)
 }
 
 impl Board {
@@ -31,9 +44,16 @@ impl Board {
                 fits_user(&self.stored, name.as_slice(), *net, *members)
             }
             Change::Append { place, messages } => fits_messages(&self.stored, *place, messages),
+            Change::Spread { posts } => fits_posts(&self.stored, posts),
             Change::Kill { place, number } => fits_deletion(&self.stored, *place, *number),
             Change::Offer { user, highs } => fits_offer(&self.stored, *user, highs),
             Change::Acknowledge { user, now } => { fits_acknowledgement(&self.stored, *user, *now) }
+            Change::Upload {
+                user,
+                digest,
+                refused,
+                posts,
+            } => fits_upload(&self.stored, *user, digest, *refused, posts),
         }
     }
 
@@ -51,6 +71,8 @@ impl Board {
             Change::Append { place, messages } => {
                 size_with_messages(&self.stored, *place, messages)
             }
+            Change::Spread { posts } => size_with_posts(&self.stored, posts),
+            Change::Upload { digest, posts, .. } => size_with_packet(&self.stored, digest, posts),
             // A mark takes no byte.
             Change::Kill { .. } => size_of(&self.stored),
             // The numbers of an offer stand where older ones stood.

@@ -14,3 +14,4 @@ pub use board_layout::{ReadError, ReadError as LoadError};
 pub use change::{Change, ChangeError};
 pub use intent_journal::JournalError;
 pub use loading::Loaded;
+pub use post_changes::{Post, Posts};

@@ -1,4 +1,4 @@
-use Rattle.std.proofs.Common.{rules, ◌≡◌, ◌≢◌, ℕ, true≢false, Option, None, Err, refl, sym, ◌∙◌, ap, subst}
+use Rattle.std.proofs.Common.{rules, ◌≡◌, ℕ, true≢false, Option, None, Err, refl, sym, ◌∙◌, ap, subst}
 use Rattle.std.specs.Prelude.{Result}
 use Rattle.board_commands.proofs.FindLaws.{same_host}
 use Rattle.board_commands.specs.Halts.{told, of_read}
@@ -19,7 +19,8 @@ use Rattle.door_export.specs.Ack.{ack_of, board_after}
 use Rattle.door_export.specs.declared.acknowledging.AckError.TheVariants.{DiskFault}
 use Rattle.export_commands.proofs.AckExits.{works}
 use Rattle.export_commands.proofs.Causes.{ack_causes}
-use Rattle.export_commands.proofs.KeptExports.{ack_kept, ack_sure, once_told}
+use Rattle.board_commands.proofs.KeptLaws.{once_told}
+use Rattle.export_commands.proofs.KeptExports.{ack_kept, ack_sure}
 use Rattle.export_commands.specs.Ack.{ack_turn, acknowledged_line, acknowledges}
 use Rattle.export_commands.proofs.acknowledging.ack.Goals as goal
 
