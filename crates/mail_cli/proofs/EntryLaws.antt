@@ -17,6 +17,7 @@ use Rattle.reply_commands.specs.Compose.{composes}
 use Rattle.reply_commands.specs.Reply.{replies}
 use Rattle.shelf_files.proofs.Replies.{some_refusal}
 use Rattle.shelf_files.specs.Halts.{refused}
+use Rattle.upload_commands.proofs.UploadActs.{upload_turns}
 use Rattle.mail_cli.specs.Answers.{usage, usage_line}
 use Rattle.board_commands.proofs.BoardActs.{KeepsState, check_turns, enroll_turns, init_turns, keeps_state, lawful_on_board}
 use Rattle.board_commands.specs.State.{State, IsSpoiled}
@@ -53,6 +54,7 @@ lawful now (Run (command.Read folder)) = lawful_on_shelf (reads folder) (lawful_
 lawful now (Run (command.Reply folder place text rep)) = lawful_on_shelf (replies folder place text rep now) (lawful_replies folder place text rep now)
 lawful now (Run (command.Show folder place)) = lawful_on_shelf (shows folder place) (lawful_shows folder place)
 lawful now (Run (command.Scan file)) = lawful_on_shelf (scans file) (lawful_scans file)
+lawful now (Run (command.Upload user file)) = lawful_on_board _ (upload_turns user file now)
 lawful now (Wrong which) = lawful_on_shelf (says (usage which)) (lawful_saying (usage which) (some_usage which) (λ is. absurd (cc is)))
 lawful now (Refuse why) = lawful_on_shelf (says (refused why)) (lawful_saying (refused why) (some_refusal why) (λ is. absurd (cc is)))
 
@@ -71,6 +73,7 @@ keeps now (Run (command.Read folder)) = keeps_on_shelf (reads folder) (lawful_re
 keeps now (Run (command.Reply folder place text rep)) = keeps_on_shelf (replies folder place text rep now) (lawful_replies folder place text rep now)
 keeps now (Run (command.Show folder place)) = keeps_on_shelf (shows folder place) (lawful_shows folder place)
 keeps now (Run (command.Scan file)) = keeps_on_shelf (scans file) (lawful_scans file)
+keeps now (Run (command.Upload user file)) = keeps_state _ (upload_turns user file now)
 keeps now (Wrong which) = keeps_on_shelf (says (usage which)) (lawful_saying (usage which) (some_usage which) (λ is. absurd (cc is)))
 keeps now (Refuse why) = keeps_on_shelf (says (refused why)) (lawful_saying (refused why) (some_refusal why) (λ is. absurd (cc is)))
 

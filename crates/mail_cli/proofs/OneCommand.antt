@@ -7,12 +7,12 @@ use Rattle.command_words.specs.NumberWord.{NumberWord}
 use Rattle.mail_cli.specs.declared.command.Command.{Command}
 use Rattle.mail_cli.specs.declared.command.Command.TheVariants as command
 use Rattle.mail_cli.specs.declared.verb.Verb.{Verb}
-use Rattle.mail_cli.specs.declared.verb.Verb.TheVariants.{AckPacket, CheckBoard, ComposeSheet, EnrollUser, ExportPacket, ImportSheet, InitBoard, KillMessage, ListFile, ReadFolder, ReplyTo, ScanFile}
+use Rattle.mail_cli.specs.declared.verb.Verb.TheVariants.{AckPacket, CheckBoard, ComposeSheet, EnrollUser, ExportPacket, ImportSheet, InitBoard, KillMessage, ListFile, ReadFolder, ReplyTo, ScanFile, UploadPacket}
 use Rattle.mail_cli.specs.Words.{first_word, ReadsBehind, CommandReads, WritingReads}
 
 -- all verbs in order
 verbs : List Verb
-verbs = AckPacket ∷ CheckBoard ∷ ComposeSheet ∷ EnrollUser ∷ ExportPacket ∷ ImportSheet ∷ InitBoard ∷ KillMessage ∷ ListFile ∷ ReadFolder ∷ ReplyTo ∷ ScanFile ∷ []
+verbs = AckPacket ∷ CheckBoard ∷ ComposeSheet ∷ EnrollUser ∷ ExportPacket ∷ ImportSheet ∷ InitBoard ∷ KillMessage ∷ ListFile ∷ ReadFolder ∷ ReplyTo ∷ ScanFile ∷ UploadPacket ∷ []
 
 -- the verb of a first word
 verb_of : List ℕ → Option Verb
@@ -33,6 +33,7 @@ verb_back ListFile = refl
 verb_back ReadFolder = refl
 verb_back ReplyTo = refl
 verb_back ScanFile = refl
+verb_back UploadPacket = refl
 
 one_verb : (a b : Verb) → first_word a ≡ first_word b → a ≡ b
 one_verb a b same = let e : Some a ≡ Some b = sym (verb_back a) ∙ ap verb_of same ∙ verb_back b in cc
@@ -105,6 +106,11 @@ behind_unique ReadFolder words a b (inr x) (inr y) =
 behind_unique ReplyTo words a b x y =
     x.5 ∙ (λ i. command.Reply (same_folder x.4 y.4 i) (same_number x.4 y.4 i) (same_file x.4 y.4 i) (same_rep x.4 y.4 i)) ∙ sym y.5
 behind_unique ScanFile words a b x y = let e = sym x.1 ∙ y.1 in let file : x.0 ≡ y.0 = cc in x.3 ∙ ap command.Scan file ∙ sym y.3
+behind_unique UploadPacket words a b x y =
+    let e = sym x.2 ∙ y.2 in
+    let user : x.0 ≡ y.0 = cc in
+    let file : x.1 ≡ y.1 = cc in
+    x.4 ∙ (λ i. command.Upload (user i) (file i)) ∙ sym y.4
 
 -- what stands behind a first word is read by its verb
 behind_verb : (verb : Verb) (rest : List (List ℕ)) (c : Command) → CommandReads (first_word verb ∷ rest) c → ReadsBehind verb rest c

@@ -15,12 +15,13 @@ use Rattle.packet_commands.specs.Scan.{count_line}
 use Rattle.reply_commands.specs.Compose.{composed_line}
 use Rattle.reply_commands.specs.Reply.{reply_line}
 use Rattle.shelf_files.specs.Halts.{done, refused}
+use Rattle.upload_commands.specs.Upload.{uploaded_text}
 use Rattle.mail_cli.specs.declared.answer.Answer.{Answer}
-use Rattle.mail_cli.specs.declared.answer.Answer.TheVariants.{Text, Counted, Made, Enrolled, Imported, Killed, Exported, Acknowledged, Replied, Composed, Refused, Damaged}
+use Rattle.mail_cli.specs.declared.answer.Answer.TheVariants.{Text, Counted, Made, Enrolled, Imported, Killed, Exported, Acknowledged, Uploaded, Replied, Composed, Refused, Damaged}
 use Rattle.mail_cli.specs.declared.entry.Usage.{Usage}
 use Rattle.mail_cli.specs.declared.entry.Usage.TheVariants.{Words, Line}
 
--- one line for each answer of a command
+-- what is said for each answer of a command
 abbrev pub reply_of : Answer → Reply
 reply_of (Text text) = done text
 reply_of (Counted count) = done (count_line count)
@@ -30,6 +31,7 @@ reply_of (Imported conference count) = done (imported_line conference count)
 reply_of (Killed conference number) = done (killed_line conference number)
 reply_of (Exported packet) = done (packet_line packet)
 reply_of (Acknowledged packet) = done (acknowledged_line packet)
+reply_of (Uploaded uploaded) = done (uploaded_text uploaded)
 reply_of (Replied place rep added) = done (reply_line place rep added)
 reply_of (Composed rep added) = done (composed_line rep added)
 reply_of (Refused refusal) = refused refusal

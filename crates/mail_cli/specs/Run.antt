@@ -49,6 +49,24 @@ CanRun (command.Read folder) = HasParts 3 folder
 CanRun (command.Reply folder place text rep) = HasParts 3 folder
 CanRun (command.Show folder place) = HasParts 3 folder
 CanRun (command.Scan file) = Unit {0}
+CanRun (command.Upload user file) = Unit {0}
+
+-- it is one of those by which a caller gets his mail and answers it
+abbrev pub IsForCaller : Command → Type 0
+IsForCaller (command.Ack user packet) = Unit {0}
+IsForCaller command.Check = ⊥
+IsForCaller (command.Compose folder conference sheet rep) = ⊥
+IsForCaller (command.Enroll name flags conferences) = ⊥
+IsForCaller (command.Export user limit folder) = Unit {0}
+IsForCaller (command.Import conference file) = ⊥
+IsForCaller (command.Init file) = ⊥
+IsForCaller (command.Kill conference number) = ⊥
+IsForCaller (command.List file) = ⊥
+IsForCaller (command.Read folder) = ⊥
+IsForCaller (command.Reply folder place text rep) = ⊥
+IsForCaller (command.Show folder place) = ⊥
+IsForCaller (command.Scan file) = ⊥
+IsForCaller (command.Upload user file) = Unit {0}
 
 abbrev pub EntryCanRun : entry.Entry → Type 0
 EntryCanRun (Run c) = CanRun c

@@ -16,6 +16,7 @@ use Rattle.packet_commands.specs.Scan.{scans}
 use Rattle.reply_commands.specs.Compose.{composes}
 use Rattle.reply_commands.specs.Reply.{replies}
 use Rattle.shelf_files.specs.Halts.{refused}
+use Rattle.upload_commands.specs.Upload.{uploads}
 use Rattle.mail_cli.specs.Answers.{usage}
 use Rattle.mail_cli.specs.declared.command.Command.{Command}
 use Rattle.mail_cli.specs.declared.command.Command.TheVariants as command
@@ -37,6 +38,7 @@ does now (command.Read folder) = on_shelf (reads folder)
 does now (command.Reply folder place text rep) = on_shelf (replies folder place text rep now)
 does now (command.Show folder place) = on_shelf (shows folder place)
 does now (command.Scan file) = on_shelf (scans file)
+does now (command.Upload user file) = uploads user file now
 
 -- something is said, and nothing changes
 abbrev pub says : Reply → ShelfAct

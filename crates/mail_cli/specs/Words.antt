@@ -7,7 +7,7 @@ use Rattle.command_words.specs.declared.choice.Choice.{Choice}
 use Rattle.mail_cli.specs.declared.command.Command.{Command}
 use Rattle.mail_cli.specs.declared.command.Command.TheVariants as command
 use Rattle.mail_cli.specs.declared.verb.Verb.{Verb}
-use Rattle.mail_cli.specs.declared.verb.Verb.TheVariants.{AckPacket, CheckBoard, ComposeSheet, EnrollUser, ExportPacket, ImportSheet, InitBoard, KillMessage, ListFile, ReadFolder, ReplyTo, ScanFile}
+use Rattle.mail_cli.specs.declared.verb.Verb.TheVariants.{AckPacket, CheckBoard, ComposeSheet, EnrollUser, ExportPacket, ImportSheet, InitBoard, KillMessage, ListFile, ReadFolder, ReplyTo, ScanFile, UploadPacket}
 
 -- `-`, or `n`: the user may send net mail
 abbrev pub IsFlags : List ℕ → Type 0
@@ -31,6 +31,7 @@ first_word ListFile = codes "list"
 first_word ReadFolder = codes "read"
 first_word ReplyTo = codes "reply"
 first_word ScanFile = codes "scan"
+first_word UploadPacket = codes "upload"
 
 -- a folder, a number, a file and a reply packet
 pub record WritingReads (words : List (List ℕ)) (folder : List ℕ) (number : ℕ) (file rep : List ℕ) : Type 0 where
@@ -65,6 +66,7 @@ ReadsBehind ReadFolder words c =
 ReadsBehind ReplyTo words c =
     (folder : List ℕ) × (place : ℕ) × (text rep : List ℕ) × WritingReads words folder place text rep × (c ≡ command.Reply folder place text rep)
 ReadsBehind ScanFile words c = (file : List ℕ) × (words ≡ file ∷ []) × IsShelfName file × (c ≡ command.Scan file)
+ReadsBehind UploadPacket words c = (user file : List ℕ) × (words ≡ user ∷ file ∷ []) × IsShelfName file × (c ≡ command.Upload user file)
 
 -- the words are this command
 abbrev pub CommandReads : List (List ℕ) → Command → Type 0

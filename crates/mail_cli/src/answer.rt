@@ -18,6 +18,7 @@ use itoa::Buffer;
 use jam_records::Damage;
 use reply_commands::Added;
 use shelf_files::{Halt, Refusal};
+use upload_commands::{Uploaded, say_uploaded};
 
 /// What a command answers.
 #[derive(Debug, Drop)]
@@ -44,6 +45,8 @@ pub enum Answer {
     Exported(Exported),
     /// It acknowledged the packet of a number.
     Acknowledged(u32),
+    /// It took in a reply packet, or had before.
+    Uploaded(Uploaded),
     /// It added a reply to the message in a place to the reply packet of a name.
     Replied {
         place: u32,
@@ -209,6 +212,7 @@ impl Answer {
     ghost use Rattle.message_commands.specs.Kill.{killed_line};
     ghost use Rattle.reply_commands.specs.Compose.{composed_line};
     ghost use Rattle.reply_commands.specs.Reply.{reply_line};
+    ghost use Rattle.upload_commands.specs.Upload.{uploaded_text};
     ghost use Rattle.mail_cli.specs.Answers.{reply_of, answered};
 
     /// What a command over the shelf answers, whose reply is a text, or why the run stops.
@@ -322,6 +326,16 @@ impl Answer {
         }
     }
 
+    /// What a command answers that takes in a reply packet, or why the run stops.
+    pub fn of_uploaded(reply: Result<Uploaded, BoardHalt>) -> Result<Answer, Stop>
+        ensures { answered result ≡ told uploaded_text reply }
+    {
+        match reply {
+            Ok(uploaded) => Ok(Answer::Uploaded(uploaded)),
+            Err(halt) => Answer::of_halt(halt),
+        }
+    }
+
     /// What a command answers that adds a reply to the reply packet of a name, or why the run stops.
     pub fn of_replied(
         place: u32,
@@ -359,6 +373,7 @@ impl Answer {
             Answer::Made(_) | Answer::Enrolled(_) => Class::Done,
             Answer::Imported { .. } | Answer::Killed { .. } => Class::Done,
             Answer::Exported(_) | Answer::Acknowledged(_) => Class::Done,
+            Answer::Uploaded(_) => Class::Done,
             Answer::Replied { .. } | Answer::Composed { .. } => Class::Done,
             Answer::Refused(_) => Class::Refused,
             Answer::Damaged(_) => Class::Damaged,
@@ -383,6 +398,7 @@ impl Answer {
             Answer::Killed { conference, number } => say_killed(host, *conference, *number),
             Answer::Exported(packet) => say_exported(host, packet),
             Answer::Acknowledged(packet) => say_acknowledged(host, *packet),
+            Answer::Uploaded(uploaded) => say_uploaded(host, uploaded),
             Answer::Replied { place, rep, added } => {
                 say_written(host, b"replied to ", u64::from(*place), added.total, rep)
             }

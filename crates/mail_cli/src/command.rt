@@ -1,6 +1,6 @@
 ghost use Rattle.std.specs.Prelude.{◌↔◌, ◌∷◌, [], IfOk, IsTrue};
 ghost use Rattle.mail_cli.specs.Words.{BehindOf, IsFlags, NamesConferences};
-ghost use Rattle.mail_cli.specs.declared.verb.Verb.TheVariants.{AckPacket, CheckBoard, ComposeSheet, EnrollUser, ExportPacket, ImportSheet, InitBoard, KillMessage, ListFile, ReadFolder, ReplyTo, ScanFile};
+ghost use Rattle.mail_cli.specs.declared.verb.Verb.TheVariants.{AckPacket, CheckBoard, ComposeSheet, EnrollUser, ExportPacket, ImportSheet, InitBoard, KillMessage, ListFile, ReadFolder, ReplyTo, ScanFile, UploadPacket};
 
 use crate::names::folder_of;
 use crate::verb::Verb;
@@ -80,6 +80,11 @@ pub enum Command {
     },
     /// `scan FILE`: counts the messages of a packet's file, without memory for them.
     Scan {
+        file: ShelfName,
+    },
+    /// `upload USER FILE`: takes in a reply packet for the user of a name, and posts what is accepted of it.
+    Upload {
+        user: Bytes,
         file: ShelfName,
     },
 }
@@ -232,6 +237,22 @@ fn parse_scan(alloc: Global, rest: &[Bytes]) -> Result<Option<Command>, AllocErr
     }
 }
 
+/// The command of `upload` with the words behind it.
+fn parse_upload(alloc: Global, rest: &[Bytes]) -> Result<Option<Command>, AllocError>
+    ensures { IfOk result (BehindOf UploadPacket rest.now) }
+{
+    let [user, file] = rest else {
+        return Ok(None);
+    };
+    match ShelfName::parse(alloc, file.as_slice())? {
+        Some(file) => Ok(Some(Command::Upload {
+            user: user.copy(alloc)?,
+            file,
+        })),
+        None => Ok(None),
+    }
+}
+
 /// The command of `read` with the folder behind it.
 fn parse_folder(alloc: Global, folder: &[u8]) -> Result<Option<Command>, AllocError>
     ensures { IfOk result (BehindOf ReadFolder (folder.now ∷ [])) }
@@ -313,6 +334,7 @@ fn parse_behind(alloc: Global, verb: Verb, rest: &[Bytes]) -> Result<Option<Comm
         Verb::ReadFolder => parse_read(alloc, rest),
         Verb::ReplyTo => parse_reply(alloc, rest),
         Verb::ScanFile => parse_scan(alloc, rest),
+        Verb::UploadPacket => parse_upload(alloc, rest),
     }
 }
 

@@ -8,7 +8,7 @@ ghost use Rattle.board_commands.specs.Kept.{AreSure, IsKept};
 ghost use Rattle.reply_commands.specs.Compose.{composes};
 ghost use Rattle.reply_commands.specs.Reply.{replies};
 ghost use Rattle.mail_cli.specs.Answers.{answered, reply_of, StopCauses};
-ghost use Rattle.mail_cli.specs.Run.{CanRun, CommandWorks, EntryCanRun, IsWrong, Performs};
+ghost use Rattle.mail_cli.specs.Run.{CanRun, CommandWorks, EntryCanRun, IsForCaller, IsWrong, Performs};
 ghost use Rattle.mail_cli.specs.Step.{does, door};
 ghost use Rattle.mail_cli.specs.declared.entry.Entry.TheVariants.{Run};
 
@@ -24,6 +24,7 @@ use message_commands::{import, kill};
 use packet_commands::{list, read, scan, show};
 use reply_commands::{compose, reply};
 use std::alloc::Global;
+use upload_commands::upload;
 
 /// Adds a reply to a reply packet. The name is copied first, since no memory is taken once the packet is written.
 fn carry_out_reply<S: Shelf>(
@@ -74,6 +75,57 @@ fn carry_out_compose<S: Shelf>(
     )
 }
 
+/// Carries out a command by which a caller gets his mail or answers it.
+fn carry_out_for_caller<H: Host, S: Shelf>(
+    alloc: Global,
+    host: &mut H,
+    shelf: &mut S,
+    kept: &mut Option<Loaded>,
+    command: &Command,
+    now: u32,
+) -> Result<Answer, Stop>
+    requires can_run { CanRun command.now }
+    requires caller { IsForCaller command.now }
+    requires sure { AreSure kept.old }
+    requires kept { IsTrue H.tells → IsKept kept.old (H.disk host.old) }
+    ensures works { IsTrue H.tells → IsTrue S.tells → CommandWorks now command.now (H.disk host.old) (H.disk host.new) (S.files shelf.old) (S.files shelf.new) (answered result) }
+    ensures sure { AreSure kept.new }
+    ensures kept { IsTrue H.tells → IsKept kept.new (H.disk host.new) }
+    ensures causes { HasCauses (counts (H.disk_faults host.old) (H.voice_faults host.old) (S.faults shelf.old)) (counts (H.disk_faults host.new) (H.voice_faults host.new) (S.faults shelf.new)) (ended result) }
+    ensures damaged { IfOk result (λ answer. (reply_of answer).class ≡ Class.Damaged → IsTrue (does now command.now).reach.board) }
+{
+    match command {
+        Command::Ack { user, packet } => Answer::of_acknowledged(
+            *packet,
+            ack(alloc, host, kept, user.as_slice(), *packet, now),
+        ),
+        Command::Export {
+            user,
+            limit,
+            folder,
+        } => Answer::of_exported(export(
+            alloc,
+            host,
+            shelf,
+            kept,
+            user.as_slice(),
+            *limit,
+            folder,
+            now,
+        )),
+        Command::Upload { user, file } => Answer::of_uploaded(upload(
+            alloc,
+            host,
+            shelf,
+            kept,
+            user.as_slice(),
+            file,
+            now,
+        )),
+        _ => unreachable!(),
+    }
+}
+
 /// Carries out a command that touches the board, and answers what is to be said of it.
 fn carry_out_on_board<H: Host, S: Shelf>(
     alloc: Global,
@@ -94,10 +146,9 @@ fn carry_out_on_board<H: Host, S: Shelf>(
     ensures damaged { IfOk result (λ answer. (reply_of answer).class ≡ Class.Damaged → IsTrue (does now command.now).reach.board) }
 {
     match command {
-        Command::Ack { user, packet } => Answer::of_acknowledged(
-            *packet,
-            ack(alloc, host, kept, user.as_slice(), *packet, now),
-        ),
+        Command::Ack { .. } | Command::Export { .. } | Command::Upload { .. } => {
+            carry_out_for_caller(alloc, host, shelf, kept, command, now)
+        }
         Command::Check => Answer::of_report(check(alloc, host, kept)),
         Command::Enroll {
             name,
@@ -111,20 +162,6 @@ fn carry_out_on_board<H: Host, S: Shelf>(
             flags.as_slice(),
             conferences.as_slice(),
         )),
-        Command::Export {
-            user,
-            limit,
-            folder,
-        } => Answer::of_exported(export(
-            alloc,
-            host,
-            shelf,
-            kept,
-            user.as_slice(),
-            *limit,
-            folder,
-            now,
-        )),
         Command::Import { conference, file } => Answer::of_imported(
             *conference,
             import(alloc, host, shelf, kept, *conference, file, now),
@@ -135,8 +172,7 @@ fn carry_out_on_board<H: Host, S: Shelf>(
             *number,
             kill(alloc, host, kept, *conference, *number),
         ),
-        Command::Compose { .. } | Command::List { .. } | Command::Read { .. } => unreachable!(),
-        Command::Reply { .. } | Command::Show { .. } | Command::Scan { .. } => unreachable!(),
+        _ => unreachable!(),
     }
 }
 
@@ -181,7 +217,8 @@ fn carry_out<H: Host, S: Shelf>(
         | Command::Export { .. }
         | Command::Import { .. }
         | Command::Init { .. }
-        | Command::Kill { .. } => { carry_out_on_board(alloc, host, shelf, kept, command, now) }
+        | Command::Kill { .. }
+        | Command::Upload { .. } => { carry_out_on_board(alloc, host, shelf, kept, command, now) }
     }
 }
 

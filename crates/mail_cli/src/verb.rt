@@ -25,6 +25,8 @@ pub enum Verb {
     ReplyTo,
     /// `scan`
     ScanFile,
+    /// `upload`
+    UploadPacket,
 }
 
 impl Verb {
@@ -49,6 +51,7 @@ impl Verb {
             b"read" => Some(Verb::ReadFolder),
             b"reply" => Some(Verb::ReplyTo),
             b"scan" => Some(Verb::ScanFile),
+            b"upload" => Some(Verb::UploadPacket),
             _ => None,
         }
     }

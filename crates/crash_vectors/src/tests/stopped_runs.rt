@@ -190,3 +190,38 @@ fn a_stopped_export_and_ack_leave_the_board_before_or_after(rt: HostRuntime) -> 
     let change = (r#"ack "Ann Lee" 1"#, ONE_MESSAGE, ONE_MESSAGE);
     expect_stops(alloc, &offered, &mut shelf, change)
 }
+
+/// A packet of Ann's with a message to each of two conferences.
+const PACKED: &str = r#"
+> import 0 to-ann
+imported 1 into 0
+> export "Ann Lee" 10 out
+packet 1: 1 messages
+> compose out 0 to-bob ANN.MSG
+composed 1, 1 in ANN.MSG
+> compose out 1 net ANN.MSG
+composed 1, 2 in ANN.MSG
+"#;
+
+/// What `check` says once both are posted: they add 149 and 152 bytes, and the record of the packet 42.
+const TWO_POSTED: &str = "\
+board TESTBBS
+0 GENERAL: 2 slots, 2 live
+1 NETMAIL: 1 slots, 1 live
+7 NEWS: 0 slots, 0 live
+4 users, 1 uploads, 3972 bytes
+";
+
+#[test]
+fn a_stopped_upload_leaves_the_board_before_or_after(rt: HostRuntime) -> Result<(), Miss> {
+    let alloc = rt.alloc();
+    let mut shelf = empty_shelf(alloc);
+    put(&mut shelf, alloc, "to-ann", TO_ANN)?;
+    let to_bob = b"From: Ann Lee\nTo: Bob Ray\nSubject: Hello\n\nHi\n.\n";
+    put(&mut shelf, alloc, "to-bob", to_bob)?;
+    let net = b"From: Ann Lee\nTo: Ann\n\nAnn@2:5020/400.1\nHi\n.\n";
+    put(&mut shelf, alloc, "net", net)?;
+    let start = play_on_board_b(alloc, &mut shelf, PACKED)?;
+    let change = (r#"upload "Ann Lee" ANN.MSG"#, ONE_MESSAGE, TWO_POSTED);
+    expect_stops(alloc, &start, &mut shelf, change)
+}

@@ -1,24 +1,6 @@
 use Rattle.mail_cli.proofs.Arms.{causes_answered, may_be_damaged}
 use Rattle.mail_cli.proofs.perform.carry_out_on_board.Goals as goal
 
-pub returns-in-Ack-clause-works : goal.returns-in-Ack-clause-works
-returns-in-Ack-clause-works g c tells shelf_tells world at = rw (c.in-Ack.is, c.of_acknowledged.ensures, ← c.as_slice.ensures.same) (c.ack.ensures.works tells world _ at)
-
-pub returns-in-Ack-clause-causes : goal.returns-in-Ack-clause-causes
-returns-in-Ack-clause-causes g c = causes_answered c.of_acknowledged.result (rw c.of_acknowledged.ensures (c.ack.ensures.causes _))
-
-pub returns-in-Ack-clause-damaged : goal.returns-in-Ack-clause-damaged
-returns-in-Ack-clause-damaged g c = rw c.in-Ack.is (may_be_damaged c.of_acknowledged.result)
-
-pub returns-in-Export-clause-works : goal.returns-in-Export-clause-works
-returns-in-Export-clause-works g c tells shelf_tells world at = rw (c.in-Export.is, c.of_exported.ensures, ← c.as_slice-in-Export.ensures.same) (c.export.ensures.works tells shelf_tells world at)
-
-pub returns-in-Export-clause-causes : goal.returns-in-Export-clause-causes
-returns-in-Export-clause-causes g c = causes_answered c.of_exported.result (rw c.of_exported.ensures c.export.ensures.causes)
-
-pub returns-in-Export-clause-damaged : goal.returns-in-Export-clause-damaged
-returns-in-Export-clause-damaged g c = rw c.in-Export.is (may_be_damaged c.of_exported.result)
-
 pub returns-in-Check-clause-works : goal.returns-in-Check-clause-works
 returns-in-Check-clause-works g c tells shelf_tells world at = rw (c.in-Check.is, c.of_report.ensures) (c.check.ensures.works tells world _ at)
 
@@ -29,7 +11,7 @@ pub returns-in-Check-clause-damaged : goal.returns-in-Check-clause-damaged
 returns-in-Check-clause-damaged g c = rw c.in-Check.is (may_be_damaged c.of_report.result)
 
 pub returns-in-Enroll-clause-works : goal.returns-in-Enroll-clause-works
-returns-in-Enroll-clause-works g c tells shelf_tells world at = rw (c.in-Enroll.is, c.of_enrolled.ensures, ← c.as_slice-in-Enroll.ensures.same, ← c.as_slice-in-Enroll-2.ensures.same, ← c.as_slice-in-Enroll-3.ensures.same) (c.enroll.ensures.works tells world _ at)
+returns-in-Enroll-clause-works g c tells shelf_tells world at = rw (c.in-Enroll.is, c.of_enrolled.ensures, ← c.as_slice.ensures.same, ← c.as_slice-in-Enroll.ensures.same, ← c.as_slice-in-Enroll-2.ensures.same) (c.enroll.ensures.works tells world _ at)
 
 pub returns-in-Enroll-clause-causes : goal.returns-in-Enroll-clause-causes
 returns-in-Enroll-clause-causes g c = causes_answered c.of_enrolled.result (rw c.of_enrolled.ensures (c.enroll.ensures.causes _))

@@ -1,0 +1,28 @@
+use Rattle.std.proofs.Common.{rules, ◌≡◌, Some, Err, ◌∙◌}
+use Rattle.door_upload.proofs.PacketReading.{named_user, packet_found, unknown, unread}
+use Rattle.door_upload.proofs.PacketSizes.{few_messages}
+use Rattle.door_upload.specs.Uploading.{of_rep}
+use Rattle.mail_board.specs.Readers.{user_id}
+use Rattle.door_upload.proofs.preparing.prepared.Goals as goal
+
+pub returns-in_default : goal.returns-in_default
+returns-in_default c = unknown c.args.name.now c.args.bytes.now c.args.now c.args.board.now (search rules)
+
+pub returns-in_err-packet : goal.returns-in_err-packet
+returns-in_err-packet c =
+    let here : user_id c.args.name.now c.args.board.now.board ≡ Some c.in-Some.user = search rules in
+    let is : c.from_residual.result ≡ Err (of_rep c.in_err-packet.field-0.0) = search rules in
+    unread c.args.name.now c.args.bytes.now c.args.now c.args.board.now c.in-Some.user here c.in_err-packet.field-0.0 c.from_residual.result is
+    (λ fault e. c.read_rep.ensures.fault fault (c.in_err-packet.was ∙ (λ i. Err (e i))))
+    (λ e. c.read_rep.ensures.no_board (c.in_err-packet.was ∙ (λ i. Err (e i))))
+
+pub prepared_for-requires-clause-user : goal.prepared_for-requires-clause-user
+prepared_for-requires-clause-user c = named_user c.args.name.now c.args.board.now.board c.in-Some.user (search rules)
+
+pub prepared_for-requires-clause-few : goal.prepared_for-requires-clause-few
+prepared_for-requires-clause-few c = few_messages c.args.bytes.now c.in_ok-packet.packet c.requires c.in_ok-packet.ensures.ok
+
+pub returns : goal.returns
+returns c =
+    let here : user_id c.args.name.now c.args.board.now.board ≡ Some c.in-Some.user = search rules in
+    packet_found c.args.name.now c.args.bytes.now c.args.now c.args.board.now c.in-Some.user here c.in_ok-packet.packet c.digest-digest.result c.prepared_for.result c.in_ok-packet.ensures.ok c.digest-digest.ensures c.prepared_for.ensures

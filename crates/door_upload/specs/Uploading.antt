@@ -1,0 +1,95 @@
+-- What an upload answers.
+use Rattle.std.specs.Prelude.{◌≡◌, ◌⊎◌, ℕ, List, Bool, true, false, Result, Ok, Err}
+use Rattle.mail_board.specs.Changes.{changed, Fits}
+use Rattle.mail_board.specs.Held.{HeldBoard}
+use Rattle.mail_board.specs.declared.change.ChangeError.{ChangeError}
+use Rattle.mail_board.specs.declared.change.ChangeError.TheVariants as change
+use Rattle.rep_packet.specs.declared.fault.RepError.{RepError}
+use Rattle.rep_packet.specs.declared.fault.RepError.TheVariants as rep
+use Rattle.door_upload.specs.Upload.{Upload, UploadRefusal, UploadGives}
+use Rattle.door_upload.specs.Upload as upload
+use Rattle.door_upload.specs.declared.answer.UploadError.{UploadError}
+use Rattle.door_upload.specs.declared.answer.UploadError.TheVariants.{NoUser, Broken, NoBoardId, OtherBoard, Uploads, Size, DiskFault, Doubt, OutOfMemory}
+use Rattle.door_upload.specs.declared.answer.Uploaded.{Uploaded}
+use Rattle.door_upload.specs.declared.answer.Uploaded.TheVariants.{Again, Judged}
+use Rattle.door_upload.specs.declared.preparing.Uploading.{Uploading}
+use Rattle.door_upload.specs.declared.preparing.Uploading.TheVariants as found
+
+-- ---- errors
+-- the refusal as an error
+abbrev pub error_of : UploadRefusal → UploadError
+error_of upload.NoUser = NoUser
+error_of (upload.Broken fault) = Broken fault
+error_of upload.NoBoardId = NoBoardId
+error_of upload.OtherBoard = OtherBoard
+error_of upload.Uploads = Uploads
+error_of (upload.Size bytes) = Size bytes
+
+-- the error as which the packet wasn't read
+abbrev pub of_rep : RepError → UploadError
+of_rep (rep.Fault fault) = Broken fault
+of_rep rep.NoBoardId = NoBoardId
+of_rep rep.OutOfMemory = OutOfMemory
+
+-- the error as which the board's change ended
+abbrev pub of_change : ChangeError → UploadError
+of_change change.DiskFault = DiskFault
+of_change change.Doubt = Doubt
+of_change change.OutOfMemory = OutOfMemory
+
+-- ---- before the board is changed
+-- what was found of a packet that isn't refused, of a board in no doubt
+abbrev pub IsFound : HeldBoard → Uploading → Upload → Type 0
+IsFound h (found.Again counts) u = u ≡ upload.Again counts
+IsFound h (found.Judged change outcomes) u = Fits change h.board × (u ≡ upload.Judged (changed change h.board) outcomes) × (h.doubtful ≡ false)
+
+-- the packet is a new one
+abbrev pub IsNew : Result Upload UploadRefusal → Type 0
+IsNew (Ok (upload.Again counts)) = ⊥
+IsNew (Ok (upload.Judged next outcomes)) = Unit {0}
+IsNew (Err why) = ⊥
+
+-- the refusal, or doubt where the packet is a new one
+abbrev pub IsKeptFrom : HeldBoard → UploadError → Result Upload UploadRefusal → Type 0
+IsKeptFrom h e r = ((why : UploadRefusal) × (r ≡ Err why) × (e ≡ error_of why)) ⊎ (IsNew r × (h.doubtful ≡ true) × (e ≡ Doubt))
+
+abbrev pub Finds : HeldBoard → Result Upload UploadRefusal → Result Uploading UploadError → Type 0
+Finds h r (Ok u) = (is : Upload) × (r ≡ Ok is) × IsFound h u is
+Finds h r (Err e) = IsKeptFrom h e r
+
+-- what is found, unless memory runs out
+abbrev pub FindsFor : HeldBoard → Result Upload UploadRefusal → Result Uploading UploadError → Type 0
+FindsFor h r result = (result ≡ Err OutOfMemory) ⊎ Finds h r result
+
+-- what is found of the bytes that the user of a name uploads at a moment
+abbrev pub FindsIn : List ℕ → List ℕ → ℕ → HeldBoard → Result Uploading UploadError → Type 0
+FindsIn name bytes now h result = (result ≡ Err OutOfMemory) ⊎ ((r : Result Upload UploadRefusal) × UploadGives name bytes now h.board r × Finds h r result)
+
+-- ---- the answer
+abbrev pub UnlessMemory : Result Uploaded UploadError → Result Uploaded UploadError → Type 0
+UnlessMemory result answer = (result ≡ answer) ⊎ (result ≡ Err OutOfMemory)
+
+abbrev pub UnlessFault : Result Uploaded UploadError → Result Uploaded UploadError → Type 0
+UnlessFault result answer = UnlessMemory result answer ⊎ (result ≡ Err DiskFault)
+
+-- The answer to what the bytes come to: the refusal, or what became of the packet when it was sent before; else doubt
+-- where the board is doubtful, and what became of the messages.
+abbrev pub Answers : Bool → Result Upload UploadRefusal → Result Uploaded UploadError → Type 0
+Answers doubtful (Err why) result = UnlessMemory result (Err (error_of why))
+Answers doubtful (Ok (upload.Again counts)) result = UnlessMemory result (Ok (Again counts))
+Answers true (Ok (upload.Judged next outcomes)) result = UnlessMemory result (Err Doubt)
+Answers false (Ok (upload.Judged next outcomes)) result = UnlessFault result (Ok (Judged outcomes))
+
+-- an answer that leaves all as it was: any but what became of messages, and a disk fault
+abbrev pub LeavesAll : Result Uploaded UploadError → Type 0
+LeavesAll (Ok (Again counts)) = Unit {0}
+LeavesAll (Ok (Judged outcomes)) = ⊥
+LeavesAll (Err NoUser) = Unit {0}
+LeavesAll (Err (Broken fault)) = Unit {0}
+LeavesAll (Err NoBoardId) = Unit {0}
+LeavesAll (Err OtherBoard) = Unit {0}
+LeavesAll (Err Uploads) = Unit {0}
+LeavesAll (Err (Size bytes)) = Unit {0}
+LeavesAll (Err DiskFault) = ⊥
+LeavesAll (Err Doubt) = Unit {0}
+LeavesAll (Err OutOfMemory) = Unit {0}

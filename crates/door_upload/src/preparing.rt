@@ -1,0 +1,131 @@
+//! What the bytes of a packet come to, before the board is changed.
+ghost use Rattle.std.specs.Prelude.{◌≡◌, ◌≤◌, None, length, All, IfOk, IsFalse, IsSome, option_map};
+ghost use Rattle.board_layout.specs.Lookups.{user_of};
+ghost use Rattle.mail_board.specs.Readers.{upload_of};
+ghost use Rattle.qwk_blocks.specs.Written.{Writable};
+ghost use Rattle.rep_packet.specs.Written.{IsRep};
+ghost use Rattle.door_upload.specs.Upload.{judged_upload, record_refusal, upload_read};
+ghost use Rattle.door_upload.specs.Uploading.{error_of, FindsFor, FindsIn, IsFound};
+
+use crate::answer::UploadError;
+use board_layout::BOARD_LIMIT;
+use board_ledger::Counts;
+use mail_board::{Board, Change};
+use packet_verdicts::{Judged, Outcomes, judge_all};
+use qwk_blocks::QwkMessages;
+use rep_packet::{Rep, read_rep};
+use sha2::{Digest, Sha256};
+use std::alloc::{AllocError, Global};
+
+/// How many upload records are kept at most.
+const RECORD_LIMIT: u32 = 100_000;
+
+/// How many bytes a record has.
+const RECORD_SIZE: u64 = 42;
+
+/// What a packet comes to that isn't refused.
+#[derive(Debug, Drop)]
+pub(crate) enum Uploading {
+    /// The user sent it before.
+    Again(Counts),
+    /// The change that takes it in, and what becomes of each message.
+    Judged { change: Change, outcomes: Outcomes },
+}
+
+/// Why no record more is kept: there are as many as there may be, or the data files would be too long with it.
+fn refusal_of(board: &Board) -> Option<UploadError>
+    ensures { result ≡ option_map error_of (record_refusal board.now.board) }
+{
+    if board.upload_count() >= RECORD_LIMIT {
+        return Some(UploadError::Uploads);
+    }
+    let size = board.stored().size() + RECORD_SIZE;
+    if size > BOARD_LIMIT {
+        return Some(UploadError::Size(size));
+    }
+    None
+}
+
+/// The change by which a board in no doubt takes in the messages of a new packet of a user who is there, and what
+/// becomes of each.
+fn judged(
+    alloc: Global,
+    board: &Board,
+    user: u32,
+    digest: &[u8; 32],
+    messages: &QwkMessages,
+    now: u32,
+) -> Result<Uploading, AllocError>
+    requires sure { IsFalse board.now.doubtful }
+    requires user { IsSome (user_of user board.now.board) }
+    requires new { upload_of user digest.now board.now.board ≡ None }
+    requires record { record_refusal board.now.board ≡ None }
+    requires few { length messages.now ≤ 8191 }
+    requires writable { All Writable messages.now }
+    ensures { IfOk result (λ found. IsFound board.now found (judged_upload user digest.now now board.now.board messages.now)) }
+{
+    let Judged {
+        outcomes,
+        posts,
+        refused,
+    } = judge_all(alloc, board.stored(), user, messages, now)?;
+    Ok(Uploading::Judged {
+        change: Change::Upload {
+            user,
+            digest: *digest,
+            refused,
+            posts,
+        },
+        outcomes,
+    })
+}
+
+/// What a packet with a digest comes to that a user who is there uploads at a moment.
+fn prepared_for(
+    alloc: Global,
+    board: &Board,
+    user: u32,
+    digest: &[u8; 32],
+    packet: &Rep,
+    now: u32,
+) -> Result<Uploading, UploadError>
+    requires user { IsSome (user_of user board.now.board) }
+    requires few { length packet.now.messages ≤ 8191 }
+    requires packet { IsRep packet.now }
+    ensures { FindsFor board.now (upload_read user digest.now now board.now.board packet.now) result }
+{
+    let bbsid = board.setup().bbsid.as_slice();
+    if !packet.bbsid.as_slice().eq_ignore_ascii_case(bbsid) {
+        return Err(UploadError::OtherBoard);
+    }
+    if let Some(counts) = board.upload_of(user, digest) {
+        return Ok(Uploading::Again(counts));
+    }
+    if let Some(refusal) = refusal_of(board) {
+        return Err(refusal);
+    }
+    if board.doubtful() {
+        return Err(UploadError::Doubt);
+    }
+    Ok(judged(alloc, board, user, digest, &packet.messages, now)?)
+}
+
+/// What the bytes come to that the user of a name uploads at a moment. All memory of an upload but that of the change
+/// is taken here.
+pub(crate) fn prepared(
+    alloc: Global,
+    board: &Board,
+    name: &[u8],
+    bytes: &[u8],
+    now: u32,
+) -> Result<Uploading, UploadError>
+    requires { length bytes.now ≤ 1048576 }
+    ensures { FindsIn name.now bytes.now now board.now result }
+{
+    let Some(user) = board.user_id(name) else {
+        return Err(UploadError::NoUser);
+    };
+    let packet = read_rep(alloc, bytes)?;
+    let digest = Sha256::digest(bytes);
+    prepared_for(alloc, board, user, &digest, &packet, now)
+}

@@ -1,0 +1,63 @@
+//! An upload: the messages of a reply packet are judged, and posted with its record, once per user and digest.
+ghost use Rattle.std.specs.Prelude.{◌≡◌, ◌≤◌, ◌⊎◌, true, length, IsErrOf, IsTrue, IsFalse, OnOk};
+ghost use Rattle.board_layout.specs.Layout.{IsLayout};
+ghost use Rattle.board_layout.specs.Valid.{IsBoard};
+ghost use Rattle.door_outside.specs.Disk.{AllNow, Between};
+ghost use Rattle.intent_journal.specs.Hosts.{IsSettled};
+ghost use Rattle.mail_board.specs.Causes.{HasFault};
+ghost use Rattle.mail_board.specs.Held.{BeforeOrNext, Rests};
+ghost use Rattle.door_upload.specs.Upload.{UploadGives, board_after};
+ghost use Rattle.door_upload.specs.Uploading.{Answers, IsNew, LeavesAll};
+
+use crate::answer::{UploadError, Uploaded};
+use crate::preparing::{Uploading, prepared};
+use door_outside::Host;
+use mail_board::Board;
+use std::alloc::Global;
+
+/// Takes in a reply packet of at most 1,048,576 bytes for the user of a name, ignoring ASCII case, at a moment in Unix
+/// seconds: its messages are judged in order, each on the board with the ones accepted before it, and the accepted
+/// ones and a record of the packet are one change. Where the user has a record of the packet's SHA-256, the counts of
+/// that are answered, and nothing changes. Where the board isn't doubtful, the host's files are those of this board,
+/// and the host rests. It says nothing.
+///
+/// `NoUser` comes where no user has the name, else the first fault of the packet (`Broken` at 0 where it is shorter
+/// than a block, `NoBoardId`, any other `Broken`), else `OtherBoard`; where he didn't send it before, `Uploads` where
+/// there are 100,000 records, else `Size`, else `Doubt` where the board is doubtful, and `OutOfMemory` before the
+/// first write: all of them leave all as it was. `DiskFault` comes only where the host's count of disk faults rose,
+/// and then the board is doubtful.
+pub fn upload<H: Host>(
+    alloc: Global,
+    board: &mut Board,
+    host: &mut H,
+    user: &[u8],
+    bytes: &[u8],
+    now: u32,
+) -> Result<Uploaded, UploadError>
+    requires short { length bytes.now ≤ 1048576 }
+    requires rests { IsTrue H.tells → IsFalse board.old.doubtful → Rests board.old.board (H.disk host.old) }
+
+    // A crash at any moment leaves the board before the upload or the one after it.
+    ensures moments { IsTrue H.tells → IsFalse board.old.doubtful → (r : _) → UploadGives user.now bytes.now now board.old.board r → Between (H.disk host.old) (H.disk host.new) (BeforeOrNext (IsLayout board.old.board) (board_after board.old.board r) (H.disk host.old)) }
+    ensures now { IsTrue H.tells → IsFalse board.old.doubtful → (r : _) → UploadGives user.now bytes.now now board.old.board r → AllNow (H.disk host.new) (BeforeOrNext (IsLayout board.old.board) (board_after board.old.board r) (H.disk host.old)) }
+    ensures settled { IsTrue H.tells → IsFalse board.old.doubtful → IsSettled (H.disk host.new) }
+
+    // What the bytes come to, and the answer to that.
+    ensures gives { IsErrOf result UploadError.OutOfMemory ⊎ ((r : _) × UploadGives user.now bytes.now now board.old.board r) }
+    ensures answer { (r : _) → UploadGives user.now bytes.now now board.old.board r → Answers board.old.doubtful r result }
+    ensures unchanged { LeavesAll result → (board.new ≡ board.old) × (host.new ≡ host.old) }
+    ensures board { OnOk result ((r : _) → UploadGives user.now bytes.now now board.old.board r → board.new ≡ record board.old { board = board_after board.old.board r }) }
+    ensures rests { OnOk result (IsTrue H.tells → IsFalse board.old.doubtful → (r : _) → UploadGives user.now bytes.now now board.old.board r → Rests (board_after board.old.board r) (H.disk host.new)) }
+    ensures valid { IsFalse board.old.doubtful → (r : _) → UploadGives user.now bytes.now now board.old.board r → IsNew r → IsErrOf result UploadError.OutOfMemory ⊎ IsBoard (board_after board.old.board r) }
+    ensures fault { IsErrOf result UploadError.DiskFault → board.new ≡ record { board = board.old.board; doubtful = true } }
+    ensures disk_cause { HasFault UploadError.DiskFault (H.disk_faults host.old) (H.disk_faults host.new) result }
+    ensures voice { H.voice_faults host.new ≡ H.voice_faults host.old }
+{
+    match prepared(alloc, board, user, bytes, now)? {
+        Uploading::Again(counts) => Ok(Uploaded::Again(counts)),
+        Uploading::Judged { change, outcomes } => {
+            board.change(alloc, host, &change)?;
+            Ok(Uploaded::Judged(outcomes))
+        }
+    }
+}

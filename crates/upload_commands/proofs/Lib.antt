@@ -1,0 +1,3 @@
+pub mod UploadActs
+pub mod UploadExits
+pub mod OutcomeLines

@@ -1,0 +1,80 @@
+-- The command `upload`.
+use Rattle.std.specs.Prelude.{◌≡◌, ℕ, ◌+◌, ◌-◌, List, [], ◌∷◌, ◌++◌, length, codes, decimal, Option, Some, None, Result, Ok, Err}
+use Rattle.board_commands.specs.State.{State}
+use Rattle.board_commands.specs.Turns.{Turn, refuses, on_board}
+use Rattle.board_layout.specs.Board.{Board}
+use Rattle.door_outside.specs.Shelf.{Files}
+use Rattle.door_upload.specs.Upload.{Upload, UploadRefusal, UploadsFor}
+use Rattle.door_upload.specs.Upload as upload
+use Rattle.door_upload.specs.declared.answer.Uploaded.{Uploaded}
+use Rattle.door_upload.specs.declared.answer.Uploaded.TheVariants.{Again, Judged}
+use Rattle.entry_runs.specs.Door.{Act}
+use Rattle.mail_board.specs.Readers.{user_id}
+use Rattle.netmail_rules.specs.RuleWord.{rule_word}
+use Rattle.packet_verdicts.specs.Judged.{refused_count}
+use Rattle.packet_verdicts.specs.declared.outcome.Outcome.{Outcome}
+use Rattle.packet_verdicts.specs.declared.outcome.Outcome.TheVariants.{Posted, Refused}
+use Rattle.shelf_files.specs.Halts.{done}
+use Rattle.shelf_files.specs.ShelfFile.{file_of}
+use Rattle.shelf_files.specs.declared.refusal.Refusal.{Refusal}
+use Rattle.shelf_files.specs.declared.refusal.Refusal.TheVariants as refusal
+
+-- how many bytes a reply packet has at most
+abbrev pub rep_limit : ℕ
+rep_limit = 1048576
+
+-- ---- the reply
+-- what became of the message in a place, from 1
+abbrev pub outcome_line : ℕ → Outcome → List ℕ
+outcome_line place (Posted conference number) = decimal place ++ (codes " posted " ++ (decimal conference ++ (codes " " ++ (decimal number ++ codes "\n"))))
+outcome_line place (Refused rule) = decimal place ++ (codes " refused " ++ (rule_word rule ++ codes "\n"))
+
+-- of the messages from a place on
+abbrev pub outcome_lines : ℕ → List Outcome → List ℕ
+outcome_lines place [] = []
+outcome_lines place (outcome ∷ outcomes) = outcome_line place outcome ++ outcome_lines (place + 1) outcomes
+
+-- how many were posted and refused
+abbrev pub counts_line : ℕ → ℕ → List ℕ
+counts_line posted refused = codes "posted " ++ (decimal posted ++ (codes " refused " ++ (decimal refused ++ codes "\n")))
+
+-- the counts of outcomes
+abbrev pub tally : List Outcome → List ℕ
+tally outcomes = counts_line (length outcomes - refused_count outcomes) (refused_count outcomes)
+
+abbrev pub uploaded_text : Uploaded → List ℕ
+uploaded_text (Again counts) = codes "again " ++ counts_line counts.posted counts.refused
+uploaded_text (Judged outcomes) = outcome_lines 1 outcomes ++ tally outcomes
+
+-- ---- the turn
+-- the refusal of the command
+abbrev pub refusal_of : UploadRefusal → Refusal
+refusal_of upload.NoUser = refusal.NoUser
+refusal_of (upload.Broken fault) = refusal.Broken fault
+refusal_of upload.NoBoardId = refusal.NoBoardId
+refusal_of upload.OtherBoard = refusal.OtherBoard
+refusal_of upload.Uploads = refusal.Uploads
+refusal_of (upload.Size bytes) = refusal.Size bytes
+
+-- the packet is taken in, or was before, unless that is refused
+abbrev pub turn_of : Board → Result Upload UploadRefusal → Turn
+turn_of b (Ok (upload.Again counts)) = record { board = Some b; reply = done (uploaded_text (Again counts)) }
+turn_of b (Ok (upload.Judged next outcomes)) = record { board = Some next; reply = done (uploaded_text (Judged outcomes)) }
+turn_of b (Err why) = refuses (refusal_of why) (Some b)
+
+-- the bytes of the file, or why there are none
+abbrev pub UploadsRead : ℕ → ℕ → Board → Result (List ℕ) Refusal → Turn → Type 0
+UploadsRead id now b (Err why) turn = turn ≡ refuses why (Some b)
+UploadsRead id now b (Ok bytes) turn = (r : Result Upload UploadRefusal) × UploadsFor id bytes now b r × (turn ≡ turn_of b r)
+
+-- the user, who is looked for before the file
+abbrev pub UploadsFile : List ℕ → ℕ → Files → Board → Option ℕ → Turn → Type 0
+UploadsFile file now shelf b None turn = turn ≡ refuses refusal.NoUser (Some b)
+UploadsFile file now shelf b (Some id) turn = UploadsRead id now b (file_of shelf file rep_limit) turn
+
+abbrev pub Uploads : List ℕ → List ℕ → ℕ → Files → Option Board → Turn → Type 0
+Uploads name file now shelf None turn = turn ≡ refuses refusal.NotMade None
+Uploads name file now shelf (Some b) turn = UploadsFile file now shelf b (user_id name b) turn
+
+abbrev pub uploads : List ℕ → List ℕ → ℕ → Act State
+uploads name file now = on_board (Uploads name file now)

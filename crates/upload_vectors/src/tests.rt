@@ -1,0 +1,3 @@
+mod blocks;
+mod refusals;
+mod upload_runs;
