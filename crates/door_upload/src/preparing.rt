@@ -1,7 +1,7 @@
 //! What the bytes of a packet come to, before the board is changed.
-ghost use Rattle.std.specs.Prelude.{◌≡◌, ◌≤◌, None, length, All, IfOk, IsFalse, IsSome, option_map};
+ghost use Rattle.std.specs.Prelude.{◌≡◌, ◌≤◌, Err, None, length, All, IfOk, IsFalse, IsSome, option_map};
 ghost use Rattle.board_layout.specs.Lookups.{user_of};
-ghost use Rattle.mail_board.specs.Readers.{upload_of};
+ghost use Rattle.mail_board.specs.Readers.{upload_of, user_id};
 ghost use Rattle.qwk_blocks.specs.Written.{Writable};
 ghost use Rattle.rep_packet.specs.Written.{IsRep};
 ghost use Rattle.door_upload.specs.Upload.{judged_upload, record_refusal, upload_read};
@@ -120,7 +120,8 @@ pub(crate) fn prepared(
     now: u32,
 ) -> Result<Uploading, UploadError>
     requires { length bytes.now ≤ 1048576 }
-    ensures { FindsIn name.now bytes.now now board.now result }
+    ensures finds { FindsIn name.now bytes.now now board.now result }
+    ensures no_user { user_id name.now board.now.board ≡ None → result ≡ Err UploadError.NoUser }
 {
     let Some(user) = board.user_id(name) else {
         return Err(UploadError::NoUser);

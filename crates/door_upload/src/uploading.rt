@@ -1,11 +1,12 @@
 //! An upload: the messages of a reply packet are judged, and posted with its record, once per user and digest.
-ghost use Rattle.std.specs.Prelude.{◌≡◌, ◌≤◌, ◌⊎◌, true, length, IsErrOf, IsTrue, IsFalse, OnOk};
+ghost use Rattle.std.specs.Prelude.{◌≡◌, ◌≤◌, ◌⊎◌, true, Err, None, length, IsErrOf, IsTrue, IsFalse, OnOk};
 ghost use Rattle.board_layout.specs.Layout.{IsLayout};
 ghost use Rattle.board_layout.specs.Valid.{IsBoard};
 ghost use Rattle.door_outside.specs.Disk.{AllNow, Between};
 ghost use Rattle.intent_journal.specs.Hosts.{IsSettled};
 ghost use Rattle.mail_board.specs.Causes.{HasFault};
 ghost use Rattle.mail_board.specs.Held.{BeforeOrNext, Rests};
+ghost use Rattle.mail_board.specs.Readers.{user_id};
 ghost use Rattle.door_upload.specs.Upload.{UploadGives, board_after};
 ghost use Rattle.door_upload.specs.Uploading.{Answers, IsNew, LeavesAll};
 
@@ -44,6 +45,7 @@ pub fn upload<H: Host>(
 
     // What the bytes come to, and the answer to that.
     ensures gives { IsErrOf result UploadError.OutOfMemory ⊎ ((r : _) × UploadGives user.now bytes.now now board.old.board r) }
+    ensures no_user { user_id user.now board.old.board ≡ None → result ≡ Err UploadError.NoUser }
     ensures answer { (r : _) → UploadGives user.now bytes.now now board.old.board r → Answers board.old.doubtful r result }
     ensures unchanged { LeavesAll result → (board.new ≡ board.old) × (host.new ≡ host.old) }
     ensures board { OnOk result ((r : _) → UploadGives user.now bytes.now now board.old.board r → board.new ≡ record board.old { board = board_after board.old.board r }) }

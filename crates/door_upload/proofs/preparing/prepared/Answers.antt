@@ -5,11 +5,11 @@ use Rattle.door_upload.specs.Uploading.{of_rep}
 use Rattle.mail_board.specs.Readers.{user_id}
 use Rattle.door_upload.proofs.preparing.prepared.Goals as goal
 
-pub returns-in_default : goal.returns-in_default
-returns-in_default c = unknown c.args.name.now c.args.bytes.now c.args.now c.args.board.now (search rules)
+pub returns-in_default-clause-finds : goal.returns-in_default-clause-finds
+returns-in_default-clause-finds c = unknown c.args.name.now c.args.bytes.now c.args.now c.args.board.now (search rules)
 
-pub returns-in_err-packet : goal.returns-in_err-packet
-returns-in_err-packet c =
+pub returns-in_err-packet-clause-finds : goal.returns-in_err-packet-clause-finds
+returns-in_err-packet-clause-finds c =
     let here : user_id c.args.name.now c.args.board.now.board ≡ Some c.in-Some.user = search rules in
     let is : c.from_residual.result ≡ Err (of_rep c.in_err-packet.field-0.0) = search rules in
     unread c.args.name.now c.args.bytes.now c.args.now c.args.board.now c.in-Some.user here c.in_err-packet.field-0.0 c.from_residual.result is
@@ -22,7 +22,7 @@ prepared_for-requires-clause-user c = named_user c.args.name.now c.args.board.no
 pub prepared_for-requires-clause-few : goal.prepared_for-requires-clause-few
 prepared_for-requires-clause-few c = few_messages c.args.bytes.now c.in_ok-packet.packet c.requires c.in_ok-packet.ensures.ok
 
-pub returns : goal.returns
-returns c =
+pub returns-clause-finds : goal.returns-clause-finds
+returns-clause-finds c =
     let here : user_id c.args.name.now c.args.board.now.board ≡ Some c.in-Some.user = search rules in
     packet_found c.args.name.now c.args.bytes.now c.args.now c.args.board.now c.in-Some.user here c.in_ok-packet.packet c.digest-digest.result c.prepared_for.result c.in_ok-packet.ensures.ok c.digest-digest.ensures c.prepared_for.ensures

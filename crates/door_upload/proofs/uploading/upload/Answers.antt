@@ -21,12 +21,12 @@ returns-in_err-counts-clause-now g c = λ tells certain r gives.
 pub returns-in_err-counts-clause-answer : goal.returns-in_err-counts-clause-answer
 returns-in_err-counts-clause-answer g c = λ r gives.
     let is : c.from_residual.result ≡ Err c.in_err-counts.field-0.0 = search rules in
-    subst (Answers c.args.board.now.doubtful r) (sym is) (unprepared_answers c.args.user.now c.args.bytes.now c.args.now c.args.board.now c.in_err-counts.field-0.0 c.in_err-counts.ensures r gives)
+    subst (Answers c.args.board.now.doubtful r) (sym is) (unprepared_answers c.args.user.now c.args.bytes.now c.args.now c.args.board.now c.in_err-counts.field-0.0 c.in_err-counts.ensures.finds r gives)
 
 pub returns-in_err-counts-clause-valid : goal.returns-in_err-counts-clause-valid
 returns-in_err-counts-clause-valid g c = λ certain r gives new.
     let is : c.from_residual.result ≡ Err c.in_err-counts.field-0.0 = search rules in
-    ⊎_elim (λ starved. inl (is ∙ ap Err starved)) (λ valid. inr valid) (unprepared_valid c.args.user.now c.args.bytes.now c.args.now c.args.board.now c.in_err-counts.field-0.0 c.in_err-counts.ensures certain r gives new)
+    ⊎_elim (λ starved. inl (is ∙ ap Err starved)) (λ valid. inr valid) (unprepared_valid c.args.user.now c.args.bytes.now c.args.now c.args.board.now c.in_err-counts.field-0.0 c.in_err-counts.ensures.finds certain r gives new)
 
 -- ---- it was sent before
 pub returns-in-Again-clause-now : goal.returns-in-Again-clause-now
@@ -36,7 +36,7 @@ returns-in-Again-clause-now g c = λ tells certain r gives.
 
 pub returns-in-Again-clause-answer : goal.returns-in-Again-clause-answer
 returns-in-Again-clause-answer g c = λ r gives.
-    let finds = subst (λ (u : Uploading). FindsIn c.args.user.now c.args.bytes.now c.args.now c.args.board.now (Ok u)) c.in-Again.is c.in_ok-counts.ensures in
+    let finds = subst (λ (u : Uploading). FindsIn c.args.user.now c.args.bytes.now c.args.now c.args.board.now (Ok u)) c.in-Again.is c.in_ok-counts.ensures.finds in
     again_answers c.args.user.now c.args.bytes.now c.args.now c.args.board.now c.in-Again.counts finds r gives
 
 -- ---- the change was not made
@@ -44,27 +44,27 @@ pub returns-in_err-change-in-Judged-clause-moments : goal.returns-in_err-change-
 returns-in_err-change-in-Judged-clause-moments g c = λ tells certain r gives.
     let b = c.args.board.now.board in
     let old = g.H.Host.disk c.args.host.now in
-    let finds = subst (λ (u : Uploading). FindsIn c.args.user.now c.args.bytes.now c.args.now c.args.board.now (Ok u)) c.in-Judged.is c.in_ok-counts.ensures in
+    let finds = subst (λ (u : Uploading). FindsIn c.args.user.now c.args.bytes.now c.args.now c.args.board.now (Ok u)) c.in-Judged.is c.in_ok-counts.ensures.finds in
     subst (λ (next : Board). Between old (g.H.Host.disk c.change.new.host) (BeforeOrNext (IsLayout b) next old)) (new_board c.args.user.now c.args.bytes.now c.args.now c.args.board.now c.in-Judged.change c.in-Judged.outcomes finds r gives) (c.change.ensures.moments tells certain)
 
 pub returns-in_err-change-in-Judged-clause-now : goal.returns-in_err-change-in-Judged-clause-now
 returns-in_err-change-in-Judged-clause-now g c = λ tells certain r gives.
     let b = c.args.board.now.board in
     let old = g.H.Host.disk c.args.host.now in
-    let finds = subst (λ (u : Uploading). FindsIn c.args.user.now c.args.bytes.now c.args.now c.args.board.now (Ok u)) c.in-Judged.is c.in_ok-counts.ensures in
+    let finds = subst (λ (u : Uploading). FindsIn c.args.user.now c.args.bytes.now c.args.now c.args.board.now (Ok u)) c.in-Judged.is c.in_ok-counts.ensures.finds in
     subst (λ (next : Board). AllNow (g.H.Host.disk c.change.new.host) (BeforeOrNext (IsLayout b) next old)) (new_board c.args.user.now c.args.bytes.now c.args.now c.args.board.now c.in-Judged.change c.in-Judged.outcomes finds r gives) (c.change.ensures.now tells certain)
 
 pub returns-in_err-change-in-Judged-clause-answer : goal.returns-in_err-change-in-Judged-clause-answer
 returns-in_err-change-in-Judged-clause-answer g c = λ r gives.
     let e = c.in_err-change-in-Judged.field-0.0 in
     let is : c.from_residual-in_err-change-in-Judged.result ≡ Err (of_change e) = search rules in
-    let finds = subst (λ (u : Uploading). FindsIn c.args.user.now c.args.bytes.now c.args.now c.args.board.now (Ok u)) c.in-Judged.is c.in_ok-counts.ensures in
+    let finds = subst (λ (u : Uploading). FindsIn c.args.user.now c.args.bytes.now c.args.now c.args.board.now (Ok u)) c.in-Judged.is c.in_ok-counts.ensures.finds in
     let certain : e ≢ Doubt = λ doubt. true≢false (sym (c.change.ensures.doubt.0 (c.in_err-change-in-Judged.was ∙ ap Err doubt)) ∙ new_certain c.args.user.now c.args.bytes.now c.args.now c.args.board.now c.in-Judged.change c.in-Judged.outcomes finds) in
     subst (Answers c.args.board.now.doubtful r) (sym is) (unchanged_answers c.args.user.now c.args.bytes.now c.args.now c.args.board.now c.in-Judged.change c.in-Judged.outcomes finds r gives e certain)
 
 pub returns-in_err-change-in-Judged-clause-valid : goal.returns-in_err-change-in-Judged-clause-valid
 returns-in_err-change-in-Judged-clause-valid g c = λ certain r gives new.
-    let finds = subst (λ (u : Uploading). FindsIn c.args.user.now c.args.bytes.now c.args.now c.args.board.now (Ok u)) c.in-Judged.is c.in_ok-counts.ensures in
+    let finds = subst (λ (u : Uploading). FindsIn c.args.user.now c.args.bytes.now c.args.now c.args.board.now (Ok u)) c.in-Judged.is c.in_ok-counts.ensures.finds in
     inr (new_valid c.args.user.now c.args.bytes.now c.args.now c.args.board.now c.in-Judged.change c.in-Judged.outcomes finds r gives)
 
 -- ---- the change was made
@@ -72,34 +72,34 @@ pub returns-in_ok-change-in-Judged-clause-moments : goal.returns-in_ok-change-in
 returns-in_ok-change-in-Judged-clause-moments g c = λ tells certain r gives.
     let b = c.args.board.now.board in
     let old = g.H.Host.disk c.args.host.now in
-    let finds = subst (λ (u : Uploading). FindsIn c.args.user.now c.args.bytes.now c.args.now c.args.board.now (Ok u)) c.in-Judged.is c.in_ok-counts.ensures in
+    let finds = subst (λ (u : Uploading). FindsIn c.args.user.now c.args.bytes.now c.args.now c.args.board.now (Ok u)) c.in-Judged.is c.in_ok-counts.ensures.finds in
     subst (λ (next : Board). Between old (g.H.Host.disk c.change.new.host) (BeforeOrNext (IsLayout b) next old)) (new_board c.args.user.now c.args.bytes.now c.args.now c.args.board.now c.in-Judged.change c.in-Judged.outcomes finds r gives) (c.change.ensures.moments tells certain)
 
 pub returns-in_ok-change-in-Judged-clause-now : goal.returns-in_ok-change-in-Judged-clause-now
 returns-in_ok-change-in-Judged-clause-now g c = λ tells certain r gives.
     let b = c.args.board.now.board in
     let old = g.H.Host.disk c.args.host.now in
-    let finds = subst (λ (u : Uploading). FindsIn c.args.user.now c.args.bytes.now c.args.now c.args.board.now (Ok u)) c.in-Judged.is c.in_ok-counts.ensures in
+    let finds = subst (λ (u : Uploading). FindsIn c.args.user.now c.args.bytes.now c.args.now c.args.board.now (Ok u)) c.in-Judged.is c.in_ok-counts.ensures.finds in
     subst (λ (next : Board). AllNow (g.H.Host.disk c.change.new.host) (BeforeOrNext (IsLayout b) next old)) (new_board c.args.user.now c.args.bytes.now c.args.now c.args.board.now c.in-Judged.change c.in-Judged.outcomes finds r gives) (c.change.ensures.now tells certain)
 
 pub returns-in_ok-change-in-Judged-clause-answer : goal.returns-in_ok-change-in-Judged-clause-answer
 returns-in_ok-change-in-Judged-clause-answer g c = λ r gives.
-    let finds = subst (λ (u : Uploading). FindsIn c.args.user.now c.args.bytes.now c.args.now c.args.board.now (Ok u)) c.in-Judged.is c.in_ok-counts.ensures in
+    let finds = subst (λ (u : Uploading). FindsIn c.args.user.now c.args.bytes.now c.args.now c.args.board.now (Ok u)) c.in-Judged.is c.in_ok-counts.ensures.finds in
     new_answers c.args.user.now c.args.bytes.now c.args.now c.args.board.now c.in-Judged.change c.in-Judged.outcomes finds r gives
 
 pub returns-in_ok-change-in-Judged-clause-board : goal.returns-in_ok-change-in-Judged-clause-board
 returns-in_ok-change-in-Judged-clause-board g c = λ r gives.
-    let finds = subst (λ (u : Uploading). FindsIn c.args.user.now c.args.bytes.now c.args.now c.args.board.now (Ok u)) c.in-Judged.is c.in_ok-counts.ensures in
+    let finds = subst (λ (u : Uploading). FindsIn c.args.user.now c.args.bytes.now c.args.now c.args.board.now (Ok u)) c.in-Judged.is c.in_ok-counts.ensures.finds in
     let next = new_board c.args.user.now c.args.bytes.now c.args.now c.args.board.now c.in-Judged.change c.in-Judged.outcomes finds r gives in
     let certain = new_certain c.args.user.now c.args.bytes.now c.args.now c.args.board.now c.in-Judged.change c.in-Judged.outcomes finds in
     c.in_ok-change-in-Judged.ensures.board ∙ (λ i. record { board = next i; doubtful = sym certain i })
 
 pub returns-in_ok-change-in-Judged-clause-rests : goal.returns-in_ok-change-in-Judged-clause-rests
 returns-in_ok-change-in-Judged-clause-rests g c = λ tells certain r gives.
-    let finds = subst (λ (u : Uploading). FindsIn c.args.user.now c.args.bytes.now c.args.now c.args.board.now (Ok u)) c.in-Judged.is c.in_ok-counts.ensures in
+    let finds = subst (λ (u : Uploading). FindsIn c.args.user.now c.args.bytes.now c.args.now c.args.board.now (Ok u)) c.in-Judged.is c.in_ok-counts.ensures.finds in
     subst (λ (next : Board). Rests next (g.H.Host.disk c.change.new.host)) (new_board c.args.user.now c.args.bytes.now c.args.now c.args.board.now c.in-Judged.change c.in-Judged.outcomes finds r gives) (c.in_ok-change-in-Judged.ensures.rests tells)
 
 pub returns-in_ok-change-in-Judged-clause-valid : goal.returns-in_ok-change-in-Judged-clause-valid
 returns-in_ok-change-in-Judged-clause-valid g c = λ certain r gives new.
-    let finds = subst (λ (u : Uploading). FindsIn c.args.user.now c.args.bytes.now c.args.now c.args.board.now (Ok u)) c.in-Judged.is c.in_ok-counts.ensures in
+    let finds = subst (λ (u : Uploading). FindsIn c.args.user.now c.args.bytes.now c.args.now c.args.board.now (Ok u)) c.in-Judged.is c.in_ok-counts.ensures.finds in
     inr (new_valid c.args.user.now c.args.bytes.now c.args.now c.args.board.now c.in-Judged.change c.in-Judged.outcomes finds r gives)
