@@ -3,7 +3,7 @@
 //!
 //! A transcript begins with a line end, and each line ends with one. A line that begins with `> ` is a command line,
 //! and the lines up to the next one are exactly what it says. How it ends follows from them: as refused, damaged or no
-//! command where they begin so, and else as done.
+//! command where one of them begins so, and else as done.
 #![tactic(auto)]
 
 mod blocks;
@@ -23,5 +23,5 @@ pub use files::{copies, expect_file, expect_file_length, put};
 pub use miss::Miss;
 pub use outside::{empty_host, empty_shelf, failing_shelf, fails_at, no_faults, stops_at};
 pub use packets::{CONTROL, put_folders, put_packets};
-pub use runs::{has_said, run_after_crash, run_next, run_to_fault};
+pub use runs::{has_begun, has_said, run_after_crash, run_next, run_to_fault};
 pub use transcripts::{play, play_at, play_each};

@@ -98,6 +98,14 @@ pub fn has_said(host: &MemoryHost, last: &MemoryHost, reply: &str) -> bool {
     said_since(host, last) == Some(reply.as_bytes()) && host.starved() == 0
 }
 
+/// Whether what was said after the last run is a front of a text, and no memory was wanting.
+pub fn has_begun(host: &MemoryHost, last: &MemoryHost, text: &str) -> bool {
+    match said_since(host, last) {
+        Some(said) => text.as_bytes().starts_with(said) && host.starved() == 0,
+        None => false,
+    }
+}
+
 /// Looks whether a line said exactly this, and no memory was wanting.
 pub(crate) fn expect_said(
     alloc: Global,

@@ -14,17 +14,26 @@ fn after_prompt(transcript: &str) -> Option<&str> {
     transcript.strip_prefix(PROMPT)?.strip_suffix('\n')
 }
 
-/// How a command ends that says this.
-fn status_of(reply: &str) -> Status {
-    if reply.starts_with("refused ") {
+/// How a run ends after one line more of what it says.
+fn status_behind(line: &str, so_far: Status) -> Status {
+    if line.starts_with("refused ") {
         Status::Refused
-    } else if reply.starts_with("damaged ") {
+    } else if line.starts_with("damaged ") {
         Status::Damaged
-    } else if reply == "usage\n" {
+    } else if line == "usage" || line.starts_with("usage line ") {
         Status::Usage
     } else {
-        Status::Done
+        so_far
     }
+}
+
+/// How a run ends that says this.
+fn status_of(reply: &str) -> Status {
+    let mut status = Status::Done;
+    for line in reply.split('\n') {
+        status = status_behind(line, status);
+    }
+    status
 }
 
 /// Runs a line at a moment on what the last run has synced, and looks at what it says and how it ends.

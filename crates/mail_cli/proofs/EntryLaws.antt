@@ -4,7 +4,7 @@ use Rattle.std.proofs.lemmas.Bool.{true≢false}
 use Rattle.entry_runs.specs.Door.{World, AreLawful}
 use Rattle.entry_runs.specs.Runs.{Stepped}
 use Rattle.entry_runs.specs.declared.class.Class.TheVariants.{Damaged}
-use Rattle.entry_runs.proofs.ShelfLaws.{IsLawfulOnShelf, lawful_on_shelf, lawful_saying}
+use Rattle.entry_runs.proofs.ShelfLaws.{IsLawfulOnShelf, lawful_look, lawful_on_shelf, lawful_saying}
 use Rattle.entry_runs.specs.Entry.{ShelfAct, on_shelf}
 use Rattle.export_commands.proofs.ExportActs.{ack_turns, keeps_exports, lawful_exports}
 use Rattle.message_commands.proofs.MessageActs.{import_turns, kill_turns}
@@ -18,19 +18,22 @@ use Rattle.reply_commands.specs.Reply.{replies}
 use Rattle.shelf_files.proofs.Replies.{some_refusal}
 use Rattle.shelf_files.specs.Halts.{refused}
 use Rattle.upload_commands.proofs.UploadActs.{upload_turns}
-use Rattle.mail_cli.specs.Answers.{usage, usage_line}
+use Rattle.door_commands.specs.Answers.{usage, usage_line}
 use Rattle.board_commands.proofs.BoardActs.{KeepsState, check_turns, enroll_turns, init_turns, keeps_state, lawful_on_board}
 use Rattle.board_commands.specs.State.{State, IsSpoiled}
-use Rattle.mail_cli.specs.Step.{act, says, door}
-use Rattle.mail_cli.specs.declared.command.Command.TheVariants as command
-use Rattle.mail_cli.specs.declared.entry.Entry.{Entry}
-use Rattle.mail_cli.specs.declared.entry.Entry.TheVariants.{Run, Wrong, Refuse}
-use Rattle.mail_cli.specs.declared.entry.Usage.{Usage}
-use Rattle.mail_cli.specs.declared.entry.Usage.TheVariants.{Words, Line}
+use Rattle.mail_cli.specs.Step.{act, says, door, nothing}
+use Rattle.door_commands.specs.declared.command.Command.TheVariants as command
+use Rattle.door_commands.specs.declared.entry.Entry.{Entry}
+use Rattle.door_commands.specs.declared.entry.Entry.TheVariants.{Run, Wrong, Refuse}
+use Rattle.door_commands.specs.declared.entry.Usage.{Usage}
+use Rattle.door_commands.specs.declared.entry.Usage.TheVariants.{Words, Line}
 
 some_usage : (words : Usage) → usage_line words ≢ []
 some_usage Words is = absurd (cc is)
 some_usage (Line line) is = absurd (cc is)
+
+lawful_nothing : IsLawfulOnShelf nothing
+lawful_nothing = lawful_look _ (λ shelf answer is. absurd is) (λ shelf answer is. absurd is) (λ shelf one other is. absurd is)
 
 -- a command that reaches the shelf alone leaves the state, and answers no damage
 keeps_on_shelf : (shelf_act : ShelfAct) → IsLawfulOnShelf shelf_act → KeepsState (on_shelf shelf_act)
@@ -42,6 +45,7 @@ keeps_on_shelf shelf_act laws = record {
 -- one line for each command
 pub lawful : (now : ℕ) → AreLawful (door now)
 lawful now (Run (command.Ack user packet)) = lawful_on_board _ (ack_turns user packet now)
+lawful now (Run (command.Batch file)) = lawful_on_shelf nothing lawful_nothing
 lawful now (Run command.Check) = lawful_on_board _ check_turns
 lawful now (Run (command.Compose folder conference sheet rep)) = lawful_on_shelf (composes folder conference sheet rep now) (lawful_composes folder conference sheet rep now)
 lawful now (Run (command.Enroll name flags conferences)) = lawful_on_board _ (enroll_turns name flags conferences)
@@ -61,6 +65,7 @@ lawful now (Refuse why) = lawful_on_shelf (says (refused why)) (lawful_saying (r
 -- what else a run takes of an entry, a line for each command
 keeps : (now : ℕ) (entry : Entry) → KeepsState (act now entry)
 keeps now (Run (command.Ack user packet)) = keeps_state _ (ack_turns user packet now)
+keeps now (Run (command.Batch file)) = keeps_on_shelf nothing lawful_nothing
 keeps now (Run command.Check) = keeps_state _ check_turns
 keeps now (Run (command.Compose folder conference sheet rep)) = keeps_on_shelf (composes folder conference sheet rep now) (lawful_composes folder conference sheet rep now)
 keeps now (Run (command.Enroll name flags conferences)) = keeps_state _ (enroll_turns name flags conferences)

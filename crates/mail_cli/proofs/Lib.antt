@@ -1,4 +1,5 @@
 pub mod Arms
+pub mod BoardEntries
 pub mod EntryLaws
-pub mod OneCommand
+pub mod Reading
 pub mod Wrongs

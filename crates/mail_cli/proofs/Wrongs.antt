@@ -16,12 +16,13 @@ use Rattle.entry_runs.proofs.Running.{starts, survives}
 use Rattle.intent_journal.specs.Hosts.{IsSettled}
 use Rattle.mail_cli.proofs.EntryLaws.{lawful}
 use Rattle.board_commands.specs.Kept.{unread}
-use Rattle.mail_cli.specs.Run.{EntryReads, IsWrong, HasWrong, BeginsWrong, AnswersUsage, RunSurvives}
+use Rattle.door_commands.specs.Entries.{IsWrong, HasWrong, BeginsWrong}
+use Rattle.mail_cli.specs.Run.{AnswersUsage, RunSurvives}
 use Rattle.mail_cli.specs.Step.{door}
-use Rattle.mail_cli.specs.Words.{IsNoCommand}
-use Rattle.mail_cli.specs.declared.entry.Entry.{Entry}
-use Rattle.mail_cli.specs.declared.entry.Entry.TheVariants.{Run, Wrong, Refuse}
-use Rattle.mail_cli.specs.declared.entry.Usage.TheVariants.{Words, Line}
+use Rattle.door_commands.specs.Words.{IsNoCommand}
+use Rattle.door_commands.specs.declared.entry.Entry.{Entry}
+use Rattle.door_commands.specs.declared.entry.Entry.TheVariants.{Run, Wrong, Refuse}
+use Rattle.door_commands.specs.declared.entry.Usage.TheVariants.{Words, Line}
 
 -- the entry that a run is at is wrong where the first is
 pub wrong_head : {entries back : List Entry} {entry : Entry} (i : ℕ) → drop i entries ≡ entry ∷ back → (0 < i → ¬ BeginsWrong entries) → BeginsWrong entries → IsWrong entry
@@ -83,35 +84,3 @@ unsaid_usage stop result is voice = inr (inl (is ∙ ap stopped_status voice))
 -- only words that are no command end a run as usage
 pub goes_right : (class : Class) (entry : Entry) → (IsWrong entry → class ≡ Usage) → is_last class ≡ false → ¬ IsWrong entry
 goes_right class entry usage goes wrong = let last : is_last class ≡ true = ap is_last (usage wrong) in absurd (cc (last, goes))
-
--- the entries of words that are read
-pub reads_wrong : (words : List (List ℕ)) (entry : Entry) → EntryReads words entry → IsWrong entry → IsNoCommand words
-reads_wrong words (Run c) reads wrong = absurd wrong
-reads_wrong words (Wrong Words) reads wrong = reads
-reads_wrong words (Wrong (Line line)) reads wrong = absurd reads
-reads_wrong words (Refuse why) reads wrong = absurd reads
-
-pub none_wrong : (words : List (List ℕ)) (entry : Entry) → EntryReads words entry → IsNoCommand words → IsWrong entry
-none_wrong words (Run c) reads none = absurd (none c reads)
-none_wrong words (Wrong which) reads none = tt
-none_wrong words (Refuse why) reads none = absurd reads
-
--- a wrong one among one entry is that
-pub one_wrong : (entry : Entry) → HasWrong (entry ∷ []) → IsWrong entry
-one_wrong entry has = at has.0 has.1 has.2 has.3 has.4
-  where
-    at : (front back : List Entry) (one : Entry) → IsWrong one → entry ∷ [] ≡ front ++ one ∷ back → IsWrong entry
-    at [] back one wrong is = let same : one ≡ entry = cc in subst IsWrong same wrong
-    at (e ∷ []) back one wrong is = absurd (cc is)
-    at (e ∷ f ∷ front) back one wrong is = absurd (cc is)
-
--- where there is no memory to read the words, nothing is done
-pub unread_survives : (now : ℕ) (words : List (List ℕ)) (disk : Disk) (shelf : Files) → IsSettled disk → RunSurvives now words disk disk shelf
-unread_survives now words disk shelf settled state stores = (
-  [],
-  inr refl,
-  survives (door now) (lawful now) stores (starts (door now) {known = unread} [] (record {
-    board = record { ready = record { settled = settled; calm = λ read. absurd (cc read) }; stores = stores; fits = tt };
-    shelf_is = refl;
-  })),
-)

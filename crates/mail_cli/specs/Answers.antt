@@ -1,5 +1,5 @@
 -- What is said of the entries of a run.
-use Rattle.std.specs.Prelude.{ℕ, List, ◌++◌, codes, decimal, Result, Ok, Err}
+use Rattle.std.specs.Prelude.{ℕ, Result, Ok, Err}
 use Rattle.board_commands.specs.Damages.{damaged}
 use Rattle.board_commands.specs.Enroll.{enrolled_line}
 use Rattle.board_commands.specs.Init.{made_line}
@@ -18,8 +18,6 @@ use Rattle.shelf_files.specs.Halts.{done, refused}
 use Rattle.upload_commands.specs.Upload.{uploaded_text}
 use Rattle.mail_cli.specs.declared.answer.Answer.{Answer}
 use Rattle.mail_cli.specs.declared.answer.Answer.TheVariants.{Text, Counted, Made, Enrolled, Imported, Killed, Exported, Acknowledged, Uploaded, Replied, Composed, Refused, Damaged}
-use Rattle.mail_cli.specs.declared.entry.Usage.{Usage}
-use Rattle.mail_cli.specs.declared.entry.Usage.TheVariants.{Words, Line}
 
 -- what is said for each answer of a command
 abbrev pub reply_of : Answer → Reply
@@ -41,14 +39,6 @@ reply_of (Damaged d) = damaged d
 abbrev pub answered : Result Answer Stop → Result Reply Stop
 answered (Ok answer) = Ok (reply_of answer)
 answered (Err stop) = Err stop
-
-abbrev pub usage_line : Usage → List ℕ
-usage_line Words = codes "usage\n"
-usage_line (Line line) = codes "usage line " ++ (decimal line ++ codes "\n")
-
--- words that are no command
-abbrev pub usage : Usage → Reply
-usage words = record { text = usage_line words; class = class.Usage }
 
 -- what the counts of a run have to do with the answer of a command that reaches the shelf alone
 abbrev pub StopCauses : ℕ → ℕ → Result Answer Stop → Type 0

@@ -1,5 +1,4 @@
 pub mod Answers
 pub mod Run
 pub mod Step
-pub mod Words
-pub mod Writing
+pub mod BoardEntry

@@ -1,10 +1,9 @@
 -- What a run of the door promises.
-use Rattle.std.specs.Prelude.{◌≡◌, ◌⊎◌, ℕ, List, [], ◌∷◌, ◌++◌, IsTrue, Result}
+use Rattle.std.specs.Prelude.{◌≡◌, ◌⊎◌, ℕ, List, [], IsTrue, Result}
 use Rattle.door_outside.specs.Disk.{Disk}
-use Rattle.door_outside.specs.Name.{HasParts}
 use Rattle.door_outside.specs.Shelf.{Files}
 use Rattle.entry_runs.specs.Door.{World, here, any_touches}
-use Rattle.entry_runs.specs.Entry as Entry
+use Rattle.entry_runs.specs.Entry as Owed
 use Rattle.entry_runs.specs.Entry.{Reply}
 use Rattle.entry_runs.specs.Promise as Promise
 use Rattle.entry_runs.specs.Promise.{Counts}
@@ -16,44 +15,15 @@ use Rattle.intent_journal.specs.Recovered.{recovered}
 use Rattle.board_commands.specs.Kept.{unread}
 use Rattle.board_commands.specs.State.{State, Stores, IsSpoiled}
 use Rattle.mail_cli.specs.Step.{act, does, door}
-use Rattle.mail_cli.specs.Words.{CommandReads, IsNoCommand, NamesConferences}
-use Rattle.mail_cli.specs.declared.command.Command.{Command}
-use Rattle.mail_cli.specs.declared.command.Command.TheVariants as command
-use Rattle.mail_cli.specs.declared.entry.Entry as entry
-use Rattle.mail_cli.specs.declared.entry.Entry.TheVariants.{Run, Wrong, Refuse}
-use Rattle.mail_cli.specs.declared.entry.Usage.TheVariants.{Words, Line}
-
--- the words are this entry
-abbrev pub EntryReads : List (List ℕ) → entry.Entry → Type 0
-EntryReads words (Run c) = CommandReads words c
-EntryReads words (Wrong Words) = IsNoCommand words
-EntryReads words (Wrong (Line line)) = ⊥
-EntryReads words (Refuse why) = ⊥
-
--- the entries of the words: one command, or none
-abbrev pub EntriesRead : List (List ℕ) → List entry.Entry → Type 0
-EntriesRead words entries = (one : entry.Entry) × EntryReads words one × (entries ≡ one ∷ [])
-
--- the names in a command are such as its words have
-abbrev pub CanRun : Command → Type 0
-CanRun (command.Ack user packet) = Unit {0}
-CanRun command.Check = Unit {0}
-CanRun (command.Compose folder conference sheet rep) = HasParts 3 folder
-CanRun (command.Enroll name flags conferences) = NamesConferences conferences
-CanRun (command.Export user limit folder) = HasParts 3 folder
-CanRun (command.Import conference file) = Unit {0}
-CanRun (command.Init file) = Unit {0}
-CanRun (command.Kill conference number) = Unit {0}
-CanRun (command.List file) = Unit {0}
-CanRun (command.Read folder) = HasParts 3 folder
-CanRun (command.Reply folder place text rep) = HasParts 3 folder
-CanRun (command.Show folder place) = HasParts 3 folder
-CanRun (command.Scan file) = Unit {0}
-CanRun (command.Upload user file) = Unit {0}
+use Rattle.door_commands.specs.Entries.{AreEntries, EntriesRead, HasWrong}
+use Rattle.door_commands.specs.declared.command.Command.{Command}
+use Rattle.door_commands.specs.declared.command.Command.TheVariants as command
+use Rattle.door_commands.specs.declared.entry.Entry.{Entry}
 
 -- it is one of those by which a caller gets his mail and answers it
 abbrev pub IsForCaller : Command → Type 0
 IsForCaller (command.Ack user packet) = Unit {0}
+IsForCaller (command.Batch file) = ⊥
 IsForCaller command.Check = ⊥
 IsForCaller (command.Compose folder conference sheet rep) = ⊥
 IsForCaller (command.Enroll name flags conferences) = ⊥
@@ -67,25 +37,6 @@ IsForCaller (command.Reply folder place text rep) = ⊥
 IsForCaller (command.Show folder place) = ⊥
 IsForCaller (command.Scan file) = ⊥
 IsForCaller (command.Upload user file) = Unit {0}
-
-abbrev pub EntryCanRun : entry.Entry → Type 0
-EntryCanRun (Run c) = CanRun c
-EntryCanRun (Wrong which) = Unit {0}
-EntryCanRun (Refuse why) = Unit {0}
-
--- words that are no command
-abbrev pub IsWrong : entry.Entry → Type 0
-IsWrong (Run c) = ⊥
-IsWrong (Wrong which) = Unit {0}
-IsWrong (Refuse why) = ⊥
-
--- one of the entries is words that are no command
-abbrev pub HasWrong : List entry.Entry → Type 0
-HasWrong entries = (front back : List entry.Entry) × (one : entry.Entry) × IsWrong one × (entries ≡ front ++ one ∷ back)
-
--- the first of them is
-abbrev pub BeginsWrong : List entry.Entry → Type 0
-BeginsWrong entries = (back : List entry.Entry) × (one : entry.Entry) × IsWrong one × (entries ≡ one ∷ back)
 
 -- words that are no command were answered so, unless the saying failed or memory ran out
 abbrev pub AnswersUsage : Status → Type 0
@@ -103,42 +54,46 @@ DamagedOnlyIfSpoiled result old shelf = FromEntry old shelf (λ start. result �
 -- in each world that stands at entry, this is what the command did, before its reply is said
 abbrev pub CommandWorks : ℕ → Command → Disk → Disk → Files → Files → Result Reply Stop → Type 0
 CommandWorks now c old new shelf later result =
-    (world : World State) → Entry.IsAt Stores unread world old shelf → Entry.Works Stores (does now c) unread world old new later result
+    (world : World State) → Owed.IsAt Stores unread world old shelf → Owed.Works Stores (does now c) unread world old new later result
 
 -- in each world that stands at entry, this is what the entry did, its reply included
-abbrev pub Performs : ℕ → entry.Entry → Disk → Disk → Files → Files → Result Class Stop → Type 0
+abbrev pub Performs : ℕ → Entry → Disk → Disk → Files → Files → Result Class Stop → Type 0
 Performs now one old new shelf later result =
-    (world : World State) → Entry.IsAt Stores unread world old shelf → Entry.Performs Stores (act now one) unread world old new later result
+    (world : World State) → Owed.IsAt Stores unread world old shelf → Owed.Performs Stores (act now one) unread world old new later result
 
 -- what the entries leave, and what a crash at any moment leaves
-module _ (now : ℕ) (entries : List entry.Entry) where
+module _ (now : ℕ) (entries : List Entry) where
   abbrev pub EntriesLeave : Status → Disk → Disk → Files → Files → Type 0
   EntriesLeave result old new shelf later = FromEntry old shelf (λ start. Promise.Leaves (door now) result start entries old new later)
 
   abbrev pub EntriesSurvive : Disk → Disk → Files → Type 0
   EntriesSurvive old new shelf = FromEntry old shelf (λ start. Promise.Survives (door now) start entries old new)
 
--- the same of words
+-- the same of words, with the batch that the shelf holds at entry
 module _ (now : ℕ) (words : List (List ℕ)) where
   -- All entries of the words were carried out, refused or answered, and said; or the status tells why one was stopped,
   -- or that they couldn't be read.
   abbrev pub RunLeaves : Status → Disk → Disk → Files → Files → Type 0
   RunLeaves result old new shelf later = FromEntry old shelf (λ start.
-      ((entries : List entry.Entry) × EntriesRead words entries × Promise.Leaves (door now) result start entries old new later)
+      ((entries : List Entry) × EntriesRead words shelf entries × Promise.Leaves (door now) result start entries old new later)
       ⊎ Promise.IsUnread (door now) result start old new later)
 
   -- A crash at any moment leaves the board after some of the entries, and a front of these entries' replies said. Where
-  -- there was no memory to read the words, that is after none.
+  -- the entries couldn't be read, that is after none.
   abbrev pub RunSurvives : Disk → Disk → Files → Type 0
   RunSurvives old new shelf = FromEntry old shelf (λ start.
-      (entries : List entry.Entry) × (EntriesRead words entries ⊎ (entries ≡ [])) × Promise.Survives (door now) start entries old new)
+      (entries : List Entry) × (EntriesRead words shelf entries ⊎ (entries ≡ [])) × Promise.Survives (door now) start entries old new)
 
   -- where no count rose, the whole was done, or memory ran out
   abbrev pub RunCompletes : Counts → Counts → Status → Disk → Disk → Files → Files → Type 0
   RunCompletes before after result old new shelf later = FromEntry old shelf (λ start. Promise.NoneRose before after →
       (result ≡ status.OutOfMemory)
-      ⊎ ((entries : List entry.Entry) × EntriesRead words entries × Promise.IsWhole (door now) result start entries old new later))
+      ⊎ ((entries : List Entry) × EntriesRead words shelf entries × Promise.IsWhole (door now) result start entries old new later))
 
-  -- an entry of the words touches the board
+  -- an entry of the words touches the board, whatever was read of a batch
   abbrev pub TouchBoard : Type 0
-  TouchBoard = (entries : List entry.Entry) × EntriesRead words entries × IsTrue (any_touches (door now) entries)
+  TouchBoard = (entries : List Entry) × AreEntries words entries × IsTrue (any_touches (door now) entries)
+
+-- words, or a line of the batch that they are, are no command, whatever was read of it
+abbrev pub HaveWrong : List (List ℕ) → Type 0
+HaveWrong words = (entries : List Entry) × AreEntries words entries × HasWrong entries

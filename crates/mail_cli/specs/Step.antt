@@ -17,15 +17,20 @@ use Rattle.reply_commands.specs.Compose.{composes}
 use Rattle.reply_commands.specs.Reply.{replies}
 use Rattle.shelf_files.specs.Halts.{refused}
 use Rattle.upload_commands.specs.Upload.{uploads}
-use Rattle.mail_cli.specs.Answers.{usage}
-use Rattle.mail_cli.specs.declared.command.Command.{Command}
-use Rattle.mail_cli.specs.declared.command.Command.TheVariants as command
-use Rattle.mail_cli.specs.declared.entry.Entry.{Entry}
-use Rattle.mail_cli.specs.declared.entry.Entry.TheVariants.{Run, Wrong, Refuse}
+use Rattle.door_commands.specs.Answers.{usage}
+use Rattle.door_commands.specs.declared.command.Command.{Command}
+use Rattle.door_commands.specs.declared.command.Command.TheVariants as command
+use Rattle.door_commands.specs.declared.entry.Entry.{Entry}
+use Rattle.door_commands.specs.declared.entry.Entry.TheVariants.{Run, Wrong, Refuse}
+
+-- what a batch does by itself: nothing, since its commands are the entries
+abbrev pub nothing : ShelfAct
+nothing = looks (λ shelf answer. ⊥)
 
 -- one line for each command: what it does at a moment, and what it may reach
 abbrev pub does : ℕ → Command → Act State
 does now (command.Ack user packet) = acknowledges user packet now
+does now (command.Batch file) = on_shelf nothing
 does now command.Check = checks
 does now (command.Compose folder conference sheet rep) = on_shelf (composes folder conference sheet rep now)
 does now (command.Enroll name flags conferences) = enrolls name flags conferences

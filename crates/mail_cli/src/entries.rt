@@ -3,11 +3,12 @@ ghost use Rattle.std.specs.Prelude.{◌≡◌, IsTrue, All};
 ghost use Rattle.entry_runs.specs.Door.{any_touches};
 ghost use Rattle.entry_runs.specs.Promise.{counts, HasCauses};
 ghost use Rattle.intent_journal.specs.Hosts.{IsSettled};
-ghost use Rattle.mail_cli.specs.Run.{EntriesLeave, EntriesSurvive, DamagedOnlyIfSpoiled, EntryCanRun, HasWrong, BeginsWrong, AnswersUsage};
+ghost use Rattle.door_commands.specs.Entries.{EntryCanRun, HasWrong, BeginsWrong};
+ghost use Rattle.mail_cli.specs.Run.{EntriesLeave, EntriesSurvive, DamagedOnlyIfSpoiled, AnswersUsage};
 ghost use Rattle.mail_cli.specs.Step.{door};
 
-use crate::entry::Entry;
 use crate::perform::perform;
+use door_commands::Entry;
 use door_outside::{Host, Shelf};
 use entry_runs::Status;
 use std::alloc::Global;

@@ -8,14 +8,14 @@ ghost use Rattle.board_commands.specs.Kept.{AreSure, IsKept};
 ghost use Rattle.reply_commands.specs.Compose.{composes};
 ghost use Rattle.reply_commands.specs.Reply.{replies};
 ghost use Rattle.mail_cli.specs.Answers.{answered, reply_of, StopCauses};
-ghost use Rattle.mail_cli.specs.Run.{CanRun, CommandWorks, EntryCanRun, IsForCaller, IsWrong, Performs};
+ghost use Rattle.door_commands.specs.Entries.{CanRun, EntryCanRun, IsWrong};
+ghost use Rattle.mail_cli.specs.Run.{CommandWorks, IsForCaller, Performs};
 ghost use Rattle.mail_cli.specs.Step.{does, door};
-ghost use Rattle.mail_cli.specs.declared.entry.Entry.TheVariants.{Run};
+ghost use Rattle.door_commands.specs.declared.entry.Entry.TheVariants.{Run};
 
 use crate::answer::Answer;
-use crate::command::Command;
-use crate::entry::Entry;
 use board_commands::{check, enroll, init};
+use door_commands::{Command, Entry};
 use door_outside::{Host, Shelf, ShelfName};
 use entry_runs::{Class, Stop};
 use export_commands::{ack, export};
@@ -219,6 +219,7 @@ fn carry_out<H: Host, S: Shelf>(
         | Command::Init { .. }
         | Command::Kill { .. }
         | Command::Upload { .. } => { carry_out_on_board(alloc, host, shelf, kept, command, now) }
+        Command::Batch { .. } => unreachable!(),
     }
 }
 

@@ -1,32 +1,22 @@
 //! The run that the program makes.
-ghost use Rattle.std.specs.Prelude.{◌≡◌, ◌≢◌, ◌⊎◌, ◌≤◌, IsTrue, IfOk};
+ghost use Rattle.std.specs.Prelude.{◌≡◌, ◌≢◌, ◌⊎◌, ◌≤◌, IsTrue};
+ghost use Rattle.door_commands.specs.Words.{IsNoCommand};
 ghost use Rattle.door_outside.specs.Cause.{Rose};
 ghost use Rattle.entry_runs.specs.Promise.{counts};
 ghost use Rattle.intent_journal.specs.Hosts.{IsSettled};
-ghost use Rattle.mail_cli.specs.Run.{EntryReads, EntryCanRun, RunLeaves, RunSurvives, RunCompletes, DamagedOnlyIfSpoiled, TouchBoard, AnswersUsage};
-ghost use Rattle.mail_cli.specs.Words.{IsNoCommand};
+ghost use Rattle.mail_cli.specs.Run.{RunLeaves, RunSurvives, RunCompletes, DamagedOnlyIfSpoiled, HaveWrong, TouchBoard, AnswersUsage};
 
-use crate::command::Command;
 use crate::entries::run_entries;
-use crate::entry::{Entry, Usage};
-use crate::words::Words;
+use door_commands::{Unread, Words, entries_of};
 use door_outside::{Host, Shelf};
 use entry_runs::Status;
-use std::alloc::{AllocError, Global};
+use std::alloc::Global;
 
-/// The entry that the words are.
-fn entry_of(alloc: Global, words: &Words) -> Result<Entry, AllocError>
-    ensures reads { IfOk result (EntryReads words.now) }
-    ensures can_run { IfOk result EntryCanRun }
-{
-    match Command::parse(alloc, words)? {
-        Some(command) => Ok(Entry::Run(command)),
-        None => Ok(Entry::Wrong(Usage::Words)),
-    }
-}
-
-/// Carries out the words over a host and a shelf, and says the reply. `now` is the moment in Unix seconds. The
-/// host must be settled, as it is after any run, and after a crash too.
+/// Carries out the words over a host and a shelf, and says the reply: one command, or for a batch the commands of its
+/// file, which is read once, before the first of them. `now` is the moment in Unix seconds. The host must be settled,
+/// as it is after any run, and after a crash too.
+///
+/// A refused command doesn't end a batch; a line that is no command does, and so do damage and faults.
 pub fn run<H: Host, S: Shelf>(
     alloc: Global,
     words: &Words,
@@ -60,8 +50,8 @@ pub fn run<H: Host, S: Shelf>(
     ensures shelf_later { S.faults shelf.old ≤ S.faults shelf.new }
     ensures voice_later { H.voice_faults host.old ≤ H.voice_faults host.new }
 
-    // Words that are no command are answered so, and no others.
-    ensures usage { result ≡ Status.Usage → IsNoCommand words.now }
+    // Words that are no command are answered so, and no others: those of the program, or of a line of a batch.
+    ensures usage { result ≡ Status.Usage → HaveWrong words.now }
     ensures no_command { IsNoCommand words.now → AnswersUsage result }
 
     // It ends as damaged only where an entry touches the board, and the data files at entry are neither all empty
@@ -69,8 +59,10 @@ pub fn run<H: Host, S: Shelf>(
     ensures damaged { IsTrue H.tells → IsTrue S.tells → DamagedOnlyIfSpoiled result (H.disk host.old) (S.files shelf.old) }
     ensures touched { result ≡ Status.Damaged → TouchBoard now words.now }
 {
-    let Ok(entry) = entry_of(alloc, words) else {
-        return Status::OutOfMemory;
+    let entries = match entries_of(alloc, words, shelf) {
+        Ok(entries) => entries,
+        Err(Unread::ShelfFault) => return Status::ShelfFault,
+        Err(Unread::OutOfMemory) => return Status::OutOfMemory,
     };
-    run_entries(alloc, &[entry], host, shelf, now)
+    run_entries(alloc, entries.as_slice(), host, shelf, now)
 }

@@ -6,7 +6,7 @@ use Rattle.entry_runs.specs.declared.status.Status.TheVariants as status
 use Rattle.intent_journal.specs.Recovered.{recovered}
 use Rattle.board_commands.specs.Kept.{AreSure, IsKept, unread}
 use Rattle.board_commands.specs.State.{State, Stores}
-use Rattle.mail_cli.specs.Run.{BeginsWrong}
+use Rattle.door_commands.specs.Entries.{BeginsWrong}
 use Rattle.mail_cli.specs.Step.{door}
 use Rattle.mail_cli.proofs.entries.run_entries.Given as goal
 

@@ -3,7 +3,7 @@ use Rattle.entry_runs.proofs.Commands.{serves}
 use Rattle.entry_runs.proofs.Entries.{performs_spoken}
 use Rattle.entry_runs.specs.Entry.{on_shelf}
 use Rattle.shelf_files.specs.Halts.{refused}
-use Rattle.mail_cli.specs.Answers.{usage}
+use Rattle.door_commands.specs.Answers.{usage}
 use Rattle.board_commands.specs.State.{Stores}
 use Rattle.mail_cli.specs.Step.{says}
 use Rattle.mail_cli.proofs.perform.perform.Goals as goal

@@ -2,7 +2,7 @@ use Rattle.entry_runs.proofs.Commands.{spoken_causes}
 use Rattle.entry_runs.proofs.Entries.{performs_spoken, performs_stopped}
 use Rattle.board_commands.specs.State.{Stores}
 use Rattle.mail_cli.specs.Step.{act}
-use Rattle.mail_cli.specs.declared.entry.Entry.TheVariants.{Run}
+use Rattle.door_commands.specs.declared.entry.Entry.TheVariants.{Run}
 use Rattle.mail_cli.proofs.perform.perform_command.Goals as goal
 
 pub returns-in-Err-clause-performs : goal.returns-in-Err-clause-performs

@@ -1,0 +1,2 @@
+mod batch_runs;
+mod stopped_batches;

@@ -1,0 +1,52 @@
+-- A board that was just made: it has a conference for each of the setup, and no users.
+use Rattle.std.proofs.Common.{◌≡◌, ℕ, zero, suc, Bool, true, false, cond, eqb, List, [], ◌∷◌, length, Option, Some, None, refl, sym, ap, ◌∙◌, subst}
+use Rattle.std.specs.Prelude.{option_and_then, slice_get}
+use Rattle.std.proofs.Math.ListN.{length-replicate}
+use Rattle.std.proofs.lemmas.Option.{none-some, same_Some}
+use Rattle.board_changes.proofs.MemberLaws.{readers_at}
+use Rattle.board_changes.specs.Changed.{empty_conferences, made, new_ledger}
+use Rattle.board_layout.proofs.BasePlaces.{shapes_count}
+use Rattle.board_layout.specs.Board.{shapes_of}
+use Rattle.board_layout.specs.Lookups.{pointer_at, user_of}
+use Rattle.board_layout.specs.Renewed.{contents, contents_of}
+use Rattle.board_laws.proofs.Bases.{IsEven, pointer_in}
+use Rattle.board_laws.proofs.Grown.{IsWhole}
+use Rattle.board_laws.proofs.Readers.{no_pointer}
+use Rattle.board_ledger.specs.declared.user.User.{User}
+use Rattle.jam_base.specs.Contents.{Contents, pointer_of}
+use Rattle.jam_layout.specs.declared.reader.Reader.{Reader}
+use Rattle.jam_layout.specs.declared.shape.Shape.{Shape}
+use Rattle.setup_file.specs.declared.setup.Setup.{Setup}
+
+empty_count : (shapes : List Shape) → length (empty_conferences shapes) ≡ length shapes
+empty_count [] = refl
+empty_count (s ∷ shapes) = ap suc (empty_count shapes)
+
+empty_even : (shapes : List Shape) (place : ℕ) (base : Contents) → slice_get (contents shapes (empty_conferences shapes)) place ≡ Some base → IsEven base
+empty_even [] place base here = absurd (none-some base here)
+empty_even (s ∷ shapes) zero base here = subst IsEven (same_Some _ base here) (length-replicate {A = ℕ} (length s.readers) 0)
+empty_even (s ∷ shapes) (suc place) base here = empty_even shapes place base here
+
+module _ (setup : Setup) (now : ℕ) where
+  pub fresh_whole : IsWhole (made setup now)
+  fresh_whole = record {
+    count = empty_count (shapes_of (new_ledger setup now)) ∙ shapes_count (new_ledger setup now) 0 setup.conferences;
+    even = empty_even (shapes_of (new_ledger setup now));
+  }
+
+  pub nobody_there : (id : ℕ) → user_of id (made setup now) ≡ None
+  nobody_there id = by (eqb id 0)
+    where
+      by : (t : Bool) → cond {A = Option User} t None None ≡ None
+      by true = refl
+      by false = refl
+
+  pub no_pointer_there : (place id pointer : ℕ) → pointer_at place id (made setup now) ≡ Some pointer → ⊥
+  no_pointer_there place id pointer is = by (slice_get (contents_of (made setup now)) place) refl is
+    where
+      by : (o : Option Contents) → slice_get (contents_of (made setup now)) place ≡ o → option_and_then (pointer_in id) o ≡ Some pointer → ⊥
+      by None none found = none-some pointer found
+      by (Some base) here found =
+          let none : pointer_of id base.shape.readers base.conference.pointers ≡ None =
+          ap (λ (rs : List Reader). pointer_of id rs base.conference.pointers) (readers_at (made setup now) place base here) ∙ no_pointer id base.conference.pointers in
+          none-some pointer (sym none ∙ found)

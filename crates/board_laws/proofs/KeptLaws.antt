@@ -1,0 +1,116 @@
+-- What is new to a user stays new to him, while it is live and he acknowledges no packet.
+use Rattle.std.proofs.Common.{◌≡◌, inl, inr, ℕ, suc, ◌<◌, ◌≤◌, true, List, Some, None, sym, ap, ◌∙◌, subst, arith}
+use Rattle.std.specs.Prelude.{slice_get}
+use Rattle.std.proofs.lemmas.Bool.{and_from, and_parts}
+use Rattle.std.proofs.lemmas.Option.{none-some}
+use Rattle.board_commands.specs.State.{Made}
+use Rattle.board_layout.specs.Board.{Board}
+use Rattle.board_layout.specs.Lookups.{pointer_at, user_of}
+use Rattle.board_laws.proofs.Changing.{AcksBy, bases_grow, pointers_follow, setup_stays, whole_next}
+use Rattle.board_laws.proofs.Fresh.{fresh_whole}
+use Rattle.board_laws.proofs.Grown.{IsWhole}
+use Rattle.board_laws.proofs.Offers.{IsNew, all_offered, offered_new}
+use Rattle.board_laws.proofs.Readers.{PointerFollows}
+use Rattle.board_laws.proofs.Sequences.{AreCommands, everywhere, onward}
+use Rattle.board_laws.proofs.Turns.{Because}
+use Rattle.board_laws.proofs.Users.{user_follows}
+use Rattle.board_laws.proofs.Views.{allowed_on, slots_follow}
+use Rattle.board_laws.specs.BoardCommand.{BoardCommand}
+use Rattle.board_laws.specs.History.{IsHistory, Deed, Steps, after}
+use Rattle.board_laws.specs.Kept.{IsAck, IsLive, NoAckBetween, StaysMade, StaysOffered}
+use Rattle.jam_base.specs.Slots.{has_live}
+use Rattle.mail_board.specs.Changes.{changed}
+use Rattle.mail_board.specs.declared.change.Change.{Change}
+use Rattle.mail_board.specs.declared.change.Change.TheVariants.{Enroll, Append, Spread, Kill, Offer, Acknowledge, Upload}
+use Rattle.offered_packets.specs.Sees.{is_allowed, message_at, sees, slots_in}
+use Rattle.offered_packets.specs.declared.offered_message.OfferedMessage.{OfferedMessage}
+
+-- the number is above a pointer of the user, and he may see the message while it is live
+pub record IsAhead (b : Board) (user : ℕ) (m : OfferedMessage) : Type 0 where
+  pub whole : IsWhole b
+  pub pointer : ℕ
+  pub there : pointer_at m.place user b ≡ Some pointer
+  pub above : pointer < m.number
+  pub may : is_allowed b.ledger m.place (user_of user b) (message_at b m.place m.number) ≡ true
+
+may_see_new : (b : Board) (user : ℕ) (m : OfferedMessage) → sees b user m.place m.number ≡ true → is_allowed b.ledger m.place (user_of user b) (message_at b m.place m.number) ≡ true
+unfolding sees
+may_see_new b user m seen = (and_parts (has_live m.number (slots_in b m.place)) (is_allowed b.ledger m.place (user_of user b) (message_at b m.place m.number)) seen).1
+
+sees_live : (b : Board) (user : ℕ) (m : OfferedMessage) → IsLive b m → is_allowed b.ledger m.place (user_of user b) (message_at b m.place m.number) ≡ true → sees b user m.place m.number ≡ true
+unfolding sees
+sees_live b user m live may = and_from (has_live m.number (slots_in b m.place)) (is_allowed b.ledger m.place (user_of user b) (message_at b m.place m.number)) live may
+
+-- one change leaves it so
+ahead_next : (b : Board) (user : ℕ) (m : OfferedMessage) (change : Change) (ahead : IsAhead b user m) → (AcksBy b ahead.whole user change → ⊥) → IsAhead (changed change b) user m
+ahead_next b user m change ahead apart =
+    let c : Board = changed change b in
+    let whole : IsWhole c = whole_next b ahead.whole change in
+    record {
+      whole = whole;
+      pointer = ahead.pointer;
+      there = stays (pointers_follow b ahead.whole user change apart m.place);
+      above = ahead.above;
+      may = allowed_on b c user (setup_stays change b) (user_follows user b change) m.place (slots_follow b c ahead.whole whole (bases_grow b ahead.whole change) m.place) m.number ahead.may;
+    }
+  where
+    stays : PointerFollows (user_of user b ≡ None) (pointer_at m.place user b) (pointer_at m.place user (changed change b)) → pointer_at m.place user (changed change b) ≡ Some ahead.pointer
+    stays (inl same) = same ∙ ahead.there
+    stays (inr (none, first, nobody)) = absurd (none-some ahead.pointer (sym none ∙ ahead.there))
+
+module _ {Entry : Type 0} (command_of : Entry → BoardCommand) (Step : Steps Entry) (commands : AreCommands command_of Step) (deeds : List (Deed Entry)) (are : IsHistory Step deeds) where
+  pub all_whole : (n : ℕ) (b : Board) → after deeds n ≡ Made b → IsWhole b
+  all_whole = everywhere command_of Step commands deeds are (λ n b. IsWhole b) (λ n setup now. fresh_whole setup now) (λ n d b change is board because whole. whole_next b whole change) (λ n b whole. whole)
+
+  -- an acknowledgement of the user is a deed of his
+  pub acks_at : (n : ℕ) (d : Deed Entry) (b : Board) (whole : IsWhole b) (user : ℕ) (change : Change) → slice_get deeds n ≡ Some d → after deeds n ≡ Made b → Because d.now b (command_of d.entry) d.stepped.class change → AcksBy b whole user change
+      → (packet : ℕ) × IsAck command_of deeds n user packet
+  acks_at n d b whole user (Enroll name net members) is board because own = absurd own
+  acks_at n d b whole user (Append place messages) is board because own = absurd own
+  acks_at n d b whole user (Spread posts) is board because own = absurd own
+  acks_at n d b whole user (Kill place number) is board because own = absurd own
+  acks_at n d b whole user (Offer other highs) is board because own = absurd own
+  acks_at n d b whole user (Acknowledge other now) is board because own = (
+    because.packet,
+    record {
+      deed = d;
+      board = b;
+      carried = record { there = is; board_is = board; done = because.done };
+      name = because.name;
+      command = because.command;
+      user_is = because.user_is ∙ ap Some own;
+    },
+  )
+  acks_at n d b whole user (Upload other digest refused posts) is board because own = absurd own
+
+  module _ (i j : ℕ) (user : ℕ) (none : NoAckBetween command_of deeds i j user) (m : OfferedMessage) where
+    abbrev StaysAhead : ℕ → Board → Type 0
+    StaysAhead n b = n ≤ j → IsAhead b user m
+
+    next : (n : ℕ) (d : Deed Entry) (b : Board) (change : Change) → i ≤ n → slice_get deeds n ≡ Some d → after deeds n ≡ Made b → Because d.now b (command_of d.entry) d.stepped.class change → StaysAhead n b → StaysAhead (suc n) (changed change b)
+    next n d b change from is board because stays upto =
+        let ahead : IsAhead b user m = stays (omega (arith, upto)) in
+        ahead_next b user m change ahead (λ own. let ack = acks_at n d b ahead.whole user change is board because own in none n ack.0 from (omega (arith, upto)) ack.1)
+
+    pub still_ahead : i ≤ j → (b c : Board) → after deeds i ≡ Made b → after deeds j ≡ Made c → IsAhead b user m → IsAhead c user m
+    still_ahead order b c first last ahead =
+        let reached = onward command_of Step commands deeds are StaysAhead i next (λ n b stays upto. stays (omega (arith, upto))) j order (b, first, λ upto. ahead) in
+        let same : Made reached.0 ≡ Made c = sym reached.1 ∙ last in
+        subst (λ (b : Board). IsAhead b user m) (same_made reached.0 c same) (reached.2 (omega arith))
+      where
+        same_made : (b c : Board) → Made b ≡ Made c → b ≡ c
+        same_made b c same = cc
+
+-- ---- the laws
+module _ {Entry : Type 0} (command_of : Entry → BoardCommand) (Step : Steps Entry) (commands : AreCommands command_of Step) where
+  pub stays_made : StaysMade command_of Step
+  stays_made deeds are i j order b board =
+      let reached = onward command_of Step commands deeds are (λ n b. Unit {0}) i (λ n d b change from is board because holds. tt) (λ n b holds. tt) j order (b, board, tt) in
+      (reached.0, reached.1)
+
+  pub stays_offered : StaysOffered command_of Step
+  stays_offered deeds are i j order b c first last user none limit m has live most enough =
+      let new : IsNew b user m = offered_new b user limit m has in
+      let ahead : IsAhead c user m = still_ahead command_of Step commands deeds are i j user none m order b c first last
+      (record { whole = all_whole command_of Step commands deeds are i b first; pointer = new.pointer; there = new.there; above = new.above; may = may_see_new b user m new.seen }) in
+      all_offered c user most m (record { pointer = ahead.pointer; there = ahead.there; above = ahead.above; seen = sees_live c user m live ahead.may }) enough

@@ -1,0 +1,17 @@
+pub mod Elements
+pub mod Slots
+pub mod Readers
+pub mod Bases
+pub mod Grown
+pub mod Fresh
+pub mod Users
+pub mod Changing
+pub mod Views
+pub mod Turns
+pub mod Uploads
+pub mod Sequences
+pub mod OnceLaws
+pub mod KeptLaws
+pub mod Offers
+pub mod PassedLaws
+pub mod PacketLaws

@@ -1,0 +1,330 @@
+-- What a user has behind him was offered to him and acknowledged by him: deed by deed.
+use Rattle.std.proofs.Common.{◌≡◌, ◌≢◌, ◌⊎◌, inl, inr, ⊎_elim, ℕ, suc, ◌<◌, ◌≤◌, Bool, true, false, cond, eqb, List, get_or, length, Option, Some, None, refl, sym, ap, ◌∙◌, subst, arith}
+use Rattle.std.specs.Prelude.{Contains, option_and_then, slice_get}
+use Rattle.std.proofs.lemmas.Bool.{cases_eq, cases_lt, eqb-false}
+use Rattle.std.proofs.lemmas.Option.{none-some, same_Some}
+use Rattle.board_changes.specs.Changed.{made}
+use Rattle.board_commands.specs.State.{Made}
+use Rattle.board_layout.specs.Board.{Board}
+use Rattle.board_layout.specs.Lookups.{pointer_at, user_of}
+use Rattle.board_laws.proofs.Changing.{AcksBy, Reads, bases_grow, known_user, pointers_follow, pointers_read, setup_stays, whole_next}
+use Rattle.board_laws.proofs.Fresh.{fresh_whole, no_pointer_there, nobody_there}
+use Rattle.board_laws.proofs.Grown.{IsWhole}
+use Rattle.board_laws.proofs.Offers.{highs_within, offered_up_to}
+use Rattle.board_laws.proofs.Readers.{PointerFollows}
+use Rattle.board_laws.proofs.Sequences.{AreCommands, everywhere}
+use Rattle.board_laws.proofs.Slots.{slots_count}
+use Rattle.board_laws.proofs.Turns.{Because, Exporting}
+use Rattle.board_laws.proofs.Users.{OffersTo, acknowledged_there, offer_stays, offered_there, user_follows}
+use Rattle.board_laws.proofs.Views.{seen_user, seen_within, sees_back, slots_follow}
+use Rattle.board_laws.specs.BoardCommand.{BoardCommand}
+use Rattle.board_laws.specs.History.{Deed, Steps, after}
+use Rattle.board_laws.specs.Kept.{IsAck}
+use Rattle.board_laws.specs.Passed.{IsAcknowledged, IsExport, IsPassed}
+use Rattle.board_ledger.specs.declared.user.User.{User}
+use Rattle.mail_board.specs.Changes.{changed}
+use Rattle.mail_board.specs.Readers.{offer_in, offer_of}
+use Rattle.mail_board.specs.declared.change.Change.{Change}
+use Rattle.mail_board.specs.declared.change.Change.TheVariants.{Enroll, Append, Spread, Kill, Offer, Acknowledge, Upload}
+use Rattle.offer_changes.proofs.UserLaws.{id_above}
+use Rattle.offer_changes.specs.Changed.{with_offer}
+use Rattle.offered_packets.specs.Offered.{highs, offered}
+use Rattle.offered_packets.specs.Sees.{sees, slots_in}
+use Rattle.offered_packets.specs.declared.offered_message.OfferedMessage.{OfferedMessage}
+use Rattle.setup_file.specs.declared.setup.Setup.{Setup}
+
+-- ---- one change
+module _ (b : Board) (whole : IsWhole b) (change : Change) where
+  -- the slots of a place are at least as many
+  more_slots : (place : ℕ) → length (slots_in b place) ≤ length (slots_in (changed change b) place)
+  more_slots place = slots_count (slots_in b place) (slots_in (changed change b) place) (slots_follow b (changed change b) whole (whole_next b whole change) (bases_grow b whole change) place)
+
+  -- what the user sees in a slot that was there he saw
+  saw : (id place number : ℕ) (u : User) → user_of id b ≡ Some u → number ≤ length (slots_in b place) → sees (changed change b) id place number ≡ true → sees b id place number ≡ true
+  saw id place number u there within seen =
+      sees_back b (changed change b) id (setup_stays change b) (user_follows id b change) place (slots_follow b (changed change b) whole (whole_next b whole change) (bases_grow b whole change) place) number u there within seen
+
+  -- a pointer other than 0 was there, unless the user acknowledges a packet
+  pointer_was : (id place pointer : ℕ) → (AcksBy b whole id change → ⊥) → 0 < pointer → pointer_at place id (changed change b) ≡ Some pointer → pointer_at place id b ≡ Some pointer
+  pointer_was id place pointer apart some is = by (pointers_follow b whole id change apart place)
+    where
+      by : PointerFollows (user_of id b ≡ None) (pointer_at place id b) (pointer_at place id (changed change b)) → pointer_at place id b ≡ Some pointer
+      by (inl same) = sym same ∙ is
+      by (inr (none, first, nobody)) = absurd (omega (arith, some, same_Some 0 pointer (sym first ∙ is)))
+
+  -- any pointer was, of a user who was there
+  own_pointer_was : (id place pointer : ℕ) (u : User) → user_of id b ≡ Some u → (AcksBy b whole id change → ⊥) → pointer_at place id (changed change b) ≡ Some pointer → pointer_at place id b ≡ Some pointer
+  own_pointer_was id place pointer u there apart is = by (pointers_follow b whole id change apart place)
+    where
+      by : PointerFollows (user_of id b ≡ None) (pointer_at place id b) (pointer_at place id (changed change b)) → pointer_at place id b ≡ Some pointer
+      by (inl same) = sym same ∙ is
+      by (inr (none, first, nobody)) = absurd (none-some u (sym nobody ∙ there))
+
+-- a change is an acknowledgement of the user, or isn't
+acks_or_not : (b : Board) (whole : IsWhole b) (id : ℕ) (change : Change) → ((now : ℕ) × (change ≡ Acknowledge id now)) ⊎ (AcksBy b whole id change → ⊥)
+acks_or_not b whole id (Enroll name net members) = inr (λ own. own)
+acks_or_not b whole id (Append place messages) = inr (λ own. own)
+acks_or_not b whole id (Spread posts) = inr (λ own. own)
+acks_or_not b whole id (Kill place number) = inr (λ own. own)
+acks_or_not b whole id (Offer user given) = inr (λ own. own)
+acks_or_not b whole id (Acknowledge user now) = ⊎_elim (λ same. inl (now, ap (λ (n : ℕ). Acknowledge n now) same)) (λ other. inr (λ own. other own)) (cases_eq user id)
+acks_or_not b whole id (Upload user digest refused posts) = inr (λ own. own)
+
+-- it is an offer to the user, or isn't
+offers_or_not : (id : ℕ) (b : Board) (change : Change) → ((given : List ℕ) × (change ≡ Offer id given)) ⊎ (OffersTo id b change → ⊥)
+offers_or_not id b (Enroll name net members) = inr (λ own. own)
+offers_or_not id b (Append place messages) = inr (λ own. own)
+offers_or_not id b (Spread posts) = inr (λ own. own)
+offers_or_not id b (Kill place number) = inr (λ own. own)
+offers_or_not id b (Offer user given) = ⊎_elim (λ same. inl (given, ap (λ (n : ℕ). Offer n given) same)) (λ other. inr (λ own. other own)) (cases_eq user id)
+offers_or_not id b (Acknowledge user now) = inr (λ own. own)
+offers_or_not id b (Upload user digest refused posts) = inr (λ own. own)
+
+-- the packet that is offered to a user isn't 0
+offered_is : (u : User) (packet : ℕ) → offer_in u ≡ Some packet → (u.offered ≡ packet) × (u.offered ≢ 0)
+offered_is u packet is = by (eqb u.offered 0) refl is
+  where
+    by : (none : Bool) → eqb u.offered 0 ≡ none → cond none None (Some u.offered) ≡ Some packet → (u.offered ≡ packet) × (u.offered ≢ 0)
+    by true test e = absurd (none-some packet e)
+    by false test e = (same_Some u.offered packet e, eqb-false u.offered 0 test)
+
+offer_there : (id : ℕ) (b : Board) (packet : ℕ) → offer_of id b ≡ Some packet → (u : User) × (user_of id b ≡ Some u) × (u.offered ≡ packet) × (u.offered ≢ 0)
+offer_there id b packet is = by (user_of id b) refl is
+  where
+    by : (o : Option User) → user_of id b ≡ o → option_and_then offer_in o ≡ Some packet → (u : User) × (user_of id b ≡ Some u) × (u.offered ≡ packet) × (u.offered ≢ 0)
+    by None none e = absurd (none-some packet e)
+    by (Some u) there e = let parts = offered_is u packet e in (u, there, parts.0, parts.1)
+
+module _ {Entry : Type 0} (command_of : Entry → BoardCommand) (deeds : List (Deed Entry)) where
+  -- Before place n the packet that is offered to a user was exported to him, with all that he sees between his pointers
+  -- and its highs.
+  record WasExported (n : ℕ) (b : Board) (id : ℕ) (u : User) : Type 0 where
+    place : ℕ
+    before : place < n
+    export : IsExport command_of deeds place id u.offered
+    within : (k : ℕ) → get_or u.highs k 0 ≤ length (slots_in b k)
+    has : (k number pointer : ℕ) → sees b id k number ≡ true → pointer_at k id b ≡ Some pointer → pointer < number → number ≤ get_or u.highs k 0 → Contains (offered export.board id export.limit) (record { place = k; number = number })
+
+  -- what holds of a board after the first n deeds
+  record IsAccounted (n : ℕ) (b : Board) : Type 0 where
+    whole : IsWhole b
+    pointers : (id place pointer : ℕ) → pointer_at place id b ≡ Some pointer → pointer ≤ length (slots_in b place)
+    offers : (id : ℕ) (u : User) → user_of id b ≡ Some u → (u.offered ≡ 0) ⊎ WasExported n b id u
+    passed : (id place number pointer : ℕ) → sees b id place number ≡ true → pointer_at place id b ≡ Some pointer → number ≤ pointer → IsAcknowledged command_of deeds n id (record { place = place; number = number })
+
+  -- ---- one deed more
+  acknowledged_more : (n id : ℕ) (m : OfferedMessage) → IsAcknowledged command_of deeds n id m → IsAcknowledged command_of deeds (suc n) id m
+  acknowledged_more n id m is = let before = is.before in record {
+    exported = is.exported;
+    acknowledged = is.acknowledged;
+    packet = is.packet;
+    export = is.export;
+    offers = is.offers;
+    first = is.first;
+    ack = is.ack;
+    before = omega (arith, before);
+  }
+
+  exported_more : (n : ℕ) (b : Board) (id : ℕ) (u : User) → WasExported n b id u → WasExported (suc n) b id u
+  exported_more n b id u was = let before = was.before in record { place = was.place; before = omega (arith, before); export = was.export; within = was.within; has = was.has }
+
+  idle : (n : ℕ) (b : Board) → IsAccounted n b → IsAccounted (suc n) b
+  idle n b holds = record {
+    whole = holds.whole;
+    pointers = holds.pointers;
+    offers = λ id u there. ⊎_elim (λ none. inl none) (λ was. inr (exported_more n b id u was)) (holds.offers id u there);
+    passed = λ id place number pointer seen is upto. acknowledged_more n id (record { place = place; number = number }) (holds.passed id place number pointer seen is upto);
+  }
+
+  fresh : (n : ℕ) (setup : Setup) (now : ℕ) → IsAccounted (suc n) (made setup now)
+  fresh n setup now = record {
+    whole = fresh_whole setup now;
+    pointers = λ id place pointer is. absurd (no_pointer_there setup now place id pointer is);
+    offers = λ id u there. absurd (none-some u (sym (nobody_there setup now id) ∙ there));
+    passed = λ id place number pointer seen is upto. absurd (no_pointer_there setup now place id pointer is);
+  }
+
+  -- ---- a change
+  module _ (n : ℕ) (d : Deed Entry) (b : Board) (there : slice_get deeds n ≡ Some d) (board : after deeds n ≡ Made b) (holds : IsAccounted n b) where
+    -- what the user saw up to his pointer he acknowledged
+    still_passed : (change : Change) (id place number pointer : ℕ) (u : User) → user_of id b ≡ Some u → sees (changed change b) id place number ≡ true → pointer_at place id b ≡ Some pointer → number ≤ pointer
+        → IsAcknowledged command_of deeds (suc n) id (record { place = place; number = number })
+    still_passed change id place number pointer u user seen is upto =
+        let within : number ≤ length (slots_in b place) = omega (arith, upto, holds.pointers id place pointer is) in
+        acknowledged_more n id (record { place = place; number = number }) (holds.passed id place number pointer (saw b holds.whole change id place number u user within seen) is upto)
+
+    -- ---- no acknowledgement of the user
+    module _ (change : Change) (id : ℕ) (apart : AcksBy b holds.whole id change → ⊥) where
+      pointers_apart : (place pointer : ℕ) → pointer_at place id (changed change b) ≡ Some pointer → pointer ≤ length (slots_in (changed change b) place)
+      pointers_apart place pointer is = by (pointers_follow b holds.whole id change apart place)
+        where
+          by : PointerFollows (user_of id b ≡ None) (pointer_at place id b) (pointer_at place id (changed change b)) → pointer ≤ length (slots_in (changed change b) place)
+          by (inl same) = omega (arith, holds.pointers id place pointer (sym same ∙ is), more_slots b holds.whole change place)
+          by (inr (none, first, nobody)) = omega (arith, same_Some 0 pointer (sym first ∙ is))
+
+      passed_apart : (place number pointer : ℕ) → sees (changed change b) id place number ≡ true → pointer_at place id (changed change b) ≡ Some pointer → number ≤ pointer → IsAcknowledged command_of deeds (suc n) id (record { place = place; number = number })
+      passed_apart place number pointer seen is upto =
+          let some = (seen_within (changed change b) id place number seen).0 in
+          let was : pointer_at place id b ≡ Some pointer = pointer_was b holds.whole change id place pointer apart (omega (arith, some, upto)) is in
+          let v = seen_user (changed change b) id place number seen in
+          let u = known_user b id place pointer (id_above (changed change b) id v.0 v.1) was in
+          still_passed change id place number pointer u.0 u.1 seen was upto
+
+      -- an offer that stays
+      offer_apart : (u : User) → user_of id b ≡ Some u → WasExported n b id u → WasExported (suc n) (changed change b) id u
+      offer_apart u user was = let before = was.before in record {
+        place = was.place;
+        before = omega (arith, before);
+        export = was.export;
+        within = λ k. omega (arith, was.within k, more_slots b holds.whole change k);
+        has = λ k number pointer seen is above upto.
+            let within : number ≤ length (slots_in b k) = omega (arith, upto, was.within k) in
+            was.has k number pointer (saw b holds.whole change id k number u user within seen) (own_pointer_was b holds.whole change id k pointer u user apart is) above upto;
+      }
+
+      offers_apart : (OffersTo id b change → ⊥) → (v : User) → user_of id (changed change b) ≡ Some v → (v.offered ≡ 0) ⊎ WasExported (suc n) (changed change b) id v
+      offers_apart other v user = ⊎_elim
+          (λ none. inl none)
+          (λ was. ⊎_elim (λ none. inl none) (λ exported. inr (offer_apart v was exported)) (holds.offers id v was))
+          (offer_stays id b change other v user)
+
+    -- ---- a packet exported to the user
+    module _ (id : ℕ) (given : List ℕ) (because : Exporting d.now b (command_of d.entry) d.stepped.class id given) where
+      new_offer : (v : User) → user_of id (changed (Offer id given) b) ≡ Some v → WasExported (suc n) (changed (Offer id given) b) id v
+      new_offer v user = subst (WasExported (suc n) (changed (Offer id given) b) id) same (record {
+        place = n;
+        before = omega arith;
+        export = record {
+          deed = d;
+          board = b;
+          carried = record { there = there; board_is = board; done = because.done };
+          name = because.name;
+          limit = because.limit;
+          folder = because.folder;
+          command = because.command;
+          user_is = because.user_is;
+          handout = because.handout;
+          export = because.export;
+          packet_is = because.packet_is;
+        };
+        within = λ k. omega (arith, high k, highs_within b id because.limit k, more_slots b holds.whole (Offer id given) k);
+        has = λ k number pointer seen is above upto.
+            let within : number ≤ length (slots_in b k) = omega (arith, upto, high k, highs_within b id because.limit k) in
+            let saw_it : sees b id k number ≡ true = saw b holds.whole (Offer id given) id k number because.u because.there within seen in
+            let was : pointer_at k id b ≡ Some pointer = own_pointer_was b holds.whole (Offer id given) id k pointer because.u because.there (λ own. own) is in
+            offered_up_to b id because.limit (record { place = k; number = number }) (record { pointer = pointer; there = was; above = above; seen = saw_it }) (omega (arith, upto, high k));
+      })
+        where
+          same : with_offer given because.u ≡ v
+          same = same_Some (with_offer given because.u) v (sym (offered_there id b given because.u because.there) ∙ user)
+
+          high : (k : ℕ) → get_or given k 0 ≡ get_or (highs b (offered b id because.limit)) k 0
+          high k = ap (λ (hs : List ℕ). get_or hs k 0) because.highs_are
+
+    -- ---- a packet acknowledged by the user
+    module _ (id now : ℕ) (packet : ℕ) (ack : IsAck command_of deeds n id packet) (offer : offer_of id b ≡ Some packet) where
+      u : User
+      u = (offer_there id b packet offer).0
+
+      user : user_of id b ≡ Some u
+      unfolding u
+      user = (offer_there id b packet offer).1
+
+      was : WasExported n b id u
+      unfolding u
+      was = ⊎_elim (λ none. absurd ((offer_there id b packet offer).3 none)) (λ exported. exported) (holds.offers id u user)
+
+      packet_is : u.offered ≡ packet
+      unfolding u
+      packet_is = (offer_there id b packet offer).2
+
+      pointers_own : (place pointer : ℕ) → pointer_at place id (changed (Acknowledge id now) b) ≡ Some pointer → pointer ≤ length (slots_in (changed (Acknowledge id now) b) place)
+      pointers_own place pointer is = by (pointers_read b holds.whole id now u user place)
+        where
+          by : Reads b holds.whole id (get_or u.highs place 0) (pointer_at place id b) (pointer_at place id (changed (Acknowledge id now) b)) → pointer ≤ length (slots_in (changed (Acknowledge id now) b) place)
+          by (inl same) = omega (arith, holds.pointers id place pointer (sym same ∙ is), more_slots b holds.whole (Acknowledge id now) place)
+          by (inr (q, old, new)) = omega (arith, same_Some (get_or u.highs place 0) pointer (sym new ∙ is), was.within place, more_slots b holds.whole (Acknowledge id now) place)
+
+      newly : (place number pointer : ℕ) → sees (changed (Acknowledge id now) b) id place number ≡ true → pointer_at place id b ≡ Some pointer → pointer < number → number ≤ get_or u.highs place 0 → IsAcknowledged command_of deeds (suc n) id (record { place = place; number = number })
+      newly place number pointer seen is above upto =
+          let within : number ≤ length (slots_in b place) = omega (arith, upto, was.within place) in
+          record {
+            exported = was.place;
+            acknowledged = n;
+            packet = packet;
+            export = record {
+              deed = was.export.deed;
+              board = was.export.board;
+              carried = was.export.carried;
+              name = was.export.name;
+              limit = was.export.limit;
+              folder = was.export.folder;
+              command = was.export.command;
+              user_is = was.export.user_is;
+              handout = was.export.handout;
+              export = was.export.export;
+              packet_is = was.export.packet_is ∙ packet_is;
+            };
+            offers = was.has place number pointer (saw b holds.whole (Acknowledge id now) id place number u user within seen) is above upto;
+            first = was.before;
+            ack = ack;
+            before = omega arith;
+          }
+
+      passed_own : (place number pointer : ℕ) → sees (changed (Acknowledge id now) b) id place number ≡ true → pointer_at place id (changed (Acknowledge id now) b) ≡ Some pointer → number ≤ pointer
+          → IsAcknowledged command_of deeds (suc n) id (record { place = place; number = number })
+      passed_own place number pointer seen is upto = by (pointers_read b holds.whole id now u user place)
+        where
+          by : Reads b holds.whole id (get_or u.highs place 0) (pointer_at place id b) (pointer_at place id (changed (Acknowledge id now) b)) → IsAcknowledged command_of deeds (suc n) id (record { place = place; number = number })
+          by (inl same) = still_passed (Acknowledge id now) id place number pointer u user seen (sym same ∙ is) upto
+          by (inr (q, old, new)) = ⊎_elim
+              (λ above. newly place number q seen old above (omega (arith, upto, same_Some (get_or u.highs place 0) pointer (sym new ∙ is))))
+              (λ behind. still_passed (Acknowledge id now) id place number q u user seen old behind)
+              (cases_lt q number)
+
+      offers_own : (v : User) → user_of id (changed (Acknowledge id now) b) ≡ Some v → (v.offered ≡ 0) ⊎ WasExported (suc n) (changed (Acknowledge id now) b) id v
+      offers_own v there = inl (acknowledged_there id b now v there u user)
+
+    -- ---- any change, for one user
+    -- what holds of a user of the board after it
+    record Accounts (change : Change) (id : ℕ) : Type 0 where
+      pointers : (place pointer : ℕ) → pointer_at place id (changed change b) ≡ Some pointer → pointer ≤ length (slots_in (changed change b) place)
+      offers : (v : User) → user_of id (changed change b) ≡ Some v → (v.offered ≡ 0) ⊎ WasExported (suc n) (changed change b) id v
+      passed : (place number pointer : ℕ) → sees (changed change b) id place number ≡ true → pointer_at place id (changed change b) ≡ Some pointer → number ≤ pointer → IsAcknowledged command_of deeds (suc n) id (record { place = place; number = number })
+
+    accounts_own : (id now : ℕ) → Because d.now b (command_of d.entry) d.stepped.class (Acknowledge id now) → Accounts (Acknowledge id now) id
+    accounts_own id now because =
+        let packet : ℕ = because.packet in
+        let ack : IsAck command_of deeds n id packet = record { deed = d; board = b; carried = record { there = there; board_is = board; done = because.done }; name = because.name; command = because.command; user_is = because.user_is } in
+        record { pointers = pointers_own id now packet ack because.offer; offers = offers_own id now packet ack because.offer; passed = passed_own id now packet ack because.offer }
+
+    accounts_offer : (id : ℕ) (given : List ℕ) → Because d.now b (command_of d.entry) d.stepped.class (Offer id given) → Accounts (Offer id given) id
+    accounts_offer id given because = record {
+      pointers = pointers_apart (Offer id given) id (λ own. own);
+      offers = λ v user. inr (new_offer id given because v user);
+      passed = passed_apart (Offer id given) id (λ own. own);
+    }
+
+    accounts : (change : Change) (id : ℕ) → Because d.now b (command_of d.entry) d.stepped.class change → Accounts change id
+    accounts change id because = by (acks_or_not b holds.whole id change) (offers_or_not id b change)
+      where
+        by : ((now : ℕ) × (change ≡ Acknowledge id now)) ⊎ (AcksBy b holds.whole id change → ⊥) → ((given : List ℕ) × (change ≡ Offer id given)) ⊎ (OffersTo id b change → ⊥) → Accounts change id
+        by (inl (now, is)) offers = subst (λ (x : Change). Accounts x id) (sym is) (accounts_own id now (subst (Because d.now b (command_of d.entry) d.stepped.class) is because))
+        by (inr apart) (inl (given, is)) = subst (λ (x : Change). Accounts x id) (sym is) (accounts_offer id given (subst (Because d.now b (command_of d.entry) d.stepped.class) is because))
+        by (inr apart) (inr other) = record { pointers = pointers_apart change id apart; offers = offers_apart change id apart other; passed = passed_apart change id apart }
+
+    next : (change : Change) → Because d.now b (command_of d.entry) d.stepped.class change → IsAccounted (suc n) (changed change b)
+    next change because = record {
+      whole = whole_next b holds.whole change;
+      pointers = λ id. let own = accounts change id because in own.pointers;
+      offers = λ id. let own = accounts change id because in own.offers;
+      passed = λ id. let own = accounts change id because in own.passed;
+    }
+
+-- ---- the law
+module _ {Entry : Type 0} (command_of : Entry → BoardCommand) (Step : Steps Entry) (commands : AreCommands command_of Step) where
+  pub is_passed : IsPassed command_of Step
+  is_passed deeds are n b board user m seen pointer is upto =
+      let holds = everywhere command_of Step commands deeds are (IsAccounted command_of deeds) (fresh command_of deeds)
+      (λ k d c change there here because so_far. next command_of deeds k d c there here so_far change because) (idle command_of deeds) n b board in
+      holds.passed user m.place m.number pointer seen is upto

@@ -1,0 +1,238 @@
+-- What each command makes of a board, and of no board: nothing, or one change, and then why.
+use Rattle.std.proofs.Common.{◌≡◌, ◌⊎◌, ℕ, ◌+◌, Bool, true, false, cond, eqb, List, Option, Some, None, Result, Ok, Err, refl, ap, ◌∙◌, inl, inr}
+use Rattle.std.proofs.lemmas.Bool.{cond-false, cond-true, eqb-true}
+use Rattle.board_changes.specs.Changed.{made}
+use Rattle.board_commands.specs.Enroll.{enroll_refusals, enrolling, first_refusal, is_net}
+use Rattle.board_commands.specs.Init.{made_of}
+use Rattle.board_commands.specs.State.{State, NotMade, Made, state_of}
+use Rattle.board_commands.specs.Turns.{Turn, refuses}
+use Rattle.board_layout.specs.Board.{Board}
+use Rattle.board_layout.specs.Lookups.{user_of}
+use Rattle.board_laws.proofs.Uploads.{UploadTurns, upload_turns}
+use Rattle.board_laws.specs.BoardCommand.{BoardCommand, does}
+use Rattle.board_laws.specs.BoardCommand as command
+use Rattle.board_ledger.specs.declared.user.User.{User}
+use Rattle.command_words.specs.Choice.{places_from}
+use Rattle.command_words.specs.declared.choice.Choice.{Choice}
+use Rattle.door_export.specs.Ack.{AckRefusal, NoPacket, ack_as, ack_of, ack_offer}
+use Rattle.door_export.specs.Ack as why
+use Rattle.door_export.specs.Export.{ExportRefusal, Handout, NoUser, export_as, export_of, export_to, packet_to, unless_refused, user_refusal}
+use Rattle.door_outside.specs.Shelf.{Files}
+use Rattle.entry_runs.specs.Door.{World, here}
+use Rattle.entry_runs.specs.Entry.{Reply}
+use Rattle.entry_runs.specs.Runs.{Stepped}
+use Rattle.entry_runs.specs.declared.class.Class.{Class}
+use Rattle.entry_runs.specs.declared.class.Class.TheVariants.{Done}
+use Rattle.export_commands.specs.Ack.{turn_of as ack_turn_of}
+use Rattle.export_commands.specs.Export.{handing_of}
+use Rattle.export_commands.specs.Handing.{Handing}
+use Rattle.import_sheet.specs.declared.sheet.Sheet.{Sheet}
+use Rattle.jam_records.specs.declared.message.Message.{Message}
+use Rattle.mail_board.specs.Changes.{changed}
+use Rattle.mail_board.specs.Readers.{offer_of, place_of, user_id}
+use Rattle.mail_board.specs.declared.change.Change.{Change}
+use Rattle.mail_board.specs.declared.change.Change.TheVariants.{Enroll, Append, Spread, Kill, Offer, Acknowledge}
+use Rattle.mail_board.specs.declared.change.Change.TheVariants as change
+use Rattle.message_commands.specs.Import.{ImportsAt, appending, import_refusals, imported_messages, sheet_turn}
+use Rattle.message_commands.specs.Kill.{has_message, kill_at, killed_line, killing}
+use Rattle.offer_changes.specs.Changed.{acknowledged}
+use Rattle.offered_packets.specs.Offered.{highs, offered}
+use Rattle.packet_verdicts.specs.Judged.{judged, refused_count}
+use Rattle.setup_file.specs.declared.setup.Setup.{Setup}
+use Rattle.shelf_files.specs.ShelfFile.{file_of}
+use Rattle.shelf_files.specs.Halts.{done}
+use Rattle.shelf_files.specs.declared.refusal.Refusal.{Refusal}
+use Rattle.shelf_files.specs.declared.refusal.Refusal.TheVariants.{NoMessage}
+use Rattle.sha2.specs.Sha256.{sha256}
+use Rattle.slot_changes.specs.Changed.{deleted}
+use Rattle.upload_commands.specs.Upload.{UploadsFile, UploadsRead, rep_limit}
+
+-- ---- from no board
+-- there is still none, or one that was made of a setup
+abbrev pub FromNone : ℕ → State → Type 0
+FromNone now next = (next ≡ NotMade) ⊎ ((setup : Setup) × (next ≡ Made (made setup now)))
+
+pub from_none : (now : ℕ) (c : BoardCommand) (shelf : Files) (stepped : Stepped (World State)) → does now c (here NotMade shelf) stepped → FromNone now stepped.world.state
+from_none now (command.Init file) shelf stepped (same, (turn, (read, reads, is), next, reply)) = by read is
+  where
+    by : (read : Result Setup Refusal) → turn ≡ made_of now read → FromNone now stepped.world.state
+    by (Ok setup) is = inr (setup, next ∙ ap (λ (t : Turn). state_of t.board) is)
+    by (Err why) is = inl (next ∙ ap (λ (t : Turn). state_of t.board) is)
+from_none now (command.Enroll name flags conferences) shelf stepped (same, (turn, (choice, reads, is), next, reply)) = inl (next ∙ ap (λ (t : Turn). state_of t.board) is)
+from_none now command.Check shelf stepped (same, (turn, is, next, reply)) = inl (next ∙ ap (λ (t : Turn). state_of t.board) is)
+from_none now (command.Import conference file) shelf stepped (same, (turn, is, next, reply)) = inl (next ∙ ap (λ (t : Turn). state_of t.board) is)
+from_none now (command.Kill conference number) shelf stepped (same, (turn, is, next, reply)) = inl (next ∙ ap (λ (t : Turn). state_of t.board) is)
+from_none now (command.Export name limit folder) shelf stepped (handing, is, next, new, reply) = inl (next ∙ ap (λ (h : Handing). state_of h.board) is)
+from_none now (command.Ack name packet) shelf stepped (same, (turn, is, next, reply)) = inl (next ∙ ap (λ (t : Turn). state_of t.board) is)
+from_none now (command.Upload name file) shelf stepped (same, (turn, is, next, reply)) = inl (next ∙ ap (λ (t : Turn). state_of t.board) is)
+from_none now command.Other shelf stepped same = inl same
+
+-- ---- from a board
+-- the user of this id acknowledges a packet that is offered to him
+pub record Acknowledging (b : Board) (c : BoardCommand) (class : Class) (user : ℕ) : Type 0 where
+  pub name : List ℕ
+  pub packet : ℕ
+  pub command : c ≡ command.Ack name packet
+  pub user_is : user_id name b ≡ Some user
+  pub offer : offer_of user b ≡ Some packet
+  pub done : class ≡ Done
+
+-- a packet with these highs is exported to the user of this id
+pub record Exporting (now : ℕ) (b : Board) (c : BoardCommand) (class : Class) (user : ℕ) (given : List ℕ) : Type 0 where
+  pub name : List ℕ
+  pub limit : ℕ
+  pub folder : List ℕ
+  pub command : c ≡ command.Export name limit folder
+  pub user_is : user_id name b ≡ Some user
+  pub u : User
+  pub there : user_of user b ≡ Some u
+  pub highs_are : given ≡ highs b (offered b user limit)
+  pub handout : Handout
+  pub export : export_of name limit now b ≡ Ok handout
+  pub packet_is : handout.answer.packet ≡ u.last + 1
+  pub done : class ≡ Done
+
+-- why a command makes a change
+abbrev pub Because : ℕ → Board → BoardCommand → Class → Change → Type 0
+Because now b c class (Enroll name net members) = Unit {0}
+Because now b c class (Append place messages) = Unit {0}
+Because now b c class (Spread posts) = Unit {0}
+Because now b c class (Kill place number) = Unit {0}
+Because now b c class (Offer user given) = Exporting now b c class user given
+Because now b c class (Acknowledge user at) = Acknowledging b c class user
+Because now b c class (change.Upload user digest refused posts) = Unit {0}
+
+-- the board stays, or is changed
+abbrev pub Turns : ℕ → Board → BoardCommand → State → Class → Type 0
+Turns now b c next class = (next ≡ Made b) ⊎ ((change : Change) × (next ≡ Made (changed change b)) × Because now b c class change)
+
+module _ (now : ℕ) (b : Board) (c : BoardCommand) (next : State) (class : Class) where
+  -- ---- users and messages
+  by_enroll : (name : List ℕ) (net : Bool) (choice : Choice) (why : Option Refusal) (turn : Turn) → turn ≡ enrolling name net choice b why → next ≡ state_of turn.board → Turns now b c next class
+  by_enroll name net choice None turn is then = inr (Enroll name net (places_from choice 0 b.ledger.setup.conferences), then ∙ ap (λ (t : Turn). state_of t.board) is, tt)
+  by_enroll name net choice (Some why) turn is then = inl (then ∙ ap (λ (t : Turn). state_of t.board) is)
+
+  by_append : (conference place : ℕ) (messages : List Message) (why : Option Refusal) (turn : Turn) → turn ≡ appending conference place messages b why → next ≡ state_of turn.board → Turns now b c next class
+  by_append conference place messages None turn is then = inr (Append place messages, then ∙ ap (λ (t : Turn). state_of t.board) is, tt)
+  by_append conference place messages (Some why) turn is then = inl (then ∙ ap (λ (t : Turn). state_of t.board) is)
+
+  by_sheet : (conference place : ℕ) (read : Result (List Sheet) Refusal) (turn : Turn) → turn ≡ sheet_turn conference now place b read → next ≡ state_of turn.board → Turns now b c next class
+  by_sheet conference place (Err why) turn is then = inl (then ∙ ap (λ (t : Turn). state_of t.board) is)
+  by_sheet conference place (Ok entries) turn is then =
+      let messages : List Message = imported_messages now place b entries in
+      by_append conference place messages (first_refusal (import_refusals place messages b)) turn is then
+
+  by_place : (conference : ℕ) (file : List ℕ) (shelf : Files) (o : Option ℕ) (turn : Turn) → ImportsAt conference file now shelf b o turn → next ≡ state_of turn.board → Turns now b c next class
+  by_place conference file shelf None turn is then = inl (then ∙ ap (λ (t : Turn). state_of t.board) is)
+  by_place conference file shelf (Some place) turn (read, reads, is) then = by_sheet conference place read turn is then
+
+  by_kill : (conference number place : ℕ) (has : Bool) (turn : Turn) → has_message place number b ≡ has → turn ≡ killing conference number place b → next ≡ state_of turn.board → Turns now b c next class
+  by_kill conference number place true turn has is then =
+      inr (Kill place number, then ∙ (ap (λ (t : Turn). state_of t.board) is ∙ ap (λ (t : Turn). state_of t.board) (cond-true (has_message place number b) (record { board = Some (deleted place number b); reply = done (killed_line conference number) }) (refuses NoMessage (Some b)) has)), tt)
+  by_kill conference number place false turn has is then =
+      inl (then ∙ (ap (λ (t : Turn). state_of t.board) is ∙ ap (λ (t : Turn). state_of t.board) (cond-false (has_message place number b) (record { board = Some (deleted place number b); reply = done (killed_line conference number) }) (refuses NoMessage (Some b)) has)))
+
+  by_kill_at : (conference number : ℕ) (o : Option ℕ) (turn : Turn) → turn ≡ kill_at conference number b o → next ≡ state_of turn.board → Turns now b c next class
+  by_kill_at conference number None turn is then = inl (then ∙ ap (λ (t : Turn). state_of t.board) is)
+  by_kill_at conference number (Some place) turn is then = by_kill conference number place (has_message place number b) turn refl is then
+
+  -- ---- packets
+  by_export : (name : List ℕ) (limit : ℕ) (folder : List ℕ) (shelf : Files) (handing : Handing) → c ≡ command.Export name limit folder → handing ≡ handing_of folder shelf b (export_of name limit now b) → next ≡ state_of handing.board
+      → class ≡ handing.reply.class → Turns now b c next class
+  by_export name limit folder shelf handing is_command is then class_is = by_id (user_id name b) refl
+    where
+      Ends : Result Handout ExportRefusal → Type 0
+      Ends r = export_of name limit now b ≡ r → handing ≡ handing_of folder shelf b r → Turns now b c next class
+
+      refused : (why : ExportRefusal) → Ends (Err why)
+      refused why given is = inl (then ∙ ap (λ (h : Handing). state_of h.board) is)
+
+      by_refusal : (id : ℕ) (u : User) → user_id name b ≡ Some id → user_of id b ≡ Some u → (why : Option ExportRefusal) → Ends (unless_refused (packet_to limit now b id u) why)
+      by_refusal id u user there (Some why) given is = refused why given is
+      by_refusal id u user there None given is = inr (
+        Offer id (highs b (offered b id limit)),
+        then ∙ ap (λ (h : Handing). state_of h.board) is,
+        record {
+          name = name;
+          limit = limit;
+          folder = folder;
+          command = is_command;
+          user_is = user;
+          u = u;
+          there = there;
+          highs_are = refl;
+          handout = packet_to limit now b id u;
+          export = given;
+          packet_is = refl;
+          done = class_is ∙ ap (λ (h : Handing). h.reply.class) is;
+        },
+      )
+
+      by_user : (id : ℕ) → user_id name b ≡ Some id → (o : Option User) → user_of id b ≡ o → Ends (export_to limit now b id o)
+      by_user id user None none given is = refused NoUser given is
+      by_user id user (Some u) there given is = by_refusal id u user there (user_refusal limit u) given is
+
+      by_id : (o : Option ℕ) → user_id name b ≡ o → Turns now b c next class
+      by_id None none = refused NoUser (ap (export_as limit now b) none) (is ∙ ap (λ (o : Option ℕ). handing_of folder shelf b (export_as limit now b o)) none)
+      by_id (Some id) user = by_user id user (user_of id b) refl (ap (export_as limit now b) user) (is ∙ ap (λ (o : Option ℕ). handing_of folder shelf b (export_as limit now b o)) user)
+
+  by_ack : (name : List ℕ) (packet : ℕ) (turn : Turn) → c ≡ command.Ack name packet → turn ≡ ack_turn_of packet b (ack_of name packet now b) → next ≡ state_of turn.board → class ≡ turn.reply.class → Turns now b c next class
+  by_ack name packet turn is_command is then class_is = by_id (user_id name b) refl
+    where
+      Ends : Result Board AckRefusal → Type 0
+      Ends r = turn ≡ ack_turn_of packet b r → Turns now b c next class
+
+      refused : (why : AckRefusal) → Ends (Err why)
+      refused why is = inl (then ∙ ap (λ (t : Turn). state_of t.board) is)
+
+      by_same : (id offer : ℕ) → user_id name b ≡ Some id → offer_of id b ≡ Some offer → (same : Bool) → eqb offer packet ≡ same → Ends (cond same (Ok (acknowledged id now b)) (Err (NoPacket (Some offer))))
+      by_same id offer user there false test is = refused (NoPacket (Some offer)) is
+      by_same id offer user there true test is = inr (
+        Acknowledge id now,
+        then ∙ ap (λ (t : Turn). state_of t.board) is,
+        record {
+          name = name;
+          packet = packet;
+          command = is_command;
+          user_is = user;
+          offer = there ∙ ap Some (eqb-true offer packet test);
+          done = class_is ∙ ap (λ (t : Turn). t.reply.class) is;
+        },
+      )
+
+      by_offer : (id : ℕ) → user_id name b ≡ Some id → (o : Option ℕ) → offer_of id b ≡ o → Ends (ack_offer packet now b id o)
+      by_offer id user None none is = refused (NoPacket None) is
+      by_offer id user (Some offer) there is = by_same id offer user there (eqb offer packet) refl is
+
+      by_id : (o : Option ℕ) → user_id name b ≡ o → Turns now b c next class
+      by_id None none = refused why.NoUser (is ∙ ap (λ (o : Option ℕ). ack_turn_of packet b (ack_as packet now b o)) none)
+      by_id (Some id) user = by_offer id user (offer_of id b) refl (is ∙ ap (λ (o : Option ℕ). ack_turn_of packet b (ack_as packet now b o)) user)
+
+  -- ---- uploads
+  by_read : (user : ℕ) (read : Result (List ℕ) Refusal) (turn : Turn) → UploadsRead user now b read turn → next ≡ state_of turn.board → Turns now b c next class
+  by_read user (Err why) turn is then = inl (then ∙ ap (λ (t : Turn). state_of t.board) is)
+  by_read user (Ok bytes) turn (r, comes, is) then = by (upload_turns now b user bytes next turn.reply turn then refl r comes is)
+    where
+      by : UploadTurns now b user (sha256 bytes) next turn.reply → Turns now b c next class
+      by (inl refused) = inl refused.same
+      by (inr (inl again)) = inl again.same
+      by (inr (inr judgement)) = inr (change.Upload user (sha256 bytes) (refused_count (judged b user now judgement.messages).0) (judged b user now judgement.messages).1, judgement.made, tt)
+
+  by_file : (file : List ℕ) (shelf : Files) (o : Option ℕ) (turn : Turn) → UploadsFile file now shelf b o turn → next ≡ state_of turn.board → Turns now b c next class
+  by_file file shelf None turn is then = inl (then ∙ ap (λ (t : Turn). state_of t.board) is)
+  by_file file shelf (Some user) turn is then = by_read user (file_of shelf file rep_limit) turn is then
+
+-- Each command on a board.
+pub turn_on : (now : ℕ) (b : Board) (c : BoardCommand) (shelf : Files) (stepped : Stepped (World State)) → does now c (here (Made b) shelf) stepped → Turns now b c stepped.world.state stepped.class
+turn_on now b (command.Init file) shelf stepped (same, (turn, is, next, reply)) = inl (next ∙ ap (λ (t : Turn). state_of t.board) is)
+turn_on now b (command.Enroll name flags conferences) shelf stepped (same, (turn, (choice, reads, is), next, reply)) =
+    by_enroll now b (command.Enroll name flags conferences) stepped.world.state stepped.class name (is_net flags) choice (first_refusal (enroll_refusals name (is_net flags) choice b)) turn is next
+turn_on now b command.Check shelf stepped (same, (turn, is, next, reply)) = inl (next ∙ ap (λ (t : Turn). state_of t.board) is)
+turn_on now b (command.Import conference file) shelf stepped (same, (turn, is, next, reply)) = by_place now b (command.Import conference file) stepped.world.state stepped.class conference file shelf (place_of conference b) turn is next
+turn_on now b (command.Kill conference number) shelf stepped (same, (turn, is, next, reply)) = by_kill_at now b (command.Kill conference number) stepped.world.state stepped.class conference number (place_of conference b) turn is next
+turn_on now b (command.Export name limit folder) shelf stepped (handing, is, next, new, reply) =
+    by_export now b (command.Export name limit folder) stepped.world.state stepped.class name limit folder shelf handing refl is next (ap (λ (r : Reply). r.class) reply)
+turn_on now b (command.Ack name packet) shelf stepped (same, (turn, is, next, reply)) = by_ack now b (command.Ack name packet) stepped.world.state stepped.class name packet turn refl is next (ap (λ (r : Reply). r.class) reply)
+turn_on now b (command.Upload name file) shelf stepped (same, (turn, is, next, reply)) =
+    by_file now b (command.Upload name file) stepped.world.state stepped.class file shelf (user_id name b) turn is next
+turn_on now b command.Other shelf stepped same = inl same

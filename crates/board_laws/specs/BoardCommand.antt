@@ -1,0 +1,44 @@
+-- What an entry is to a board.
+use Rattle.std.specs.Prelude.{◌≡◌, ℕ, List}
+use Rattle.entry_runs.specs.Door.{World}
+use Rattle.entry_runs.specs.Runs.{Stepped}
+use Rattle.board_commands.specs.Check.{checks}
+use Rattle.board_commands.specs.Enroll.{enrolls}
+use Rattle.board_commands.specs.Init.{inits}
+use Rattle.board_commands.specs.State.{State}
+use Rattle.export_commands.specs.Ack.{acknowledges}
+use Rattle.export_commands.specs.Export.{exports}
+use Rattle.message_commands.specs.Import.{imports}
+use Rattle.message_commands.specs.Kill.{kills}
+use Rattle.upload_commands.specs.Upload.{uploads}
+
+pub data BoardCommand : Type 0 where
+  -- the setup file
+  Init : List ℕ → BoardCommand
+  -- the words NAME, FLAGS and CONFS
+  Enroll : List ℕ → List ℕ → List ℕ → BoardCommand
+  Check : BoardCommand
+  -- the number of the conference, and the sheet
+  Import : ℕ → List ℕ → BoardCommand
+  -- the number of the conference, and that of the message
+  Kill : ℕ → ℕ → BoardCommand
+  -- the name of the user, the limit, and the folder
+  Export : List ℕ → ℕ → List ℕ → BoardCommand
+  -- the name of the user, and the packet
+  Ack : List ℕ → ℕ → BoardCommand
+  -- the name of the user, and the file
+  Upload : List ℕ → List ℕ → BoardCommand
+  -- anything that leaves the board
+  Other : BoardCommand
+
+-- what it does at a moment
+abbrev pub does : ℕ → BoardCommand → World State → Stepped (World State) → Type 0
+does now (Init file) world stepped = (inits file now).Step world stepped
+does now (Enroll name flags conferences) world stepped = (enrolls name flags conferences).Step world stepped
+does now Check world stepped = checks.Step world stepped
+does now (Import conference file) world stepped = (imports conference file now).Step world stepped
+does now (Kill conference number) world stepped = (kills conference number).Step world stepped
+does now (Export name limit folder) world stepped = (exports name limit folder now).Step world stepped
+does now (Ack name packet) world stepped = (acknowledges name packet now).Step world stepped
+does now (Upload name file) world stepped = (uploads name file now).Step world stepped
+does now Other world stepped = stepped.world.state ≡ world.state

@@ -1,0 +1,3 @@
+pub mod OneCommand
+pub mod Entering
+pub mod Batches

@@ -1,0 +1,5 @@
+pub mod Words
+pub mod Writing
+pub mod Answers
+pub mod Batch
+pub mod Entries

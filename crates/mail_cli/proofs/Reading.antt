@@ -1,0 +1,67 @@
+-- A run whose entries were read, and one whose entries weren't.
+use Rattle.std.proofs.Common.{◌≡◌, ◌≢◌, ◌⊎◌, inl, inr, ⊎_elim, ℕ, List, [], refl, sym, subst}
+use Rattle.std.specs.Prelude.{IsErrOf, Result, Ok}
+use Rattle.door_commands.specs.Entries.{AreEntries, EntriesRead, UnreadCauses}
+use Rattle.door_commands.specs.declared.entry.Entry.{Entry}
+use Rattle.door_outside.specs.Disk.{Disk}
+use Rattle.door_outside.specs.Shelf.{Files}
+use Rattle.entry_runs.proofs.Running.{completes, starts, survives}
+use Rattle.entry_runs.specs.Door.{World, here}
+use Rattle.entry_runs.specs.Promise.{Counts, HasCauses, IsUnread, Leaves, NoneRose, Survives, counts}
+use Rattle.entry_runs.specs.Runs.{stopped_status}
+use Rattle.entry_runs.specs.declared.status.Status.{Status}
+use Rattle.entry_runs.specs.declared.stop.Stop.{Stop}
+use Rattle.entry_runs.specs.declared.stop.Stop.TheVariants.{OutOfMemory, ShelfFault}
+use Rattle.intent_journal.specs.Hosts.{IsSettled}
+use Rattle.board_commands.specs.Kept.{unread}
+use Rattle.board_commands.specs.State.{State}
+use Rattle.mail_cli.proofs.EntryLaws.{lawful}
+use Rattle.mail_cli.specs.Run.{EntriesLeave, EntriesSurvive, RunCompletes, RunLeaves, RunSurvives}
+use Rattle.mail_cli.specs.Step.{door}
+
+module _ (now : ℕ) (words : List (List ℕ)) where
+  -- ---- they weren't read, and nothing was done
+  pub unread_leaves : (stop : Stop) (result : Status) (disk : Disk) (shelf later : Files) → (stop ≡ ShelfFault) ⊎ (stop ≡ OutOfMemory) → result ≡ stopped_status stop → later ≡ shelf
+      → RunLeaves now words result disk disk shelf later
+  unread_leaves stop result disk shelf later from is same state stores = inr (record {
+    stop = stop;
+    status_is = is;
+    from_shelf = from;
+    stores = stores;
+    said_is = refl;
+    shelf_is = same;
+    rests = λ firm. firm;
+  })
+
+  pub unread_survives : (disk : Disk) (shelf : Files) → IsSettled disk → RunSurvives now words disk disk shelf
+  unread_survives disk shelf settled state stores = (
+    [],
+    inr refl,
+    survives (door now) (lawful now) stores (starts (door now) {known = unread} [] (record {
+      board = record { ready = record { settled = settled; calm = λ read. absurd (cc read) }; stores = stores; fits = tt };
+      shelf_is = refl;
+    })),
+  )
+
+  -- ---- they were, and the shelf holds what it did
+  module _ (entries : List Entry) (old new : Disk) (shelf between : Files) (same : between ≡ shelf) (reads : EntriesRead words shelf entries) where
+    pub read_leaves : (result : Status) (later : Files) → EntriesLeave now entries result old new between later → RunLeaves now words result old new shelf later
+    read_leaves result later leaves state stores =
+        inl (entries, reads, subst (λ (files : Files). Leaves (door now) result (here state files) entries old new later) same (leaves state stores))
+
+    pub read_survives : EntriesSurvive now entries old new between → RunSurvives now words old new shelf
+    read_survives survive state stores = (entries, inl reads, subst (λ (files : Files). Survives (door now) (here state files) entries old new) same (survive state stores))
+
+    pub read_completes : (before after : Counts) (result : Status) (later : Files) → HasCauses before after result → EntriesLeave now entries result old new between later
+        → RunCompletes now words before after result old new shelf later
+    read_completes before after result later causes leaves state stores none = ⊎_elim
+        (λ memory. inl memory)
+        (λ whole. inr (entries, reads, whole))
+        (completes (door now) causes (subst (λ (files : Files). Leaves (door now) result (here state files) entries old new later) same (leaves state stores)) none)
+
+-- the entries were read without a fault of the shelf
+pub read_kept : {T : Type 0} {old between : ℕ} (entries : T) → UnreadCauses old between (Ok entries) → between ≡ old
+read_kept entries causes = ⊎_elim (λ fault. absurd (cc fault)) (λ kept. kept) causes.kept
+
+pub read_causes : (disk voice old between : ℕ) (after : Counts) (result : Status) → between ≡ old → HasCauses (counts disk voice between) after result → HasCauses (counts disk voice old) after result
+read_causes disk voice old between after result same causes = subst (λ (shelf : ℕ). HasCauses (counts disk voice shelf) after result) same causes
