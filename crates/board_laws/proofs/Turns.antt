@@ -38,6 +38,7 @@ use Rattle.message_commands.specs.Kill.{has_message, kill_at, killed_line, killi
 use Rattle.offer_changes.specs.Changed.{acknowledged}
 use Rattle.offered_packets.specs.Offered.{highs, offered}
 use Rattle.packet_verdicts.specs.Judged.{judged, refused_count}
+use Rattle.sample_commands.specs.Sample.{sample_refusals, sampled_posts, sampling}
 use Rattle.setup_file.specs.declared.setup.Setup.{Setup}
 use Rattle.shelf_files.specs.ShelfFile.{file_of}
 use Rattle.shelf_files.specs.Halts.{done}
@@ -65,6 +66,7 @@ from_none now (command.Kill conference number) shelf stepped (same, (turn, is, n
 from_none now (command.Export name limit folder) shelf stepped (handing, is, next, new, reply) = inl (next ∙ ap (λ (h : Handing). state_of h.board) is)
 from_none now (command.Ack name packet) shelf stepped (same, (turn, is, next, reply)) = inl (next ∙ ap (λ (t : Turn). state_of t.board) is)
 from_none now (command.Upload name file) shelf stepped (same, (turn, is, next, reply)) = inl (next ∙ ap (λ (t : Turn). state_of t.board) is)
+from_none now (command.Sample seed count) shelf stepped (same, (turn, is, next, reply)) = inl (next ∙ ap (λ (t : Turn). state_of t.board) is)
 from_none now command.Other shelf stepped same = inl same
 
 -- ---- from a board
@@ -115,6 +117,10 @@ module _ (now : ℕ) (b : Board) (c : BoardCommand) (next : State) (class : Clas
   by_append : (conference place : ℕ) (messages : List Message) (why : Option Refusal) (turn : Turn) → turn ≡ appending conference place messages b why → next ≡ state_of turn.board → Turns now b c next class
   by_append conference place messages None turn is then = inr (Append place messages, then ∙ ap (λ (t : Turn). state_of t.board) is, tt)
   by_append conference place messages (Some why) turn is then = inl (then ∙ ap (λ (t : Turn). state_of t.board) is)
+
+  by_sample : (seed count : ℕ) (why : Option Refusal) (turn : Turn) → turn ≡ sampling seed count now b why → next ≡ state_of turn.board → Turns now b c next class
+  by_sample seed count None turn is then = inr (Spread (sampled_posts seed now b count), then ∙ ap (λ (t : Turn). state_of t.board) is, tt)
+  by_sample seed count (Some why) turn is then = inl (then ∙ ap (λ (t : Turn). state_of t.board) is)
 
   by_sheet : (conference place : ℕ) (read : Result (List Sheet) Refusal) (turn : Turn) → turn ≡ sheet_turn conference now place b read → next ≡ state_of turn.board → Turns now b c next class
   by_sheet conference place (Err why) turn is then = inl (then ∙ ap (λ (t : Turn). state_of t.board) is)
@@ -235,4 +241,6 @@ turn_on now b (command.Export name limit folder) shelf stepped (handing, is, nex
 turn_on now b (command.Ack name packet) shelf stepped (same, (turn, is, next, reply)) = by_ack now b (command.Ack name packet) stepped.world.state stepped.class name packet turn refl is next (ap (λ (r : Reply). r.class) reply)
 turn_on now b (command.Upload name file) shelf stepped (same, (turn, is, next, reply)) =
     by_file now b (command.Upload name file) stepped.world.state stepped.class file shelf (user_id name b) turn is next
+turn_on now b (command.Sample seed count) shelf stepped (same, (turn, is, next, reply)) =
+    by_sample now b (command.Sample seed count) stepped.world.state stepped.class seed count (first_refusal (sample_refusals seed count now b)) turn is next
 turn_on now b command.Other shelf stepped same = inl same

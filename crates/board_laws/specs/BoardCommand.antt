@@ -10,6 +10,7 @@ use Rattle.export_commands.specs.Ack.{acknowledges}
 use Rattle.export_commands.specs.Export.{exports}
 use Rattle.message_commands.specs.Import.{imports}
 use Rattle.message_commands.specs.Kill.{kills}
+use Rattle.sample_commands.specs.Sample.{samples}
 use Rattle.upload_commands.specs.Upload.{uploads}
 
 pub data BoardCommand : Type 0 where
@@ -28,6 +29,8 @@ pub data BoardCommand : Type 0 where
   Ack : List ℕ → ℕ → BoardCommand
   -- the name of the user, and the file
   Upload : List ℕ → List ℕ → BoardCommand
+  -- the seed, and the count
+  Sample : ℕ → ℕ → BoardCommand
   -- anything that leaves the board
   Other : BoardCommand
 
@@ -41,4 +44,5 @@ does now (Kill conference number) world stepped = (kills conference number).Step
 does now (Export name limit folder) world stepped = (exports name limit folder now).Step world stepped
 does now (Ack name packet) world stepped = (acknowledges name packet now).Step world stepped
 does now (Upload name file) world stepped = (uploads name file now).Step world stepped
+does now (Sample seed count) world stepped = (samples seed count now).Step world stepped
 does now Other world stepped = stepped.world.state ≡ world.state

@@ -7,12 +7,12 @@ use Rattle.command_words.specs.NumberWord.{NumberWord}
 use Rattle.door_commands.specs.declared.command.Command.{Command}
 use Rattle.door_commands.specs.declared.command.Command.TheVariants as command
 use Rattle.door_commands.specs.declared.verb.Verb.{Verb}
-use Rattle.door_commands.specs.declared.verb.Verb.TheVariants.{AckPacket, BatchFile, CheckBoard, ComposeSheet, EnrollUser, ExportPacket, ImportSheet, InitBoard, KillMessage, ListFile, ReadFolder, ReplyTo, ScanFile, UploadPacket}
+use Rattle.door_commands.specs.declared.verb.Verb.TheVariants.{AckPacket, BatchFile, CheckBoard, ComposeSheet, EnrollUser, ExportPacket, ImportSheet, InitBoard, KillMessage, ListFile, ReadFolder, ReplyTo, SampleMessages, ScanFile, UploadPacket}
 use Rattle.door_commands.specs.Words.{first_word, ReadsBehind, CommandReads, WritingReads}
 
 -- all verbs in order
 verbs : List Verb
-verbs = AckPacket ∷ BatchFile ∷ CheckBoard ∷ ComposeSheet ∷ EnrollUser ∷ ExportPacket ∷ ImportSheet ∷ InitBoard ∷ KillMessage ∷ ListFile ∷ ReadFolder ∷ ReplyTo ∷ ScanFile ∷ UploadPacket ∷ []
+verbs = AckPacket ∷ BatchFile ∷ CheckBoard ∷ ComposeSheet ∷ EnrollUser ∷ ExportPacket ∷ ImportSheet ∷ InitBoard ∷ KillMessage ∷ ListFile ∷ ReadFolder ∷ ReplyTo ∷ SampleMessages ∷ ScanFile ∷ UploadPacket ∷ []
 
 -- the verb of a first word
 verb_of : List ℕ → Option Verb
@@ -33,6 +33,7 @@ verb_back KillMessage = refl
 verb_back ListFile = refl
 verb_back ReadFolder = refl
 verb_back ReplyTo = refl
+verb_back SampleMessages = refl
 verb_back ScanFile = refl
 verb_back UploadPacket = refl
 
@@ -107,6 +108,13 @@ behind_unique ReadFolder words a b (inr x) (inr y) =
     x.6 ∙ (λ i. command.Show (folder i) (place i)) ∙ sym y.6
 behind_unique ReplyTo words a b x y =
     x.5 ∙ (λ i. command.Reply (same_folder x.4 y.4 i) (same_number x.4 y.4 i) (same_file x.4 y.4 i) (same_rep x.4 y.4 i)) ∙ sym y.5
+behind_unique SampleMessages words a b x y =
+    let e = sym x.4 ∙ y.4 in
+    let word : x.0 ≡ y.0 = cc in
+    let other : x.1 ≡ y.1 = cc in
+    let seed : x.2 ≡ y.2 = one_number x.0 y.0 x.2 y.2 word x.5 y.5 in
+    let count : x.3 ≡ y.3 = one_number x.1 y.1 x.3 y.3 other x.6 y.6 in
+    x.7 ∙ (λ i. command.Sample (seed i) (count i)) ∙ sym y.7
 behind_unique ScanFile words a b x y = let e = sym x.1 ∙ y.1 in let file : x.0 ≡ y.0 = cc in x.3 ∙ ap command.Scan file ∙ sym y.3
 behind_unique UploadPacket words a b x y =
     let e = sym x.2 ∙ y.2 in

@@ -52,6 +52,7 @@ CanRun (command.Kill conference number) = Unit {0}
 CanRun (command.List file) = Unit {0}
 CanRun (command.Read folder) = HasParts 3 folder
 CanRun (command.Reply folder place text rep) = HasParts 3 folder
+CanRun (command.Sample seed count) = Unit {0}
 CanRun (command.Show folder place) = HasParts 3 folder
 CanRun (command.Scan file) = Unit {0}
 CanRun (command.Upload user file) = Unit {0}

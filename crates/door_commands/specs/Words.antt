@@ -7,7 +7,7 @@ use Rattle.command_words.specs.declared.choice.Choice.{Choice}
 use Rattle.door_commands.specs.declared.command.Command.{Command}
 use Rattle.door_commands.specs.declared.command.Command.TheVariants as command
 use Rattle.door_commands.specs.declared.verb.Verb.{Verb}
-use Rattle.door_commands.specs.declared.verb.Verb.TheVariants.{AckPacket, BatchFile, CheckBoard, ComposeSheet, EnrollUser, ExportPacket, ImportSheet, InitBoard, KillMessage, ListFile, ReadFolder, ReplyTo, ScanFile, UploadPacket}
+use Rattle.door_commands.specs.declared.verb.Verb.TheVariants.{AckPacket, BatchFile, CheckBoard, ComposeSheet, EnrollUser, ExportPacket, ImportSheet, InitBoard, KillMessage, ListFile, ReadFolder, ReplyTo, SampleMessages, ScanFile, UploadPacket}
 
 -- `-`, or `n`: the user may send net mail
 abbrev pub IsFlags : List ℕ → Type 0
@@ -31,6 +31,7 @@ first_word KillMessage = codes "kill"
 first_word ListFile = codes "list"
 first_word ReadFolder = codes "read"
 first_word ReplyTo = codes "reply"
+first_word SampleMessages = codes "sample"
 first_word ScanFile = codes "scan"
 first_word UploadPacket = codes "upload"
 
@@ -67,6 +68,8 @@ ReadsBehind ReadFolder words c =
     ⊎ ((folder word : List ℕ) × (place : ℕ) × (words ≡ folder ∷ word ∷ []) × HasParts 3 folder × NumberWord word place × (c ≡ command.Show folder place))
 ReadsBehind ReplyTo words c =
     (folder : List ℕ) × (place : ℕ) × (text rep : List ℕ) × WritingReads words folder place text rep × (c ≡ command.Reply folder place text rep)
+ReadsBehind SampleMessages words c =
+    (word other : List ℕ) × (seed count : ℕ) × (words ≡ word ∷ other ∷ []) × NumberWord word seed × NumberWord other count × (c ≡ command.Sample seed count)
 ReadsBehind ScanFile words c = (file : List ℕ) × (words ≡ file ∷ []) × IsShelfName file × (c ≡ command.Scan file)
 ReadsBehind UploadPacket words c = (user file : List ℕ) × (words ≡ user ∷ file ∷ []) × IsShelfName file × (c ≡ command.Upload user file)
 

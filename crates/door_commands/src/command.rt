@@ -1,6 +1,6 @@
 ghost use Rattle.std.specs.Prelude.{◌↔◌, ◌∷◌, [], IfOk, IsTrue};
 ghost use Rattle.door_commands.specs.Words.{BehindOf, IsFlags, NamesConferences};
-ghost use Rattle.door_commands.specs.declared.verb.Verb.TheVariants.{AckPacket, BatchFile, CheckBoard, ComposeSheet, EnrollUser, ExportPacket, ImportSheet, InitBoard, KillMessage, ListFile, ReadFolder, ReplyTo, ScanFile, UploadPacket};
+ghost use Rattle.door_commands.specs.declared.verb.Verb.TheVariants.{AckPacket, BatchFile, CheckBoard, ComposeSheet, EnrollUser, ExportPacket, ImportSheet, InitBoard, KillMessage, ListFile, ReadFolder, ReplyTo, SampleMessages, ScanFile, UploadPacket};
 
 use crate::names::folder_of;
 use crate::verb::Verb;
@@ -76,6 +76,11 @@ pub enum Command {
         place: u32,
         text: ShelfName,
         rep: ShelfName,
+    },
+    /// `sample SEED N`: appends so many made-up messages, which are drawn by a seed.
+    Sample {
+        seed: u32,
+        count: u32,
     },
     /// `read FOLDER N`: shows the message in place N of the packet, from 1.
     Show {
@@ -241,6 +246,22 @@ fn parse_list(alloc: Global, rest: &[Bytes]) -> Result<Option<Command>, AllocErr
     }
 }
 
+/// The command of `sample` with the words behind it.
+fn parse_sample(rest: &[Bytes]) -> Option<Command>
+    ensures { BehindOf SampleMessages rest.now result }
+{
+    let [seed, count] = rest else {
+        return None;
+    };
+    let Some(seed) = number_of(seed.as_slice()) else {
+        return None;
+    };
+    match number_of(count.as_slice()) {
+        Some(count) => Some(Command::Sample { seed, count }),
+        None => None,
+    }
+}
+
 /// The command of `scan` with the words behind it.
 fn parse_scan(alloc: Global, rest: &[Bytes]) -> Result<Option<Command>, AllocError>
     ensures { IfOk result (BehindOf ScanFile rest.now) }
@@ -351,6 +372,7 @@ fn parse_behind(alloc: Global, verb: Verb, rest: &[Bytes]) -> Result<Option<Comm
         Verb::ListFile => parse_list(alloc, rest),
         Verb::ReadFolder => parse_read(alloc, rest),
         Verb::ReplyTo => parse_reply(alloc, rest),
+        Verb::SampleMessages => Ok(parse_sample(rest)),
         Verb::ScanFile => parse_scan(alloc, rest),
         Verb::UploadPacket => parse_upload(alloc, rest),
     }

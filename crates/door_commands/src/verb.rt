@@ -25,6 +25,8 @@ pub enum Verb {
     ReadFolder,
     /// `reply`
     ReplyTo,
+    /// `sample`
+    SampleMessages,
     /// `scan`
     ScanFile,
     /// `upload`
@@ -53,6 +55,7 @@ impl Verb {
             b"list" => Some(Verb::ListFile),
             b"read" => Some(Verb::ReadFolder),
             b"reply" => Some(Verb::ReplyTo),
+            b"sample" => Some(Verb::SampleMessages),
             b"scan" => Some(Verb::ScanFile),
             b"upload" => Some(Verb::UploadPacket),
             _ => None,

@@ -1,5 +1,4 @@
 -- What an entry does is what it is to a board.
-use Rattle.std.proofs.Common.{ℕ}
 use Rattle.board_laws.proofs.Sequences.{AreCommands}
 use Rattle.door_commands.specs.declared.command.Command.TheVariants as command
 use Rattle.door_commands.specs.declared.entry.Entry.TheVariants.{Run, Wrong, Refuse}
@@ -18,6 +17,7 @@ are_commands now (Run (command.Kill conference number)) world stepped step = ste
 are_commands now (Run (command.List file)) world stepped step = step.1
 are_commands now (Run (command.Read folder)) world stepped step = step.1
 are_commands now (Run (command.Reply folder place text rep)) world stepped step = step.1
+are_commands now (Run (command.Sample seed count)) world stepped step = step
 are_commands now (Run (command.Show folder place)) world stepped step = step.1
 are_commands now (Run (command.Scan file)) world stepped step = step.1
 are_commands now (Run (command.Upload user file)) world stepped step = step

@@ -15,6 +15,7 @@ use Rattle.packet_commands.specs.Scan.{scans}
 use Rattle.reply_commands.proofs.ReplyLaws.{lawful_composes, lawful_replies}
 use Rattle.reply_commands.specs.Compose.{composes}
 use Rattle.reply_commands.specs.Reply.{replies}
+use Rattle.sample_commands.proofs.SampleActs.{sample_turns}
 use Rattle.shelf_files.proofs.Replies.{some_refusal}
 use Rattle.shelf_files.specs.Halts.{refused}
 use Rattle.upload_commands.proofs.UploadActs.{upload_turns}
@@ -56,6 +57,7 @@ lawful now (Run (command.Kill conference number)) = lawful_on_board _ (kill_turn
 lawful now (Run (command.List file)) = lawful_on_shelf (lists file) (lawful_lists file)
 lawful now (Run (command.Read folder)) = lawful_on_shelf (reads folder) (lawful_reads folder)
 lawful now (Run (command.Reply folder place text rep)) = lawful_on_shelf (replies folder place text rep now) (lawful_replies folder place text rep now)
+lawful now (Run (command.Sample seed count)) = lawful_on_board _ (sample_turns seed count now)
 lawful now (Run (command.Show folder place)) = lawful_on_shelf (shows folder place) (lawful_shows folder place)
 lawful now (Run (command.Scan file)) = lawful_on_shelf (scans file) (lawful_scans file)
 lawful now (Run (command.Upload user file)) = lawful_on_board _ (upload_turns user file now)
@@ -76,6 +78,7 @@ keeps now (Run (command.Kill conference number)) = keeps_state _ (kill_turns con
 keeps now (Run (command.List file)) = keeps_on_shelf (lists file) (lawful_lists file)
 keeps now (Run (command.Read folder)) = keeps_on_shelf (reads folder) (lawful_reads folder)
 keeps now (Run (command.Reply folder place text rep)) = keeps_on_shelf (replies folder place text rep now) (lawful_replies folder place text rep now)
+keeps now (Run (command.Sample seed count)) = keeps_state _ (sample_turns seed count now)
 keeps now (Run (command.Show folder place)) = keeps_on_shelf (shows folder place) (lawful_shows folder place)
 keeps now (Run (command.Scan file)) = keeps_on_shelf (scans file) (lawful_scans file)
 keeps now (Run (command.Upload user file)) = keeps_state _ (upload_turns user file now)

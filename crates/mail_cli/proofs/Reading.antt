@@ -1,20 +1,19 @@
 -- A run whose entries were read, and one whose entries weren't.
-use Rattle.std.proofs.Common.{◌≡◌, ◌≢◌, ◌⊎◌, inl, inr, ⊎_elim, ℕ, List, [], refl, sym, subst}
-use Rattle.std.specs.Prelude.{IsErrOf, Result, Ok}
-use Rattle.door_commands.specs.Entries.{AreEntries, EntriesRead, UnreadCauses}
+use Rattle.std.proofs.Common.{◌≡◌, ◌⊎◌, inl, inr, ⊎_elim, ℕ, List, [], refl, subst}
+use Rattle.std.specs.Prelude.{Ok}
+use Rattle.door_commands.specs.Entries.{EntriesRead, UnreadCauses}
 use Rattle.door_commands.specs.declared.entry.Entry.{Entry}
 use Rattle.door_outside.specs.Disk.{Disk}
 use Rattle.door_outside.specs.Shelf.{Files}
 use Rattle.entry_runs.proofs.Running.{completes, starts, survives}
-use Rattle.entry_runs.specs.Door.{World, here}
-use Rattle.entry_runs.specs.Promise.{Counts, HasCauses, IsUnread, Leaves, NoneRose, Survives, counts}
+use Rattle.entry_runs.specs.Door.{here}
+use Rattle.entry_runs.specs.Promise.{Counts, HasCauses, Leaves, Survives, counts}
 use Rattle.entry_runs.specs.Runs.{stopped_status}
 use Rattle.entry_runs.specs.declared.status.Status.{Status}
 use Rattle.entry_runs.specs.declared.stop.Stop.{Stop}
 use Rattle.entry_runs.specs.declared.stop.Stop.TheVariants.{OutOfMemory, ShelfFault}
 use Rattle.intent_journal.specs.Hosts.{IsSettled}
 use Rattle.board_commands.specs.Kept.{unread}
-use Rattle.board_commands.specs.State.{State}
 use Rattle.mail_cli.proofs.EntryLaws.{lawful}
 use Rattle.mail_cli.specs.Run.{EntriesLeave, EntriesSurvive, RunCompletes, RunLeaves, RunSurvives}
 use Rattle.mail_cli.specs.Step.{door}

@@ -10,19 +10,9 @@ use Rattle.entry_runs.specs.declared.status.Status.{Status}
 use Rattle.entry_runs.specs.declared.status.Status.TheVariants as status
 use Rattle.entry_runs.specs.declared.stop.Stop.{Stop}
 use Rattle.entry_runs.specs.declared.stop.Stop.TheVariants.{DiskFault, ShelfFault, VoiceFault, OutOfMemory}
-use Rattle.door_outside.specs.Disk.{Disk}
-use Rattle.door_outside.specs.Shelf.{Files}
-use Rattle.entry_runs.proofs.Running.{starts, survives}
-use Rattle.intent_journal.specs.Hosts.{IsSettled}
-use Rattle.mail_cli.proofs.EntryLaws.{lawful}
-use Rattle.board_commands.specs.Kept.{unread}
 use Rattle.door_commands.specs.Entries.{IsWrong, HasWrong, BeginsWrong}
-use Rattle.mail_cli.specs.Run.{AnswersUsage, RunSurvives}
-use Rattle.mail_cli.specs.Step.{door}
-use Rattle.door_commands.specs.Words.{IsNoCommand}
+use Rattle.mail_cli.specs.Run.{AnswersUsage}
 use Rattle.door_commands.specs.declared.entry.Entry.{Entry}
-use Rattle.door_commands.specs.declared.entry.Entry.TheVariants.{Run, Wrong, Refuse}
-use Rattle.door_commands.specs.declared.entry.Usage.TheVariants.{Words, Line}
 
 -- the entry that a run is at is wrong where the first is
 pub wrong_head : {entries back : List Entry} {entry : Entry} (i : ℕ) → drop i entries ≡ entry ∷ back → (0 < i → ¬ BeginsWrong entries) → BeginsWrong entries → IsWrong entry

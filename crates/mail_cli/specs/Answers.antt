@@ -5,7 +5,6 @@ use Rattle.board_commands.specs.Enroll.{enrolled_line}
 use Rattle.board_commands.specs.Init.{made_line}
 use Rattle.entry_runs.specs.Entry.{Reply}
 use Rattle.entry_runs.specs.Promise.{counts, ended, HasCauses}
-use Rattle.entry_runs.specs.declared.class.Class.TheVariants as class
 use Rattle.entry_runs.specs.declared.stop.Stop.{Stop}
 use Rattle.export_commands.specs.Ack.{acknowledged_line}
 use Rattle.export_commands.specs.Export.{packet_line}
@@ -14,10 +13,11 @@ use Rattle.message_commands.specs.Kill.{killed_line}
 use Rattle.packet_commands.specs.Scan.{count_line}
 use Rattle.reply_commands.specs.Compose.{composed_line}
 use Rattle.reply_commands.specs.Reply.{reply_line}
+use Rattle.sample_commands.specs.Sample.{sampled_line}
 use Rattle.shelf_files.specs.Halts.{done, refused}
 use Rattle.upload_commands.specs.Upload.{uploaded_text}
 use Rattle.mail_cli.specs.declared.answer.Answer.{Answer}
-use Rattle.mail_cli.specs.declared.answer.Answer.TheVariants.{Text, Counted, Made, Enrolled, Imported, Killed, Exported, Acknowledged, Uploaded, Replied, Composed, Refused, Damaged}
+use Rattle.mail_cli.specs.declared.answer.Answer.TheVariants.{Text, Counted, Made, Enrolled, Imported, Killed, Sampled, Exported, Acknowledged, Uploaded, Replied, Composed, Refused, Damaged}
 
 -- what is said for each answer of a command
 abbrev pub reply_of : Answer → Reply
@@ -27,6 +27,7 @@ reply_of (Made count) = done (made_line count)
 reply_of (Enrolled user) = done (enrolled_line user)
 reply_of (Imported conference count) = done (imported_line conference count)
 reply_of (Killed conference number) = done (killed_line conference number)
+reply_of (Sampled count) = done (sampled_line count)
 reply_of (Exported packet) = done (packet_line packet)
 reply_of (Acknowledged packet) = done (acknowledged_line packet)
 reply_of (Uploaded uploaded) = done (uploaded_text uploaded)

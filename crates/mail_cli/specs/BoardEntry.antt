@@ -20,6 +20,7 @@ board_command (Run (command.Kill conference number)) = board.Kill conference num
 board_command (Run (command.List file)) = board.Other
 board_command (Run (command.Read folder)) = board.Other
 board_command (Run (command.Reply folder place text rep)) = board.Other
+board_command (Run (command.Sample seed count)) = board.Sample seed count
 board_command (Run (command.Show folder place)) = board.Other
 board_command (Run (command.Scan file)) = board.Other
 board_command (Run (command.Upload user file)) = board.Upload user file

@@ -34,6 +34,7 @@ IsForCaller (command.Kill conference number) = ⊥
 IsForCaller (command.List file) = ⊥
 IsForCaller (command.Read folder) = ⊥
 IsForCaller (command.Reply folder place text rep) = ⊥
+IsForCaller (command.Sample seed count) = ⊥
 IsForCaller (command.Show folder place) = ⊥
 IsForCaller (command.Scan file) = ⊥
 IsForCaller (command.Upload user file) = Unit {0}

@@ -15,6 +15,7 @@ use Rattle.packet_commands.specs.Read.{reads, shows}
 use Rattle.packet_commands.specs.Scan.{scans}
 use Rattle.reply_commands.specs.Compose.{composes}
 use Rattle.reply_commands.specs.Reply.{replies}
+use Rattle.sample_commands.specs.Sample.{samples}
 use Rattle.shelf_files.specs.Halts.{refused}
 use Rattle.upload_commands.specs.Upload.{uploads}
 use Rattle.door_commands.specs.Answers.{usage}
@@ -41,6 +42,7 @@ does now (command.Kill conference number) = kills conference number
 does now (command.List file) = on_shelf (lists file)
 does now (command.Read folder) = on_shelf (reads folder)
 does now (command.Reply folder place text rep) = on_shelf (replies folder place text rep now)
+does now (command.Sample seed count) = samples seed count now
 does now (command.Show folder place) = on_shelf (shows folder place)
 does now (command.Scan file) = on_shelf (scans file)
 does now (command.Upload user file) = uploads user file now

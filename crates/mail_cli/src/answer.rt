@@ -8,6 +8,7 @@ ghost use Rattle.export_commands.specs.Export.{packet_line};
 ghost use Rattle.message_commands.specs.Import.{imported_line};
 ghost use Rattle.message_commands.specs.Kill.{killed_line};
 ghost use Rattle.reply_commands.specs.Writing.{total_text};
+ghost use Rattle.sample_commands.specs.Sample.{sampled_line};
 
 use board_commands::{BoardHalt, Enrolled, say_damage};
 use byte_lists::Bytes;
@@ -41,6 +42,8 @@ pub enum Answer {
         conference: u32,
         number: u32,
     },
+    /// It appended so many made-up messages.
+    Sampled(u32),
     /// It exported a packet.
     Exported(Exported),
     /// It acknowledged the packet of a number.
@@ -114,6 +117,16 @@ fn say_imported<H: Host>(host: &mut H, conference: u32, count: u32) -> Result<()
             b"\n",
         ],
     )
+}
+
+/// Says the line of made-up messages.
+fn say_sampled<H: Host>(host: &mut H, count: u32) -> Result<(), VoiceFault>
+    ensures voiced { IsTrue H.tells → Voiced (sampled_line count) (H.disk host.old) (H.disk host.new) result }
+    ensures cause { HasCause (H.voice_faults host.old) (H.voice_faults host.new) result }
+    ensures disk { H.disk_faults host.new ≡ H.disk_faults host.old }
+{
+    let mut buffer = Buffer::new();
+    say_all(host, &[b"sampled ", buffer.format(count).as_bytes(), b"\n"])
 }
 
 /// Says the line of a deleted message.
@@ -212,6 +225,7 @@ impl Answer {
     ghost use Rattle.message_commands.specs.Kill.{killed_line};
     ghost use Rattle.reply_commands.specs.Compose.{composed_line};
     ghost use Rattle.reply_commands.specs.Reply.{reply_line};
+    ghost use Rattle.sample_commands.specs.Sample.{sampled_line};
     ghost use Rattle.upload_commands.specs.Upload.{uploaded_text};
     ghost use Rattle.mail_cli.specs.Answers.{reply_of, answered};
 
@@ -306,6 +320,16 @@ impl Answer {
         }
     }
 
+    /// What a command answers that appends made-up messages, or why the run stops.
+    pub fn of_sampled(reply: Result<u32, BoardHalt>) -> Result<Answer, Stop>
+        ensures { answered result ≡ told sampled_line reply }
+    {
+        match reply {
+            Ok(count) => Ok(Answer::Sampled(count)),
+            Err(halt) => Answer::of_halt(halt),
+        }
+    }
+
     /// What a command answers that exports a packet, or why the run stops.
     pub fn of_exported(reply: Result<Exported, BoardHalt>) -> Result<Answer, Stop>
         ensures { answered result ≡ told packet_line reply }
@@ -372,6 +396,7 @@ impl Answer {
             Answer::Text(_) | Answer::Counted(_) => Class::Done,
             Answer::Made(_) | Answer::Enrolled(_) => Class::Done,
             Answer::Imported { .. } | Answer::Killed { .. } => Class::Done,
+            Answer::Sampled(_) => Class::Done,
             Answer::Exported(_) | Answer::Acknowledged(_) => Class::Done,
             Answer::Uploaded(_) => Class::Done,
             Answer::Replied { .. } | Answer::Composed { .. } => Class::Done,
@@ -396,6 +421,7 @@ impl Answer {
             Answer::Enrolled(user) => say_enrolled(host, user),
             Answer::Imported { conference, count } => say_imported(host, *conference, *count),
             Answer::Killed { conference, number } => say_killed(host, *conference, *number),
+            Answer::Sampled(count) => say_sampled(host, *count),
             Answer::Exported(packet) => say_exported(host, packet),
             Answer::Acknowledged(packet) => say_acknowledged(host, *packet),
             Answer::Uploaded(uploaded) => say_uploaded(host, uploaded),

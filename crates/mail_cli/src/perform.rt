@@ -23,6 +23,7 @@ use mail_board::Loaded;
 use message_commands::{import, kill};
 use packet_commands::{list, read, scan, show};
 use reply_commands::{compose, reply};
+use sample_commands::sample;
 use std::alloc::Global;
 use upload_commands::upload;
 
@@ -172,6 +173,9 @@ fn carry_out_on_board<H: Host, S: Shelf>(
             *number,
             kill(alloc, host, kept, *conference, *number),
         ),
+        Command::Sample { seed, count } => {
+            Answer::of_sampled(sample(alloc, host, kept, *seed, *count, now))
+        }
         _ => unreachable!(),
     }
 }
@@ -218,6 +222,7 @@ fn carry_out<H: Host, S: Shelf>(
         | Command::Import { .. }
         | Command::Init { .. }
         | Command::Kill { .. }
+        | Command::Sample { .. }
         | Command::Upload { .. } => { carry_out_on_board(alloc, host, shelf, kept, command, now) }
         Command::Batch { .. } => unreachable!(),
     }

@@ -47,7 +47,12 @@ const REPLIED: &[u8] =
 fn put_day(shelf: &mut MemoryShelf, alloc: Global) -> Result<(), Miss> {
     put_setups(shelf, alloc)?;
     let message = b"From: Bob Ray\nTo: All\nSubject: Note\n\nHello\n.\n";
-    put(shelf, alloc, "forty", copies(alloc, message, 40)?.as_slice())?;
+    put(
+        shelf,
+        alloc,
+        "forty",
+        copies(alloc, message, 40)?.as_slice(),
+    )?;
     put(shelf, alloc, "text", b"Thanks\n")?;
     put(shelf, alloc, "day", DAY)
 }
@@ -59,7 +64,12 @@ fn a_day_is_one_batch(rt: HostRuntime) -> Result<(), Miss> {
     put_day(&mut shelf, alloc)?;
     let host = play(alloc, empty_host(alloc), &mut shelf, SAID)?;
     // Forty headers of 76 bytes with subfields of 57 and 58 stand before it, nine of them with numbers of one digit.
-    expect_part(&host, FileId::jhr(0), 1024 + 9 * 133 + 31 * 134 + 76, REPLIED)
+    expect_part(
+        &host,
+        FileId::jhr(0),
+        1024 + 9 * 133 + 31 * 134 + 76,
+        REPLIED,
+    )
 }
 
 /// Lines that are skipped, and words with spaces and quotes around them.

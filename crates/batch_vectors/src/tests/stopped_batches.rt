@@ -12,10 +12,7 @@ const COMMANDS: [(&str, &str); 4] = [
     ("", ""),
     ("enroll \"Ed Poe\" - 0,7", "user 5 Ed Poe\n"),
     ("import 0 one", "user 5 Ed Poe\nimported 1 into 0\n"),
-    (
-        "kill 0 1",
-        "user 5 Ed Poe\nimported 1 into 0\nkilled 0 1\n",
-    ),
+    ("kill 0 1", "user 5 Ed Poe\nimported 1 into 0\nkilled 0 1\n"),
 ];
 
 const BATCH: &[u8] = b"enroll \"Ed Poe\" - 0,7\nimport 0 one\nkill 0 1\n";

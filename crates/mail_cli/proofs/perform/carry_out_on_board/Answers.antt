@@ -45,3 +45,12 @@ returns-in-Kill-clause-causes g c = causes_answered c.of_killed.result (rw c.of_
 
 pub returns-in-Kill-clause-damaged : goal.returns-in-Kill-clause-damaged
 returns-in-Kill-clause-damaged g c = rw c.in-Kill.is (may_be_damaged c.of_killed.result)
+
+pub returns-in-Sample-clause-works : goal.returns-in-Sample-clause-works
+returns-in-Sample-clause-works g c tells shelf_tells world at = rw (c.in-Sample.is, c.of_sampled.ensures) (c.sample.ensures.works tells world _ at)
+
+pub returns-in-Sample-clause-causes : goal.returns-in-Sample-clause-causes
+returns-in-Sample-clause-causes g c = causes_answered c.of_sampled.result (rw c.of_sampled.ensures (c.sample.ensures.causes _))
+
+pub returns-in-Sample-clause-damaged : goal.returns-in-Sample-clause-damaged
+returns-in-Sample-clause-damaged g c = rw c.in-Sample.is (may_be_damaged c.of_sampled.result)

@@ -1,0 +1,10 @@
+pub mod DrawLaws
+pub mod FitLaws
+pub mod LastSlots
+pub mod MessageTexts
+pub mod SampleActs
+pub mod SampleExits
+pub mod SampleLists
+pub mod SamplingLaws
+pub mod SlotCounts
+pub mod TurnLaws

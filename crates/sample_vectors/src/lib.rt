@@ -1,0 +1,5 @@
+//! The worked examples of made-up messages, as tests.
+#![tactic(auto)]
+
+#[cfg(test)]
+mod tests;
