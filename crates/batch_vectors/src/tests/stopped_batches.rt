@@ -7,14 +7,23 @@ use example_runs::{
 use mail_cli::Status;
 use std::alloc::Global;
 
-/// Commands, and what they have said once each is carried out.
-const COMMANDS: [(&str, &str); 4] = [
-    ("", ""),
-    ("enroll \"Ed Poe\" - 0,7", "user 5 Ed Poe\n"),
-    ("import 0 one", "user 5 Ed Poe\nimported 1 into 0\n"),
-    ("kill 0 1", "user 5 Ed Poe\nimported 1 into 0\nkilled 0 1\n"),
-];
+/// What has been said once so many commands are carried out.
+fn said_after(place: usize) -> &'static str {
+    match place {
+        0 => "",
+        1 => "user 5 Ed Poe\n",
+        2 => "user 5 Ed Poe\nimported 1 into 0\n",
+        _ => "user 5 Ed Poe\nimported 1 into 0\nkilled 0 1\n",
+    }
+}
 
+const ENROLL: &str = r#"enroll "Ed Poe" - 0,7"#;
+
+const IMPORT: &str = "import 0 one";
+
+const KILL: &str = "kill 0 1";
+
+/// The three commands.
 const BATCH: &[u8] = b"enroll \"Ed Poe\" - 0,7\nimport 0 one\nkill 0 1\n";
 
 /// Whether all data files of two hosts are equal.
@@ -41,9 +50,9 @@ struct Boards {
 impl Boards {
     /// The commands carried out one by one on a board.
     fn of(alloc: Global, start: MemoryHost, shelf: &mut MemoryShelf) -> Result<Boards, Miss> {
-        let (enrolled, _) = run_next(alloc, &start, no_faults(alloc), shelf, COMMANDS[1].0)?;
-        let (imported, _) = run_next(alloc, &enrolled, no_faults(alloc), shelf, COMMANDS[2].0)?;
-        let (killed, _) = run_next(alloc, &imported, no_faults(alloc), shelf, COMMANDS[3].0)?;
+        let (enrolled, _) = run_next(alloc, &start, no_faults(alloc), shelf, ENROLL)?;
+        let (imported, _) = run_next(alloc, &enrolled, no_faults(alloc), shelf, IMPORT)?;
+        let (killed, _) = run_next(alloc, &imported, no_faults(alloc), shelf, KILL)?;
         Ok(Boards {
             start,
             enrolled,
@@ -83,7 +92,7 @@ fn place_after_crash(
     let Some(place) = boards.place_of(&host) else {
         return Err(Miss::stopped(alloc, "batch three", call, "a crash leaves another board")?);
     };
-    if !has_begun(stopped, &boards.start, COMMANDS[place].1) {
+    if !has_begun(stopped, &boards.start, said_after(place)) {
         return Err(Miss::stopped(alloc, "batch three", call, "more was said than is held")?);
     }
     Ok(place)
@@ -94,6 +103,16 @@ fn ends_of(first: usize, second: usize, third: usize) -> (usize, usize) {
     (first.min(second).min(third), first.max(second).max(third))
 }
 
+/// Notes that a stop left the board after so many commands.
+fn mark(reached: &mut (bool, bool, bool), place: usize) {
+    match place {
+        0 => reached.0 = true,
+        1 => reached.1 = true,
+        2 => reached.2 = true,
+        _ => {}
+    }
+}
+
 #[test]
 fn a_stopped_batch_leaves_the_board_after_some_commands(rt: HostRuntime) -> Result<(), Miss> {
     let alloc = rt.alloc();
@@ -102,7 +121,7 @@ fn a_stopped_batch_leaves_the_board_after_some_commands(rt: HostRuntime) -> Resu
     put(&mut shelf, alloc, "three", BATCH)?;
     let start = board_b(alloc, &mut shelf)?;
     let boards = Boards::of(alloc, start, &mut shelf)?;
-    let mut reached = [false; 4];
+    let mut reached = (false, false, false);
     for call in 1..2000 {
         let plan = stops_at(alloc, Some(call));
         let (host, status) = run_next(alloc, &boards.start, plan, &mut shelf, "batch three")?;
@@ -112,10 +131,10 @@ fn a_stopped_batch_leaves_the_board_after_some_commands(rt: HostRuntime) -> Resu
         let written = place_after_crash(alloc, &host, call, written, &mut shelf, &boards)?;
         let mixed = place_after_crash(alloc, &host, call, mixed, &mut shelf, &boards)?;
         let (least, most) = ends_of(synced, written, mixed);
-        reached[least] = true;
-        reached[most] = true;
+        mark(&mut reached, least);
+        mark(&mut reached, most);
         if status == Status::Done {
-            let is_held = least == 3 && reached == [true; 4];
+            let is_held = least == 3 && reached == (true, true, true);
             return is_held
                 .then_some(())
                 .ok_or(Miss::Broken("the stops leave fewer boards"));

@@ -1,0 +1,6 @@
+//! Copies of the list types, as tests: each is equal where memory is ample. Those of lines, sheets, subfields, QWK
+//! messages, control lines and setups stand beside their types.
+#![tactic(auto)]
+
+#[cfg(test)]
+mod tests;

@@ -1,0 +1,121 @@
+//! Lists and their copies.
+use board_ledger::{Counts, Highs, UploadRecord, Uploads, User, Users};
+use byte_lists::Bytes;
+use door_outside::{CallNumbers, ShelfName};
+use jam_layout::{Reader, Readers};
+use jam_records::{Message, Messages, Slot, Slots};
+use jam_threads::links;
+use std::alloc::{AllocError, Global};
+use std::test::Fail;
+
+/// A message whose texts and numbers differ.
+fn message_of(alloc: Global) -> Result<Message, AllocError> {
+    Ok(Message {
+        from: Bytes::from_slice(alloc, b"Bob Ray")?,
+        to: Bytes::from_slice(alloc, b"Ann Lee")?,
+        subject: Bytes::from_slice(alloc, b"Hello")?,
+        msgid: Bytes::from_slice(alloc, b"0.1.TESTBBS")?,
+        replyid: Bytes::new(alloc),
+        origin: Bytes::from_slice(alloc, b"2:5020/400")?,
+        destination: Bytes::from_slice(alloc, b"2:5020/400.1")?,
+        body: Bytes::from_slice(alloc, b"First line\r")?,
+        written: 1,
+        received: 2,
+        processed: 3,
+        local: true,
+        private: false,
+        seen: true,
+        deleted: false,
+    })
+}
+
+/// Whether two messages are equal.
+fn are_equal(one: &Message, other: &Message) -> bool {
+    one.from.as_slice() == other.from.as_slice()
+        && one.to.as_slice() == other.to.as_slice()
+        && one.subject.as_slice() == other.subject.as_slice()
+        && one.msgid.as_slice() == other.msgid.as_slice()
+        && one.replyid.as_slice() == other.replyid.as_slice()
+        && one.origin.as_slice() == other.origin.as_slice()
+        && one.destination.as_slice() == other.destination.as_slice()
+        && one.body.as_slice() == other.body.as_slice()
+        && (one.written, one.received, one.processed)
+            == (other.written, other.received, other.processed)
+        && (one.local, one.private) == (other.local, other.private)
+        && (one.seen, one.deleted) == (other.seen, other.deleted)
+}
+
+#[test]
+fn messages_slots_and_links_are_copied(rt: HostRuntime) -> Result<(), Fail> {
+    let alloc = rt.alloc();
+    let message = message_of(alloc)?;
+    let mut messages = Messages::new(alloc);
+    messages.add(message_of(alloc)?)?;
+    let copies = messages.copy(alloc)?;
+    assert_eq!(rt; copies.len(), 1);
+    assert!(rt; are_equal(copies.get(0).ok_or("no message")?, &message));
+    let mut slots = Slots::new(alloc);
+    slots.add(Slot::Gone)?;
+    slots.add(Slot::Held(message_of(alloc)?))?;
+    let copies = slots.copy(alloc)?;
+    assert_eq!(rt; copies.len(), 2);
+    assert!(rt; matches!(copies.get(0), Some(Slot::Gone)));
+    match copies.get(1) {
+        Some(Slot::Held(copy)) => assert!(rt; are_equal(copy, &message)),
+        _ => return Err(Fail::from("no message")),
+    }
+    let found = links(alloc, &slots)?;
+    let copies = found.copy(alloc)?;
+    assert_eq!(rt; copies.get(1), found.get(1));
+    assert!(rt; copies.get(1).is_some() && copies.get(2).is_none());
+    Ok(())
+}
+
+#[test]
+fn ledgers_lists_and_names_are_copied(rt: HostRuntime) -> Result<(), Fail> {
+    let alloc = rt.alloc();
+    let mut highs = Highs::new(alloc);
+    highs.add(7)?;
+    let mut users = Users::new(alloc);
+    users.add(User {
+        name: Bytes::from_slice(alloc, b"Ann Lee")?,
+        net: true,
+        members: 5,
+        last: 3,
+        offered: 3,
+        highs: highs.copy(alloc)?,
+    })?;
+    let copies = users.copy(alloc)?;
+    let copy = copies.get(0).ok_or("no user")?;
+    assert_eq!(rt; copy.name.as_slice(), b"Ann Lee".as_slice());
+    assert_eq!(rt;
+        (copy.net, copy.members, copy.last, copy.offered),
+        (true, 5, 3, 3)
+    );
+    assert_eq!(rt; copy.highs.as_slice(), [7].as_slice());
+    let record = UploadRecord {
+        user: 1,
+        digest: [9; 32],
+        counts: Counts {
+            posted: 2,
+            refused: 1,
+        },
+    };
+    let mut uploads = Uploads::new(alloc);
+    uploads.add(record)?;
+    assert_eq!(rt; uploads.copy(alloc)?.as_slice(), [record].as_slice());
+    let mut calls = CallNumbers::new(alloc);
+    calls.add(4)?;
+    assert_eq!(rt; calls.copy(alloc)?.as_slice(), [4].as_slice());
+    let mut readers = Readers::new(alloc);
+    readers.add(Reader {
+        id: 2,
+        name: Bytes::from_slice(alloc, b"Bob Ray")?,
+    })?;
+    let copies = readers.copy(alloc)?;
+    let copy = copies.get(0).ok_or("no reader")?;
+    assert_eq!(rt; (copy.id, copy.name.as_slice()), (2, b"Bob Ray".as_slice()));
+    let name = ShelfName::parse(alloc, b"a/b")?.ok_or("no name")?;
+    assert_eq!(rt; name.copy(alloc)?.as_slice(), b"a/b".as_slice());
+    Ok(())
+}
