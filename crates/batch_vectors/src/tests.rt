@@ -1,2 +1,1 @@
 mod batch_runs;
-mod stopped_batches;

@@ -7,5 +7,6 @@ pub mod FindLaws
 pub mod InitExits
 pub mod ReportLaws
 pub mod StateLaws
+pub mod TurnLaws
 pub mod KeptLaws
 pub mod CauseLaws

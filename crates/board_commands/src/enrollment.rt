@@ -1,16 +1,12 @@
 //! The command `enroll`.
-ghost use Rattle.std.specs.Prelude.{◌≡◌, ◌<◌, ◌^◌, [], ◌∷◌, nat_lt, IfOk, IsTrue};
-ghost use Rattle.board_layout.specs.Layout.{board_size};
-ghost use Rattle.board_layout.specs.Valid.{board_limit};
+ghost use Rattle.std.specs.Prelude.{◌≡◌, ◌<◌, IfOk, IsTrue};
 ghost use Rattle.command_words.specs.Choice.{ChoiceReads, places_from};
 ghost use Rattle.command_words.specs.declared.choice.Choice as Choices;
 ghost use Rattle.door_outside.specs.Shelf.{Files};
 ghost use Rattle.entry_runs.specs.Door.{World};
 ghost use Rattle.entry_runs.specs.Entry.{IsAt, Works};
 ghost use Rattle.entry_runs.specs.Promise.{counts, ended, HasCauses};
-ghost use Rattle.mail_board.specs.Changes.{changed, Exists};
 ghost use Rattle.mail_board.specs.declared.change.Change.TheVariants.{Enroll};
-ghost use Rattle.shelf_files.specs.declared.refusal.Refusal.TheVariants.{Size};
 ghost use Rattle.board_commands.specs.Enrolling.{MayEnroll};
 ghost use Rattle.board_commands.specs.Enroll.{enroll_refusals, enrolled_line, enrolls, first_refusal, is_net as is_net_of};
 ghost use Rattle.board_commands.specs.Halts.{told};
@@ -20,7 +16,7 @@ ghost use Rattle.board_commands.specs.State.{State, Stores};
 use crate::finding::find;
 use crate::halt::BoardHalt;
 use crate::making::make_change;
-use board_layout::BOARD_LIMIT;
+use crate::sizes::size_refusal;
 use byte_lists::Bytes;
 use command_words::Choice;
 use door_outside::Host;
@@ -64,19 +60,6 @@ fn change_of(
         net,
         members,
     })
-}
-
-/// Why the files would be too long after a change, where they would be.
-fn size_refusal(board: &Board, change: &Change) -> Option<Refusal>
-    requires exists { Exists change.now board.now.board }
-    requires short { board_size (changed change.now board.now.board) < 2 ^ 64 }
-    ensures { result ≡ first_refusal ((nat_lt board_limit (board_size (changed change.now board.now.board)), Size (board_size (changed change.now board.now.board))) ∷ []) }
-{
-    let size = board.size_after(change);
-    if size > BOARD_LIMIT {
-        return Some(Refusal::Size(size));
-    }
-    None
 }
 
 /// Why a user isn't enrolled by a change: the first that applies of a name that is no user name or is taken, a number

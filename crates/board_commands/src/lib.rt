@@ -12,6 +12,7 @@ mod kept;
 mod making;
 mod report;
 mod setup;
+mod sizes;
 
 pub use checking::check;
 pub use creation::init;
@@ -21,3 +22,4 @@ pub use finding::find;
 pub use halt::BoardHalt;
 pub use kept::{board_in, keep_board, take_board};
 pub use making::make_change;
+pub use sizes::size_refusal;

@@ -72,7 +72,7 @@ fn messages_slots_and_links_are_copied(rt: HostRuntime) -> Result<(), Fail> {
 }
 
 #[test]
-fn ledgers_lists_and_names_are_copied(rt: HostRuntime) -> Result<(), Fail> {
+fn users_are_copied(rt: HostRuntime) -> Result<(), Fail> {
     let alloc = rt.alloc();
     let mut highs = Highs::new(alloc);
     highs.add(7)?;
@@ -93,6 +93,12 @@ fn ledgers_lists_and_names_are_copied(rt: HostRuntime) -> Result<(), Fail> {
         (true, 5, 3, 3)
     );
     assert_eq!(rt; copy.highs.as_slice(), [7].as_slice());
+    Ok(())
+}
+
+#[test]
+fn records_lists_and_names_are_copied(rt: HostRuntime) -> Result<(), Fail> {
+    let alloc = rt.alloc();
     let record = UploadRecord {
         user: 1,
         digest: [9; 32],

@@ -17,6 +17,15 @@ pub fn put(shelf: &mut MemoryShelf, alloc: Global, name: &str, file: &[u8]) -> R
     Ok(())
 }
 
+/// A copy of a file of the shelf.
+pub fn file_of(alloc: Global, shelf: &MemoryShelf, name: &str) -> Result<Bytes, Miss> {
+    let key = name_of(alloc, name)?;
+    let Some(file) = shelf.get(&key) else {
+        return Err(Miss::file(alloc, name)?);
+    };
+    Ok(Bytes::from_slice(alloc, file)?)
+}
+
 /// A text so many times.
 pub fn copies(alloc: Global, text: &[u8], count: usize) -> Result<Bytes, AllocError> {
     let mut file = Bytes::new(alloc);

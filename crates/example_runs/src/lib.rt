@@ -8,20 +8,26 @@
 
 mod blocks;
 mod boards;
+mod damages;
 mod data_files;
+mod days;
 mod files;
 mod miss;
 mod outside;
 mod packets;
 mod runs;
+mod steps;
 mod transcripts;
 
 pub use blocks::{SPACES, expect_blocks, joined, put_blocks};
 pub use boards::{board_b, play_on_board_b, put_setups, put_sheets, sheets};
+pub use damages::{Damage, damaged, host_with};
 pub use data_files::{expect_data_length, expect_part, expect_rest, put_data};
-pub use files::{copies, expect_file, expect_file_length, put};
+pub use days::{DAY, put_day};
+pub use files::{copies, expect_file, expect_file_length, file_of, put};
 pub use miss::Miss;
 pub use outside::{empty_host, empty_shelf, failing_shelf, fails_at, no_faults, stops_at};
 pub use packets::{CONTROL, put_folders, put_packets};
-pub use runs::{has_begun, has_said, run_after_crash, run_next, run_to_fault};
-pub use transcripts::{play, play_at, play_each};
+pub use runs::{has_said, run_after_crash, run_next, run_to_fault, run_twice};
+pub use steps::Steps;
+pub use transcripts::{play, play_at, play_each, reply_of};

@@ -59,12 +59,7 @@ pub enum Miss {
 
 impl Miss {
     /// A command said something else.
-    pub(crate) fn said(
-        alloc: Global,
-        line: &str,
-        said: &[u8],
-        wanted: &str,
-    ) -> Result<Miss, AllocError> {
+    pub fn said(alloc: Global, line: &str, said: &[u8], wanted: &str) -> Result<Miss, AllocError> {
         Ok(Miss::Said {
             line: String::from_str(alloc, line)?,
             said: String::from_utf8_lossy(alloc, said)?,

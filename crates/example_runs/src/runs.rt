@@ -11,27 +11,10 @@ use std::alloc::{AllocError, Global};
 /// 2001-09-09 01:46:40 UTC.
 pub(crate) const NOW: u32 = 1_000_000_000;
 
-/// Adds the words between spaces.
-fn add_words(words: &mut Words, text: &str) -> Result<(), AllocError> {
-    for word in text.split(' ') {
-        if !word.is_empty() {
-            words.add(word.as_bytes())?;
-        }
-    }
-    Ok(())
-}
-
-/// The words of a line: each text in quotes, and what stands between spaces elsewhere.
-fn words_of(alloc: Global, line: &str) -> Result<Words, AllocError> {
-    let mut words = Words::new(alloc);
-    for (place, text) in line.split('"').enumerate() {
-        if place % 2 == 1 {
-            words.add(text.as_bytes())?;
-        } else {
-            add_words(&mut words, text)?;
-        }
-    }
-    Ok(words)
+/// The words of a line.
+fn words_of(alloc: Global, line: &str) -> Result<Words, Miss> {
+    let words = Words::of_line(alloc, line.as_bytes())?;
+    Ok(words.ok_or("a quote is open")?)
 }
 
 /// A host on a crash image of another, whose calls fail by a plan.
@@ -57,11 +40,29 @@ pub(crate) fn run_image(
     shelf: &mut MemoryShelf,
     line: &str,
     now: u32,
-) -> Result<(MemoryHost, Status), AllocError> {
+) -> Result<(MemoryHost, Status), Miss> {
     let mut host = after_crash(alloc, last, choice, plan)?;
     let words = words_of(alloc, line)?;
     let status = run(alloc, &words, &mut host, shelf, now);
     Ok((host, status))
+}
+
+/// Runs two lines on what the last run has synced, the second one on the host that the first one leaves, without a
+/// restart, with calls that fail by a plan. Answers the host after both, and how each run ends.
+pub fn run_twice(
+    alloc: Global,
+    last: &MemoryHost,
+    plan: FaultPlan,
+    shelf: &mut MemoryShelf,
+    first: &str,
+    second: &str,
+) -> Result<(MemoryHost, Status, Status), Miss> {
+    let mut host = after_crash(alloc, last, ImageChoice::Synced, plan)?;
+    let words = words_of(alloc, first)?;
+    let first = run(alloc, &words, &mut host, shelf, NOW);
+    let words = words_of(alloc, second)?;
+    let second = run(alloc, &words, &mut host, shelf, NOW);
+    Ok((host, first, second))
 }
 
 /// Runs a line on a crash image of a host, with calls that fail by a plan, and answers the host after it and how
@@ -73,7 +74,7 @@ pub fn run_after_crash(
     plan: FaultPlan,
     shelf: &mut MemoryShelf,
     line: &str,
-) -> Result<(MemoryHost, Status), AllocError> {
+) -> Result<(MemoryHost, Status), Miss> {
     run_image(alloc, last, choice, plan, shelf, line, NOW)
 }
 
@@ -84,26 +85,18 @@ pub fn run_next(
     plan: FaultPlan,
     shelf: &mut MemoryShelf,
     line: &str,
-) -> Result<(MemoryHost, Status), AllocError> {
+) -> Result<(MemoryHost, Status), Miss> {
     run_after_crash(alloc, last, ImageChoice::Synced, plan, shelf, line)
 }
 
 /// What was said after the last run.
-fn said_since<'a>(host: &'a MemoryHost, last: &MemoryHost) -> Option<&'a [u8]> {
+pub(crate) fn said_since<'a>(host: &'a MemoryHost, last: &MemoryHost) -> Option<&'a [u8]> {
     host.said().get(last.said().len()..)
 }
 
 /// Whether exactly this was said after the last run, and no memory was wanting.
 pub fn has_said(host: &MemoryHost, last: &MemoryHost, reply: &str) -> bool {
     said_since(host, last) == Some(reply.as_bytes()) && host.starved() == 0
-}
-
-/// Whether what was said after the last run is a front of a text, and no memory was wanting.
-pub fn has_begun(host: &MemoryHost, last: &MemoryHost, text: &str) -> bool {
-    match said_since(host, last) {
-        Some(said) => text.as_bytes().starts_with(said) && host.starved() == 0,
-        None => false,
-    }
 }
 
 /// Looks whether a line said exactly this, and no memory was wanting.

@@ -1,7 +1,7 @@
 //! Commands with what they say, as text.
 use crate::miss::Miss;
 use crate::outside::no_faults;
-use crate::runs::{NOW, expect_said, expect_status, run_image};
+use crate::runs::{NOW, expect_said, expect_status, run_image, run_next, said_since};
 use door_outside::{ImageChoice, MemoryHost, MemoryShelf};
 use mail_cli::Status;
 use std::alloc::Global;
@@ -34,6 +34,24 @@ fn status_of(reply: &str) -> Status {
         status = status_behind(line, status);
     }
     status
+}
+
+/// Runs a line on what the last run has synced, and answers what it says. How it ends has to follow from that, and no
+/// memory may be wanting.
+pub fn reply_of(
+    alloc: Global,
+    last: &MemoryHost,
+    shelf: &mut MemoryShelf,
+    line: &str,
+) -> Result<String, Miss> {
+    let (host, ended) = run_next(alloc, last, no_faults(alloc), shelf, line)?;
+    let said = said_since(&host, last).ok_or("less was said than before")?;
+    let reply = String::from_utf8_lossy(alloc, said)?;
+    expect_status(alloc, line, ended, status_of(reply.as_str()))?;
+    if host.starved() > 0 || shelf.starved() > 0 {
+        return Err(Miss::starved(alloc, line)?);
+    }
+    Ok(reply)
 }
 
 /// Runs a line at a moment on what the last run has synced, and looks at what it says and how it ends.

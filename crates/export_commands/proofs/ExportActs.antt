@@ -2,7 +2,7 @@
 use Rattle.std.proofs.Common.{◌≡◌, ◌≢◌, ℕ, List, [], Option, Some, None, Ok, Err, refl, sym, ◌∙◌, subst}
 use Rattle.std.specs.Prelude.{Result}
 use Rattle.board_commands.proofs.BoardActs.{AreTurns, KeepsState}
-use Rattle.board_commands.specs.Turns.{Turn}
+use Rattle.board_commands.proofs.TurnLaws.{IsTurn, refuses_is as refuses_turn, turns_of}
 use Rattle.board_layout.specs.Board.{Board}
 use Rattle.door_export.proofs.FolderLaws.{packet_stays}
 use Rattle.door_export.specs.Ack.{AckRefusal, ack_of}
@@ -79,27 +79,14 @@ module _ (name : List ℕ) (limit : ℕ) (folder : List ℕ) (now : ℕ) where
 ack_said : (packet : ℕ) → acknowledged_line packet ≢ []
 ack_said packet is = absurd (cc is)
 
-record IsTurn (board : Option Board) (turn : Turn) : Type 0 where
-  says : turn.reply.text ≢ []
-  refused : turn.reply.class ≡ class.Refused → turn.board ≡ board
-  undamaged : turn.reply.class ≢ class.Damaged
-
 turned_is : (packet : ℕ) (b : Board) (r : Result Board AckRefusal) → IsTurn (Some b) (turn_of packet b r)
-turned_is packet b (Err why) = record { says = some_refusal (ack_refusal why); refused = λ is. refl; undamaged = λ is. absurd (cc is) }
+turned_is packet b (Err why) = refuses_turn (ack_refusal why) (Some b)
 turned_is packet b (Ok next) = record { says = ack_said packet; refused = λ is. absurd (cc is); undamaged = λ is. absurd (cc is) }
 
 module _ (name : List ℕ) (packet now : ℕ) where
   ack_is : (board : Option Board) → IsTurn board (ack_turn name packet now board)
-  ack_is None = record { says = some_refusal NotMade; refused = λ is. refl; undamaged = λ is. absurd (cc is) }
+  ack_is None = refuses_turn NotMade None
   ack_is (Some b) = turned_is packet b (ack_of name packet now b)
 
-  acked_is : (board : Option Board) (turn : Turn) → turn ≡ ack_turn name packet now board → IsTurn board turn
-  acked_is board turn is = subst (IsTurn board) (sym is) (ack_is board)
-
   pub ack_turns : AreTurns (λ shelf board turn. turn ≡ ack_turn name packet now board)
-  ack_turns = record {
-    says = λ shelf board turn is. (acked_is board turn is).says;
-    refused = λ shelf board turn is. (acked_is board turn is).refused;
-    undamaged = λ shelf board turn is. (acked_is board turn is).undamaged;
-    one_turn = λ shelf board one other first second. first ∙ sym second;
-  }
+  ack_turns = turns_of (ack_turn name packet now) ack_is

@@ -1,15 +1,14 @@
 -- The turns of `import` and `kill` give what a lawful act asks.
-use Rattle.std.proofs.Common.{◌≡◌, ◌≢◌, ℕ, List, [], Bool, true, false, cond, length, Option, Some, None, Result, Ok, Err, refl, sym, ◌∙◌, ap, subst}
+use Rattle.std.proofs.Common.{◌≡◌, ◌≢◌, ℕ, List, [], Bool, true, false, cond, length, Option, Some, None, Result, Ok, Err, sym, ◌∙◌, ap, subst}
 use Rattle.board_commands.proofs.BoardActs.{AreTurns}
+use Rattle.board_commands.proofs.TurnLaws.{IsTurn, are_turns, done_is, refuses_is, turns_of}
 use Rattle.board_commands.specs.Enroll.{first_refusal}
 use Rattle.board_commands.specs.Turns.{Turn, refuses}
 use Rattle.board_layout.specs.Board.{Board}
 use Rattle.door_outside.specs.Shelf.{Files}
-use Rattle.entry_runs.specs.declared.class.Class.TheVariants as class
 use Rattle.import_sheet.specs.declared.sheet.Sheet.{Sheet}
 use Rattle.jam_records.specs.declared.message.Message.{Message}
 use Rattle.mail_board.specs.Readers.{place_of}
-use Rattle.shelf_files.proofs.Replies.{some_refusal}
 use Rattle.shelf_files.proofs.SheetLaws.{sheet_unique}
 use Rattle.shelf_files.specs.Halts.{done}
 use Rattle.shelf_files.specs.declared.refusal.Refusal.{Refusal}
@@ -17,18 +16,6 @@ use Rattle.shelf_files.specs.declared.refusal.Refusal.TheVariants.{NotMade, NoCo
 use Rattle.slot_changes.specs.Changed.{appended, deleted}
 use Rattle.message_commands.specs.Import.{Imports, ImportsAt, appending, import_refusals, imported_line, imported_messages, sheet_turn}
 use Rattle.message_commands.specs.Kill.{has_message, kill_at, kill_turn, killed_line}
-
--- a turn of a board, or of none, that says something and no damage, and leaves the board where it refuses
-record IsTurn (board : Option Board) (turn : Turn) : Type 0 where
-  says : turn.reply.text ≢ []
-  refused : turn.reply.class ≡ class.Refused → turn.board ≡ board
-  undamaged : turn.reply.class ≢ class.Damaged
-
-refuses_is : (why : Refusal) (board : Option Board) → IsTurn board (refuses why board)
-refuses_is why board = record { says = some_refusal why; refused = λ is. refl; undamaged = λ is. absurd (cc is) }
-
-done_is : (board next : Option Board) (text : List ℕ) → text ≢ [] → IsTurn board (record { board = next; reply = done text })
-done_is board next text some = record { says = some; refused = λ is. absurd (cc is); undamaged = λ is. absurd (cc is) }
 
 -- ---- import
 imported_some : (conference count : ℕ) → imported_line conference count ≢ []
@@ -63,12 +50,7 @@ module _ (conference now : ℕ) where
     imports_once (Some b) one other first second = at_once b (place_of conference b) one other first second
 
 pub import_turns : (conference : ℕ) (file : List ℕ) (now : ℕ) → AreTurns (Imports conference file now)
-import_turns conference file now = record {
-  says = λ shelf board turn is. (imports_is conference now file shelf board turn is).says;
-  refused = λ shelf board turn is. (imports_is conference now file shelf board turn is).refused;
-  undamaged = λ shelf board turn is. (imports_is conference now file shelf board turn is).undamaged;
-  one_turn = λ shelf board one other first second. imports_once conference now file shelf board one other first second;
-}
+import_turns conference file now = are_turns (Imports conference file now) (imports_is conference now file) (imports_once conference now file)
 
 -- ---- kill
 killed_some : (conference number : ℕ) → killed_line conference number ≢ []
@@ -88,9 +70,4 @@ module _ (conference number : ℕ) where
   kill_is (Some b) = kill_at_is b (place_of conference b)
 
 pub kill_turns : (conference number : ℕ) → AreTurns (λ shelf board turn. turn ≡ kill_turn conference number board)
-kill_turns conference number = record {
-  says = λ shelf board turn is. (subst (IsTurn board) (sym is) (kill_is conference number board)).says;
-  refused = λ shelf board turn is. (subst (IsTurn board) (sym is) (kill_is conference number board)).refused;
-  undamaged = λ shelf board turn is. (subst (IsTurn board) (sym is) (kill_is conference number board)).undamaged;
-  one_turn = λ shelf board one other first second. first ∙ sym second;
-}
+kill_turns conference number = turns_of (kill_turn conference number) (kill_is conference number)

@@ -1,41 +1,13 @@
 // What the entries of a sheet become.
 ghost use Rattle.std.specs.Prelude.{◌≡◌, All, map, IfOk};
-ghost use Rattle.jam_layout.specs.Marks.{is_net as is_net_kind};
 ghost use Rattle.slot_changes.specs.Values.{IsTyped};
 ghost use Rattle.message_commands.specs.Import.{imported_message};
 
 use byte_lists::Bytes;
 use import_sheet::{Sheet, Sheets};
 use jam_records::{Kind, Message, Messages};
+use slot_changes::{is_net, typed};
 use std::alloc::{AllocError, Global};
-
-/// Whether the messages of a conference go to one person at an address.
-fn is_net(kind: Kind) -> bool
-    ensures { result ≡ is_net_kind kind }
-{
-    match kind {
-        Kind::Local => false,
-        Kind::Echo => false,
-        Kind::Net => true,
-    }
-}
-
-/// The same message, of which it is said that its bytes and its moments are of their types.
-fn typed(message: Message) -> Message
-    ensures same { result ≡ message }
-    ensures typed { IsTyped message }
-{
-    let _from = message.from.as_slice();
-    let _to = message.to.as_slice();
-    let _subject = message.subject.as_slice();
-    let _msgid = message.msgid.as_slice();
-    let _replyid = message.replyid.as_slice();
-    let _origin = message.origin.as_slice();
-    let _destination = message.destination.as_slice();
-    let _body = message.body.as_slice();
-    let _moments = [message.written, message.received, message.processed];
-    message
-}
 
 /// The message that an entry becomes, imported at a moment into a conference of a kind. Its texts are moved.
 fn message_of(alloc: Global, kind: Kind, now: u32, entry: Sheet) -> Message

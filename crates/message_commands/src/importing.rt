@@ -1,24 +1,21 @@
 //! The command `import`.
-ghost use Rattle.std.specs.Prelude.{◌≡◌, ◌<◌, ◌^◌, ℕ, [], ◌∷◌, ◌+◌, length, nat_lt, All, IsTrue};
+ghost use Rattle.std.specs.Prelude.{◌≡◌, ◌<◌, ℕ, [], ◌∷◌, ◌+◌, length, nat_lt, IsTrue};
 ghost use Rattle.board_commands.specs.Enroll.{first_refusal};
 ghost use Rattle.board_commands.specs.Halts.{told};
 ghost use Rattle.board_commands.specs.Kept.{AreSure, IsKept, unread};
 ghost use Rattle.board_commands.specs.State.{State, Stores};
-ghost use Rattle.board_layout.specs.Layout.{board_size};
-ghost use Rattle.board_layout.specs.Valid.{board_limit, IsBoard};
+ghost use Rattle.board_layout.specs.Valid.{IsBoard};
 ghost use Rattle.entry_runs.specs.Door.{World};
 ghost use Rattle.entry_runs.specs.Entry.{IsAt, Works};
 ghost use Rattle.entry_runs.specs.Promise.{counts, ended, HasCauses};
-ghost use Rattle.mail_board.specs.Changes.{changed, Exists};
 ghost use Rattle.shelf_files.specs.Sheets.{AreEntries};
-ghost use Rattle.shelf_files.specs.declared.refusal.Refusal.TheVariants.{Slots, Size};
+ghost use Rattle.shelf_files.specs.declared.refusal.Refusal.TheVariants.{Slots};
 ghost use Rattle.message_commands.specs.Import.{imported_line, imports, kind_of, slot_count};
 ghost use Rattle.message_commands.specs.Importing.{MayImport};
 
 use crate::entries::messages_of;
 use crate::placing::place_in;
-use board_commands::{BoardHalt, board_in, find, make_change};
-use board_layout::BOARD_LIMIT;
+use board_commands::{BoardHalt, board_in, find, make_change, size_refusal};
 use door_outside::{Host, Shelf, ShelfName};
 use import_sheet::Sheets;
 use jam_records::{Kind, Messages};
@@ -48,19 +45,6 @@ fn slots_refusal(board: &Board, place: u8, messages: &Messages) -> Option<Refusa
     let slots = u64::from(board.slot_count(place)) + messages.as_slice().len() as u64;
     if slots > SLOT_LIMIT {
         return Some(Refusal::Slots(slots));
-    }
-    None
-}
-
-/// Why the files would be too long after a change, where they would be.
-fn size_refusal(board: &Board, change: &Change) -> Option<Refusal>
-    requires exists { Exists change.now board.now.board }
-    requires short { board_size (changed change.now board.now.board) < 2 ^ 64 }
-    ensures { result ≡ first_refusal ((nat_lt board_limit (board_size (changed change.now board.now.board)), Size (board_size (changed change.now board.now.board))) ∷ []) }
-{
-    let size = board.size_after(change);
-    if size > BOARD_LIMIT {
-        return Some(Refusal::Size(size));
     }
     None
 }

@@ -1,23 +1,12 @@
 -- The turns of `sample` give what a lawful act asks.
-use Rattle.std.proofs.Common.{◌≡◌, ◌≢◌, ℕ, [], Option, Some, None, refl, sym, ◌∙◌, subst}
+use Rattle.std.proofs.Common.{◌≡◌, ◌≢◌, ℕ, [], Option, Some, None}
 use Rattle.board_commands.proofs.BoardActs.{AreTurns}
+use Rattle.board_commands.proofs.TurnLaws.{IsTurn, refuses_is, turns_of}
 use Rattle.board_commands.specs.Enroll.{first_refusal}
-use Rattle.board_commands.specs.Turns.{Turn, refuses}
 use Rattle.board_layout.specs.Board.{Board}
-use Rattle.entry_runs.specs.declared.class.Class.TheVariants as class
 use Rattle.sample_commands.specs.Sample.{sample_refusals, sample_turn, sampled_line, sampling}
-use Rattle.shelf_files.proofs.Replies.{some_refusal}
 use Rattle.shelf_files.specs.declared.refusal.Refusal.{Refusal}
 use Rattle.shelf_files.specs.declared.refusal.Refusal.TheVariants.{NotMade}
-
--- a turn of a board, or of none, that says something and no damage, and leaves the board where it refuses
-record IsTurn (board : Option Board) (turn : Turn) : Type 0 where
-  says : turn.reply.text ≢ []
-  refused : turn.reply.class ≡ class.Refused → turn.board ≡ board
-  undamaged : turn.reply.class ≢ class.Damaged
-
-refuses_is : (why : Refusal) (board : Option Board) → IsTurn board (refuses why board)
-refuses_is why board = record { says = some_refusal why; refused = λ is. refl; undamaged = λ is. absurd (cc is) }
 
 line_some : (count : ℕ) → sampled_line count ≢ []
 line_some count is = absurd (cc is)
@@ -32,9 +21,4 @@ module _ (seed count now : ℕ) where
   turn_is (Some b) = sampling_is b (first_refusal (sample_refusals seed count now b))
 
 pub sample_turns : (seed count now : ℕ) → AreTurns (λ shelf board turn. turn ≡ sample_turn seed count now board)
-sample_turns seed count now = record {
-  says = λ shelf board turn is. (subst (IsTurn board) (sym is) (turn_is seed count now board)).says;
-  refused = λ shelf board turn is. (subst (IsTurn board) (sym is) (turn_is seed count now board)).refused;
-  undamaged = λ shelf board turn is. (subst (IsTurn board) (sym is) (turn_is seed count now board)).undamaged;
-  one_turn = λ shelf board one other first second. first ∙ sym second;
-}
+sample_turns seed count now = turns_of (sample_turn seed count now) (turn_is seed count now)

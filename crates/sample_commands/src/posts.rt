@@ -17,7 +17,7 @@ use board_layout::StoredBoard;
 use byte_lists::{Bytes, List};
 use jam_records::{Kind, Message};
 use post_changes::Posts;
-use slot_changes::conference_of;
+use slot_changes::{conference_of, typed};
 use std::alloc::{AllocError, Global};
 
 /// How many places there may be.
@@ -52,23 +52,6 @@ fn is_net(board: &StoredBoard, place: u8) -> bool
         Kind::Echo => false,
         Kind::Net => true,
     }
-}
-
-/// The same message, of which it is said that its bytes and its moments are of their types.
-fn typed(message: Message) -> Message
-    ensures same { result ≡ message }
-    ensures typed { IsTyped message }
-{
-    let _from = message.from.as_slice();
-    let _to = message.to.as_slice();
-    let _subject = message.subject.as_slice();
-    let _msgid = message.msgid.as_slice();
-    let _replyid = message.replyid.as_slice();
-    let _origin = message.origin.as_slice();
-    let _destination = message.destination.as_slice();
-    let _body = message.body.as_slice();
-    let _moments = [message.written, message.received, message.processed];
-    message
 }
 
 /// The msgid that the message of these draws answers, or nothing, on the board with posts of which so many are for its

@@ -1,24 +1,21 @@
 //! The command `sample`.
-ghost use Rattle.std.specs.Prelude.{◌≡◌, ◌≤◌, ◌<◌, ◌^◌, [], ◌∷◌, length, map, nat_lt, IsTrue};
+ghost use Rattle.std.specs.Prelude.{◌≡◌, ◌≤◌, ◌<◌, length, map, IsTrue};
 ghost use Rattle.board_commands.specs.Enroll.{first_refusal};
 ghost use Rattle.board_commands.specs.Halts.{told};
 ghost use Rattle.board_commands.specs.Kept.{AreSure, IsKept, unread};
 ghost use Rattle.board_commands.specs.State.{State, Stores};
-ghost use Rattle.board_layout.specs.Layout.{board_size};
-ghost use Rattle.board_layout.specs.Valid.{IsBoard, board_limit};
+ghost use Rattle.board_layout.specs.Valid.{IsBoard};
 ghost use Rattle.door_outside.specs.Shelf.{Files};
 ghost use Rattle.entry_runs.specs.Door.{World};
 ghost use Rattle.entry_runs.specs.Entry.{IsAt, Works};
 ghost use Rattle.entry_runs.specs.Promise.{counts, ended, HasCauses};
-ghost use Rattle.mail_board.specs.Changes.{changed, Exists};
 ghost use Rattle.post_changes.specs.Posted.{spread};
 ghost use Rattle.sample_commands.specs.Sample.{sampled_line, samples, slot_counts, slots_case};
 ghost use Rattle.sample_commands.specs.Sampling.{IsSampling, MaySample};
-ghost use Rattle.shelf_files.specs.declared.refusal.Refusal.TheVariants.{Size};
 
 use crate::posts::{Sampling, sampling_of};
-use board_commands::{BoardHalt, board_in, find, make_change};
-use board_layout::{BOARD_LIMIT, StoredBoard};
+use board_commands::{BoardHalt, board_in, find, make_change, size_refusal};
+use board_layout::StoredBoard;
 use door_outside::Host;
 use mail_board::{Board, Change, Loaded};
 use shelf_files::Refusal;
@@ -41,19 +38,6 @@ fn slots_refusal(board: &StoredBoard, sampling: &Sampling) -> Option<Refusal>
         if slots > SLOT_LIMIT {
             return Some(Refusal::Slots(u64::from(slots)));
         }
-    }
-    None
-}
-
-/// Why the files would be too long after a change, where they would be.
-fn size_refusal(board: &Board, change: &Change) -> Option<Refusal>
-    requires exists { Exists change.now board.now.board }
-    requires short { board_size (changed change.now board.now.board) < 2 ^ 64 }
-    ensures { result ≡ first_refusal ((nat_lt board_limit (board_size (changed change.now board.now.board)), Size (board_size (changed change.now board.now.board))) ∷ []) }
-{
-    let size = board.size_after(change);
-    if size > BOARD_LIMIT {
-        return Some(Refusal::Size(size));
     }
     None
 }

@@ -15,4 +15,4 @@ pub use fits::{fits_deletion, fits_messages};
 pub use msgid::{generated_len, msgid_of};
 pub use place::conference_of;
 pub use size::{message_size, size_with_messages};
-pub use value::may_hold;
+pub use value::{is_net, may_hold, typed};

@@ -81,7 +81,7 @@ fn is_right_body(body: &Bytes) -> bool
 }
 
 /// Whether the messages of a conference go to one person at an address.
-fn is_net(kind: Kind) -> bool
+pub fn is_net(kind: Kind) -> bool
     ensures { result ≡ is_net_kind kind }
 {
     match kind {
@@ -117,6 +117,23 @@ fn moments(message: &Message) -> [u32; 3]
         in_range(message.received),
         in_range(message.processed),
     ]
+}
+
+/// The same message, of which it is said that its bytes and its moments are of their types.
+pub fn typed(message: Message) -> Message
+    ensures same { result ≡ message }
+    ensures typed { IsTyped message }
+{
+    let _from = message.from.as_slice();
+    let _to = message.to.as_slice();
+    let _subject = message.subject.as_slice();
+    let _msgid = message.msgid.as_slice();
+    let _replyid = message.replyid.as_slice();
+    let _origin = message.origin.as_slice();
+    let _destination = message.destination.as_slice();
+    let _body = message.body.as_slice();
+    let _moments = [message.written, message.received, message.processed];
+    message
 }
 
 /// Whether a message passes all tests, but for a msgid that may be missing.

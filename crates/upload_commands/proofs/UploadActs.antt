@@ -1,29 +1,19 @@
 -- The turns of `upload` give what a lawful act asks.
-use Rattle.std.proofs.Common.{◌≡◌, ◌≢◌, ℕ, List, [], ◌∷◌, ◌++◌, Option, Some, None, Result, Ok, Err, refl, sym, ◌∙◌, ap, subst}
+use Rattle.std.proofs.Common.{◌≡◌, ◌≢◌, ℕ, List, [], ◌∷◌, ◌++◌, Option, Some, None, Result, Ok, Err, sym, ◌∙◌, ap, subst}
 use Rattle.board_commands.proofs.BoardActs.{AreTurns}
-use Rattle.board_commands.specs.Turns.{Turn, refuses}
+use Rattle.board_commands.proofs.TurnLaws.{IsTurn, are_turns, refuses_is}
+use Rattle.board_commands.specs.Turns.{Turn}
 use Rattle.board_layout.specs.Board.{Board}
 use Rattle.door_outside.specs.Shelf.{Files}
 use Rattle.door_upload.proofs.OneUpload.{one_for}
 use Rattle.door_upload.specs.Upload.{Again, Judged, Upload, UploadRefusal}
 use Rattle.door_upload.specs.declared.answer.Uploaded.{Uploaded}
 use Rattle.door_upload.specs.declared.answer.Uploaded.TheVariants as answer
-use Rattle.entry_runs.specs.declared.class.Class.TheVariants as class
 use Rattle.mail_board.specs.Readers.{user_id}
-use Rattle.shelf_files.proofs.Replies.{some_refusal}
 use Rattle.shelf_files.specs.ShelfFile.{file_of}
 use Rattle.shelf_files.specs.declared.refusal.Refusal.{Refusal}
 use Rattle.shelf_files.specs.declared.refusal.Refusal.TheVariants.{NotMade, NoUser}
 use Rattle.upload_commands.specs.Upload.{Uploads, UploadsFile, UploadsRead, outcome_lines, rep_limit, refusal_of, tally, turn_of, uploaded_text}
-
--- a turn of a board, or of none, that says something and no damage, and leaves the board where it refuses
-record IsTurn (board : Option Board) (turn : Turn) : Type 0 where
-  says : turn.reply.text ≢ []
-  refused : turn.reply.class ≡ class.Refused → turn.board ≡ board
-  undamaged : turn.reply.class ≢ class.Damaged
-
-refuses_is : (why : Refusal) (board : Option Board) → IsTurn board (refuses why board)
-refuses_is why board = record { says = some_refusal why; refused = λ is. refl; undamaged = λ is. absurd (cc is) }
 
 some_behind : (front back : List ℕ) → back ≢ [] → front ++ back ≢ []
 some_behind [] back some is = some is
@@ -66,9 +56,4 @@ module _ (name file : List ℕ) (now : ℕ) where
   uploads_once shelf (Some b) one other first second = file_once shelf b (user_id name b) one other first second
 
 pub upload_turns : (name file : List ℕ) (now : ℕ) → AreTurns (Uploads name file now)
-upload_turns name file now = record {
-  says = λ shelf board turn is. (uploads_is name file now shelf board turn is).says;
-  refused = λ shelf board turn is. (uploads_is name file now shelf board turn is).refused;
-  undamaged = λ shelf board turn is. (uploads_is name file now shelf board turn is).undamaged;
-  one_turn = λ shelf board one other first second. uploads_once name file now shelf board one other first second;
-}
+upload_turns name file now = are_turns (Uploads name file now) (uploads_is name file now) (uploads_once name file now)

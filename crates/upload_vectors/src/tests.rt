@@ -1,3 +1,4 @@
 mod blocks;
+mod faults;
 mod refusals;
 mod upload_runs;

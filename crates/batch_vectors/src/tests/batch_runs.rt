@@ -1,25 +1,11 @@
 //! Runs of batches.
-use door_outside::{FileId, MemoryShelf};
+use door_outside::FileId;
 use example_runs::{
     Miss, copies, empty_host, empty_shelf, expect_part, play, play_each, play_on_board_b, put,
-    put_setups, put_sheets,
+    put_day, put_sheets,
 };
-use std::alloc::Global;
 
-/// A day of a board.
-const DAY: &[u8] = b"# a day of a board\n\
-init setup.txt\n\
-enroll \"Ann Lee\" n all\n\
-enroll \"Bob Ray\" - 0\n\
-import 0 forty\n\
-\n\
-export \"Ann Lee\" 2000 out\n\
-reply out 3 text TESTBBS.MSG\n\
-upload \"Ann Lee\" TESTBBS.MSG\n\
-ack \"Ann Lee\" 1\n\
-export \"Ann Lee\" 2000 out\r\n\
-check";
-
+/// What the day says.
 const SAID: &str = r#"
 > batch day
 made 3 conferences
@@ -42,20 +28,6 @@ board TESTBBS
 /// The first subfields of the reply, which names the msgid of what it answers.
 const REPLIED: &[u8] =
     b"\x02\0\0\0\x07\0\0\0Ann Lee\x03\0\0\0\x07\0\0\0BOB RAY\x04\0\0\0\x0C\0\0\00.41.TESTBBS\x05\0\0\0\x0B\0\0\00.3.TESTBBS";
-
-/// Puts what a day needs.
-fn put_day(shelf: &mut MemoryShelf, alloc: Global) -> Result<(), Miss> {
-    put_setups(shelf, alloc)?;
-    let message = b"From: Bob Ray\nTo: All\nSubject: Note\n\nHello\n.\n";
-    put(
-        shelf,
-        alloc,
-        "forty",
-        copies(alloc, message, 40)?.as_slice(),
-    )?;
-    put(shelf, alloc, "text", b"Thanks\n")?;
-    put(shelf, alloc, "day", DAY)
-}
 
 #[test]
 fn a_day_is_one_batch(rt: HostRuntime) -> Result<(), Miss> {

@@ -1,19 +1,7 @@
-//! Boards of which a data file is damaged.
-use byte_lists::Bytes;
-use door_outside::{FileId, ImageChoice, MemoryHost};
-use example_runs::{Miss, copies, no_faults, put_data};
+//! Damages of data files, as text.
+use door_outside::{FileId, MemoryHost};
+use example_runs::{Damage, Miss, host_with};
 use std::alloc::Global;
-
-/// How a file is damaged.
-#[derive(Clone, Copy)]
-enum Damage {
-    /// The byte at a place, from 0, becomes another.
-    Becomes(usize, u8),
-    /// The file has only so many bytes.
-    Cut(usize),
-    /// A byte follows the file so many times.
-    Longer(usize, u8),
-}
 
 /// A number and a byte.
 fn two_numbers(text: &str) -> Option<(usize, u8)> {
@@ -45,33 +33,11 @@ fn damage_of_file(text: &str) -> Option<(FileId, Damage)> {
     Some((file, damage_of(damage)?))
 }
 
-/// A file with its damage.
-fn damaged(alloc: Global, file: &[u8], damage: Damage) -> Result<Bytes, Miss> {
-    let mut changed = Bytes::new(alloc);
-    match damage {
-        Damage::Becomes(place, byte) => {
-            changed.add(file.get(..place).ok_or("too short")?)?;
-            changed.add(&[byte])?;
-            let behind = place.checked_add(1).ok_or("too far")?;
-            changed.add(file.get(behind..).ok_or("too short")?)?;
-        }
-        Damage::Cut(len) => changed.add(file.get(..len).ok_or("too short")?)?,
-        Damage::Longer(count, byte) => {
-            changed.add(file)?;
-            changed.add(copies(alloc, &[byte], count)?.as_slice())?;
-        }
-    }
-    Ok(changed)
-}
-
 /// The host with a damaged file. The damage is the number of the file, and `becomes PLACE BYTE`, `cut LENGTH` or
 /// `longer COUNT BYTE`.
 pub fn damaged_host(alloc: Global, whole: &MemoryHost, text: &str) -> Result<MemoryHost, Miss> {
     let Some((file, damage)) = damage_of_file(text) else {
         return Err(Miss::Broken("this is no damage"));
     };
-    let mut host = whole.after_crash(alloc, ImageChoice::Synced, no_faults(alloc))?;
-    let changed = damaged(alloc, host.file(file), damage)?;
-    put_data(&mut host, file, changed.as_slice())?;
-    Ok(host)
+    host_with(alloc, whole, file, damage)
 }

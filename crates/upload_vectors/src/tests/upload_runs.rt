@@ -5,8 +5,8 @@ use super::blocks::{
 };
 use door_outside::FileId;
 use example_runs::{
-    Miss, copies, empty_host, empty_shelf, expect_part, expect_rest, play, play_on_board_b, put,
-    put_blocks, put_folders, put_setups, put_sheets, sheets,
+    Miss, empty_shelf, expect_part, expect_rest, play_on_board_b, put, put_blocks, put_folders,
+    put_sheets, sheets,
 };
 
 /// A packet is uploaded, and sent again: by the same user, by another, and with a byte that is free changed. Ann's
@@ -116,56 +116,6 @@ fn net_mail_goes_to_its_address(rt: HostRuntime) -> Result<(), Miss> {
     expect_part(&host, FileId::jhr(1), 1076, b"\x05\0\0\x02")?;
     expect_part(&host, FileId::jhr(1), 1100, ADDRESSED)?;
     expect_rest(&host, FileId::jdt(1), 0, b"Hi\r")
-}
-
-/// A day of a board.
-const DAY: &str = r#"
-> init setup.txt
-made 3 conferences
-> enroll "Ann Lee" n all
-user 1 Ann Lee
-> enroll "Bob Ray" - 0
-user 2 Bob Ray
-> import 0 forty
-imported 40 into 0
-> export "Ann Lee" 2000 out
-packet 1: 40 messages
-> reply out 3 text TESTBBS.MSG
-replied to 3, 1 in TESTBBS.MSG
-> upload "Ann Lee" TESTBBS.MSG
-1 posted 0 41
-posted 1 refused 0
-> ack "Ann Lee" 1
-acknowledged 1
-> export "Ann Lee" 2000 out
-packet 2: 1 messages
-> check
-board TESTBBS
-0 GENERAL: 41 slots, 41 live
-1 NETMAIL: 0 slots, 0 live
-7 NEWS: 0 slots, 0 live
-2 users, 1 uploads, 9456 bytes
-"#;
-
-/// The first subfields of the reply, which names the msgid of what it answers.
-const REPLIED: &[u8] =
-    b"\x02\0\0\0\x07\0\0\0Ann Lee\x03\0\0\0\x07\0\0\0BOB RAY\x04\0\0\0\x0C\0\0\00.41.TESTBBS\x05\0\0\0\x0B\0\0\00.3.TESTBBS";
-
-#[test]
-fn a_reply_is_posted(rt: HostRuntime) -> Result<(), Miss> {
-    let alloc = rt.alloc();
-    let mut shelf = empty_shelf(alloc);
-    put_setups(&mut shelf, alloc)?;
-    let message = b"From: Bob Ray\nTo: All\nSubject: Note\n\nHello\n.\n";
-    put(
-        &mut shelf,
-        alloc,
-        "forty",
-        copies(alloc, message, 40)?.as_slice(),
-    )?;
-    put(&mut shelf, alloc, "text", b"Thanks\n")?;
-    let host = play(alloc, empty_host(alloc), &mut shelf, DAY)?;
-    expect_part(&host, FileId::jhr(0), 6451, REPLIED)
 }
 
 /// Answers to a letter of Bob's to Cy, and one to the first of them.

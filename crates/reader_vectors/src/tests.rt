@@ -1,0 +1,4 @@
+mod answers;
+mod board_files;
+mod changes;
+mod shelf_files;
