@@ -36,16 +36,19 @@ awk -v runs="$runs" -v making="$making" -v once="$once" -v eleven="$eleven" 'BEG
     printf "making and reading them once: %.3f s, so the first reading takes %.3f s\n", once, once - making
     printf "reading them ten times more: %.3f s, so each takes %.3f s\n", eleven - once, (eleven - once) / 10
 }'
+row 'reading the files of 9,999 messages' "$(each "$once" "$eleven" 10)" - -
 for count in 2500 5000 9998; do
     filled=$(best "$program" 1 "$count") || exit 1
     awk -v count="$count" -v once="$once" -v filled="$filled" 'BEGIN {
         printf "copying %d messages and appending them to an empty base: %.3f s\n", count, filled - once
     }'
+    row "appending $count messages to an empty base" "$(each "$once" "$filled" 1)" - -
 done
 more=$(best "$program" 1 9998 10) || exit 1
 awk -v filled="$filled" -v more="$more" 'BEGIN {
     printf "appending one message to 9998, ten times: %.3f s, so each takes %.3f s\n", more - filled, (more - filled) / 10
 }'
+row 'appending one message to 9,998' "$(each "$filled" "$more" 10)" - -
 if [ -x /usr/bin/time ] && /usr/bin/time -f %M true 2>/dev/null; then
     alone=$(/usr/bin/time -f %M "$program" 0 2>&1 >/dev/null)
     peak=$(/usr/bin/time -f %M "$program" 1 2>&1 >/dev/null)

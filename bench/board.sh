@@ -13,11 +13,6 @@ work=$(mktemp -d) || exit 1
 trap 'rm -rf -- "$work"' EXIT
 trap 'exit 1' HUP INT TERM
 
-fail() {
-    printf '%s\n' "$1" >&2
-    exit 1
-}
-
 door() {
     "$program" "$work/data" "$shelf" "$@"
 }
@@ -43,6 +38,8 @@ awk -v first="$first" -v middle="$middle" -v last="$last" 'BEGIN {
     printf "enrolling 500 users: %.3f s\n", first + middle + last
     printf "a run of the first 100: %.4f s, of the last 100: %.4f s\n", first / 100, last / 100
 }'
+row 'enrolling 500 users, a run each' \
+    "$(awk -v first="$first" -v middle="$middle" -v last="$last" 'BEGIN { print first + middle + last }')" - -
 
 # The new board has 3,191 bytes. Each user has a record of 39 bytes and three of 16.
 door check >"$work/reply" || fail "check failed with status $?"
@@ -50,8 +47,9 @@ tail -n 1 "$work/reply"
 [ "$(tail -n 1 "$work/reply")" = '500 users, 0 uploads, 46691 bytes' ] || fail 'the board is not as it should be'
 [ "$(door enroll 'One More' - 0)" = 'refused users' ] || fail 'one user more was not refused'
 
-# Times `check` beside `sha256sum` of the files.
+# Times `check` of a board beside `sha256sum` of its files.
 time_check() {
+    hashing=-
     checking=$(best door check) || fail "check failed with status $?"
     printf 'check: %s s, the best of %s\n' "$checking" "$runs"
     if command -v sha256sum >/dev/null; then
@@ -59,8 +57,9 @@ time_check() {
         printf 'sha256sum of %s files: %s s\ncheck / sha256sum: %s\n' "$(find "$work/data" -type f | wc -l)" "$hashing" \
             "$(awk -v a="$checking" -v b="$hashing" 'BEGIN { printf "%.1f", a / b }')"
     fi
+    row "check of $1" "$checking" - "$hashing"
 }
-time_check
+time_check 'a board of 500 users'
 
 # A setup of 64 conferences, and a sheet of 31 messages with bodies as long as they may be.
 shelf=$work/shelf
@@ -87,4 +86,4 @@ while [ "$number" -lt 64 ]; do
     number=$((number + 1))
 done
 door check | tail -n 1
-time_check
+time_check 'a full board'

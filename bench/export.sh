@@ -13,11 +13,6 @@ shelf=$work/shelf
 trap 'rm -rf -- "$work"' EXIT
 trap 'exit 1' HUP INT TERM
 
-fail() {
-    printf '%s\n' "$1" >&2
-    exit 1
-}
-
 door() {
     "$program" "$work/data" "$shelf" "$@"
 }
@@ -68,6 +63,7 @@ columns() {
 time_export() {
     taken=$(best door export 'Ann Lee' 2000 out) || fail "export failed with status $?"
     hashing=$(best sha256sum "$work"/data/LEDGER.DAT "$work"/data/C*) || exit 1
+    row "export of $1" "$taken" - "$hashing"
     columns "$1" "$taken" "$(cat "$work"/data/LEDGER.DAT "$work"/data/C* | wc -c)" "$hashing" \
         "$(awk -v a="$taken" -v b="$hashing" 'BEGIN { printf "%.1f", a / b }')" \
         "$(wc -c <"$shelf/out/MESSAGES.DAT")"

@@ -15,11 +15,6 @@ shelf=$work/shelf
 trap 'rm -rf -- "$work"' EXIT
 trap 'exit 1' HUP INT TERM
 
-fail() {
-    printf '%s\n' "$1" >&2
-    exit 1
-}
-
 door() {
     "$program" "$work/data" "$shelf" "$@"
 }
@@ -68,6 +63,7 @@ for count in 2500 5000 9999; do
         -v files="$(cat "$work"/data/C00.* | wc -c)" 'BEGIN {
         printf "%d messages: %.3f s, sha256sum of the %d bytes of their files %.3f s, %d bytes written\n", count, taken, files, hashing, bytes
     }'
+    row "import of $count messages" "$least" - "$hashing"
 done
 
 # A message of 16,384 bytes takes 16,525 with its header and its index record, and the digits of its number: with 2,040

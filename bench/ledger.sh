@@ -34,9 +34,12 @@ awk -v runs="$runs" -v making="$making" -v once="$once" -v eleven="$eleven" 'BEG
     printf "making and reading it once: %.3f s, so the first reading takes %.3f s\n", once, once - making
     printf "reading it ten times more: %.3f s, so each takes %.3f s\n", eleven - once, (eleven - once) / 10
 }'
+hashing=-
 if command -v sha256sum >/dev/null; then
-    printf 'sha256sum of the same text: %s s\n' "$(best sha256sum "$work/ledger")"
+    hashing=$(best sha256sum "$work/ledger") || exit 1
+    printf 'sha256sum of the same text: %s s\n' "$hashing"
 fi
+row 'reading a ledger of 100,000 upload records' "$(each "$once" "$eleven" 10)" - "$hashing"
 if [ -x /usr/bin/time ] && /usr/bin/time -f %M true 2>/dev/null; then
     alone=$(/usr/bin/time -f %M "$program" 0 2>&1 >/dev/null)
     peak=$(/usr/bin/time -f %M "$program" 1 2>&1 >/dev/null)

@@ -49,7 +49,7 @@ list() {
 make_packet
 printf 'packet: %s bytes\n' "$(wc -c <"$big")"
 # The first call builds the program where it is missing, and reads the file into the system's memory.
-list >"$work/reply" || { echo "list failed with status $?" >&2; exit 1; }
+list >"$work/reply" || fail "list failed with status $?"
 printf 'reply: %s lines, %s bytes\n' "$(wc -l <"$work/reply")" "$(wc -c <"$work/reply")"
 tail -n 1 "$work/reply"
 
@@ -57,15 +57,17 @@ listing=$(best list) || exit 1
 copying=$(best cat "$big") || exit 1
 printf 'list: %s s, the best of %s\ncat: %s s\nlist / cat: %s\n' "$listing" "$runs" "$copying" \
     "$(awk -v a="$listing" -v b="$copying" 'BEGIN { printf "%.1f", a / b }')"
+hashing=-
 if command -v sha256sum >/dev/null; then
     hashing=$(best sha256sum "$big") || exit 1
     printf 'sha256sum: %s s\nlist / sha256sum: %s\n' "$hashing" \
         "$(awk -v a="$listing" -v b="$hashing" 'BEGIN { printf "%.1f", a / b }')"
 fi
+row 'list of a packet of 41.9 MB' "$listing" "$copying" "$hashing"
 if [ -x /usr/bin/time ] && /usr/bin/time -f %M true 2>/dev/null; then
     peak=$(/usr/bin/time -f %M "$top/bin/qwkdoor" "$work/data" "$work/shelf" list BIG 2>&1 >/dev/null)
     printf 'peak of memory: %s KiB\n' "$peak"
 else
     echo 'peak of memory: not measured, since /usr/bin/time is missing'
 fi
-[ ! -e "$work/data" ] || { echo 'list made the folder DATA' >&2; exit 1; }
+[ ! -e "$work/data" ] || fail 'list made the folder DATA'

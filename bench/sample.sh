@@ -5,33 +5,12 @@
 
 runs=${1:-3}
 top=$(dirname -- "$(readlink -f -- "$0")")/..
+# shellcheck source=/dev/null
+. "$top/bench/best.sh"
 program=$top/crates/qwkdoor/out/qwkdoor
 work=$(mktemp -d) || exit 1
 trap 'rm -rf -- "$work"' EXIT
 trap 'exit 1' HUP INT TERM
-
-fail() {
-    printf '%s\n' "$1" >&2
-    exit 1
-}
-
-# The seconds of the clock.
-now() {
-    date +%s.%N
-}
-
-# Adds how long a command took, as seconds, to a file.
-timed() {
-    file=$1
-    shift
-    before=$(now)
-    "$@" >/dev/null || fail "$2 failed with status $?"
-    awk -v a="$before" -v b="$(now)" 'BEGIN { printf "%.3f\n", b - a }' >>"$file"
-}
-
-least() {
-    sort -n "$1" | head -n 1
-}
 
 shelf=$top/crates/qwkdoor/data/shelf
 # The first run builds the program where that is missing.
@@ -50,6 +29,7 @@ for count in 1250 2500 5000; do
         run=$((run + 1))
     done
     printf '%-16s %10s %14s %10s\n' "$count messages" "$(least "$work/sampled")" "$(least "$work/hashed")" "$(cat "$work/data"/C0* | wc -c)"
+    row "sample of $count messages" "$(least "$work/sampled")" - "$(least "$work/hashed")"
 done
 
 rm -rf -- "$work/again"

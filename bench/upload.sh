@@ -5,16 +5,13 @@
 
 runs=${1:-3}
 top=$(dirname -- "$(readlink -f -- "$0")")/..
+# shellcheck source=/dev/null
+. "$top/bench/best.sh"
 program=$top/crates/qwkdoor/out/qwkdoor
 work=$(mktemp -d) || exit 1
 shelf=$work/shelf
 trap 'rm -rf -- "$work"' EXIT
 trap 'exit 1' HUP INT TERM
-
-fail() {
-    printf '%s\n' "$1" >&2
-    exit 1
-}
 
 door() {
     "$program" "$work/data" "$shelf" "$@"
@@ -26,24 +23,6 @@ expect() {
     shift
     reply=$(door "$@" | tail -n 1) || fail "$1 failed"
     [ "$reply" = "$wanted" ] || fail "$1 says: $reply"
-}
-
-# The seconds of the clock.
-now() {
-    date +%s.%N
-}
-
-# Adds how long a command took, as seconds, to a file.
-timed() {
-    file=$1
-    shift
-    before=$(now)
-    "$@" >/dev/null || fail "$2 failed with status $?"
-    awk -v a="$before" -v b="$(now)" 'BEGIN { printf "%.3f\n", b - a }' >>"$file"
-}
-
-least() {
-    sort -n "$1" | head -n 1
 }
 
 mkdir -p "$shelf" || exit 1
@@ -71,3 +50,5 @@ printf '%-16s %10s %12s\n' "the best of $runs" 'upload (s)' 'again (s)'
 printf '%-16s %10s %12s\n' '4,000 messages' "$(least "$work/first")" "$(least "$work/again")"
 printf 'sha256sum of the packet, %s bytes: %s s; the data files have %s bytes then\n' \
     "$(wc -c <"$shelf/BENCH.MSG")" "$(least "$work/hashed")" "$(cat "$work"/data/LEDGER.DAT "$work"/data/C* | wc -c)"
+row 'upload of 4,000 messages' "$(least "$work/first")" - "$(least "$work/hashed")"
+row 'the same upload again' "$(least "$work/again")" - "$(least "$work/hashed")"
