@@ -16,8 +16,8 @@ if ! command -v strace >/dev/null; then
     echo 'edge: strace is missing, so nothing is shown'
     exit 0
 fi
-# With two words nothing but the build happens.
-"$top/bin/qwkdoor" data shelf </dev/null
+# The first run builds the program where that is missing.
+"$top/bin/qwkdoor" "$top/bench/no-such-folder" "$top/crates/qwkdoor/data/shelf" scan P1 >/dev/null
 [ -x "$program" ] || exit 1
 
 work=$(mktemp -d) || exit 1

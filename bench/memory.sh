@@ -130,8 +130,8 @@ refuse_each() {
         "$1" $((request - 1)) "$starved" "$faults"
 }
 
-# With two words nothing but the build happens.
-"$top/bin/qwkdoor" data shelf </dev/null
+# The first run builds the program where that is missing.
+"$top/bin/qwkdoor" "$work/none" "$samples" scan P1 >/dev/null || fail "scan failed with status $?"
 prepare
 refuse_each export 'Ann Lee' 10 out
 refuse_each upload 'Ann Lee' four

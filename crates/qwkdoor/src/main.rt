@@ -40,7 +40,7 @@ fn run_on_folders(rt: HostRuntime) -> Result<Status, AllocError> {
     let Some(arguments) = Arguments::read(rt.alloc(), &rt)? else {
         return Ok(Status::Usage);
     };
-    if share_files(&rt, arguments.data.as_str(), arguments.shelf.as_str()) {
+    if share_files(&rt, arguments.data.as_str(), arguments.shelf.as_str())? {
         let _ = rt.eprintln("DATA and SHELF must not lie in one another");
         return Ok(Status::Usage);
     }

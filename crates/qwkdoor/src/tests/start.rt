@@ -127,7 +127,7 @@ fn faults_and_files_have_their_names(rt: HostRuntime) -> Result<(), Fail> {
 }
 
 #[test]
-fn folders_share_files_where_one_lies_in_the_other(rt: HostRuntime) {
+fn folders_share_files_where_one_lies_in_the_other(rt: HostRuntime) -> Result<(), Fail> {
     let cases = [
         ("none/a", "none/a", true),
         ("none/a", "none/a/b", true),
@@ -137,6 +137,7 @@ fn folders_share_files_where_one_lies_in_the_other(rt: HostRuntime) {
         ("none/a", "none/b", false),
     ];
     for (data, shelf, share) in cases {
-        assert_eq!(rt; share_files(&rt, data, shelf), share, "{data} {shelf}");
+        assert_eq!(rt; share_files(&rt, data, shelf)?, share, "{data} {shelf}");
     }
+    Ok(())
 }
