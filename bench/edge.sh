@@ -127,7 +127,8 @@ while read -r call number wanted; do
     got=$?
     [ "$got" -eq "$wanted" ] || complain "call $number of $call fails: status $got, wanted $wanted"
     is_front || complain "call $number of $call fails: another reply"
-    [ "$(wc -l <"$place/faults")" -eq 1 ] || complain "call $number of $call fails: not one line of fault"
+    # strace says so where a path that it is given has `..` in it.
+    [ "$(grep -c -v '^strace: ' "$place/faults")" -eq 1 ] || complain "call $number of $call fails: not one line of fault"
     run "$program" "$place/data" "$place/shelf" "$@"
     got=$?
     [ "$got" -le 1 ] || complain "after call $number of $call failed: the next run ends with $got"
