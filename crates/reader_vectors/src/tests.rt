@@ -1,5 +1,5 @@
 mod answers;
-mod board_files;
 mod changes;
+mod files_of_board;
+mod files_of_shelf;
 mod hostile_files;
-mod shelf_files;
