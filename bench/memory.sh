@@ -1,9 +1,9 @@
 #!/bin/sh
 # Refuses the program each request for memory in turn, by a library that is loaded before the C library and answers the
 # one request with nothing: of an export of one message, and of an upload of four, each on a copy of one board. A run
-# that ends with 7 has said nothing, and leaves the board before; one that a file call ended for want of memory, with 4
-# or 5, has said nothing, and leaves the board before or after. Says how many ended how. It is no part of the gate.
-# usage: bench/memory.sh
+# that ends with 7 has said nothing, and leaves the board before; one that a file call ended since memory ran out in it,
+# with 4 or 5, has said nothing, and leaves the board before or after; one that asked again for less is whole. Says how
+# many ended how. It is no part of the gate. usage: bench/memory.sh
 
 top=$(dirname -- "$(readlink -f -- "$0")")/..
 # shellcheck source=/dev/null
@@ -90,21 +90,27 @@ put_back() {
     cp -R "$work/files" "$work/shelf"
 }
 
-# Whether the board's data files are those of another folder, once they are recovered.
-is_board() {
+# Whether the board's data files are those before the command, once they are recovered.
+is_before() {
     door check >/dev/null || fail "check ends with status $?"
-    diff -rq -x JOURNAL.DAT -x LOCK "$work/board" "$1" >/dev/null
+    diff -rq -x JOURNAL.DAT -x LOCK "$work/board" "$work/before" >/dev/null
+}
+
+# Whether the board is the one after the command, by what `check` says, since its moments are those of each run.
+is_after() {
+    door check >"$work/checked" || fail "check ends with status $?"
+    cmp -s "$work/checked" "$work/after"
 }
 
 # Refuses each request of a command in turn.
 refuse_each() {
     put_back
-    door "$@" >/dev/null || fail "$1 failed with status $?"
-    rm -rf -- "$work/after"
-    cp -R "$work/board" "$work/after"
+    door "$@" >"$work/whole" || fail "$1 failed with status $?"
+    door check >"$work/after" || fail "check ends with status $?"
     request=0
     starved=0
     faults=0
+    whole=0
     while :; do
         request=$((request + 1))
         put_back
@@ -112,22 +118,27 @@ refuse_each() {
             "$program" "$work/board" "$work/shelf" "$@" >"$work/said" 2>/dev/null
         status=$?
         [ -e "$work/refused" ] || break
-        [ ! -s "$work/said" ] || fail "$1 without request $request says $(cat "$work/said")"
+        [ "$status" -eq 0 ] || [ ! -s "$work/said" ] || fail "$1 without request $request says $(cat "$work/said")"
         case $status in
+        0)
+            whole=$((whole + 1))
+            cmp -s "$work/said" "$work/whole" || fail "$1 without request $request says $(cat "$work/said")"
+            is_after || fail "$1 without request $request ends with 0 and leaves another board"
+            ;;
         7)
             starved=$((starved + 1))
-            is_board "$work/before" || fail "$1 without request $request ends with 7 and leaves another board"
+            is_before || fail "$1 without request $request ends with 7 and leaves another board"
             ;;
         4 | 5)
             faults=$((faults + 1))
-            is_board "$work/before" || is_board "$work/after" ||
+            is_before || is_after ||
                 fail "$1 without request $request ends with $status and leaves another board"
             ;;
         *) fail "$1 without request $request ends with $status" ;;
         esac
     done
-    printf '%s: %s requests for memory refused in turn: %s ended with 7, %s with 4 or 5\n' \
-        "$1" $((request - 1)) "$starved" "$faults"
+    printf '%s: %s requests for memory refused in turn: %s ended with 7, %s with 4 or 5, %s asked again for less\n' \
+        "$1" $((request - 1)) "$starved" "$faults" "$whole"
 }
 
 # The first run builds the program where that is missing.
