@@ -1,5 +1,6 @@
 //! Files that are damaged.
-use crate::data_files::put_data;
+use crate::data_files::{data_file, put_data};
+use crate::directions::parted;
 use crate::files::copies;
 use crate::miss::Miss;
 use crate::outside::no_faults;
@@ -48,4 +49,35 @@ pub fn host_with(
     let changed = damaged(alloc, host.file(file), damage)?;
     put_data(&mut host, file, changed.as_slice())?;
     Ok(host)
+}
+
+/// A number and a byte.
+fn two_numbers(text: &str) -> Option<(usize, u8)> {
+    let (number, byte) = text.split_once(' ')?;
+    Some((number.parse().ok()?, byte.parse().ok()?))
+}
+
+/// The damage that a text is.
+fn damage_of(text: &str) -> Option<Damage> {
+    let (kind, numbers) = text.split_once(' ')?;
+    match kind {
+        "becomes" => {
+            let (place, byte) = two_numbers(numbers)?;
+            Some(Damage::Becomes(place, byte))
+        }
+        "cut" => Some(Damage::Cut(numbers.parse().ok()?)),
+        "longer" => {
+            let (count, byte) = two_numbers(numbers)?;
+            Some(Damage::Longer(count, byte))
+        }
+        _ => None,
+    }
+}
+
+/// The host with a damaged file. The damage is the number of the file, and `becomes PLACE BYTE`, `cut LENGTH` or
+/// `longer COUNT BYTE`.
+pub fn damaged_host(alloc: Global, whole: &MemoryHost, text: &str) -> Result<MemoryHost, Miss> {
+    let (number, damage) = parted(text, ' ')?;
+    let damage = damage_of(damage).ok_or("this is no damage")?;
+    host_with(alloc, whole, data_file(number)?, damage)
 }

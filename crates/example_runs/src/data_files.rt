@@ -2,6 +2,12 @@
 use crate::miss::Miss;
 use door_outside::{FileId, MemoryHost};
 
+/// The data file of a number.
+pub(crate) fn data_file(number: &str) -> Result<FileId, Miss> {
+    let file = number.parse().ok().and_then(FileId::new);
+    Ok(file.ok_or("no number of a data file")?)
+}
+
 /// Gives a data file these bytes.
 pub fn put_data(host: &mut MemoryHost, file: FileId, bytes: &[u8]) -> Result<(), Miss> {
     if bytes.len() > 0x7FFF_FFFF {

@@ -35,6 +35,24 @@ pub fn copies(alloc: Global, text: &[u8], count: usize) -> Result<Bytes, AllocEr
     Ok(file)
 }
 
+/// Adds a text so many times to the end of a file, which may be missing.
+pub(crate) fn add_copies(
+    shelf: &mut MemoryShelf,
+    alloc: Global,
+    name: &str,
+    text: &[u8],
+    count: usize,
+) -> Result<(), Miss> {
+    let name = name_of(alloc, name)?;
+    let mut file = Bytes::new(alloc);
+    if let Some(before) = shelf.get(&name) {
+        file.add(before)?;
+    }
+    file.add(copies(alloc, text, count)?.as_slice())?;
+    shelf.put(&name, file.as_slice())?;
+    Ok(())
+}
+
 /// Looks whether a file has these bytes.
 pub fn expect_file(
     alloc: Global,

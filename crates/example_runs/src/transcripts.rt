@@ -7,7 +7,7 @@ use mail_cli::Status;
 use std::alloc::Global;
 
 /// What stands before each command line of a transcript.
-const PROMPT: &str = "\n> ";
+pub(crate) const PROMPT: &str = "\n> ";
 
 /// What stands behind the first prompt, without the last line end.
 fn after_prompt(transcript: &str) -> Option<&str> {
@@ -74,7 +74,7 @@ fn run_line(
 }
 
 /// Runs a command of a transcript, whose last line has no line end.
-fn run_command(
+pub(crate) fn run_command(
     alloc: Global,
     last: &MemoryHost,
     shelf: &mut MemoryShelf,

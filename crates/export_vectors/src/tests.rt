@@ -1,1 +1,2 @@
 mod export_runs;
+mod faults;

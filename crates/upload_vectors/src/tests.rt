@@ -1,4 +1,4 @@
-mod blocks;
 mod faults;
+mod four;
 mod refusals;
 mod upload_runs;

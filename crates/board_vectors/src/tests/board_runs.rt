@@ -1,12 +1,9 @@
 //! Runs of the commands over a board: `init`, `enroll` and `check`.
-use super::damages::damaged_host;
-use door_outside::FileId;
-use example_runs::{
-    Miss, board_b, empty_host, empty_shelf, play, play_each, play_on_board_b, put_data, put_setups,
-};
+use example_runs::{Miss, expect_transcript};
 
 /// The ledger of the new board has 119 bytes, and each of the three headers 1,024.
 const MADE: &str = r#"
+* setups
 > check
 refused notmade
 > init long-id.txt
@@ -39,17 +36,14 @@ board TESTBBS
 
 #[test]
 fn a_board_is_made_once(rt: HostRuntime) -> Result<(), Miss> {
-    let alloc = rt.alloc();
-    let mut shelf = empty_shelf(alloc);
-    put_setups(&mut shelf, alloc)?;
-    play(alloc, empty_host(alloc), &mut shelf, MADE)?;
-    Ok(())
+    expect_transcript(rt.alloc(), MADE)
 }
 
 /// On the board B the users' records have 153 bytes more than the new board, and the eight last-read records 128. The
 /// record of Ed Poe, a member of two conferences, has 37, and his last-read records 32. Each refusal is the first of
 /// those that apply.
 const ENROLLED: &str = r#"
+* board B
 > check
 board TESTBBS
 0 GENERAL: 0 slots, 0 live
@@ -90,10 +84,7 @@ board TESTBBS
 
 #[test]
 fn users_are_enrolled_or_refused(rt: HostRuntime) -> Result<(), Miss> {
-    let alloc = rt.alloc();
-    let mut shelf = empty_shelf(alloc);
-    play_on_board_b(alloc, &mut shelf, ENROLLED)?;
-    Ok(())
+    expect_transcript(rt.alloc(), ENROLLED)
 }
 
 const OTHER_WORDS: &str = r#"
@@ -135,12 +126,14 @@ usage
 
 #[test]
 fn other_words_are_no_command(rt: HostRuntime) -> Result<(), Miss> {
-    let alloc = rt.alloc();
-    let mut shelf = empty_shelf(alloc);
-    play_each(alloc, &empty_host(alloc), &mut shelf, OTHER_WORDS)
+    expect_transcript(rt.alloc(), OTHER_WORDS)
 }
 
+/// The journal is one byte, an O.
 const CLOSED: &str = r#"
+* board B
+* damage 1 cut 0
+* damage 1 longer 1 79
 > check
 board TESTBBS
 0 GENERAL: 0 slots, 0 live
@@ -159,15 +152,13 @@ board TESTBBS
 
 #[test]
 fn a_journal_of_one_byte_is_closed(rt: HostRuntime) -> Result<(), Miss> {
-    let alloc = rt.alloc();
-    let mut shelf = empty_shelf(alloc);
-    let mut host = board_b(alloc, &mut shelf)?;
-    put_data(&mut host, FileId::journal(), b"O")?;
-    play(alloc, host, &mut shelf, CLOSED)?;
-    Ok(())
+    expect_transcript(rt.alloc(), CLOSED)
 }
 
+/// The letters at the front of the ledger become QMDX.
 const DAMAGED: &str = r#"
+* board B
+* damage 0 becomes 3 88
 > check
 damaged 0 0 magic
 > init none.txt
@@ -180,11 +171,5 @@ damaged 0 0 magic
 
 #[test]
 fn damage_comes_before_each_refusal(rt: HostRuntime) -> Result<(), Miss> {
-    let alloc = rt.alloc();
-    let mut shelf = empty_shelf(alloc);
-    let board = board_b(alloc, &mut shelf)?;
-    // The letters at the front of the ledger become QMDX.
-    let host = damaged_host(alloc, &board, "0 becomes 3 88")?;
-    play(alloc, host, &mut shelf, DAMAGED)?;
-    Ok(())
+    expect_transcript(rt.alloc(), DAMAGED)
 }

@@ -1,7 +1,6 @@
 //! Boards whose files are damaged, and what `check` says of them.
-use super::damages::damaged_host;
-use door_outside::{MemoryHost, MemoryShelf};
-use example_runs::{Miss, empty_shelf, play, play_on_board_b, put_sheets};
+use door_outside::MemoryHost;
+use example_runs::{Miss, Stage, played};
 use std::alloc::Global;
 
 /// Damages, and what is said of them. The byte 88 is `X`, and 120 is `x`.
@@ -25,32 +24,23 @@ const DAMAGES: &str = "\
 14 longer 1 120: damaged 14 0 rest
 ";
 
-/// Looks whether a damage is named.
-fn expect_damage(
-    alloc: Global,
-    board: &MemoryHost,
-    shelf: &mut MemoryShelf,
-    damage: &str,
-    reply: &str,
-) -> Result<(), Miss> {
-    let host = damaged_host(alloc, board, damage)?;
-    let transcript = format!(in alloc; "\n> check\n{reply}\n")?;
-    play(alloc, host, shelf, transcript.as_str())?;
-    Ok(())
+/// Looks whether a damage is named that a line begins with.
+fn expect_damage(alloc: Global, whole: &MemoryHost, row: &str) -> Result<(), Miss> {
+    let (damage, reply) = row.split_once(": ").ok_or("a damage says nothing")?;
+    let transcript = format!(in alloc; "\n* damage {damage}\n> check\n{reply}\n")?;
+    Stage::after(alloc, whole)?.play(alloc, transcript.as_str())
 }
 
 /// Looks whether each damage of a board is named.
-fn expect_damages(alloc: Global, board: &MemoryHost, shelf: &mut MemoryShelf) -> Result<(), Miss> {
+fn expect_damages(alloc: Global, whole: &MemoryHost) -> Result<(), Miss> {
     for row in DAMAGES.lines() {
-        let Some((damage, reply)) = row.split_once(": ") else {
-            return Err(Miss::Broken("a damage says nothing"));
-        };
-        expect_damage(alloc, board, shelf, damage, reply)?;
+        expect_damage(alloc, whole, row)?;
     }
     Ok(())
 }
 
 const OFFERED: &str = r#"
+* board B
 > import 0 two
 imported 2 into 0
 > export "Ann Lee" 10 out
@@ -59,6 +49,7 @@ packet 1: 2 messages
 
 /// What is said where an index has one slot more, whose message is gone.
 const GONE: &str = "
+* damage 4 longer 8 255
 > check
 board TESTBBS
 0 GENERAL: 3 slots, 2 live
@@ -69,9 +60,8 @@ board TESTBBS
 
 /// The byte of the ledger that Ann's high in the first conference begins with becomes 3: the records before the users'
 /// have 119 bytes, and 26 of hers stand before her highs.
-const HIGH: &str = "0 becomes 145 3";
-
-const HIGH_NAMED: &str = "
+const HIGH: &str = "
+* damage 0 becomes 145 3
 > check
 damaged 0 4 high
 ";
@@ -79,15 +69,10 @@ damaged 0 4 high
 #[test]
 fn each_damage_is_named(rt: HostRuntime) -> Result<(), Miss> {
     let alloc = rt.alloc();
-    let mut shelf = empty_shelf(alloc);
-    put_sheets(&mut shelf, alloc)?;
-    let whole = play_on_board_b(alloc, &mut shelf, OFFERED)?;
-    expect_damages(alloc, &whole, &mut shelf)?;
-    let gone = damaged_host(alloc, &whole, "4 longer 8 255")?;
-    play(alloc, gone, &mut shelf, GONE)?;
+    let mut stage = played(alloc, OFFERED)?;
+    expect_damages(alloc, &stage.host)?;
+    Stage::after(alloc, &stage.host)?.play(alloc, GONE)?;
     // A high above the slots is named last, so beside any other damage it isn't.
-    let high = damaged_host(alloc, &whole, HIGH)?;
-    expect_damages(alloc, &high, &mut shelf)?;
-    play(alloc, high, &mut shelf, HIGH_NAMED)?;
-    Ok(())
+    stage.play(alloc, HIGH)?;
+    expect_damages(alloc, &stage.host)
 }

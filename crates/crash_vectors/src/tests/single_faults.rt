@@ -1,6 +1,6 @@
 //! Calls that fail alone.
 use door_outside::{ImageChoice, MemoryHost, MemoryShelf};
-use example_runs::{Miss, Steps, board_b, empty_shelf, fails_at, put_sheets, run_twice};
+use example_runs::{Miss, Steps, empty_shelf, fails_at, run_twice};
 use mail_cli::Status;
 use std::alloc::Global;
 
@@ -31,9 +31,7 @@ fn expect_board(
 fn a_board_is_whole_after_a_call_that_failed(rt: HostRuntime) -> Result<(), Miss> {
     let alloc = rt.alloc();
     let mut shelf = empty_shelf(alloc);
-    put_sheets(&mut shelf, alloc)?;
-    let start = board_b(alloc, &mut shelf)?;
-    let mut steps = Steps::of(alloc, start, &mut shelf, IMPORT)?;
+    let mut steps = Steps::on_board_b(alloc, &mut shelf, IMPORT)?;
     for call in 1..2000 {
         let plan = fails_at(alloc, call)?;
         let start = steps.start()?;

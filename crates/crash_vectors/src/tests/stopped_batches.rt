@@ -1,5 +1,5 @@
 //! Batches that are stopped at a call of the host, and with it all later ones.
-use example_runs::{DAY, Miss, Steps, board_b, empty_host, empty_shelf, put, put_day, put_sheets};
+use example_runs::{DAY, Miss, Steps, empty_host, empty_shelf, put, put_day};
 
 /// Three commands.
 const THREE: &str = "enroll \"Ed Poe\" - 0,7\nimport 0 one\nkill 0 1\n";
@@ -8,10 +8,8 @@ const THREE: &str = "enroll \"Ed Poe\" - 0,7\nimport 0 one\nkill 0 1\n";
 fn a_stopped_batch_leaves_the_board_between_its_commands(rt: HostRuntime) -> Result<(), Miss> {
     let alloc = rt.alloc();
     let mut shelf = empty_shelf(alloc);
-    put_sheets(&mut shelf, alloc)?;
     put(&mut shelf, alloc, "three", THREE.as_bytes())?;
-    let start = board_b(alloc, &mut shelf)?;
-    let mut steps = Steps::of(alloc, start, &mut shelf, THREE)?;
+    let mut steps = Steps::on_board_b(alloc, &mut shelf, THREE)?;
     steps.expect_stops(alloc, &mut shelf, "batch three")
 }
 

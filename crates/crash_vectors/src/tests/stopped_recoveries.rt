@@ -1,8 +1,6 @@
 //! Recoveries that are stopped too.
 use door_outside::{ImageChoice, MemoryHost, MemoryShelf};
-use example_runs::{
-    Miss, Steps, board_b, empty_shelf, put_sheets, run_after_crash, run_next, stops_at,
-};
+use example_runs::{Miss, Steps, empty_shelf, run_after_crash, run_next, stops_at};
 use mail_cli::Status;
 use std::alloc::Global;
 
@@ -36,9 +34,7 @@ fn a_stopped_recovery_leaves_the_board_that_the_first_crash_left(
 ) -> Result<(), Miss> {
     let alloc = rt.alloc();
     let mut shelf = empty_shelf(alloc);
-    put_sheets(&mut shelf, alloc)?;
-    let start = board_b(alloc, &mut shelf)?;
-    let mut steps = Steps::of(alloc, start, &mut shelf, IMPORT)?;
+    let mut steps = Steps::on_board_b(alloc, &mut shelf, IMPORT)?;
     for call in 1..2000 {
         let plan = stops_at(alloc, Some(call));
         let (host, ended) = run_next(alloc, steps.start()?, plan, &mut shelf, IMPORT)?;

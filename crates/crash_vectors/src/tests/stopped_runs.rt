@@ -1,6 +1,6 @@
 //! Commands that are stopped at a call of the host, and with it all later ones.
 use example_runs::{
-    Miss, Steps, board_b, empty_host, empty_shelf, play_on_board_b, put, put_setups, put_sheets,
+    Miss, Steps, empty_host, empty_shelf, play_on_board_b, put, put_setups, put_sheets,
     run_to_fault, stops_at,
 };
 use mail_cli::Status;
@@ -26,8 +26,7 @@ fn a_stopped_init_and_enroll_leave_the_board_before_or_after(rt: HostRuntime) ->
     put_setups(&mut shelf, alloc)?;
     let mut steps = Steps::of(alloc, empty_host(alloc), &mut shelf, INIT)?;
     steps.expect_stops(alloc, &mut shelf, INIT)?;
-    let start = board_b(alloc, &mut shelf)?;
-    let mut steps = Steps::of(alloc, start, &mut shelf, ENROLL)?;
+    let mut steps = Steps::on_board_b(alloc, &mut shelf, ENROLL)?;
     steps.expect_stops(alloc, &mut shelf, ENROLL)
 }
 

@@ -1,17 +1,28 @@
 //! Uploads that are refused, each by the first refusal that applies.
-use super::blocks::{BOARD, HI, OTHER, TO_BOB};
-use door_outside::FileId;
-use example_runs::{
-    Miss, SPACES, board_b, copies, empty_host, empty_shelf, joined, play_each, put, put_blocks,
-    put_data,
-};
+use example_runs::{Miss, expect_transcript};
 
-const NOT_MADE: &str = r#"
+/// Where no board is made, and on the board B. The file `largest` is as long as a packet may be.
+const REFUSED: &str = r#"
 > upload Zed missing
 refused notmade
-"#;
-
-const REFUSED: &str = r#"
+* board B
+* add largest 1048576 \x20
+* add huge 1048577 \x20
+* put nothing
+* put short TESTBBS
+* blocks nobody
+\x20
+ 0      09-09-0101:46BOB RAY                  ANN LEE                  Hello                                0       2     \xE1\0\0\x01\0
+* blocks cut
+OTHER
+ 0      09-09-0101:46BOB RAY                  ANN LEE                  Hello                                0       2     \xE1\0\0\x01\0
+* blocks uncounted
+TESTBBS
+\x20
+* blocks other
+OTHER
+ 0      09-09-0101:46BOB RAY                  ANN LEE                  Hello                                0       2     \xE1\0\0\x01\0
+Hi\xE3
 > upload Zed missing
 refused nouser
 > upload "" missing
@@ -40,9 +51,18 @@ board TESTBBS
 1 NETMAIL: 0 slots, 0 live
 7 NEWS: 0 slots, 0 live
 4 users, 0 uploads, 3472 bytes
+* damage 3 longer 1 120
+> upload Zed missing
+damaged 3 1 rest
 "#;
 
+#[test]
+fn each_refusal_of_an_upload_comes_in_order(rt: HostRuntime) -> Result<(), Miss> {
+    expect_transcript(rt.alloc(), REFUSED)
+}
+
 const OTHER_WORDS: &str = r#"
+* board B
 > upload
 usage
 > upload "Ann Lee"
@@ -55,30 +75,7 @@ usage
 usage
 "#;
 
-const DAMAGED: &str = r#"
-> upload Zed missing
-damaged 3 1 rest
-"#;
-
 #[test]
-fn each_refusal_of_an_upload_comes_in_order(rt: HostRuntime) -> Result<(), Miss> {
-    let alloc = rt.alloc();
-    let mut shelf = empty_shelf(alloc);
-    play_each(alloc, &empty_host(alloc), &mut shelf, NOT_MADE)?;
-    let mut spaces = copies(alloc, SPACES, 8192)?;
-    put(&mut shelf, alloc, "largest", spaces.as_slice())?;
-    spaces.add(b" ")?;
-    put(&mut shelf, alloc, "huge", spaces.as_slice())?;
-    put(&mut shelf, alloc, "nothing", b"")?;
-    put(&mut shelf, alloc, "short", b"TESTBBS")?;
-    put_blocks(&mut shelf, alloc, "nobody", &[SPACES, TO_BOB])?;
-    let cut = joined(alloc, &[OTHER, TO_BOB])?;
-    put(&mut shelf, alloc, "cut", cut.as_slice())?;
-    put_blocks(&mut shelf, alloc, "uncounted", &[BOARD, SPACES])?;
-    put_blocks(&mut shelf, alloc, "other", &[OTHER, TO_BOB, HI])?;
-    let mut host = board_b(alloc, &mut shelf)?;
-    play_each(alloc, &host, &mut shelf, REFUSED)?;
-    play_each(alloc, &host, &mut shelf, OTHER_WORDS)?;
-    put_data(&mut host, FileId::jdt(0), b"x")?;
-    play_each(alloc, &host, &mut shelf, DAMAGED)
+fn other_words_upload_nothing(rt: HostRuntime) -> Result<(), Miss> {
+    expect_transcript(rt.alloc(), OTHER_WORDS)
 }

@@ -1,0 +1,180 @@
+//! A host and a shelf on which a transcript is played.
+use crate::boards::{board_b, put_setups, put_sheets};
+use crate::damages::damaged_host;
+use crate::data_files::{data_file, expect_data_length, expect_part, expect_rest};
+use crate::directions::{blocks_of, bytes_of, number_of, parted};
+use crate::files::{add_copies, expect_file, put};
+use crate::miss::Miss;
+use crate::outside::{empty_host, empty_shelf, no_faults};
+use crate::runs::NOW;
+use crate::transcripts::{PROMPT, run_command};
+use door_outside::{ImageChoice, MemoryHost, MemoryShelf};
+use std::alloc::Global;
+
+/// What stands before each direction of a transcript.
+const DIRECTION: &str = "\n* ";
+
+/// A host and a shelf in memory, and the moment of the runs on them.
+#[derive(Drop)]
+pub struct Stage {
+    pub host: MemoryHost,
+    pub shelf: MemoryShelf,
+    now: u32,
+}
+
+/// Plays a transcript on empty files.
+pub fn played(alloc: Global, transcript: &str) -> Result<Stage, Miss> {
+    let mut stage = Stage {
+        host: empty_host(alloc),
+        shelf: empty_shelf(alloc),
+        now: NOW,
+    };
+    stage.play(alloc, transcript)?;
+    Ok(stage)
+}
+
+/// Plays a transcript on empty files, where nothing more is to be looked at.
+pub fn expect_transcript(alloc: Global, transcript: &str) -> Result<(), Miss> {
+    played(alloc, transcript)?;
+    Ok(())
+}
+
+impl Stage {
+    /// What the last run on a host has synced, with an empty shelf.
+    pub fn after(alloc: Global, last: &MemoryHost) -> Result<Stage, Miss> {
+        Ok(Stage {
+            host: last.after_crash(alloc, ImageChoice::Synced, no_faults(alloc))?,
+            shelf: empty_shelf(alloc),
+            now: NOW,
+        })
+    }
+
+    /// Carries out each step of a transcript on what was synced before it.
+    pub fn play(&mut self, alloc: Global, transcript: &str) -> Result<(), Miss> {
+        let Some(scenes) = transcript.strip_suffix('\n') else {
+            return Err(Miss::no_transcript(alloc, transcript)?);
+        };
+        for scene in scenes.split(DIRECTION) {
+            self.play_scene(alloc, scene)?;
+        }
+        Ok(())
+    }
+
+    /// Follows the direction that a text begins with, if any, and then runs its commands.
+    fn play_scene(&mut self, alloc: Global, scene: &str) -> Result<(), Miss> {
+        let Some((direction, commands)) = scene.split_once(PROMPT) else {
+            return self.follow(alloc, scene);
+        };
+        self.follow(alloc, direction)?;
+        for command in commands.split(PROMPT) {
+            self.host = run_command(alloc, &self.host, &mut self.shelf, self.now, command)?;
+        }
+        Ok(())
+    }
+
+    /// Follows a direction, or none.
+    fn follow(&mut self, alloc: Global, direction: &str) -> Result<(), Miss> {
+        let (verb, rest) = direction.split_once(' ').unwrap_or((direction, ""));
+        match verb {
+            "" => Ok(()),
+            "now" => self.set_now(rest),
+            "setups" => put_setups(&mut self.shelf, alloc),
+            "board" => self.make_board(alloc),
+            "put" => self.put(alloc, rest),
+            "add" => self.add(alloc, rest),
+            "blocks" => self.put_blocks(alloc, rest),
+            "file" => self.expect_file(alloc, rest),
+            "packet" => self.expect_blocks(alloc, rest),
+            "data" => self.expect_data(alloc, rest),
+            "damage" => {
+                self.host = damaged_host(alloc, &self.host, rest)?;
+                Ok(())
+            }
+            _ => Err(Miss::no_transcript(alloc, direction)?),
+        }
+    }
+
+    /// `now MOMENT` sets the moment of the runs from here on, in Unix seconds.
+    fn set_now(&mut self, moment: &str) -> Result<(), Miss> {
+        self.now = moment.parse().ok().ok_or("a direction lacks a moment")?;
+        Ok(())
+    }
+
+    /// `board` makes the board B, and puts the sheets of the examples.
+    fn make_board(&mut self, alloc: Global) -> Result<(), Miss> {
+        put_sheets(&mut self.shelf, alloc)?;
+        self.host = board_b(alloc, &mut self.shelf)?;
+        Ok(())
+    }
+
+    /// `put NAME TEXT` puts a file on the shelf.
+    fn put(&mut self, alloc: Global, words: &str) -> Result<(), Miss> {
+        let (name, text) = words.split_once(' ').unwrap_or((words, ""));
+        put(
+            &mut self.shelf,
+            alloc,
+            name,
+            bytes_of(alloc, text)?.as_slice(),
+        )
+    }
+
+    /// `add NAME COUNT TEXT` adds a text so many times to the end of a file.
+    fn add(&mut self, alloc: Global, words: &str) -> Result<(), Miss> {
+        let (name, words) = parted(words, ' ')?;
+        let (count, text) = parted(words, ' ')?;
+        let text = bytes_of(alloc, text)?;
+        add_copies(
+            &mut self.shelf,
+            alloc,
+            name,
+            text.as_slice(),
+            number_of(count)?,
+        )
+    }
+
+    /// `blocks NAME`, and a block in each line below it, puts a file of blocks.
+    fn put_blocks(&mut self, alloc: Global, words: &str) -> Result<(), Miss> {
+        let (name, lines) = parted(words, '\n')?;
+        put(
+            &mut self.shelf,
+            alloc,
+            name,
+            blocks_of(alloc, lines)?.as_slice(),
+        )
+    }
+
+    /// `file NAME TEXT` looks whether a file of the shelf is this text.
+    fn expect_file(&self, alloc: Global, words: &str) -> Result<(), Miss> {
+        let (name, text) = parted(words, ' ')?;
+        expect_file(alloc, &self.shelf, name, bytes_of(alloc, text)?.as_slice())
+    }
+
+    /// `packet NAME`, and a block in each line below it, looks whether a file of the shelf has these blocks.
+    fn expect_blocks(&self, alloc: Global, words: &str) -> Result<(), Miss> {
+        let (name, lines) = parted(words, '\n')?;
+        expect_file(
+            alloc,
+            &self.shelf,
+            name,
+            blocks_of(alloc, lines)?.as_slice(),
+        )
+    }
+
+    /// `data NUMBER has LENGTH` looks how long a data file is; `data NUMBER from PLACE TEXT` looks whether it has a text
+    /// at a place; and `data NUMBER ends PLACE TEXT`, whether it ends with it too.
+    fn expect_data(&self, alloc: Global, words: &str) -> Result<(), Miss> {
+        let (number, words) = parted(words, ' ')?;
+        let file = data_file(number)?;
+        let (verb, words) = parted(words, ' ')?;
+        if verb == "has" {
+            return expect_data_length(&self.host, file, number_of(words)?);
+        }
+        let (place, text) = parted(words, ' ')?;
+        let (place, text) = (number_of(place)?, bytes_of(alloc, text)?);
+        match verb {
+            "from" => expect_part(&self.host, file, place, text.as_slice()),
+            "ends" => expect_rest(&self.host, file, place, text.as_slice()),
+            _ => Err(Miss::no_transcript(alloc, verb)?),
+        }
+    }
+}
