@@ -2,10 +2,12 @@
 use crate::boards::{board_b, put_setups, put_sheets};
 use crate::damages::damaged_host;
 use crate::data_files::{data_file, expect_data_length, expect_part, expect_rest};
+use crate::days::put_day;
 use crate::directions::{blocks_of, bytes_of, number_of, parted};
-use crate::files::{add_copies, expect_file, put};
+use crate::files::{add_copies, expect_file, expect_file_length, file_of, put};
 use crate::miss::Miss;
 use crate::outside::{empty_host, empty_shelf, no_faults};
+use crate::packets::{put_folders, put_packets};
 use crate::runs::NOW;
 use crate::transcripts::{PROMPT, run_command};
 use door_outside::{ImageChoice, MemoryHost, MemoryShelf};
@@ -79,12 +81,18 @@ impl Stage {
             "" => Ok(()),
             "now" => self.set_now(rest),
             "setups" => put_setups(&mut self.shelf, alloc),
+            "day" => put_day(&mut self.shelf, alloc),
+            "packets" => put_packets(&mut self.shelf, alloc),
+            "folders" => put_folders(&mut self.shelf, alloc),
             "board" => self.make_board(alloc),
             "put" => self.put(alloc, rest),
             "add" => self.add(alloc, rest),
+            "join" => self.join(alloc, rest),
             "blocks" => self.put_blocks(alloc, rest),
             "file" => self.expect_file(alloc, rest),
             "packet" => self.expect_blocks(alloc, rest),
+            "same" => self.expect_same(alloc, rest),
+            "length" => self.expect_length(alloc, rest),
             "data" => self.expect_data(alloc, rest),
             "damage" => {
                 self.host = damaged_host(alloc, &self.host, rest)?;
@@ -132,6 +140,20 @@ impl Stage {
         )
     }
 
+    /// `join NAME COUNT OTHER` adds another file so many times to the end of a file.
+    fn join(&mut self, alloc: Global, words: &str) -> Result<(), Miss> {
+        let (name, words) = parted(words, ' ')?;
+        let (count, other) = parted(words, ' ')?;
+        let file = file_of(alloc, &self.shelf, other)?;
+        add_copies(
+            &mut self.shelf,
+            alloc,
+            name,
+            file.as_slice(),
+            number_of(count)?,
+        )
+    }
+
     /// `blocks NAME`, and a block in each line below it, puts a file of blocks.
     fn put_blocks(&mut self, alloc: Global, words: &str) -> Result<(), Miss> {
         let (name, lines) = parted(words, '\n')?;
@@ -158,6 +180,19 @@ impl Stage {
             name,
             blocks_of(alloc, lines)?.as_slice(),
         )
+    }
+
+    /// `same NAME OTHER` looks whether two files of the shelf are equal.
+    fn expect_same(&self, alloc: Global, words: &str) -> Result<(), Miss> {
+        let (name, other) = parted(words, ' ')?;
+        let wanted = file_of(alloc, &self.shelf, other)?;
+        expect_file(alloc, &self.shelf, name, wanted.as_slice())
+    }
+
+    /// `length NAME LENGTH` looks how long a file of the shelf is.
+    fn expect_length(&self, alloc: Global, words: &str) -> Result<(), Miss> {
+        let (name, length) = parted(words, ' ')?;
+        expect_file_length(alloc, &self.shelf, name, number_of(length)?)
     }
 
     /// `data NUMBER has LENGTH` looks how long a data file is; `data NUMBER from PLACE TEXT` looks whether it has a text

@@ -1,8 +1,8 @@
 //! Runs of the commands by which a sysop changes messages: `import` and `kill`.
 use byte_lists::Bytes;
 use door_outside::{FileId, MemoryHost};
-use example_runs::{Miss, copies, expect_part, expect_transcript, played, put, put_data};
-use std::alloc::{AllocError, Global};
+use example_runs::{Miss, copies, expect_part, expect_transcript, played, put_data};
+use std::alloc::Global;
 
 /// The files of the conference 0 after the sheet given twice. In a net conference its message is private.
 const IMPORTED: &str = r#"
@@ -188,14 +188,6 @@ fn other_words_change_no_message(rt: HostRuntime) -> Result<(), Miss> {
     expect_transcript(rt.alloc(), OTHER_WORDS)
 }
 
-/// A sheet of 255 messages, each as long as it may be.
-fn long_sheet(alloc: Global) -> Result<Bytes, AllocError> {
-    let mut message = Bytes::from_slice(alloc, b"From: Bob Ray\nTo: All\n\n")?;
-    message.add(copies(alloc, b"x", 16_383)?.as_slice())?;
-    message.add(b"\n.\n")?;
-    copies(alloc, message.as_slice(), 255)
-}
-
 /// Puts a copy of a file in the place of another.
 fn put_copy(alloc: Global, host: &mut MemoryHost, from: FileId, to: FileId) -> Result<(), Miss> {
     let file = Bytes::from_slice(alloc, host.file(from))?;
@@ -213,20 +205,21 @@ fn fill_conferences(alloc: Global, host: &mut MemoryHost) -> Result<(), Miss> {
     Ok(())
 }
 
-/// A setup file with eight conferences.
-const EIGHT: &str = r#"
+/// A setup file with eight conferences, and a sheet of 255 messages, each as long as it may be.
+const FILLED: &str = r#"
 * put eight board: Full\ncity: Springfield\nphone: 555-0100\nsysop: Sam Sysop\nbbsid: FULL\nserial: 1\nzones:\n
 * add eight 1 conference: 0 local - C0\nconference: 1 local - C1\nconference: 2 local - C2\n
 * add eight 1 conference: 3 local - C3\nconference: 4 local - C4\nconference: 5 local - C5\n
 * add eight 1 conference: 6 local - C6\nconference: 7 local - C7\n
+* put longest From: Bob Ray\nTo: All\n\n
+* add longest 16383 x
+* add longest 1 \n.\n
+* join long 255 longest
 > init eight
 made 8 conferences
-"#;
-
-const FILLED: &str = "
 > import 0 long
 imported 255 into 0
-";
+"#;
 
 const TOO_LONG: &str = "
 > import 7 long
@@ -236,14 +229,7 @@ refused size 33691942
 #[test]
 fn a_sheet_that_makes_the_files_too_long_is_refused(rt: HostRuntime) -> Result<(), Miss> {
     let alloc = rt.alloc();
-    let mut stage = played(alloc, EIGHT)?;
-    put(
-        &mut stage.shelf,
-        alloc,
-        "long",
-        long_sheet(alloc)?.as_slice(),
-    )?;
-    stage.play(alloc, FILLED)?;
+    let mut stage = played(alloc, FILLED)?;
     fill_conferences(alloc, &mut stage.host)?;
     stage.play(alloc, TOO_LONG)
 }

@@ -1,5 +1,5 @@
 //! Runs of the commands by which a caller gets his mail: `export` and `ack`.
-use example_runs::{CONTROL, Miss, expect_file, expect_transcript, file_of, played};
+use example_runs::{CONTROL, Miss, expect_file, expect_transcript, played};
 
 const EXPORTED: &str = r#"
 * board B
@@ -248,14 +248,12 @@ a?b\xE3\xE3.x\xE3
  3      09-09-0101:46ALL                      BOB RAY                  Hello                                0       129   \xE1\0\0\x03\0
 * add wanted 16383 x
 * add wanted 1 \xE3
+* same out/MESSAGES.DAT wanted
 "#;
 
 #[test]
 fn a_message_is_cut_to_what_qwk_shows(rt: HostRuntime) -> Result<(), Miss> {
-    let alloc = rt.alloc();
-    let stage = played(alloc, CUT_SHORT)?;
-    let wanted = file_of(alloc, &stage.shelf, "wanted")?;
-    expect_file(alloc, &stage.shelf, "out/MESSAGES.DAT", wanted.as_slice())
+    expect_transcript(rt.alloc(), CUT_SHORT)
 }
 
 /// Offers of a conference of 2,001 messages.

@@ -1,12 +1,13 @@
 //! Runs of the commands over packets.
 use example_runs::{
-    Miss, empty_host, empty_shelf, failing_shelf, fails_at, no_faults, play_each, put_folders,
-    put_packets, run_to_fault,
+    Miss, empty_host, expect_transcript, failing_shelf, fails_at, no_faults, put_packets,
+    run_to_fault,
 };
 use mail_cli::Status;
 
 /// What `list` and `scan` say of each packet.
 const PACKETS: &str = "
+* packets
 > list P1
 1 0/1 public BOB RAY > ALL: Hello [1]
 1 messages
@@ -46,14 +47,12 @@ refused broken blocks 128
 
 #[test]
 fn packets_are_listed_and_scanned(rt: HostRuntime) -> Result<(), Miss> {
-    let alloc = rt.alloc();
-    let mut shelf = empty_shelf(alloc);
-    put_packets(&mut shelf, alloc)?;
-    play_each(alloc, &empty_host(alloc), &mut shelf, PACKETS)
+    expect_transcript(rt.alloc(), PACKETS)
 }
 
 /// What `read` says of a whole folder, and of ones in which each refusal comes first.
 const FOLDERS: &str = "
+* folders
 > read out
 board Test Board
 user ANN LEE
@@ -87,10 +86,7 @@ refused nomessage
 
 #[test]
 fn folders_are_read_or_refused(rt: HostRuntime) -> Result<(), Miss> {
-    let alloc = rt.alloc();
-    let mut shelf = empty_shelf(alloc);
-    put_folders(&mut shelf, alloc)?;
-    play_each(alloc, &empty_host(alloc), &mut shelf, FOLDERS)
+    expect_transcript(rt.alloc(), FOLDERS)
 }
 
 const OTHER_WORDS: &str = "
@@ -122,9 +118,7 @@ usage
 
 #[test]
 fn other_words_are_no_command(rt: HostRuntime) -> Result<(), Miss> {
-    let alloc = rt.alloc();
-    let mut shelf = empty_shelf(alloc);
-    play_each(alloc, &empty_host(alloc), &mut shelf, OTHER_WORDS)
+    expect_transcript(rt.alloc(), OTHER_WORDS)
 }
 
 #[test]

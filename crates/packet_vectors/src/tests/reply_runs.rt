@@ -1,107 +1,72 @@
 //! Runs of the commands by which a caller writes back: `reply` and `compose`.
-use byte_lists::Bytes;
-use door_outside::MemoryShelf;
-use example_runs::{
-    Miss, SPACES, copies, empty_host, empty_shelf, expect_blocks, expect_file_length, joined,
-    play_each, put, put_blocks, put_folders,
-};
-use std::alloc::{AllocError, Global};
+use example_runs::{Miss, expect_transcript};
 
-/// The first block of a reply packet of the board.
-const BOARD: &[u8; 128] =
-    b"TESTBBS                                                                                                                         ";
-
-/// The same of another board.
-const OTHER: &[u8; 128] =
-    b"OTHER                                                                                                                           ";
-
-/// The block of text of the example's reply.
-const THANKS: &[u8; 128] =
-    b"Thanks\xE3                                                                                                                         ";
-
-/// The header of the reply in the first place, and of the one in the second.
-const FIRST: &[u8; 128] =
-    b" 0      09-09-0101:46BOB RAY                  ANN LEE                  Hello                                1       2     \xE1\x00\x00\x01\x00 ";
-
-const SECOND: &[u8; 128] =
-    b" 0      09-09-0101:46BOB RAY                  ANN LEE                  Hello                                1       2     \xE1\x00\x00\x02\x00 ";
-
-/// A message whose number field doesn't read, of the conference 7, and the reply of a user with a name of 26 bytes.
-const UNNUMBERED: &[u8; 128] =
-    b"*none   09-09-0101:46ALL                      BOB RAY                  Hello                                0       2     \xE1\x07\x00\x01\x00 ";
-
-const TO_UNNUMBERED: &[u8; 128] =
-    b"+7      09-09-0101:46BOB RAY                  ABCDEFGHIJKLMNOPQRSTUVWXYHello                                0       2     \xE1\x07\x00\x01\x00 ";
-
-/// A CONTROL.DAT whose user has a name of 26 bytes.
-const LONG_NAME: &[u8] =
-    b"Test Board\nSpringfield\n555-0100\nSam Sysop\n12345,TESTBBS\n09-09-2001,01:46:40\nABCDEFGHIJKLMNOPQRSTUVWXYZ\n\n0\n1\n0\n0\nGENERAL\n";
-
-const FIRST_REPLY: &str = "
+const TWICE: &str = r#"
+* folders
+* put text Thanks\n
 > reply out 1 text TESTBBS.MSG
 replied to 1, 1 in TESTBBS.MSG
-";
-
-const SECOND_REPLY: &str = "
+* packet TESTBBS.MSG
+TESTBBS
+ 0      09-09-0101:46BOB RAY                  ANN LEE                  Hello                                1       2     \xE1\0\0\x01\0
+Thanks\xE3
 > reply out 1 text TESTBBS.MSG
 replied to 1, 2 in TESTBBS.MSG
-";
+* packet TESTBBS.MSG
+TESTBBS
+ 0      09-09-0101:46BOB RAY                  ANN LEE                  Hello                                1       2     \xE1\0\0\x01\0
+Thanks\xE3
+ 0      09-09-0101:46BOB RAY                  ANN LEE                  Hello                                1       2     \xE1\0\0\x02\0
+Thanks\xE3
+"#;
 
 #[test]
 fn a_message_is_replied_to_twice(rt: HostRuntime) -> Result<(), Miss> {
-    let alloc = rt.alloc();
-    let host = empty_host(alloc);
-    let mut shelf = empty_shelf(alloc);
-    put_folders(&mut shelf, alloc)?;
-    put(&mut shelf, alloc, "text", b"Thanks\n")?;
-    play_each(alloc, &host, &mut shelf, FIRST_REPLY)?;
-    let blocks = [BOARD, FIRST, THANKS];
-    expect_blocks(alloc, &shelf, "TESTBBS.MSG", &blocks)?;
-    play_each(alloc, &host, &mut shelf, SECOND_REPLY)?;
-    let blocks = [BOARD, FIRST, THANKS, SECOND, THANKS];
-    expect_blocks(alloc, &shelf, "TESTBBS.MSG", &blocks)
+    expect_transcript(rt.alloc(), TWICE)
 }
 
-const UNNUMBERED_REPLY: &str = "
+/// A message whose number field doesn't read, of the conference 7, and the reply of a user with a name of 26 bytes.
+const UNNUMBERED: &str = r#"
+* put text Thanks\n
+* put odd/CONTROL.DAT Test Board\nSpringfield\n555-0100\nSam Sysop\n12345,TESTBBS\n09-09-2001,01:46:40\n
+* add odd/CONTROL.DAT 1 ABCDEFGHIJKLMNOPQRSTUVWXYZ\n\n0\n1\n0\n0\nGENERAL\n
+* blocks odd/MESSAGES.DAT
+\x20
+*none   09-09-0101:46ALL                      BOB RAY                  Hello                                0       2     \xE1\x07\0\x01\0
+Thanks\xE3
 > reply odd 1 text R
 replied to 1, 1 in R
-";
+* packet R
+TESTBBS
++7      09-09-0101:46BOB RAY                  ABCDEFGHIJKLMNOPQRSTUVWXYHello                                0       2     \xE1\x07\0\x01\0
+Thanks\xE3
+"#;
 
 #[test]
 fn a_private_message_without_a_number_is_replied_to(rt: HostRuntime) -> Result<(), Miss> {
-    let alloc = rt.alloc();
-    let mut shelf = empty_shelf(alloc);
-    put(&mut shelf, alloc, "text", b"Thanks\n")?;
-    put(&mut shelf, alloc, "odd/CONTROL.DAT", LONG_NAME)?;
-    let packet = [SPACES, UNNUMBERED, THANKS];
-    put_blocks(&mut shelf, alloc, "odd/MESSAGES.DAT", &packet)?;
-    play_each(alloc, &empty_host(alloc), &mut shelf, UNNUMBERED_REPLY)?;
-    expect_blocks(alloc, &shelf, "R", &[BOARD, TO_UNNUMBERED, THANKS])
+    expect_transcript(rt.alloc(), UNNUMBERED)
 }
 
-/// Puts texts, one of which is as long as it may be.
-fn put_texts(shelf: &mut MemoryShelf, alloc: Global) -> Result<(), Miss> {
-    let mut text = copies(alloc, b"x", 16_383)?;
-    text.add(b"\n")?;
-    put(shelf, alloc, "full", text.as_slice())?;
-    text.add(b"\n")?;
-    put(shelf, alloc, "long", text.as_slice())?;
-    put(shelf, alloc, "e3", b"\xE3\n")?;
-    put(shelf, alloc, "lone", b"lone\rreturn\n")?;
-    put(shelf, alloc, "text", b"Thanks\n")
-}
-
-/// Puts reply packets that nothing is added to.
-fn put_reply_packets(shelf: &mut MemoryShelf, alloc: Global) -> Result<(), Miss> {
-    let cut = SPACES.get(..127).ok_or("too short")?;
-    put(shelf, alloc, "cut", cut)?;
-    put_blocks(shelf, alloc, "nobody", &[SPACES, SPACES])?;
-    put_blocks(shelf, alloc, "broken", &[OTHER, SPACES])?;
-    put_blocks(shelf, alloc, "other", &[OTHER])
-}
-
-/// Lines that write nothing, each with the first of the refusals that apply.
-const REFUSED: &str = "
+/// Lines that write nothing, each with the first of the refusals that apply. The text `full` is as long as a text may
+/// be.
+const REFUSED: &str = r#"
+* folders
+* put text Thanks\n
+* put e3 \xE3\n
+* put lone lone\rreturn\n
+* add full 16383 x
+* add full 1 \n
+* add long 16383 x
+* add long 1 \n\n
+* add cut 127 \x20
+* blocks nobody
+\x20
+\x20
+* blocks broken
+OTHER
+\x20
+* blocks other
+OTHER
 > reply no 1 none cut
 refused nofile no/CONTROL.DAT
 > reply bare 1 none cut
@@ -130,80 +95,51 @@ refused broken blocks 128
 refused board
 > compose no 0 none cut
 refused nofile no/CONTROL.DAT
-";
-
-const FULL_REPLY: &str = "
+* packet other
+OTHER
 > reply out 1 full new
 replied to 1, 1 in new
-";
+"#;
 
 #[test]
 fn each_refusal_of_a_reply_comes_in_order(rt: HostRuntime) -> Result<(), Miss> {
-    let alloc = rt.alloc();
-    let host = empty_host(alloc);
-    let mut shelf = empty_shelf(alloc);
-    put_folders(&mut shelf, alloc)?;
-    put_texts(&mut shelf, alloc)?;
-    put_reply_packets(&mut shelf, alloc)?;
-    play_each(alloc, &host, &mut shelf, REFUSED)?;
-    expect_blocks(alloc, &shelf, "other", &[OTHER])?;
-    play_each(alloc, &host, &mut shelf, FULL_REPLY)
+    expect_transcript(rt.alloc(), REFUSED)
 }
 
-/// The header of a message with two blocks of text, and that text.
-const LONGER: [&[u8; 128]; 3] = [
-    b" 1      09-09-0101:46ALL                      BOB RAY                  Hello                                0       3     \xE1\x00\x00\x01\x00 ",
-    b"1234567890123456789012345678901234567890123456789012345678901234567890123456789012345678901234567890123456789012345678901234567\xE3",
-    b"Last\xE3                                                                                                                           ",
-];
-
-/// A reply packet of 4,094 messages, into which one more fits.
-fn almost_full(alloc: Global) -> Result<Bytes, AllocError> {
-    let mut file = joined(alloc, &[BOARD, LONGER[0], LONGER[1], LONGER[2]])?;
-    let reply = joined(alloc, &[FIRST, THANKS])?;
-    file.add(copies(alloc, reply.as_slice(), 4093)?.as_slice())?;
-    Ok(file)
-}
-
-const LAST_REPLY: &str = "
+/// A reply packet of 4,094 messages, of which the first has two blocks of text, and into which one more fits.
+const FULL: &str = r#"
+* folders
+* put text Thanks\n
+* blocks R
+TESTBBS
+ 1      09-09-0101:46ALL                      BOB RAY                  Hello                                0       3     \xE1\0\0\x01\0
+1234567890123456789012345678901234567890123456789012345678901234567890123456789012345678901234567890123456789012345678901234567\xE3
+Last\xE3
+* blocks reply
+ 0      09-09-0101:46BOB RAY                  ANN LEE                  Hello                                1       2     \xE1\0\0\x01\0
+Thanks\xE3
+* join R 4093 reply
 > reply out 1 text R
 replied to 1, 4095 in R
-";
-
-const ONE_MORE: &str = "
+* length R 1048576
 > reply out 1 text R
 refused toolarge R
-";
+* length R 1048576
+"#;
 
 #[test]
 fn a_reply_packet_has_a_mebibyte_at_most(rt: HostRuntime) -> Result<(), Miss> {
-    let alloc = rt.alloc();
-    let host = empty_host(alloc);
-    let mut shelf = empty_shelf(alloc);
-    put_folders(&mut shelf, alloc)?;
-    put(&mut shelf, alloc, "text", b"Thanks\n")?;
-    put(&mut shelf, alloc, "R", almost_full(alloc)?.as_slice())?;
-    play_each(alloc, &host, &mut shelf, LAST_REPLY)?;
-    expect_file_length(alloc, &shelf, "R", 1_048_576)?;
-    play_each(alloc, &host, &mut shelf, ONE_MORE)?;
-    expect_file_length(alloc, &shelf, "R", 1_048_576)
+    expect_transcript(rt.alloc(), FULL)
 }
 
-/// The sheet of the example of net mail.
-const NET: &[u8] = b"From: Ann Lee\nTo: Ann\nSubject: Net\n\nAnn@2:5020/400.1\nHi\n.\n";
-
-/// The message that it makes.
-const NET_HEADER: &[u8; 128] =
-    b" 1      09-09-0101:46Ann                      ANN LEE                  Net                                  0       2     \xE1\x01\x00\x01\x00 ";
-
-const NET_TEXT: &[u8; 128] =
-    b"Ann@2:5020/400.1\xE3Hi\xE3                                                                                                            ";
-
-/// A sheet whose subject is too long for QWK.
-const LONG_SUBJECT: &[u8] = b"From: A\nTo: B\nSubject: 12345678901234567890123456\n\n.\n";
-
-/// Lines that compose, and the first of the refusals that apply to others.
-const COMPOSED: &str = "
+/// Lines that compose, the message that the sheet of the example of net mail makes, and the first of the refusals that
+/// apply to others.
+const COMPOSED: &str = r#"
+* folders
+* put net From: Ann Lee\nTo: Ann\nSubject: Net\n\nAnn@2:5020/400.1\nHi\n.\n
+* put bad From: A\nSubject: x\n\n
+* put long From: A\nTo: B\nSubject: 12345678901234567890123456\n\n.\n
+* put empty
 > compose out 1 net R1.MSG
 composed 1, 1 in R1.MSG
 > compose out 7 empty R1.MSG
@@ -218,19 +154,15 @@ refused nofile none
 refused sheet 3 missing
 > compose out 1 long R1.MSG
 refused text 1
-";
+* packet R1.MSG
+TESTBBS
+ 1      09-09-0101:46Ann                      ANN LEE                  Net                                  0       2     \xE1\x01\0\x01\0
+Ann@2:5020/400.1\xE3Hi\xE3
+"#;
 
 #[test]
 fn sheets_are_composed(rt: HostRuntime) -> Result<(), Miss> {
-    let alloc = rt.alloc();
-    let mut shelf = empty_shelf(alloc);
-    put_folders(&mut shelf, alloc)?;
-    put(&mut shelf, alloc, "net", NET)?;
-    put(&mut shelf, alloc, "bad", b"From: A\nSubject: x\n\n")?;
-    put(&mut shelf, alloc, "long", LONG_SUBJECT)?;
-    put(&mut shelf, alloc, "empty", b"")?;
-    play_each(alloc, &empty_host(alloc), &mut shelf, COMPOSED)?;
-    expect_blocks(alloc, &shelf, "R1.MSG", &[BOARD, NET_HEADER, NET_TEXT])
+    expect_transcript(rt.alloc(), COMPOSED)
 }
 
 const OTHER_WORDS: &str = "
@@ -256,7 +188,5 @@ usage
 
 #[test]
 fn other_words_write_nothing_back(rt: HostRuntime) -> Result<(), Miss> {
-    let alloc = rt.alloc();
-    let mut shelf = empty_shelf(alloc);
-    play_each(alloc, &empty_host(alloc), &mut shelf, OTHER_WORDS)
+    expect_transcript(rt.alloc(), OTHER_WORDS)
 }

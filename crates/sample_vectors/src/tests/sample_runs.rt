@@ -1,10 +1,9 @@
 //! Runs of `sample`.
-use door_outside::FileId;
-use example_runs::{
-    Miss, empty_host, empty_shelf, expect_rest, play, play_on_board_b, put, put_setups, sheets,
-};
+use example_runs::{Miss, expect_transcript};
 
+/// The message is to the second user. At last come its subfields and its text.
 const SAMPLED: &str = r#"
+* setups
 > sample 1 1
 refused notmade
 > init setup.txt
@@ -25,36 +24,24 @@ board TESTBBS
 1 NETMAIL: 1 slots, 1 live
 7 NEWS: 0 slots, 0 live
 2 users, 0 uploads, 3548 bytes
+* data 6 from 1100 \x02\0\0\0\x07\0\0\0Sampler\x03\0\0\0\x07\0\0\0Bob Ray
+* data 6 from 1130 \x04\0\0\0\x0B\0\0\01.1.TESTBBS
+* data 6 ends 1149 \x06\0\0\0\x08\0\0\0Sample 1
+* data 7 ends 0 Line 1 of seed 1\rLine 1 of seed 1\rLine 1 of seed 1\rLine 1 of seed 1\r
 "#;
-
-/// The subfields of the message, which is to the second user.
-const FIELDS: &[u8] =
-    b"\x02\0\0\0\x07\0\0\0Sampler\x03\0\0\0\x07\0\0\0Bob Ray\x04\0\0\0\x0B\0\0\01.1.TESTBBS\x06\0\0\0\x08\0\0\0Sample 1";
-
-const BODY: &[u8] = b"Line 1 of seed 1\rLine 1 of seed 1\rLine 1 of seed 1\rLine 1 of seed 1\r";
 
 #[test]
 fn one_message_is_sampled(rt: HostRuntime) -> Result<(), Miss> {
-    let alloc = rt.alloc();
-    let mut shelf = empty_shelf(alloc);
-    put_setups(&mut shelf, alloc)?;
-    let host = play(alloc, empty_host(alloc), &mut shelf, SAMPLED)?;
-    expect_rest(&host, FileId::jhr(1), 1024 + 76, FIELDS)?;
-    expect_rest(&host, FileId::jdt(1), 0, BODY)
+    expect_transcript(rt.alloc(), SAMPLED)
 }
 
 /// What 5,000 messages of the seed 7 are on a board of one user, who reads all of them in three packets.
-const MANY: &[u8] = b"init setup.txt\n\
-enroll \"Sam Sysop\" n all\n\
-sample 7 5000\n\
-export \"Sam Sysop\" 2000 out\n\
-ack \"Sam Sysop\" 1\n\
-export \"Sam Sysop\" 2000 out\n\
-ack \"Sam Sysop\" 2\n\
-export \"Sam Sysop\" 2000 out\n\
-check\n";
-
-const ALL_SAID: &str = r#"
+const MANY: &str = r#"
+* setups
+* put many init setup.txt\nenroll "Sam Sysop" n all\nsample 7 5000\n
+* add many 1 export "Sam Sysop" 2000 out\nack "Sam Sysop" 1\n
+* add many 1 export "Sam Sysop" 2000 out\nack "Sam Sysop" 2\n
+* add many 1 export "Sam Sysop" 2000 out\ncheck\n
 > batch many
 made 3 conferences
 user 1 Sam Sysop
@@ -73,17 +60,14 @@ board TESTBBS
 
 #[test]
 fn five_thousand_messages_are_sampled_alike(rt: HostRuntime) -> Result<(), Miss> {
-    let alloc = rt.alloc();
-    let mut shelf = empty_shelf(alloc);
-    put_setups(&mut shelf, alloc)?;
-    put(&mut shelf, alloc, "many", MANY)?;
-    play(alloc, empty_host(alloc), &mut shelf, ALL_SAID)?;
-    play(alloc, empty_host(alloc), &mut shelf, ALL_SAID)?;
-    Ok(())
+    expect_transcript(rt.alloc(), MANY)?;
+    expect_transcript(rt.alloc(), MANY)
 }
 
 /// Of a hundred messages of the seed 1, 28 are for the first conference.
 const FULL: &str = r#"
+* board B
+* add many 9990 From: Bob Ray\nTo: All\nSubject: Hello\n\nFirst line\n.\n
 > import 0 many
 imported 9990 into 0
 > sample 1 100
@@ -94,9 +78,5 @@ sampled 10
 
 #[test]
 fn a_full_conference_refuses_a_sample(rt: HostRuntime) -> Result<(), Miss> {
-    let alloc = rt.alloc();
-    let mut shelf = empty_shelf(alloc);
-    put(&mut shelf, alloc, "many", sheets(alloc, 9990)?.as_slice())?;
-    play_on_board_b(alloc, &mut shelf, FULL)?;
-    Ok(())
+    expect_transcript(rt.alloc(), FULL)
 }
