@@ -76,7 +76,11 @@ fn damage_of(text: &str) -> Option<Damage> {
 
 /// The host with a damaged file. The damage is the number of the file, and `becomes PLACE BYTE`, `cut LENGTH` or
 /// `longer COUNT BYTE`.
-pub fn damaged_host(alloc: Global, whole: &MemoryHost, text: &str) -> Result<MemoryHost, Miss> {
+pub(crate) fn damaged_host(
+    alloc: Global,
+    whole: &MemoryHost,
+    text: &str,
+) -> Result<MemoryHost, Miss> {
     let (number, damage) = parted(text, ' ')?;
     let damage = damage_of(damage).ok_or("this is no damage")?;
     host_with(alloc, whole, data_file(number)?, damage)

@@ -18,7 +18,7 @@ pub fn put_data(host: &mut MemoryHost, file: FileId, bytes: &[u8]) -> Result<(),
 }
 
 /// Looks whether a data file has these bytes from a place on, and ends with them.
-pub fn expect_rest(
+pub(crate) fn expect_rest(
     host: &MemoryHost,
     file: FileId,
     place: usize,
@@ -44,7 +44,11 @@ pub fn expect_part(
 }
 
 /// Looks whether a data file has so many bytes.
-pub fn expect_data_length(host: &MemoryHost, file: FileId, length: usize) -> Result<(), Miss> {
+pub(crate) fn expect_data_length(
+    host: &MemoryHost,
+    file: FileId,
+    length: usize,
+) -> Result<(), Miss> {
     if host.file(file).len() != length {
         return Err(Miss::Data {
             file,

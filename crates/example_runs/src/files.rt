@@ -68,7 +68,7 @@ pub fn expect_file(
 }
 
 /// Looks whether a file has so many bytes.
-pub fn expect_file_length(
+pub(crate) fn expect_file_length(
     alloc: Global,
     shelf: &MemoryShelf,
     name: &str,

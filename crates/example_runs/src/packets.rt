@@ -85,7 +85,7 @@ pub fn put_packets(shelf: &mut MemoryShelf, alloc: Global) -> Result<(), Miss> {
 }
 
 /// Puts the folders of packets: a whole one, and ones in which each refusal comes first.
-pub fn put_folders(shelf: &mut MemoryShelf, alloc: Global) -> Result<(), Miss> {
+pub(crate) fn put_folders(shelf: &mut MemoryShelf, alloc: Global) -> Result<(), Miss> {
     let one = packet(alloc, 1, b"2", b' ')?;
     put(shelf, alloc, "out/CONTROL.DAT", CONTROL)?;
     put(shelf, alloc, "out/MESSAGES.DAT", one.as_slice())?;

@@ -95,7 +95,7 @@ pub(crate) fn said_since<'a>(host: &'a MemoryHost, last: &MemoryHost) -> Option<
 }
 
 /// Whether exactly this was said after the last run, and no memory was wanting.
-pub fn has_said(host: &MemoryHost, last: &MemoryHost, reply: &str) -> bool {
+pub(crate) fn has_said(host: &MemoryHost, last: &MemoryHost, reply: &str) -> bool {
     said_since(host, last) == Some(reply.as_bytes()) && host.starved() == 0
 }
 

@@ -1,5 +1,5 @@
 //! A host and a shelf on which a transcript is played.
-use crate::boards::{board_b, put_setups, put_sheets};
+use crate::boards::{BOARD_B, put_setups, put_sheets};
 use crate::damages::damaged_host;
 use crate::data_files::{data_file, expect_data_length, expect_part, expect_rest};
 use crate::days::put_day;
@@ -68,6 +68,11 @@ impl Stage {
             return self.follow(alloc, scene);
         };
         self.follow(alloc, direction)?;
+        self.run(alloc, commands)
+    }
+
+    /// Runs each command on what was synced before it. The first has no prompt.
+    fn run(&mut self, alloc: Global, commands: &str) -> Result<(), Miss> {
         for command in commands.split(PROMPT) {
             self.host = run_command(alloc, &self.host, &mut self.shelf, self.now, command)?;
         }
@@ -108,11 +113,12 @@ impl Stage {
         Ok(())
     }
 
-    /// `board` makes the board B, and puts the sheets of the examples.
+    /// `board B` makes the board B on empty files, and puts the setup files and the sheets of the examples.
     fn make_board(&mut self, alloc: Global) -> Result<(), Miss> {
+        put_setups(&mut self.shelf, alloc)?;
         put_sheets(&mut self.shelf, alloc)?;
-        self.host = board_b(alloc, &mut self.shelf)?;
-        Ok(())
+        self.host = empty_host(alloc);
+        self.run(alloc, BOARD_B)
     }
 
     /// `put NAME TEXT` puts a file on the shelf.

@@ -1,5 +1,4 @@
 //! The boards between commands, and which of them a run that was stopped leaves.
-use crate::boards::{board_b, put_sheets};
 use crate::miss::Miss;
 use crate::outside::{no_faults, stops_at};
 use crate::runs::{expect_status, has_said, run_after_crash, run_next};
@@ -53,13 +52,6 @@ impl Steps {
             }
         }
         Ok(steps)
-    }
-
-    /// The same of the board B. The setup files and the sheets of the examples are then on the shelf.
-    pub fn on_board_b(alloc: Global, shelf: &mut MemoryShelf, lines: &str) -> Result<Steps, Miss> {
-        put_sheets(shelf, alloc)?;
-        let start = board_b(alloc, shelf)?;
-        Steps::of(alloc, start, shelf, lines)
     }
 
     /// Adds a board behind the others.

@@ -1,18 +1,13 @@
-//! Commands with what they say, as text.
+//! Commands of a transcript, with what they say.
 use crate::miss::Miss;
 use crate::outside::no_faults;
-use crate::runs::{NOW, expect_said, expect_status, run_image, run_next, said_since};
+use crate::runs::{expect_said, expect_status, run_image, run_next, said_since};
 use door_outside::{ImageChoice, MemoryHost, MemoryShelf};
 use mail_cli::Status;
 use std::alloc::Global;
 
 /// What stands before each command line of a transcript.
 pub(crate) const PROMPT: &str = "\n> ";
-
-/// What stands behind the first prompt, without the last line end.
-fn after_prompt(transcript: &str) -> Option<&str> {
-    transcript.strip_prefix(PROMPT)?.strip_suffix('\n')
-}
 
 /// How a run ends after one line more of what it says.
 fn status_behind(line: &str, so_far: Status) -> Status {
@@ -87,48 +82,4 @@ pub(crate) fn run_command(
     let mut reply = String::from_str(alloc, said)?;
     reply.push_str("\n")?;
     run_line(alloc, last, shelf, now, line, reply.as_str())
-}
-
-/// Runs each command at a moment on what was synced before it, and answers the last host.
-pub fn play_at(
-    alloc: Global,
-    start: MemoryHost,
-    shelf: &mut MemoryShelf,
-    now: u32,
-    transcript: &str,
-) -> Result<MemoryHost, Miss> {
-    let Some(commands) = after_prompt(transcript) else {
-        return Err(Miss::no_transcript(alloc, transcript)?);
-    };
-    let mut last = start;
-    for command in commands.split(PROMPT) {
-        last = run_command(alloc, &last, shelf, now, command)?;
-    }
-    Ok(last)
-}
-
-/// The same at the moment of the examples, 2001-09-09 01:46:40 UTC.
-pub fn play(
-    alloc: Global,
-    start: MemoryHost,
-    shelf: &mut MemoryShelf,
-    transcript: &str,
-) -> Result<MemoryHost, Miss> {
-    play_at(alloc, start, shelf, NOW, transcript)
-}
-
-/// Runs each command on what the same host has synced.
-pub fn play_each(
-    alloc: Global,
-    start: &MemoryHost,
-    shelf: &mut MemoryShelf,
-    transcript: &str,
-) -> Result<(), Miss> {
-    let Some(commands) = after_prompt(transcript) else {
-        return Err(Miss::no_transcript(alloc, transcript)?);
-    };
-    for command in commands.split(PROMPT) {
-        run_command(alloc, start, shelf, NOW, command)?;
-    }
-    Ok(())
 }

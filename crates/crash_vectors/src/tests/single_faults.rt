@@ -1,6 +1,6 @@
 //! Calls that fail alone.
 use door_outside::{ImageChoice, MemoryHost, MemoryShelf};
-use example_runs::{Miss, Steps, empty_shelf, fails_at, run_twice};
+use example_runs::{Miss, Steps, fails_at, played, run_twice};
 use mail_cli::Status;
 use std::alloc::Global;
 
@@ -30,8 +30,9 @@ fn expect_board(
 #[test]
 fn a_board_is_whole_after_a_call_that_failed(rt: HostRuntime) -> Result<(), Miss> {
     let alloc = rt.alloc();
-    let mut shelf = empty_shelf(alloc);
-    let mut steps = Steps::on_board_b(alloc, &mut shelf, IMPORT)?;
+    let stage = played(alloc, "\n* board B\n")?;
+    let mut shelf = stage.shelf;
+    let mut steps = Steps::of(alloc, stage.host, &mut shelf, IMPORT)?;
     for call in 1..2000 {
         let plan = fails_at(alloc, call)?;
         let start = steps.start()?;

@@ -1,6 +1,6 @@
 //! Recoveries that are stopped too.
 use door_outside::{ImageChoice, MemoryHost, MemoryShelf};
-use example_runs::{Miss, Steps, empty_shelf, run_after_crash, run_next, stops_at};
+use example_runs::{Miss, Steps, played, run_after_crash, run_next, stops_at};
 use mail_cli::Status;
 use std::alloc::Global;
 
@@ -33,8 +33,9 @@ fn a_stopped_recovery_leaves_the_board_that_the_first_crash_left(
     rt: HostRuntime,
 ) -> Result<(), Miss> {
     let alloc = rt.alloc();
-    let mut shelf = empty_shelf(alloc);
-    let mut steps = Steps::on_board_b(alloc, &mut shelf, IMPORT)?;
+    let stage = played(alloc, "\n* board B\n")?;
+    let mut shelf = stage.shelf;
+    let mut steps = Steps::of(alloc, stage.host, &mut shelf, IMPORT)?;
     for call in 1..2000 {
         let plan = stops_at(alloc, Some(call));
         let (host, ended) = run_next(alloc, steps.start()?, plan, &mut shelf, IMPORT)?;

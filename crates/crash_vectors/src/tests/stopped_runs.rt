@@ -1,9 +1,7 @@
 //! Commands that are stopped at a call of the host, and with it all later ones.
-use example_runs::{
-    Miss, Steps, empty_host, empty_shelf, play_on_board_b, put, put_setups, put_sheets,
-    run_to_fault, stops_at,
-};
+use example_runs::{Miss, Steps, empty_host, empty_shelf, played, run_to_fault, stops_at};
 use mail_cli::Status;
+use std::alloc::Global;
 
 #[test]
 fn a_first_call_that_fails_says_nothing(rt: HostRuntime) -> Result<(), Miss> {
@@ -15,55 +13,56 @@ fn a_first_call_that_fails_says_nothing(rt: HostRuntime) -> Result<(), Miss> {
     Ok(())
 }
 
-const INIT: &str = "init setup.txt";
-
-const ENROLL: &str = r#"enroll "Ed Poe" - 0,7"#;
-
-#[test]
-fn a_stopped_init_and_enroll_leave_the_board_before_or_after(rt: HostRuntime) -> Result<(), Miss> {
-    let alloc = rt.alloc();
-    let mut shelf = empty_shelf(alloc);
-    put_setups(&mut shelf, alloc)?;
-    let mut steps = Steps::of(alloc, empty_host(alloc), &mut shelf, INIT)?;
-    steps.expect_stops(alloc, &mut shelf, INIT)?;
-    let mut steps = Steps::on_board_b(alloc, &mut shelf, ENROLL)?;
-    steps.expect_stops(alloc, &mut shelf, ENROLL)
+/// Stops a line at each call of the host in turn, on the board that a transcript leaves.
+fn expect_stops(alloc: Global, transcript: &str, line: &str) -> Result<(), Miss> {
+    let stage = played(alloc, transcript)?;
+    let mut shelf = stage.shelf;
+    let mut steps = Steps::of(alloc, stage.host, &mut shelf, line)?;
+    steps.expect_stops(alloc, &mut shelf, line)
 }
 
-const TO_ANN: &[u8] = b"From: Bob Ray\nTo: Ann Lee\nSubject: Hello\n\nFirst line\n.\n";
+#[test]
+fn a_stopped_init_leaves_the_board_before_or_after(rt: HostRuntime) -> Result<(), Miss> {
+    expect_stops(rt.alloc(), "\n* setups\n", "init setup.txt")
+}
 
-const IMPORTED: &str = "
+#[test]
+fn a_stopped_enroll_leaves_the_board_before_or_after(rt: HostRuntime) -> Result<(), Miss> {
+    expect_stops(rt.alloc(), "\n* board B\n", r#"enroll "Ed Poe" - 0,7"#)
+}
+
+const IMPORTED: &str = r#"
+* board B
+* put to-ann From: Bob Ray\nTo: Ann Lee\nSubject: Hello\n\nFirst line\n.\n
 > import 0 to-ann
 imported 1 into 0
-";
+"#;
 
-const EXPORT: &str = r#"export "Ann Lee" 10 out"#;
+#[test]
+fn a_stopped_export_leaves_the_board_before_or_after(rt: HostRuntime) -> Result<(), Miss> {
+    expect_stops(rt.alloc(), IMPORTED, r#"export "Ann Lee" 10 out"#)
+}
 
 const EXPORTED: &str = r#"
+* board B
+* put to-ann From: Bob Ray\nTo: Ann Lee\nSubject: Hello\n\nFirst line\n.\n
 > import 0 to-ann
 imported 1 into 0
 > export "Ann Lee" 10 out
 packet 1: 1 messages
 "#;
 
-const ACK: &str = r#"ack "Ann Lee" 1"#;
-
 #[test]
-fn a_stopped_export_and_ack_leave_the_board_before_or_after(rt: HostRuntime) -> Result<(), Miss> {
-    let alloc = rt.alloc();
-    let mut shelf = empty_shelf(alloc);
-    put_sheets(&mut shelf, alloc)?;
-    put(&mut shelf, alloc, "to-ann", TO_ANN)?;
-    let start = play_on_board_b(alloc, &mut shelf, IMPORTED)?;
-    let mut steps = Steps::of(alloc, start, &mut shelf, EXPORT)?;
-    steps.expect_stops(alloc, &mut shelf, EXPORT)?;
-    let start = play_on_board_b(alloc, &mut shelf, EXPORTED)?;
-    let mut steps = Steps::of(alloc, start, &mut shelf, ACK)?;
-    steps.expect_stops(alloc, &mut shelf, ACK)
+fn a_stopped_ack_leaves_the_board_before_or_after(rt: HostRuntime) -> Result<(), Miss> {
+    expect_stops(rt.alloc(), EXPORTED, r#"ack "Ann Lee" 1"#)
 }
 
 /// A packet of Ann's with a message to each of two conferences.
 const PACKED: &str = r#"
+* board B
+* put to-ann From: Bob Ray\nTo: Ann Lee\nSubject: Hello\n\nFirst line\n.\n
+* put to-bob From: Ann Lee\nTo: Bob Ray\nSubject: Hello\n\nHi\n.\n
+* put net From: Ann Lee\nTo: Ann\n\nAnn@2:5020/400.1\nHi\n.\n
 > import 0 to-ann
 imported 1 into 0
 > export "Ann Lee" 10 out
@@ -74,18 +73,7 @@ composed 1, 1 in ANN.MSG
 composed 1, 2 in ANN.MSG
 "#;
 
-const UPLOAD: &str = r#"upload "Ann Lee" ANN.MSG"#;
-
 #[test]
 fn a_stopped_upload_leaves_the_board_before_or_after(rt: HostRuntime) -> Result<(), Miss> {
-    let alloc = rt.alloc();
-    let mut shelf = empty_shelf(alloc);
-    put(&mut shelf, alloc, "to-ann", TO_ANN)?;
-    let to_bob = b"From: Ann Lee\nTo: Bob Ray\nSubject: Hello\n\nHi\n.\n";
-    put(&mut shelf, alloc, "to-bob", to_bob)?;
-    let net = b"From: Ann Lee\nTo: Ann\n\nAnn@2:5020/400.1\nHi\n.\n";
-    put(&mut shelf, alloc, "net", net)?;
-    let start = play_on_board_b(alloc, &mut shelf, PACKED)?;
-    let mut steps = Steps::of(alloc, start, &mut shelf, UPLOAD)?;
-    steps.expect_stops(alloc, &mut shelf, UPLOAD)
+    expect_stops(rt.alloc(), PACKED, r#"upload "Ann Lee" ANN.MSG"#)
 }

@@ -2,10 +2,7 @@
 use super::answers::Answers;
 use super::changes::damages_at;
 use door_outside::{FileId, ImageChoice, MemoryHost, MemoryShelf};
-use example_runs::{
-    Damage, Miss, empty_shelf, host_with, no_faults, play_on_board_b, put, put_sheets, reply_of,
-    run_next, stops_at,
-};
+use example_runs::{Damage, Miss, host_with, no_faults, played, reply_of, run_next, stops_at};
 use mail_cli::Status;
 use std::alloc::Global;
 
@@ -87,6 +84,8 @@ fn expect_answers(
 
 /// A board with an offer, a reply and the record of a packet.
 const BOARD: &str = r#"
+* board B
+* put text Thanks\n
 > import 0 two
 imported 2 into 0
 > export "Ann Lee" 10 out
@@ -98,18 +97,10 @@ replied to 1, 1 in R.MSG
 posted 1 refused 0
 "#;
 
-/// A host with that board.
-fn board(alloc: Global, shelf: &mut MemoryShelf) -> Result<MemoryHost, Miss> {
-    put_sheets(shelf, alloc)?;
-    put(shelf, alloc, "text", b"Thanks\n")?;
-    play_on_board_b(alloc, shelf, BOARD)
-}
-
 #[test]
 fn a_changed_board_is_another_one_or_damaged(rt: HostRuntime) -> Result<(), Miss> {
     let alloc = rt.alloc();
-    let mut shelf = empty_shelf(alloc);
-    let whole = board(alloc, &mut shelf)?;
+    let mut stage = played(alloc, BOARD)?;
     let bases = [
         FileId::jhr(0),
         FileId::jdt(0),
@@ -117,9 +108,9 @@ fn a_changed_board_is_another_one_or_damaged(rt: HostRuntime) -> Result<(), Miss
         FileId::jlr(0),
     ];
     for file in bases {
-        expect_answers(alloc, &whole, &mut shelf, file)?;
+        expect_answers(alloc, &stage.host, &mut stage.shelf, file)?;
     }
-    expect_answers(alloc, &whole, &mut shelf, FileId::ledger())
+    expect_answers(alloc, &stage.host, &mut stage.shelf, FileId::ledger())
 }
 
 /// The board with an import under way: its journal is open, and no other file is changed.
@@ -145,8 +136,7 @@ fn open_journal(
 #[test]
 fn a_changed_journal_is_carried_out_or_closed(rt: HostRuntime) -> Result<(), Miss> {
     let alloc = rt.alloc();
-    let mut shelf = empty_shelf(alloc);
-    let start = board(alloc, &mut shelf)?;
-    let open = open_journal(alloc, &start, &mut shelf)?;
-    expect_answers(alloc, &open, &mut shelf, FileId::journal())
+    let mut stage = played(alloc, BOARD)?;
+    let open = open_journal(alloc, &stage.host, &mut stage.shelf)?;
+    expect_answers(alloc, &open, &mut stage.shelf, FileId::journal())
 }

@@ -2,11 +2,7 @@
 use super::answers::Answers;
 use super::changes::damages_at;
 use byte_lists::Bytes;
-use door_outside::{MemoryHost, MemoryShelf};
-use example_runs::{
-    Miss, damaged, empty_host, empty_shelf, file_of, play_on_board_b, put, put_folders,
-    put_packets, put_setups, reply_of,
-};
+use example_runs::{Miss, Stage, damaged, file_of, played, put, reply_of};
 use std::alloc::Global;
 
 /// A file of the shelf, a command that reads it, and what that may say.
@@ -19,15 +15,9 @@ struct Reading<'a> {
 
 impl Reading<'_> {
     /// Looks at what the command says where the file has these bytes.
-    fn expect_answer(
-        &self,
-        alloc: Global,
-        host: &MemoryHost,
-        shelf: &mut MemoryShelf,
-        file: &Bytes,
-    ) -> Result<(), Miss> {
-        put(shelf, alloc, self.name, file.as_slice())?;
-        let reply = reply_of(alloc, host, shelf, self.line)?;
+    fn expect_answer(&self, alloc: Global, stage: &mut Stage, file: &Bytes) -> Result<(), Miss> {
+        put(&mut stage.shelf, alloc, self.name, file.as_slice())?;
+        let reply = reply_of(alloc, &stage.host, &mut stage.shelf, self.line)?;
         if !self.answers.take(reply.as_str()) {
             return Err(Miss::said(alloc, self.line, reply.as_bytes(), self.answers.last)?);
         }
@@ -35,20 +25,15 @@ impl Reading<'_> {
     }
 
     /// Looks at what the command says of each change of the file at each place.
-    fn expect_answers(
-        &self,
-        alloc: Global,
-        host: &MemoryHost,
-        shelf: &mut MemoryShelf,
-    ) -> Result<(), Miss> {
-        let whole = file_of(alloc, shelf, self.name)?;
+    fn expect_answers(&self, alloc: Global, stage: &mut Stage) -> Result<(), Miss> {
+        let whole = file_of(alloc, &stage.shelf, self.name)?;
         for (place, byte) in whole.as_slice().iter().enumerate() {
             for damage in damages_at(place, *byte) {
                 let changed = damaged(alloc, whole.as_slice(), damage)?;
-                self.expect_answer(alloc, host, shelf, &changed)?;
+                self.expect_answer(alloc, stage, &changed)?;
             }
         }
-        put(shelf, alloc, self.name, whole.as_slice())
+        put(&mut stage.shelf, alloc, self.name, whole.as_slice())
     }
 }
 
@@ -110,12 +95,9 @@ refused control id 5",
 #[test]
 fn a_changed_packet_is_read_or_refused(rt: HostRuntime) -> Result<(), Miss> {
     let alloc = rt.alloc();
-    let mut shelf = empty_shelf(alloc);
-    put_packets(&mut shelf, alloc)?;
-    put_folders(&mut shelf, alloc)?;
-    let host = empty_host(alloc);
+    let mut stage = played(alloc, "\n* packets\n* folders\n")?;
     for reading in [LIST, SCAN, READ_MESSAGES, READ_CONTROL] {
-        reading.expect_answers(alloc, &host, &mut shelf)?;
+        reading.expect_answers(alloc, &mut stage)?;
     }
     Ok(())
 }
@@ -159,22 +141,19 @@ usage line #",
     },
 };
 
+const SETUP_AND_LINES: &str = r#"
+* setups
+* packets
+* put lines list P1\n# a "note"\n\nscan "P1"\ncheck\n
+"#;
+
 #[test]
 fn a_changed_setup_or_batch_is_carried_out_or_refused(rt: HostRuntime) -> Result<(), Miss> {
     let alloc = rt.alloc();
-    let mut shelf = empty_shelf(alloc);
-    put_setups(&mut shelf, alloc)?;
-    put_packets(&mut shelf, alloc)?;
-    let lines = b"list P1\n# a \"note\"\n\nscan \"P1\"\ncheck\n";
-    put(&mut shelf, alloc, "lines", lines)?;
-    let host = empty_host(alloc);
-    INIT.expect_answers(alloc, &host, &mut shelf)?;
-    BATCH.expect_answers(alloc, &host, &mut shelf)
+    let mut stage = played(alloc, SETUP_AND_LINES)?;
+    INIT.expect_answers(alloc, &mut stage)?;
+    BATCH.expect_answers(alloc, &mut stage)
 }
-
-/// A sheet with each of the words.
-const SHEET: &[u8] =
-    b"From: Bob Ray\nTo: All\nSubject: Hi\nDate: 86400\nMsgid: m1\nReply: m0\nPrivate: yes\n\nHi\n..\n.\n\nFrom: A\nTo: B\n\n.\n";
 
 const IMPORT: Reading<'static> = Reading {
     name: "sheet",
@@ -251,22 +230,22 @@ const TEXT: Reading<'static> = Reading {
     },
 };
 
-/// The reply packet that is changed has a private message to All and one to B.
-const COMPOSED: &str = "
+/// A sheet with each of the words, and the reply packet of it, with a private message to All and one to B.
+const COMPOSED: &str = r#"
+* board B
+* folders
+* put sheet From: Bob Ray\nTo: All\nSubject: Hi\nDate: 86400\nMsgid: m1\nReply: m0\nPrivate: yes\n\nHi\n..\n.\n\nFrom: A\nTo: B\n\n.\n
+* put text Thanks\n
 > compose out 0 sheet R.MSG
 composed 2, 2 in R.MSG
-";
+"#;
 
 #[test]
 fn a_changed_sheet_or_reply_packet_is_taken_or_refused(rt: HostRuntime) -> Result<(), Miss> {
     let alloc = rt.alloc();
-    let mut shelf = empty_shelf(alloc);
-    put_folders(&mut shelf, alloc)?;
-    put(&mut shelf, alloc, "sheet", SHEET)?;
-    put(&mut shelf, alloc, "text", b"Thanks\n")?;
-    let host = play_on_board_b(alloc, &mut shelf, COMPOSED)?;
+    let mut stage = played(alloc, COMPOSED)?;
     for reading in [IMPORT, UPLOAD, REPLY, TEXT] {
-        reading.expect_answers(alloc, &host, &mut shelf)?;
+        reading.expect_answers(alloc, &mut stage)?;
     }
     Ok(())
 }

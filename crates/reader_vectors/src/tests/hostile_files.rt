@@ -1,10 +1,16 @@
 //! Files that are made to mislead a reader, each refused by its first fault.
-use example_runs::{
-    Damage, Miss, board_b, damaged, empty_shelf, file_of, play_each, put, put_packets,
-};
+use example_runs::{Damage, Miss, damaged, file_of, played, put};
 
-/// The packet `short` ends in a header. The one of `count` says 999,999 blocks, and has two. The CONTROL.DAT in `far` has
-/// 70,001 conferences.
+/// The CONTROL.DAT in `far` has 70,001 conferences.
+const FILES: &str = r#"
+* board B
+* packets
+* put twice From: A\nFrom: B\n
+* put end From: A\nTo: B\n\na\n
+* put far/CONTROL.DAT B\nC\nP\nS\n1,ID\nT\nU\nM\n0\n1\n70000\n
+"#;
+
+/// The packet `short` ends in a header. The one of `count` says 999,999 blocks, and has two.
 const REFUSED: &str = "
 > list short
 refused broken truncated 128
@@ -23,21 +29,15 @@ refused control number 11
 #[test]
 fn a_hostile_file_is_refused(rt: HostRuntime) -> Result<(), Miss> {
     let alloc = rt.alloc();
-    let mut shelf = empty_shelf(alloc);
-    put_packets(&mut shelf, alloc)?;
-    let packet = file_of(alloc, &shelf, "P1")?;
+    let mut stage = played(alloc, FILES)?;
+    let packet = file_of(alloc, &stage.shelf, "P1")?;
     let short = damaged(alloc, packet.as_slice(), Damage::Cut(255))?;
-    put(&mut shelf, alloc, "short", short.as_slice())?;
+    put(&mut stage.shelf, alloc, "short", short.as_slice())?;
     // The count of blocks is the six bytes behind 116 of the header, which is the second block.
     let mut count = damaged(alloc, packet.as_slice(), Damage::Cut(256))?;
     for place in 244..250 {
         count = damaged(alloc, count.as_slice(), Damage::Becomes(place, b'9'))?;
     }
-    put(&mut shelf, alloc, "count", count.as_slice())?;
-    put(&mut shelf, alloc, "twice", b"From: A\nFrom: B\n")?;
-    put(&mut shelf, alloc, "end", b"From: A\nTo: B\n\na\n")?;
-    let control = b"B\nC\nP\nS\n1,ID\nT\nU\nM\n0\n1\n70000\n";
-    put(&mut shelf, alloc, "far/CONTROL.DAT", control)?;
-    let host = board_b(alloc, &mut shelf)?;
-    play_each(alloc, &host, &mut shelf, REFUSED)
+    put(&mut stage.shelf, alloc, "count", count.as_slice())?;
+    stage.play(alloc, REFUSED)
 }

@@ -1,7 +1,7 @@
 //! Uploads whose shelf fails.
 use super::four::{FOUR, UPLOADED};
 use door_outside::{ImageChoice, MemoryHost};
-use example_runs::{Miss, Stage, Steps, empty_shelf, failing_shelf, no_faults, run_to_fault};
+use example_runs::{Miss, Stage, Steps, failing_shelf, no_faults, played, run_to_fault};
 use mail_cli::Status;
 use std::alloc::Global;
 
@@ -30,8 +30,8 @@ fn expect_last(alloc: Global, steps: &mut Steps, call: u32) -> Result<(), Miss> 
 #[test]
 fn an_upload_whose_shelf_failed_changes_nothing(rt: HostRuntime) -> Result<(), Miss> {
     let alloc = rt.alloc();
-    let mut shelf = empty_shelf(alloc);
-    let mut steps = Steps::on_board_b(alloc, &mut shelf, "import 0 one")?;
+    let mut stage = played(alloc, "\n* board B\n")?;
+    let mut steps = Steps::of(alloc, stage.host, &mut stage.shelf, "import 0 one")?;
     // The packet is one piece, and the next one is its end.
     expect_last(alloc, &mut steps, 1)?;
     expect_last(alloc, &mut steps, 2)?;
