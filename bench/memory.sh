@@ -2,7 +2,7 @@
 # Refuses the program each request for memory in turn, by a library that is loaded before the C library and answers the
 # one request with nothing: of an export of one message, and of an upload of four, each on a copy of one board. A run
 # that ends with 7 has said nothing, and leaves the board before; one that a file call ended since memory ran out in it,
-# with 4 or 5, has said nothing, and leaves the board before or after; one that asked again for less is whole. Says how
+# with 4 or 5, has said nothing, and leaves the board before or after; one that asked again is whole. Says how
 # many ended how. It is no part of the gate. usage: bench/memory.sh
 
 top=$(dirname -- "$(readlink -f -- "$0")")/..
@@ -137,7 +137,7 @@ refuse_each() {
         *) fail "$1 without request $request ends with $status" ;;
         esac
     done
-    printf '%s: %s requests for memory refused in turn: %s ended with 7, %s with 4 or 5, %s asked again for less\n' \
+    printf '%s: %s requests for memory refused in turn: %s ended with 7, %s with 4 or 5, %s asked again\n' \
         "$1" $((request - 1)) "$starved" "$faults" "$whole"
 }
 
