@@ -7,7 +7,8 @@ use Rattle.command_words.specs.declared.choice.Choice.{Choice}
 use Rattle.door_commands.specs.declared.command.Command.{Command}
 use Rattle.door_commands.specs.declared.command.Command.TheVariants as command
 use Rattle.door_commands.specs.declared.verb.Verb.{Verb}
-use Rattle.door_commands.specs.declared.verb.Verb.TheVariants.{AckPacket, BatchFile, CheckBoard, ComposeSheet, EnrollUser, ExportPacket, ImportSheet, InitBoard, KillMessage, ListFile, ReadFolder, ReplyTo, SampleMessages, ScanFile, UploadPacket}
+use Rattle.door_commands.specs.declared.verb.Verb.TheVariants.{AckPacket, BatchFile, CheckBoard, ComposeSheet, EnrollUser, ExportPacket, ImportSheet, InitBoard}
+use Rattle.door_commands.specs.declared.verb.Verb.TheVariants.{KillMessage, ListFile, ReadFolder, ReplyTo, SampleMessages, ScanFile, UploadPacket}
 
 -- `-`, or `n`: the user may send net mail
 abbrev pub IsFlags : List ℕ → Type 0

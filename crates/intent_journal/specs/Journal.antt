@@ -1,5 +1,6 @@
 -- The text of a journal. Numbers have their lowest byte first.
-use Rattle.std.specs.Prelude.{◌≡◌, ◌≢◌, ℕ, ◌+◌, ◌<◌, ◌≤◌, ◌^◌, Bool, true, false, ◌&&◌, ◌||◌, ◌==◌, nat_eq, nat_le, nat_lt, if◌then◌else◌, List, [], ◌∷◌, ◌++◌, length, take, drop, slice_index, get_or, codes, zero, suc, Option, Some, None, unwrap_or, option_and_then, option_map, IsTrue}
+use Rattle.std.specs.Prelude.{◌≡◌, ◌≢◌, ℕ, ◌+◌, ◌<◌, ◌≤◌, ◌^◌, Bool, true, false, ◌&&◌, ◌||◌, ◌==◌, nat_eq, nat_le, nat_lt, if◌then◌else◌, zero, suc}
+use Rattle.std.specs.Prelude.{List, [], ◌∷◌, ◌++◌, length, take, drop, slice_index, get_or, codes, Option, Some, None, unwrap_or, option_and_then, option_map, IsTrue}
 use Rattle.std.specs.List.{starts_with, list_any}
 use Rattle.door_outside.specs.File.{is_data_file}
 use Rattle.record_numbers.specs.Numbers.{u16_at, u32_at, u16_text, u32_text}
@@ -31,7 +32,10 @@ journal_text patches = 79 ∷ body_text (length patches) (patches_text patches)
 -- whether a text begins with a patch of a data file
 abbrev pub begins_patch : List ℕ → Bool
 begins_patch text =
-    nat_le (11 + u32_at 7 text) (length text) && ((slice_index text 0 == 0 && u32_at 3 text == 0) || slice_index text 0 == 1) && nat_lt (u32_at 3 text + u32_at 7 text) (2 ^ 31) && is_data_file (u16_at 1 text)
+    nat_le (11 + u32_at 7 text) (length text)
+    && ((slice_index text 0 == 0 && u32_at 3 text == 0) || slice_index text 0 == 1)
+    && nat_lt (u32_at 3 text + u32_at 7 text) (2 ^ 31)
+    && is_data_file (u16_at 1 text)
 
 -- the patch of these parts
 abbrev pub patch_by : Bool → ℕ → ℕ → List ℕ → Patch

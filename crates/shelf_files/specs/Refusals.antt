@@ -5,7 +5,8 @@ use Rattle.qwk_blocks.specs.declared.fault.QwkFault.TheVariants.{Truncated, BadB
 use Rattle.setup_file.specs.declared.error.SetupRule.{SetupRule}
 use Rattle.setup_file.specs.declared.error.SetupRule.TheVariants as setup
 use Rattle.shelf_files.specs.declared.refusal.Refusal.{Refusal}
-use Rattle.shelf_files.specs.declared.refusal.Refusal.TheVariants.{NoFile, TooLarge, Broken, ControlShort, ControlNumber, ControlId, NoMessage, NoBoardId, OtherBoard, NoConference, Sheet, Text, NotMade, Exists, Name, DupUser, Users, NoUser, Limit, Packets, NoPacket, Uploads, Count, Setup, Slots, Size}
+use Rattle.shelf_files.specs.declared.refusal.Refusal.TheVariants.{NoFile, TooLarge, Broken, ControlShort, ControlNumber, ControlId, NoMessage, NoBoardId, OtherBoard, NoConference}
+use Rattle.shelf_files.specs.declared.refusal.Refusal.TheVariants.{Sheet, Text, NotMade, Exists, Name, DupUser, Users, NoUser, Limit, Packets, NoPacket, Uploads, Count, Setup, Slots, Size}
 
 -- the line of a refusal, of its words and what stands behind them
 abbrev pub line_of : List ℕ → List ℕ → List ℕ
