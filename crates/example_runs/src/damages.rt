@@ -81,7 +81,7 @@ pub(crate) fn damaged_host(
     whole: &MemoryHost,
     text: &str,
 ) -> Result<MemoryHost, Miss> {
-    let (number, damage) = parted(text, ' ')?;
+    let (number, damage) = parted(text)?;
     let damage = damage_of(damage).ok_or("this is no damage")?;
     host_with(alloc, whole, data_file(number)?, damage)
 }

@@ -46,9 +46,10 @@ pub(crate) fn blocks_of(alloc: Global, lines: &str) -> Result<Bytes, Miss> {
     Ok(blocks)
 }
 
-/// The two parts of a text around its first space, or its first line end.
-pub(crate) fn parted(text: &str, at: char) -> Result<(&str, &str), Miss> {
-    Ok(text.split_once(at).ok_or("a direction is too short")?)
+/// The two parts of a text around its first space or line end.
+pub(crate) fn parted(text: &str) -> Result<(&str, &str), Miss> {
+    let parts = text.split_once([' ', '\n']);
+    Ok(parts.ok_or("a direction is too short")?)
 }
 
 /// The number that a text is.

@@ -10,6 +10,7 @@ use crate::outside::{empty_host, empty_shelf, no_faults};
 use crate::packets::{put_folders, put_packets};
 use crate::runs::NOW;
 use crate::transcripts::{PROMPT, run_command};
+use byte_lists::Bytes;
 use door_outside::{ImageChoice, MemoryHost, MemoryShelf};
 use std::alloc::Global;
 
@@ -22,6 +23,17 @@ pub struct Stage {
     pub host: MemoryHost,
     pub shelf: MemoryShelf,
     now: u32,
+}
+
+/// How a direction says what is in a file.
+#[derive(Clone, Copy)]
+enum Form {
+    /// As a text, with the escapes of directions.
+    Text,
+    /// As lines, each of which is a block.
+    Blocks,
+    /// By the name of a file that has the same.
+    File,
 }
 
 /// Plays a transcript on empty files.
@@ -79,31 +91,20 @@ impl Stage {
         Ok(())
     }
 
-    /// Follows a direction, or none.
+    /// Follows a direction, or none. Those that name a file are followed by `Stage::treat`.
     fn follow(&mut self, alloc: Global, direction: &str) -> Result<(), Miss> {
-        let (verb, rest) = direction.split_once(' ').unwrap_or((direction, ""));
+        let (verb, words) = direction.split_once(' ').unwrap_or((direction, ""));
         match verb {
             "" => Ok(()),
-            "now" => self.set_now(rest),
+            "now" => self.set_now(words),
+            "board" => self.make_board(alloc),
+            "damage" => self.damage(alloc, words),
+            "data" => self.expect_data(alloc, words),
             "setups" => put_setups(&mut self.shelf, alloc),
             "day" => put_day(&mut self.shelf, alloc),
             "packets" => put_packets(&mut self.shelf, alloc),
             "folders" => put_folders(&mut self.shelf, alloc),
-            "board" => self.make_board(alloc),
-            "put" => self.put(alloc, rest),
-            "add" => self.add(alloc, rest),
-            "join" => self.join(alloc, rest),
-            "blocks" => self.put_blocks(alloc, rest),
-            "file" => self.expect_file(alloc, rest),
-            "packet" => self.expect_blocks(alloc, rest),
-            "same" => self.expect_same(alloc, rest),
-            "length" => self.expect_length(alloc, rest),
-            "data" => self.expect_data(alloc, rest),
-            "damage" => {
-                self.host = damaged_host(alloc, &self.host, rest)?;
-                Ok(())
-            }
-            _ => Err(Miss::no_transcript(alloc, direction)?),
+            _ => self.treat(alloc, verb, words),
         }
     }
 
@@ -121,101 +122,80 @@ impl Stage {
         self.run(alloc, BOARD_B)
     }
 
-    /// `put NAME TEXT` puts a file on the shelf.
-    fn put(&mut self, alloc: Global, words: &str) -> Result<(), Miss> {
-        let (name, text) = words.split_once(' ').unwrap_or((words, ""));
-        put(
-            &mut self.shelf,
-            alloc,
-            name,
-            bytes_of(alloc, text)?.as_slice(),
-        )
-    }
-
-    /// `add NAME COUNT TEXT` adds a text so many times to the end of a file.
-    fn add(&mut self, alloc: Global, words: &str) -> Result<(), Miss> {
-        let (name, words) = parted(words, ' ')?;
-        let (count, text) = parted(words, ' ')?;
-        let text = bytes_of(alloc, text)?;
-        add_copies(
-            &mut self.shelf,
-            alloc,
-            name,
-            text.as_slice(),
-            number_of(count)?,
-        )
-    }
-
-    /// `join NAME COUNT OTHER` adds another file so many times to the end of a file.
-    fn join(&mut self, alloc: Global, words: &str) -> Result<(), Miss> {
-        let (name, words) = parted(words, ' ')?;
-        let (count, other) = parted(words, ' ')?;
-        let file = file_of(alloc, &self.shelf, other)?;
-        add_copies(
-            &mut self.shelf,
-            alloc,
-            name,
-            file.as_slice(),
-            number_of(count)?,
-        )
-    }
-
-    /// `blocks NAME`, and a block in each line below it, puts a file of blocks.
-    fn put_blocks(&mut self, alloc: Global, words: &str) -> Result<(), Miss> {
-        let (name, lines) = parted(words, '\n')?;
-        put(
-            &mut self.shelf,
-            alloc,
-            name,
-            blocks_of(alloc, lines)?.as_slice(),
-        )
-    }
-
-    /// `file NAME TEXT` looks whether a file of the shelf is this text.
-    fn expect_file(&self, alloc: Global, words: &str) -> Result<(), Miss> {
-        let (name, text) = parted(words, ' ')?;
-        expect_file(alloc, &self.shelf, name, bytes_of(alloc, text)?.as_slice())
-    }
-
-    /// `packet NAME`, and a block in each line below it, looks whether a file of the shelf has these blocks.
-    fn expect_blocks(&self, alloc: Global, words: &str) -> Result<(), Miss> {
-        let (name, lines) = parted(words, '\n')?;
-        expect_file(
-            alloc,
-            &self.shelf,
-            name,
-            blocks_of(alloc, lines)?.as_slice(),
-        )
-    }
-
-    /// `same NAME OTHER` looks whether two files of the shelf are equal.
-    fn expect_same(&self, alloc: Global, words: &str) -> Result<(), Miss> {
-        let (name, other) = parted(words, ' ')?;
-        let wanted = file_of(alloc, &self.shelf, other)?;
-        expect_file(alloc, &self.shelf, name, wanted.as_slice())
-    }
-
-    /// `length NAME LENGTH` looks how long a file of the shelf is.
-    fn expect_length(&self, alloc: Global, words: &str) -> Result<(), Miss> {
-        let (name, length) = parted(words, ' ')?;
-        expect_file_length(alloc, &self.shelf, name, number_of(length)?)
+    /// `damage` and a change of a data file makes that change.
+    fn damage(&mut self, alloc: Global, change: &str) -> Result<(), Miss> {
+        self.host = damaged_host(alloc, &self.host, change)?;
+        Ok(())
     }
 
     /// `data NUMBER has LENGTH` looks how long a data file is; `data NUMBER from PLACE TEXT` looks whether it has a text
     /// at a place; and `data NUMBER ends PLACE TEXT`, whether it ends with it too.
     fn expect_data(&self, alloc: Global, words: &str) -> Result<(), Miss> {
-        let (number, words) = parted(words, ' ')?;
+        let (number, words) = parted(words)?;
         let file = data_file(number)?;
-        let (verb, words) = parted(words, ' ')?;
+        let (verb, words) = parted(words)?;
         if verb == "has" {
             return expect_data_length(&self.host, file, number_of(words)?);
         }
-        let (place, text) = parted(words, ' ')?;
+        let (place, text) = parted(words)?;
         let (place, text) = (number_of(place)?, bytes_of(alloc, text)?);
         match verb {
             "from" => expect_part(&self.host, file, place, text.as_slice()),
             "ends" => expect_rest(&self.host, file, place, text.as_slice()),
             _ => Err(Miss::no_transcript(alloc, verb)?),
+        }
+    }
+
+    /// Follows a direction that names a file of the shelf, and then says what is in it: a text, `Form::Text`; a block in
+    /// each line below, `Form::Blocks`; or another file's name, `Form::File`.
+    fn treat(&mut self, alloc: Global, verb: &str, words: &str) -> Result<(), Miss> {
+        match verb {
+            "put" => self.put(alloc, Form::Text, words),
+            "blocks" => self.put(alloc, Form::Blocks, words),
+            "add" => self.add(alloc, Form::Text, words),
+            "join" => self.add(alloc, Form::File, words),
+            "file" => self.expect(alloc, Form::Text, words),
+            "packet" => self.expect(alloc, Form::Blocks, words),
+            "same" => self.expect(alloc, Form::File, words),
+            "length" => self.expect_length(alloc, words),
+            _ => Err(Miss::no_transcript(alloc, verb)?),
+        }
+    }
+
+    /// `put NAME TEXT` and `blocks NAME LINES` put a file, which is empty where nothing follows its name.
+    fn put(&mut self, alloc: Global, form: Form, words: &str) -> Result<(), Miss> {
+        let (name, words) = parted(words).unwrap_or((words, ""));
+        let file = self.content(alloc, form, words)?;
+        put(&mut self.shelf, alloc, name, file.as_slice())
+    }
+
+    /// `add NAME COUNT TEXT` and `join NAME COUNT OTHER` add what they name so many times to the end of a file.
+    fn add(&mut self, alloc: Global, form: Form, words: &str) -> Result<(), Miss> {
+        let (name, words) = parted(words)?;
+        let (count, words) = parted(words)?;
+        let (count, piece) = (number_of(count)?, self.content(alloc, form, words)?);
+        add_copies(&mut self.shelf, alloc, name, piece.as_slice(), count)
+    }
+
+    /// `file NAME TEXT`, `packet NAME LINES` and `same NAME OTHER` look whether a file is as they say.
+    fn expect(&self, alloc: Global, form: Form, words: &str) -> Result<(), Miss> {
+        let (name, words) = parted(words)?;
+        let wanted = self.content(alloc, form, words)?;
+        expect_file(alloc, &self.shelf, name, wanted.as_slice())
+    }
+
+    /// `length NAME LENGTH` looks how long a file is.
+    fn expect_length(&self, alloc: Global, words: &str) -> Result<(), Miss> {
+        let (name, length) = parted(words)?;
+        expect_file_length(alloc, &self.shelf, name, number_of(length)?)
+    }
+
+    /// The bytes that words of a form stand for.
+    fn content(&self, alloc: Global, form: Form, words: &str) -> Result<Bytes, Miss> {
+        match form {
+            Form::Text => bytes_of(alloc, words),
+            Form::Blocks => blocks_of(alloc, words),
+            Form::File => file_of(alloc, &self.shelf, words),
         }
     }
 }

@@ -205,12 +205,7 @@ Produced by qwkdoor, packet 1
 First line\xE3
  1      09-09-0101:46ALL                      BOB RAY                  Hello                                0       2     \xE1\x07\0\x02\0
 First line\xE3
-* packet ed/MESSAGES.DAT
-Produced by qwkdoor, packet 1
- 1      09-09-0101:46ALL                      BOB RAY                  Hello                                0       2     \xE1\0\0\x01\0
-First line\xE3
- 1      09-09-0101:46ALL                      BOB RAY                  Hello                                0       2     \xE1\x07\0\x02\0
-First line\xE3
+* same ed/MESSAGES.DAT ann/MESSAGES.DAT
 * file ed/CONTROL.DAT Test Board\r\nSpringfield\r\n555-0100\r\nSam Sysop\r\n12345,TESTBBS\r\n09-09-2001,01:46:40\r\nED POE\r\n\r\n0\r\n2\r\n1\r\n0\r\nGENERAL\r\n7\r\nNEWS\r\nWELCOME\r\nNEWS\r\nGOODBYE\r\n
 * packet bob/MESSAGES.DAT
 Produced by qwkdoor, packet 1
