@@ -9,8 +9,6 @@ mod fits;
 mod gather;
 mod make;
 mod size;
-#[cfg(test)]
-mod tests;
 
 pub use base::with_base;
 pub use change::BoardChange;

@@ -13,8 +13,6 @@ mod read;
 mod rest;
 mod shape;
 mod sizes;
-#[cfg(test)]
-mod tests;
 
 pub use board::{BOARD_LIMIT, Bases, StoredBoard};
 pub use error::ReadError;

@@ -11,8 +11,6 @@ mod met;
 mod opening;
 mod read;
 mod size;
-#[cfg(test)]
-mod tests;
 mod texts;
 mod upload;
 mod uploads;

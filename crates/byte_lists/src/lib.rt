@@ -4,8 +4,6 @@
 mod bytes;
 mod copies;
 mod list;
-#[cfg(test)]
-mod tests;
 
 pub use bytes::Bytes;
 pub use copies::Duplicate;

@@ -3,8 +3,6 @@
 
 mod choice;
 mod number;
-#[cfg(test)]
-mod tests;
 
 pub use choice::Choice;
 pub use number::number_of;

@@ -46,14 +46,20 @@ fn are_equal(one: &Message, other: &Message) -> bool {
 }
 
 #[test]
-fn messages_slots_and_links_are_copied(rt: HostRuntime) -> Result<(), Fail> {
+fn messages_are_copied(rt: HostRuntime) -> Result<(), Fail> {
     let alloc = rt.alloc();
-    let message = message_of(alloc)?;
     let mut messages = Messages::new(alloc);
     messages.add(message_of(alloc)?)?;
     let copies = messages.copy(alloc)?;
-    assert_eq!(rt; copies.len(), 1);
-    assert!(rt; are_equal(copies.get(0).ok_or("no message")?, &message));
+    let copy = copies.get(0).ok_or("no message")?;
+    assert!(rt; are_equal(copy, &message_of(alloc)?));
+    assert!(rt; copies.get(1).is_none());
+    Ok(())
+}
+
+#[test]
+fn slots_are_copied(rt: HostRuntime) -> Result<(), Fail> {
+    let alloc = rt.alloc();
     let mut slots = Slots::new(alloc);
     slots.add(Slot::Gone)?;
     slots.add(Slot::Held(message_of(alloc)?))?;
@@ -61,9 +67,18 @@ fn messages_slots_and_links_are_copied(rt: HostRuntime) -> Result<(), Fail> {
     assert_eq!(rt; copies.len(), 2);
     assert!(rt; matches!(copies.get(0), Some(Slot::Gone)));
     match copies.get(1) {
-        Some(Slot::Held(copy)) => assert!(rt; are_equal(copy, &message)),
+        Some(Slot::Held(copy)) => assert!(rt; are_equal(copy, &message_of(alloc)?)),
         _ => return Err(Fail::from("no message")),
     }
+    Ok(())
+}
+
+#[test]
+fn links_are_copied(rt: HostRuntime) -> Result<(), Fail> {
+    let alloc = rt.alloc();
+    let mut slots = Slots::new(alloc);
+    slots.add(Slot::Gone)?;
+    slots.add(Slot::Held(message_of(alloc)?))?;
     let found = links(alloc, &slots)?;
     let copies = found.copy(alloc)?;
     assert_eq!(rt; copies.get(1), found.get(1));
@@ -97,7 +112,7 @@ fn users_are_copied(rt: HostRuntime) -> Result<(), Fail> {
 }
 
 #[test]
-fn records_lists_and_names_are_copied(rt: HostRuntime) -> Result<(), Fail> {
+fn upload_records_are_copied(rt: HostRuntime) -> Result<(), Fail> {
     let alloc = rt.alloc();
     let record = UploadRecord {
         user: 1,
@@ -110,9 +125,20 @@ fn records_lists_and_names_are_copied(rt: HostRuntime) -> Result<(), Fail> {
     let mut uploads = Uploads::new(alloc);
     uploads.add(record)?;
     assert_eq!(rt; uploads.copy(alloc)?.as_slice(), [record].as_slice());
-    let mut calls = CallNumbers::new(alloc);
+    Ok(())
+}
+
+#[test]
+fn numbers_of_calls_are_copied(rt: HostRuntime) -> Result<(), Fail> {
+    let mut calls = CallNumbers::new(rt.alloc());
     calls.add(4)?;
-    assert_eq!(rt; calls.copy(alloc)?.as_slice(), [4].as_slice());
+    assert_eq!(rt; calls.copy(rt.alloc())?.as_slice(), [4].as_slice());
+    Ok(())
+}
+
+#[test]
+fn readers_are_copied(rt: HostRuntime) -> Result<(), Fail> {
+    let alloc = rt.alloc();
     let mut readers = Readers::new(alloc);
     readers.add(Reader {
         id: 2,
@@ -121,7 +147,12 @@ fn records_lists_and_names_are_copied(rt: HostRuntime) -> Result<(), Fail> {
     let copies = readers.copy(alloc)?;
     let copy = copies.get(0).ok_or("no reader")?;
     assert_eq!(rt; (copy.id, copy.name.as_slice()), (2, b"Bob Ray".as_slice()));
-    let name = ShelfName::parse(alloc, b"a/b")?.ok_or("no name")?;
-    assert_eq!(rt; name.copy(alloc)?.as_slice(), b"a/b".as_slice());
+    Ok(())
+}
+
+#[test]
+fn names_are_copied(rt: HostRuntime) -> Result<(), Fail> {
+    let name = ShelfName::parse(rt.alloc(), b"a/b")?.ok_or("no name")?;
+    assert_eq!(rt; name.copy(rt.alloc())?.as_slice(), b"a/b".as_slice());
     Ok(())
 }

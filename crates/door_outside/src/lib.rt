@@ -14,16 +14,12 @@ mod host;
 mod image;
 mod memory_host;
 mod memory_shelf;
-#[cfg(test)]
-mod memory_tests;
 mod name;
 mod order;
 mod pieces;
 mod plan;
 mod shelf;
 mod tears;
-#[cfg(test)]
-mod tests;
 
 pub use byte_lists::{Bytes, Duplicate, Lines, List};
 pub use fault::{DiskFault, ShelfFault, VoiceFault};

@@ -6,8 +6,6 @@ mod class;
 mod saying;
 mod status;
 mod stop;
-#[cfg(test)]
-mod tests;
 
 pub use class::Class;
 pub use saying::say_all;

@@ -10,8 +10,6 @@ mod headers;
 pub mod laws;
 mod read;
 mod sheet;
-#[cfg(test)]
-mod tests;
 mod unread;
 mod value;
 

@@ -31,10 +31,6 @@ mod marks;
 mod patch;
 mod reading;
 mod recovery;
-#[cfg(test)]
-mod stop_tests;
-#[cfg(test)]
-mod tests;
 mod within;
 
 pub use committing::commit;

@@ -4,15 +4,11 @@
 mod acknowledged;
 mod base;
 mod change;
-#[cfg(test)]
-mod change_tests;
 mod pointers;
 mod read;
 mod receipt;
 mod refusal;
 mod slots;
-#[cfg(test)]
-mod tests;
 
 pub use base::Base;
 pub use change::BaseChange;

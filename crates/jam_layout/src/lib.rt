@@ -19,8 +19,6 @@ mod reader_list;
 mod second_pass;
 mod shape;
 mod sizes;
-#[cfg(test)]
-mod tests;
 
 pub use conference::Conference;
 pub use error::BaseError;

@@ -14,8 +14,6 @@ mod message_header;
 mod signature;
 mod subfield;
 mod subfield_reader;
-#[cfg(test)]
-mod tests;
 
 pub use address::address_text;
 pub use base_header::{BaseHeader, read_base_header, write_base_header};

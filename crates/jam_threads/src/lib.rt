@@ -6,8 +6,6 @@ mod first_numbers;
 mod link;
 mod linking;
 mod original;
-#[cfg(test)]
-mod tests;
 mod threads;
 
 pub use link::{Link, Links};

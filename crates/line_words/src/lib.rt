@@ -3,8 +3,6 @@
 
 pub mod laws;
 mod spaces;
-#[cfg(test)]
-mod tests;
 mod word;
 mod words;
 

@@ -3,7 +3,5 @@
 
 mod crc;
 mod table;
-#[cfg(test)]
-mod tests;
 
 pub use crc::name_crc;

@@ -9,11 +9,7 @@ mod rule;
 mod rules;
 mod size;
 mod status;
-#[cfg(test)]
-mod tests;
 mod verdict;
-#[cfg(test)]
-mod verdict_tests;
 mod view;
 
 pub use address::Address;

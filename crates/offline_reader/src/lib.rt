@@ -6,8 +6,6 @@ mod letter;
 mod listing;
 mod print;
 mod scan;
-#[cfg(test)]
-mod tests;
 
 pub use folder::list_folder;
 pub use letter::{ShowError, show_message};

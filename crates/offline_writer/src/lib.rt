@@ -9,8 +9,6 @@ mod fitting;
 mod placing;
 mod replying;
 mod stored_text;
-#[cfg(test)]
-mod tests;
 
 pub use composing::{compose, draft_entries, listed_conference};
 pub use drafting::Envelope;

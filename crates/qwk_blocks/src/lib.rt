@@ -10,8 +10,6 @@ mod message;
 mod packet;
 mod progress;
 mod reader;
-#[cfg(test)]
-mod tests;
 mod text;
 mod writable;
 mod write;

@@ -11,8 +11,6 @@ pub mod laws;
 mod lines;
 mod number;
 mod read;
-#[cfg(test)]
-mod tests;
 mod writable;
 mod write;
 

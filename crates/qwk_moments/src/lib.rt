@@ -6,8 +6,6 @@ mod digits;
 mod fields;
 pub mod laws;
 mod reading;
-#[cfg(test)]
-mod tests;
 
 pub use fields::{date_field, stamp, time_field};
 pub use reading::read_moment;

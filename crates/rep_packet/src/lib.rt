@@ -7,8 +7,6 @@ pub mod laws;
 mod read;
 mod rep;
 mod size;
-#[cfg(test)]
-mod tests;
 mod write;
 
 pub use fault::RepError;

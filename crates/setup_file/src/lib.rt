@@ -10,8 +10,6 @@ mod key;
 pub mod laws;
 mod parse;
 mod setup;
-#[cfg(test)]
-mod tests;
 mod texts;
 mod unread;
 mod word;

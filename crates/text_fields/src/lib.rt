@@ -8,8 +8,6 @@ pub mod laws;
 mod lines;
 mod number;
 mod split;
-#[cfg(test)]
-mod tests;
 mod trim;
 
 pub use blank::Blank;

@@ -1,0 +1,5 @@
+mod journal;
+mod memory;
+mod names;
+mod statuses;
+mod stops;

@@ -1,0 +1,6 @@
+mod addresses;
+mod blocks;
+mod control;
+mod moments;
+mod replies;
+mod verdicts;

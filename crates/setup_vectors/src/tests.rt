@@ -1,0 +1,3 @@
+mod setups;
+mod sheets;
+mod words;
