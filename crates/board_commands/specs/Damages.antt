@@ -5,7 +5,8 @@ use Rattle.entry_runs.specs.declared.class.Class.TheVariants as class
 use Rattle.jam_records.specs.declared.damage.Damage.{Damage}
 use Rattle.jam_records.specs.declared.damage.DamageRule.{DamageRule}
 use Rattle.jam_records.specs.declared.damage.DamageRule.TheVariants.{Size, Short, Magic, Version, Count, Number, Text, Id, Zones, Kind, Rules, Name, Order, Twice, Flags, Member, Offer, User, Counts}
-use Rattle.jam_records.specs.declared.damage.DamageRule.TheVariants.{Rest, Signature, Created, Fields, Revision, Attribute, Subfields, Value, Crc, Active, Links, Line, Index, Missing, Reader, Pointer, High}
+use Rattle.jam_records.specs.declared.damage.DamageRule.TheVariants.{Rest, Signature, Created, Fields, Revision, Attribute, Subfields, Value, Crc}
+use Rattle.jam_records.specs.declared.damage.DamageRule.TheVariants.{Active, Links, Line, Index, Missing, Reader, Pointer, High}
 
 -- the words of the rules
 abbrev pub rule_word : DamageRule → List ℕ
