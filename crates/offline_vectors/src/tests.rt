@@ -1,2 +1,3 @@
+mod packets;
 mod reading;
 mod writing;

@@ -58,26 +58,17 @@ enum Change {
 
 /// The bytes after a change.
 fn changed(alloc: Global, bytes: &[u8], change: Change) -> Result<Bytes, AllocError> {
-    let mut made = Bytes::new(alloc);
+    let mut made = bytes.to_vec(alloc)?;
     match change {
         Change::Put(at, part) => {
-            if part.len() <= bytes.len() && at <= bytes.len() - part.len() {
-                made.add(&bytes[..at])?;
-                made.add(part)?;
-                made.add(&bytes[at + part.len()..])?;
+            for (old, new) in made.iter_mut().skip(at).zip(part) {
+                *old = *new;
             }
         }
-        Change::Cut(len) => {
-            if len <= bytes.len() {
-                made.add(&bytes[..len])?;
-            }
-        }
-        Change::More(more) => {
-            made.add(bytes)?;
-            made.add(more)?;
-        }
+        Change::Cut(len) => made.truncate(len),
+        Change::More(more) => made.extend_from_slice(more)?,
     }
-    Ok(made)
+    Ok(Bytes::from_vec(made))
 }
 
 /// Changes of a board of four users, and what is damaged then.

@@ -1,54 +1,20 @@
 //! Texts of messages with fields that the examples of the commands don't have.
 mod scans;
 
-use byte_lists::{Bytes, Lines};
+use super::packets;
+use byte_lists::Bytes;
 use offline_reader::{ShowError, list_folder, list_packet, show_message};
-use qwk_blocks::{Header, QwkMessage, QwkMessages};
-use qwk_control::{Control, Listed};
+use qwk_blocks::{QwkMessage, QwkMessages};
 use std::alloc::{AllocError, Global};
 use std::test::Fail;
 
-/// A message of this status and activity, whose number and reference don't read.
+/// A message of this status and activity with a control character in its sender's name and one in its line.
 fn message(alloc: Global, status: u8, activity: u8) -> Result<QwkMessage, AllocError> {
-    let mut lines = Lines::new(alloc);
-    lines.add(Bytes::from_slice(alloc, b"tab\there")?)?;
-    Ok(QwkMessage {
-        header: Header {
-            status,
-            number: None,
-            date: *b"09-09-01",
-            time: *b"01:46",
-            to: Bytes::from_slice(alloc, b"ALL")?,
-            from: Bytes::from_slice(alloc, b"BOB\x7FRAY")?,
-            subject: Bytes::new(alloc),
-            password: Bytes::new(alloc),
-            reference: None,
-            activity,
-            conference: 65535,
-            logical: 1,
-            tag: b' ',
-        },
-        lines,
-    })
-}
-
-fn control(alloc: Global) -> Result<Control, AllocError> {
-    Ok(Control {
-        board: Bytes::from_slice(alloc, b"Test\x01Board")?,
-        city: Bytes::new(alloc),
-        phone: Bytes::new(alloc),
-        sysop: Bytes::new(alloc),
-        serial: Bytes::new(alloc),
-        bbsid: Bytes::from_slice(alloc, b"TESTBBS")?,
-        stamp: Bytes::new(alloc),
-        user: Bytes::from_slice(alloc, b"ANN LEE")?,
-        menu: Bytes::new(alloc),
-        count: 0,
-        conferences: Listed::new(alloc),
-        welcome: Bytes::new(alloc),
-        news: Bytes::new(alloc),
-        goodbye: Bytes::new(alloc),
-    })
+    let mut message = packets::message(alloc, status, b"BOB\x7FRAY")?;
+    message.header.activity = activity;
+    message.header.conference = 65535;
+    message.lines.add(Bytes::from_slice(alloc, b"tab\there")?)?;
+    Ok(message)
 }
 
 #[test]
@@ -81,15 +47,24 @@ fn messages_are_shown(rt: HostRuntime) -> Result<(), Fail> {
     let wanted =
         "From: BOB?RAY\nTo: ALL\nSubject: \nDate: 09-09-01 01:46\nConference: 65535\nNumber: -\nReference: -\n\ntab?here\n";
     assert_eq!(rt; text.as_slice(), wanted.as_bytes());
+    Ok(())
+}
+
+#[test]
+fn other_places_have_no_message(rt: HostRuntime) -> Result<(), Fail> {
+    let mut messages = QwkMessages::new(rt.alloc());
+    messages.add(message(rt.alloc(), b' ', 0xE1)?)?;
     for place in [0, 2, 4_294_967_295] {
         let none = show_message(rt.alloc(), &messages, place);
         assert!(rt; matches!(none, Err(ShowError::NoMessage)));
     }
-    let text = list_folder(
-        rt.alloc(),
-        &control(rt.alloc())?,
-        &QwkMessages::new(rt.alloc()),
-    )?;
+    Ok(())
+}
+
+#[test]
+fn a_board_and_a_user_are_shown(rt: HostRuntime) -> Result<(), Fail> {
+    let control = packets::control(rt.alloc(), b"Test\x01Board", b"ANN LEE")?;
+    let text = list_folder(rt.alloc(), &control, &QwkMessages::new(rt.alloc()))?;
     assert_eq!(rt;
         text.as_slice(),
         b"board Test?Board\nuser ANN LEE\n0 messages\n".as_slice()

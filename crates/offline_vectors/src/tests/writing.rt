@@ -2,11 +2,12 @@
 mod replies;
 mod sheets;
 
-use byte_lists::{Bytes, Lines};
+use super::packets;
+use byte_lists::Bytes;
 use import_sheet::Sheets;
 use offline_writer::{ComposeError, ReplyError, compose, reply_to};
-use qwk_blocks::{Header, QwkMessage, QwkMessages};
-use qwk_control::{Control, Listed};
+use qwk_blocks::QwkMessages;
+use qwk_control::Control;
 use rep_packet::Rep;
 use std::alloc::{AllocError, Global};
 
@@ -15,48 +16,28 @@ const NOW: u32 = 1_000_000_000;
 
 /// What the packet of a user says, with the conferences 0 and 1.
 fn control(alloc: Global, user: &[u8]) -> Result<Control, AllocError> {
-    let mut conferences = Listed::new(alloc);
+    let mut control = packets::control(alloc, b"", user)?;
+    let conferences = &mut control.conferences;
     conferences.add((0, Bytes::from_slice(alloc, b"GENERAL")?))?;
     conferences.add((1, Bytes::from_slice(alloc, b"NETMAIL")?))?;
-    Ok(Control {
-        board: Bytes::new(alloc),
-        city: Bytes::new(alloc),
-        phone: Bytes::new(alloc),
-        sysop: Bytes::new(alloc),
-        serial: Bytes::new(alloc),
-        bbsid: Bytes::from_slice(alloc, b"TESTBBS")?,
-        stamp: Bytes::new(alloc),
-        user: Bytes::from_slice(alloc, user)?,
-        menu: Bytes::new(alloc),
-        count: 1,
-        conferences,
-        welcome: Bytes::new(alloc),
-        news: Bytes::new(alloc),
-        goodbye: Bytes::new(alloc),
-    })
+    control.count = 1;
+    Ok(control)
 }
 
 /// A packet of one message from Bob Ray in conference 263, with this status and this number.
 fn packet(alloc: Global, status: u8, number: Option<u32>) -> Result<QwkMessages, AllocError> {
+    let mut message = packets::message(alloc, status, b"BOB RAY")?;
+    let header = &mut message.header;
+    header.number = number;
+    header.date = *b"01-01-70";
+    header.time = *b"00:00";
+    header.subject = Bytes::from_slice(alloc, b"Hello")?;
+    header.reference = Some(5);
+    header.activity = 0xE2;
+    header.logical = 9;
+    header.tag = b'*';
     let mut messages = QwkMessages::new(alloc);
-    messages.add(QwkMessage {
-        header: Header {
-            status,
-            number,
-            date: *b"01-01-70",
-            time: *b"00:00",
-            to: Bytes::from_slice(alloc, b"ALL")?,
-            from: Bytes::from_slice(alloc, b"BOB RAY")?,
-            subject: Bytes::from_slice(alloc, b"Hello")?,
-            password: Bytes::new(alloc),
-            reference: Some(5),
-            activity: 0xE2,
-            conference: 263,
-            logical: 9,
-            tag: b'*',
-        },
-        lines: Lines::new(alloc),
-    })?;
+    messages.add(message)?;
     Ok(messages)
 }
 

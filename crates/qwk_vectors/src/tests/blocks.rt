@@ -1,7 +1,8 @@
 //! Files from worked examples.
 mod pieces;
 
-use byte_lists::{Bytes, Lines};
+use super::messages::hello;
+use byte_lists::Bytes;
 use qwk_blocks::{
     Header, QwkError, QwkFault, QwkMessage, QwkMessages, read_messages, write_messages,
 };
@@ -18,19 +19,17 @@ fn add_field(file: &mut Bytes, text: &[u8], width: usize, pad: u8) -> Result<(),
     Ok(())
 }
 
+/// The header of the example up to its count of blocks, and what stands behind the count.
+const UP_TO_COUNT: &[u8] =
+    b" 1      09-09-0101:46ALL                      BOB RAY                  Hello                                0       ";
+
+const BEHIND_COUNT: &[u8] = b"\xE1\0\0\x01\0 ";
+
 /// Adds the header of the example, with its count of blocks.
 fn add_header(file: &mut Bytes, count: &[u8]) -> Result<(), AllocError> {
-    file.add(b" ")?;
-    add_field(file, b"1", 7, b' ')?;
-    file.add(b"09-09-01")?;
-    file.add(b"01:46")?;
-    add_field(file, b"ALL", 25, b' ')?;
-    add_field(file, b"BOB RAY", 25, b' ')?;
-    add_field(file, b"Hello", 25, b' ')?;
-    add_field(file, b"", 12, b' ')?;
-    add_field(file, b"0", 8, b' ')?;
+    file.add(UP_TO_COUNT)?;
     add_field(file, count, 6, b' ')?;
-    file.add(&[0xE1, 0, 0, 1, 0, b' '])
+    file.add(BEHIND_COUNT)
 }
 
 /// Adds a message of two blocks.
@@ -65,14 +64,7 @@ fn fault_of(answer: Result<QwkMessages, QwkError>) -> Option<QwkFault> {
     }
 }
 
-fn assert_example(rt: &impl Abort, messages: &QwkMessages) -> Result<(), Fail> {
-    assert_eq!(rt; messages.len(), 1);
-    let message = messages.get(0).ok_or("no message")?;
-    let header = &message.header;
-    assert_eq!(rt; header.status, b' ');
-    assert_eq!(rt; header.number, Some(1));
-    assert_eq!(rt; header.date, *b"09-09-01");
-    assert_eq!(rt; header.time, *b"01:46");
+fn assert_header(rt: &impl Abort, header: &Header) {
     for (text, wanted) in [
         (&header.to, b"ALL".as_slice()),
         (&header.from, b"BOB RAY"),
@@ -81,10 +73,17 @@ fn assert_example(rt: &impl Abort, messages: &QwkMessages) -> Result<(), Fail> {
     ] {
         assert_eq!(rt; text.as_slice(), wanted);
     }
-    assert_eq!(rt; header.reference, Some(0));
+    assert_eq!(rt; (header.date, header.time), (*b"09-09-01", *b"01:46"));
+    assert_eq!(rt; (header.status, header.tag), (b' ', b' '));
+    assert_eq!(rt; (header.number, header.reference), (Some(1), Some(0)));
     assert_eq!(rt; header.activity, 0xE1);
     assert_eq!(rt; (header.conference, header.logical), (0, 1));
-    assert_eq!(rt; header.tag, b' ');
+}
+
+fn assert_example(rt: &impl Abort, messages: &QwkMessages) -> Result<(), Fail> {
+    assert_eq!(rt; messages.len(), 1);
+    let message = messages.get(0).ok_or("no message")?;
+    assert_header(rt, &message.header);
     assert_eq!(rt; message.lines.len(), 1);
     let line = message.lines.get(0).ok_or("no line")?;
     assert_eq!(rt; line.as_slice(), b"First line".as_slice());
@@ -115,15 +114,27 @@ fn reads_a_message_with_no_text(rt: HostRuntime) -> Result<(), Fail> {
     Ok(())
 }
 
-#[test]
-fn refuses_cut_files(rt: HostRuntime) -> Result<(), Fail> {
-    let mut file = example(rt.alloc(), b"2", b' ')?;
+/// A notice and two messages, of 640 bytes.
+fn two_messages(alloc: Global) -> Result<Bytes, AllocError> {
+    let mut file = example(alloc, b"2", b' ')?;
     add_message(&mut file, b"2", b' ')?;
+    Ok(file)
+}
+
+#[test]
+fn reads_the_messages_up_to_a_cut(rt: HostRuntime) -> Result<(), Fail> {
+    let file = two_messages(rt.alloc())?;
     assert_eq!(rt; file.as_slice().len(), 640);
     for (len, count) in [(128, 0), (384, 1), (640, 2)] {
         let front = file.as_slice().get(..len).ok_or("too short")?;
         assert_eq!(rt; read(&rt, rt.alloc(), front)?.len(), count);
     }
+    Ok(())
+}
+
+#[test]
+fn refuses_cut_messages(rt: HostRuntime) -> Result<(), Fail> {
+    let file = two_messages(rt.alloc())?;
     for (len, at) in [(0, 0), (127, 0), (129, 128), (256, 128), (639, 384)] {
         let front = file.as_slice().get(..len).ok_or("too short")?;
         let fault = fault_of(read(&rt, rt.alloc(), front));
@@ -144,30 +155,33 @@ fn refuses_bad_counts(rt: HostRuntime) -> Result<(), Fail> {
 
 /// The example's message, with one line of so many bytes, or with none.
 fn message_of(alloc: Global, line: Option<usize>) -> Result<QwkMessage, AllocError> {
-    let mut lines = Lines::new(alloc);
+    let mut message = hello(alloc, b"BOB RAY", b"ALL", &[])?;
+    message.header.reference = Some(0);
     if let Some(len) = line {
         let mut text = Bytes::new(alloc);
         add_field(&mut text, b"", len, b'x')?;
-        lines.add(text)?;
+        message.lines.add(text)?;
     }
-    Ok(QwkMessage {
-        header: Header {
-            status: b' ',
-            number: Some(1),
-            date: *b"09-09-01",
-            time: *b"01:46",
-            to: Bytes::from_slice(alloc, b"ALL")?,
-            from: Bytes::from_slice(alloc, b"BOB RAY")?,
-            subject: Bytes::from_slice(alloc, b"Hello")?,
-            password: Bytes::new(alloc),
-            reference: Some(0),
-            activity: 0xE1,
-            conference: 0,
-            logical: 1,
-            tag: b' ',
-        },
-        lines,
-    })
+    Ok(message)
+}
+
+/// Its file, which has so many blocks in its message and so many bytes in all.
+fn file_of(
+    alloc: Global,
+    line: Option<usize>,
+    count: &[u8],
+    size: usize,
+) -> Result<Bytes, AllocError> {
+    let mut file = notice(alloc)?;
+    add_header(&mut file, count)?;
+    if let Some(len) = line {
+        add_field(&mut file, b"", len, b'x')?;
+        file.add(&[0xE3])?;
+    }
+    for _ in file.as_slice().len()..size {
+        file.add(b" ")?;
+    }
+    Ok(file)
 }
 
 /// The written form of messages.
@@ -182,25 +196,18 @@ fn write(rt: &impl Abort, alloc: Global, messages: &QwkMessages) -> Result<Bytes
 
 #[test]
 fn writes_whole_blocks(rt: HostRuntime) -> Result<(), Fail> {
-    for (line, count, len) in [
+    for (line, count, size) in [
         (Some(127), b"2".as_slice(), 384),
         (Some(128), b"3", 512),
         (None, b"2", 384),
     ] {
-        let mut wanted = notice(rt.alloc())?;
-        add_header(&mut wanted, count)?;
-        if let Some(width) = line {
-            add_field(&mut wanted, b"", width, b'x')?;
-            wanted.add(&[0xE3])?;
-        }
-        add_field(&mut wanted, b"", len, b' ')?;
         let mut messages = QwkMessages::new(rt.alloc());
         messages.add(message_of(rt.alloc(), line)?)?;
         let file = write(&rt, rt.alloc(), &messages)?;
-        let written = file.as_slice();
-        assert_eq!(rt; written.len(), len);
-        assert_eq!(rt; Some(written), wanted.as_slice().get(..len));
-        let messages = read(&rt, rt.alloc(), written)?;
+        let wanted = file_of(rt.alloc(), line, count, size)?;
+        assert_eq!(rt; wanted.as_slice().len(), size);
+        assert_eq!(rt; file.as_slice(), wanted.as_slice());
+        let messages = read(&rt, rt.alloc(), file.as_slice())?;
         let message = messages.get(0).ok_or("no message")?;
         assert_eq!(rt; message.lines.len(), if line.is_some() { 1 } else { 0 });
     }
@@ -217,59 +224,40 @@ const BLOCKS: [&[u8]; 6] = [
     b"First line\xE3                                                                                                                     ",
 ];
 
+/// The lines of the first.
+const LINES: [&[u8]; 4] = [
+    b"Dear Sam,",
+    b"",
+    b"this line has a  gap, and spaces at its end  ",
+    b"and with this one the text takes more than a single block of one hundred and twenty-eight bytes.",
+];
+
 /// A private message with a password and a reference, of two text blocks.
 fn private_message(alloc: Global) -> Result<QwkMessage, AllocError> {
-    let mut lines = Lines::new(alloc);
-    for line in [
-        b"Dear Sam,".as_slice(),
-        b"",
-        b"this line has a  gap, and spaces at its end  ",
-        b"and with this one the text takes more than a single block of one hundred and twenty-eight bytes.",
-    ] {
-        lines.add(Bytes::from_slice(alloc, line)?)?;
-    }
-    Ok(QwkMessage {
-        header: Header {
-            status: b'+',
-            number: Some(9_999_999),
-            date: *b"11-27-26",
-            time: *b"23:59",
-            to: Bytes::from_slice(alloc, b"SAM SYSOP")?,
-            from: Bytes::from_slice(alloc, b"ANN LEE")?,
-            subject: Bytes::from_slice(alloc, b"Re: Hello")?,
-            password: Bytes::from_slice(alloc, b"SECRETSECRET")?,
-            reference: Some(99_999_999),
-            activity: 0xE1,
-            conference: 263,
-            logical: 1,
-            tag: b'*',
-        },
-        lines,
-    })
+    let mut message = hello(alloc, b"ANN LEE", b"SAM SYSOP", &LINES)?;
+    let header = &mut message.header;
+    header.status = b'+';
+    header.number = Some(9_999_999);
+    header.date = *b"11-27-26";
+    header.time = *b"23:59";
+    header.subject = Bytes::from_slice(alloc, b"Re: Hello")?;
+    header.password = Bytes::from_slice(alloc, b"SECRETSECRET")?;
+    header.reference = Some(99_999_999);
+    header.conference = 263;
+    header.tag = b'*';
+    Ok(message)
 }
 
 /// A killed public message without a subject and a reference.
 fn public_message(alloc: Global) -> Result<QwkMessage, AllocError> {
-    let mut lines = Lines::new(alloc);
-    lines.add(Bytes::from_slice(alloc, b"First line")?)?;
-    Ok(QwkMessage {
-        header: Header {
-            status: b' ',
-            number: Some(7),
-            date: *b"09-09-01",
-            time: *b"01:46",
-            to: Bytes::from_slice(alloc, b"ALL")?,
-            from: Bytes::from_slice(alloc, b"BOB RAY")?,
-            subject: Bytes::new(alloc),
-            password: Bytes::new(alloc),
-            reference: None,
-            activity: 0xE2,
-            conference: 7,
-            logical: 513,
-            tag: b' ',
-        },
-        lines,
-    })
+    let mut message = hello(alloc, b"BOB RAY", b"ALL", &[b"First line"])?;
+    let header = &mut message.header;
+    header.number = Some(7);
+    header.subject = Bytes::new(alloc);
+    header.activity = 0xE2;
+    header.conference = 7;
+    header.logical = 513;
+    Ok(message)
 }
 
 fn assert_same_header(rt: &impl Abort, header: &Header, wanted: &Header) {

@@ -3,8 +3,9 @@ ghost use Rattle.std.specs.Prelude.{◌↔◌, IsTrue};
 ghost use Rattle.text_fields.specs.Trim.{EndsWithNone};
 ghost use Rattle.qwk_blocks.specs.Header.{IsPad};
 
-use byte_lists::{Bytes, Lines};
-use qwk_blocks::{Header, QwkFault, QwkMessage, QwkMessages};
+use super::messages::hello;
+use byte_lists::Bytes;
+use qwk_blocks::{QwkFault, QwkMessage, QwkMessages};
 use rep_packet::{Rep, RepError, add_reply, read_rep, write_rep};
 use std::alloc::{AllocError, Global};
 use std::process::Abort;
@@ -35,26 +36,13 @@ fn blocks(alloc: Global, count: usize) -> Result<Bytes, AllocError> {
 
 /// The reply in a place of the packet, to a conference.
 fn reply(alloc: Global, logical: u16, conference: u16) -> Result<QwkMessage, AllocError> {
-    let mut lines = Lines::new(alloc);
-    lines.add(Bytes::from_slice(alloc, b"Thanks")?)?;
-    Ok(QwkMessage {
-        header: Header {
-            status: b' ',
-            number: Some(u32::from(conference)),
-            date: *b"09-09-01",
-            time: *b"01:46",
-            to: Bytes::from_slice(alloc, b"BOB RAY")?,
-            from: Bytes::from_slice(alloc, b"ANN LEE")?,
-            subject: Bytes::from_slice(alloc, b"Hello")?,
-            password: Bytes::new(alloc),
-            reference: Some(1),
-            activity: 0xE1,
-            conference,
-            logical,
-            tag: b' ',
-        },
-        lines,
-    })
+    let mut message = hello(alloc, b"ANN LEE", b"BOB RAY", &[b"Thanks"])?;
+    let header = &mut message.header;
+    header.number = Some(u32::from(conference));
+    header.reference = Some(1);
+    header.conference = conference;
+    header.logical = logical;
+    Ok(message)
 }
 
 /// Whether a board id has no blank at its end.

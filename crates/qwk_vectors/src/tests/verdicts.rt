@@ -1,8 +1,9 @@
 //! Verdicts on uploaded messages, from worked examples and the table of the rules.
+use super::messages::hello;
 use byte_lists::{Bytes, Lines, List};
 use jam_records::{Kind, Message};
 use netmail_rules::{ConferenceView, Rule, Verdict, View, judge};
-use qwk_blocks::{Header, QwkMessage};
+use qwk_blocks::QwkMessage;
 use std::alloc::{AllocError, Global};
 use std::process::Abort;
 use std::test::Fail;
@@ -37,30 +38,11 @@ fn ann(alloc: Global, conference: ConferenceView) -> Result<View, AllocError> {
     })
 }
 
-/// A message of Ann's to Bob Ray, with these lines.
-fn hello(alloc: Global, lines: &[&[u8]]) -> Result<QwkMessage, AllocError> {
-    let mut text = Lines::new(alloc);
-    for line in lines {
-        text.add(Bytes::from_slice(alloc, line)?)?;
-    }
-    Ok(QwkMessage {
-        header: Header {
-            status: b' ',
-            number: Some(1),
-            date: *b"09-09-01",
-            time: *b"01:46",
-            to: Bytes::from_slice(alloc, b"BOB RAY")?,
-            from: Bytes::from_slice(alloc, b"ANN LEE")?,
-            subject: Bytes::from_slice(alloc, b"Hello")?,
-            password: Bytes::new(alloc),
-            reference: None,
-            activity: 0xE1,
-            conference: 1,
-            logical: 1,
-            tag: b' ',
-        },
-        lines: text,
-    })
+/// A message of Ann's to Bob Ray in conference 1, with these lines.
+fn letter(alloc: Global, lines: &[&[u8]]) -> Result<QwkMessage, AllocError> {
+    let mut message = hello(alloc, b"ANN LEE", b"BOB RAY", lines)?;
+    message.header.conference = 1;
+    Ok(message)
 }
 
 /// The rule that refuses, or none.
@@ -124,7 +106,7 @@ fn refusal_of(alloc: Global, kind: Kind, rules: &[Rule]) -> Result<Option<Rule>,
         break_conference(*rule, &mut conference);
     }
     let mut view = ann(alloc, conference)?;
-    let mut message = hello(alloc, &[b"Ann@2:5020/400.1", b"Hi"])?;
+    let mut message = letter(alloc, &[b"Ann@2:5020/400.1", b"Hi"])?;
     for rule in rules {
         break_view(alloc, *rule, &mut view);
         break_message(alloc, *rule, &mut message)?;
@@ -157,6 +139,11 @@ fn the_first_rule_refuses(rt: HostRuntime) -> Result<(), Fail> {
             Some(first)
         );
     }
+    Ok(())
+}
+
+#[test]
+fn a_message_that_breaks_no_rule_is_posted(rt: HostRuntime) -> Result<(), Fail> {
     for kind in [Kind::Local, Kind::Echo, Kind::Net] {
         assert_eq!(rt; refusal_of(rt.alloc(), kind, &[])?, None);
     }
@@ -174,7 +161,7 @@ fn net_mail_goes_to_its_address(rt: HostRuntime) -> Result<(), Fail> {
         ),
         (b" Bob Ray @01:00002/3.0 ", b"Bob Ray ", b"1:2/3"),
     ] {
-        let mut message = hello(rt.alloc(), &[line, b"Hi"])?;
+        let mut message = letter(rt.alloc(), &[line, b"Hi"])?;
         message.header.status = b'~';
         let draft = posted(rt.alloc(), &view, &message)?;
         assert_eq!(rt; draft.to.as_slice(), to);
@@ -182,11 +169,17 @@ fn net_mail_goes_to_its_address(rt: HostRuntime) -> Result<(), Fail> {
         assert_eq!(rt; draft.body.as_slice(), b"Hi\r".as_slice());
         assert!(rt; draft.private);
     }
+    Ok(())
+}
+
+#[test]
+fn net_mail_to_no_address_is_refused(rt: HostRuntime) -> Result<(), Fail> {
+    let view = ann(rt.alloc(), conference(Kind::Net))?;
     for (line, rule) in [
         (b"Ann@2:5020/40000".as_slice(), Rule::Address),
         (b"Ann@3:1/1", Rule::Zone),
     ] {
-        let message = hello(rt.alloc(), &[line, b"Hi"])?;
+        let message = letter(rt.alloc(), &[line, b"Hi"])?;
         assert_eq!(rt; refusal(rt.alloc(), &view, &message)?, Some(rule));
     }
     Ok(())
@@ -204,7 +197,7 @@ fn a_status_says_who_may_see(rt: HostRuntime) -> Result<(), Fail> {
         (b'~', b"Sam Sysop", true),
         (b'`', b"Sam Sysop", true),
     ] {
-        let mut message = hello(rt.alloc(), &[b"a\rb", b""])?;
+        let mut message = letter(rt.alloc(), &[b"a\rb", b""])?;
         message.header.status = status;
         let draft = posted(rt.alloc(), &view, &message)?;
         assert_eq!(rt; draft.to.as_slice(), to);
@@ -233,7 +226,7 @@ fn refusal_of_length(alloc: Global, kind: Kind, len: usize) -> Result<Option<Rul
     let view = ann(alloc, conference(kind))?;
     let mut line = List::new(alloc);
     line.fill(alloc, &b'x', len)?;
-    let message = hello(alloc, &[b"Ann@1:1/1", line.as_slice()])?;
+    let message = letter(alloc, &[b"Ann@1:1/1", line.as_slice()])?;
     refusal(alloc, &view, &message)
 }
 
@@ -262,7 +255,7 @@ fn a_message_needs_a_slot_and_room(rt: HostRuntime) -> Result<(), Fail> {
         let mut view = ann(rt.alloc(), conference)?;
         view.room = room;
         // The header and its subfields have 76 and 58 bytes, the body 11, the index record 8.
-        let mut message = hello(rt.alloc(), &[b"First line"])?;
+        let mut message = letter(rt.alloc(), &[b"First line"])?;
         message.header.to = Bytes::from_slice(rt.alloc(), b"All")?;
         assert_eq!(rt; refusal(rt.alloc(), &view, &message)?, rule);
     }
@@ -279,7 +272,7 @@ fn a_message_keeps_its_moment(rt: HostRuntime) -> Result<(), Fail> {
         (b"02-29-01", b"01:46", NOW),
         (b"09-09-01", b"24:00", NOW),
     ] {
-        let mut message = hello(rt.alloc(), &[b"Hi"])?;
+        let mut message = letter(rt.alloc(), &[b"Hi"])?;
         message.header.date = *date;
         message.header.time = *time;
         let draft = posted(rt.alloc(), &view, &message)?;

@@ -5,27 +5,43 @@ use std::fs;
 use std::process::Abort;
 use std::test::Fail;
 
+/// Looks whether a read into `----` from a place gives so many bytes and leaves this.
+fn assert_piece<S: Shelf>(
+    rt: &impl Abort,
+    shelf: &mut S,
+    name: &ShelfName,
+    at: u32,
+    (count, left): (usize, &[u8; 4]),
+) {
+    let mut buf = [b'-'; 4];
+    assert_eq!(rt; shelf.piece(name, at, &mut buf), Ok(Piece::Count(count)));
+    assert!(rt; buf == *left);
+}
+
 /// The calls of a shelf that is empty, and what each answers: the same in a real folder and in memory.
 fn use_shelf<S: Shelf>(rt: &impl Abort, alloc: Global, shelf: &mut S) -> Result<(), Fail> {
     let name = ShelfName::parse(alloc, b"out/a/CONTROL.DAT")?.ok_or("a name")?;
     let other = ShelfName::parse(alloc, b"out/text")?.ok_or("a name")?;
-    let mut buf = [b'-'; 4];
-    assert_eq!(rt; shelf.piece(&name, 0, &mut buf), Ok(Piece::Missing));
+    assert_eq!(rt; shelf.piece(&name, 0, &mut [0; 4]), Ok(Piece::Missing));
     assert_eq!(rt; shelf.begin(&name), Ok(()));
-    assert_eq!(rt; shelf.piece(&name, 0, &mut buf), Ok(Piece::Count(0)));
+    assert_piece(rt, shelf, &name, 0, (0, b"----"));
     assert_eq!(rt; shelf.append(&name, b"abc"), Ok(()));
     assert_eq!(rt; shelf.append(&name, b"def"), Ok(()));
     assert_eq!(rt; shelf.append(&other, b"xyz"), Ok(()));
-    assert_eq!(rt; shelf.piece(&name, 0, &mut buf), Ok(Piece::Count(4)));
-    assert!(rt; buf == *b"abcd");
-    assert_eq!(rt; shelf.piece(&name, 4, &mut buf), Ok(Piece::Count(2)));
-    assert!(rt; buf == *b"efcd");
-    assert_eq!(rt; shelf.piece(&other, 2, &mut buf), Ok(Piece::Count(1)));
-    assert!(rt; buf == *b"zfcd");
-    assert_eq!(rt; shelf.piece(&name, 9, &mut buf), Ok(Piece::Count(0)));
+    assert_piece(rt, shelf, &name, 0, (4, b"abcd"));
+    assert_piece(rt, shelf, &name, 4, (2, b"ef--"));
+    assert_piece(rt, shelf, &name, 9, (0, b"----"));
+    assert_piece(rt, shelf, &other, 2, (1, b"z---"));
     assert_eq!(rt; shelf.begin(&name), Ok(()));
-    assert_eq!(rt; shelf.piece(&name, 4, &mut buf), Ok(Piece::Count(0)));
+    assert_piece(rt, shelf, &name, 4, (0, b"----"));
     Ok(())
+}
+
+/// Whether each call on a file of this name is a fault.
+fn refuses<S: Shelf>(alloc: Global, shelf: &mut S, text: &str) -> Result<bool, Fail> {
+    let name = ShelfName::parse(alloc, text.as_bytes())?.ok_or("a name")?;
+    let is_unread = shelf.piece(&name, 0, &mut [0; 4]).is_err();
+    Ok(is_unread && shelf.begin(&name).is_err() && shelf.append(&name, b"x").is_err())
 }
 
 #[test]
@@ -43,12 +59,8 @@ fn shelf_files_lie_at_their_names(rt: HostRuntime) -> Result<(), Fail> {
         fs::read(&rt, "qwkdoor_test_shelf/out/text")?.as_slice(),
         b"xyz".as_slice()
     );
-    let mut buf = [b'-'; 4];
     for text in ["out/a", "out/text/below"] {
-        let name = ShelfName::parse(rt.alloc(), text.as_bytes())?.ok_or("a name")?;
-        assert!(rt; shelf.piece(&name, 0, &mut buf).is_err(), "{text}");
-        assert!(rt; shelf.begin(&name).is_err(), "{text}");
-        assert!(rt; shelf.append(&name, b"x").is_err(), "{text}");
+        assert!(rt; refuses(rt.alloc(), &mut shelf, text)?, "{text}");
     }
     fs::remove_dir_all(&rt, folder)?;
     Ok(())

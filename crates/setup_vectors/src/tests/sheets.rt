@@ -57,11 +57,16 @@ fn around(alloc: Global, front: &[u8], byte: u8, count: usize, back: &[u8]) -> R
 }
 
 #[test]
-fn reads_the_example_once_and_twice(rt: HostRuntime) -> Result<(), Fail> {
-    let mut text = Bytes::from_slice(rt.alloc(), HELLO)?;
-    let sheets = read(rt.alloc(), text.as_slice())?;
+fn reads_the_example(rt: HostRuntime) -> Result<(), Fail> {
+    let sheets = read(rt.alloc(), HELLO)?;
     assert_eq!(&rt; sheets.len(), 1);
     assert_hello(&rt, sheets.get(0).ok_or("no sheet")?);
+    Ok(())
+}
+
+#[test]
+fn reads_and_copies_two_messages(rt: HostRuntime) -> Result<(), Fail> {
+    let mut text = Bytes::from_slice(rt.alloc(), HELLO)?;
     text.add(HELLO)?;
     let sheets = read(rt.alloc(), text.as_slice())?;
     assert_eq!(&rt; sheets.len(), 2);
@@ -164,16 +169,11 @@ fn names_the_first_of_two_lines_that_break_a_rule(rt: HostRuntime) -> Result<(),
     ] {
         assert_eq!(&rt; fault(rt.alloc(), text), Some(wanted));
     }
-    let text = around(rt.alloc(), HEADS, b'\n', 16_400, b"")?;
-    assert_eq!(&rt;
-        fault(rt.alloc(), text.as_slice()),
-        Some((16_388, SheetRule::Length))
-    );
     Ok(())
 }
 
 #[test]
-fn keeps_the_limits(rt: HostRuntime) -> Result<(), Fail> {
+fn keeps_the_limits_of_headers(rt: HostRuntime) -> Result<(), Fail> {
     for (front, most, rule) in [
         (b"From: ".as_slice(), 36, SheetRule::From),
         (b"To: ", 36, SheetRule::To),
@@ -189,21 +189,30 @@ fn keeps_the_limits(rt: HostRuntime) -> Result<(), Fail> {
         let text = around(rt.alloc(), front, b'x', most + 1, b"")?;
         assert_eq!(&rt; fault(rt.alloc(), text.as_slice()), Some((1, rule)));
     }
-    let text = around(rt.alloc(), HEADS, b'x', 16_383, b"\n.\n")?;
-    let sheets = read(rt.alloc(), text.as_slice())?;
-    let sheet = sheets.get(0).ok_or("no sheet")?;
-    assert_eq!(&rt; sheet.body.as_slice().len(), 16_384);
-    let text = around(rt.alloc(), HEADS, b'x', 16_384, b"\n.\n")?;
-    assert_eq!(&rt;
-        fault(rt.alloc(), text.as_slice()),
-        Some((4, SheetRule::Length))
-    );
-    let text = around(rt.alloc(), HEADS, b'\n', 16_384, b".\n")?;
-    assert_eq!(&rt; count(rt.alloc(), text.as_slice()), Ok(1));
-    let text = around(rt.alloc(), HEADS, b'\n', 16_385, b".\n")?;
-    assert_eq!(&rt;
-        fault(rt.alloc(), text.as_slice()),
-        Some((16_388, SheetRule::Length))
-    );
+    Ok(())
+}
+
+#[test]
+fn takes_a_body_of_16384_bytes(rt: HostRuntime) -> Result<(), Fail> {
+    for (byte, count, back) in [(b'x', 16_383, b"\n.\n".as_slice()), (b'\n', 16_384, b".\n")] {
+        let text = around(rt.alloc(), HEADS, byte, count, back)?;
+        let sheets = read(rt.alloc(), text.as_slice())?;
+        let sheet = sheets.get(0).ok_or("no sheet")?;
+        assert_eq!(&rt; sheet.body.as_slice().len(), 16_384);
+    }
+    Ok(())
+}
+
+#[test]
+fn refuses_a_longer_body(rt: HostRuntime) -> Result<(), Fail> {
+    for (byte, count, back, line) in [
+        (b'x', 16_384, b"\n.\n".as_slice(), 4),
+        (b'\n', 16_385, b".\n", 16_388),
+        (b'\n', 16_400, b"", 16_388),
+    ] {
+        let text = around(rt.alloc(), HEADS, byte, count, back)?;
+        let named = fault(rt.alloc(), text.as_slice());
+        assert_eq!(&rt; named, Some((line, SheetRule::Length)));
+    }
     Ok(())
 }

@@ -1,7 +1,7 @@
 //! Files that are fed in pieces.
 ghost use Rattle.std.specs.Prelude.{◌≡◌, ◌≤◌, length, IfOk};
 
-use super::{add_message, example};
+use super::{example, two_messages};
 use qwk_blocks::{BlockReader, BlocksFault, Event, QwkFault};
 use std::alloc::Global;
 use std::process::Abort;
@@ -51,10 +51,22 @@ fn feeds_one_message_byte_by_byte(rt: HostRuntime) -> Result<(), Fail> {
     assert_eq!(rt; events.as_slice(), wanted.as_slice());
     assert_eq!(rt; reader.finish(), Ok(1));
     assert_eq!(rt; Some(reader.block().as_slice()), bytes.get(256..));
+    Ok(())
+}
+
+#[test]
+fn a_cut_message_ends_in_its_head(rt: HostRuntime) -> Result<(), Fail> {
+    let file = example(rt.alloc(), b"2", b' ')?;
+    let bytes = file.as_slice();
     let cut = bytes.get(..383).ok_or("too short")?;
     let (reader, _) = feed(&rt, rt.alloc(), cut, 0, 1)?;
     assert_eq!(rt; reader.finish(), Err(QwkFault::Truncated { at: 128 }));
     assert_eq!(rt; Some(reader.block().as_slice()), bytes.get(128..256));
+    Ok(())
+}
+
+#[test]
+fn a_new_reader_wants_a_notice(rt: HostRuntime) -> Result<(), Fail> {
     let reader = BlockReader::new();
     assert_eq!(rt; reader.finish(), Err(QwkFault::Truncated { at: 0 }));
     assert_eq!(rt; reader.block().as_slice(), [0u8; 128].as_slice());
@@ -84,8 +96,7 @@ fn assert_cut(
 
 #[test]
 fn every_cut_gives_the_same(rt: HostRuntime) -> Result<(), Fail> {
-    let mut file = example(rt.alloc(), b"2", b' ')?;
-    add_message(&mut file, b"2", b' ')?;
+    let file = two_messages(rt.alloc())?;
     assert_eq!(rt; file.as_slice().len(), 640);
     let bytes = file.as_slice().get(..639).ok_or("too short")?;
     for cut in 0..=639 {
