@@ -19,10 +19,7 @@ pub(crate) fn setup_in<S: Shelf>(
     ensures unchanged { IsTrue S.tells → S.files shelf.new ≡ S.files shelf.old }
     ensures causes { ShelfCauses (S.faults shelf.old) (S.faults shelf.new) result }
 {
-    let bytes = match file_in(alloc, shelf, name, FILE_LIMIT) {
-        Ok(bytes) => bytes,
-        Err(halt) => return Err(halt),
-    };
+    let bytes = file_in(alloc, shelf, name, FILE_LIMIT)?;
     match Setup::parse(alloc, bytes.as_slice()) {
         Ok(setup) => Ok(setup),
         Err(SetupError::Line { line, rule }) => Err(Halt::Refused(Refusal::Setup { line, rule })),

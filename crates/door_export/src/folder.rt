@@ -40,8 +40,6 @@ pub(crate) fn write_packet<S: Shelf>(
     ensures done { IsTrue S.tells → (folder : _) → names.now.control ≡ control_name_of folder → names.now.messages ≡ messages_name_of folder → MatchResult result (λ _. S.files shelf.new ≡ with_packet folder controls.now messages.now (S.files shelf.old)) (λ _. SameBut (folder_names folder) (S.files shelf.old) (S.files shelf.new)) }
     ensures cause { HasCause (S.faults shelf.old) (S.faults shelf.new) result }
 {
-    match write_file(shelf, &names.control, controls) {
-        Ok(()) => write_file(shelf, &names.messages, messages),
-        Err(fault) => Err(fault),
-    }
+    write_file(shelf, &names.control, controls)?;
+    write_file(shelf, &names.messages, messages)
 }

@@ -247,10 +247,7 @@ fn perform_command<H: Host, S: Shelf>(
     ensures usage { IfOk result (λ class. class ≢ Class.Usage) }
     ensures damaged { IfOk result (λ class. class ≡ Class.Damaged → IsTrue (does now command.now).reach.board) }
 {
-    let answer = match carry_out(alloc, host, shelf, kept, command, now) {
-        Ok(answer) => answer,
-        Err(stop) => return Err(stop),
-    };
+    let answer = carry_out(alloc, host, shelf, kept, command, now)?;
     answer.class().once_said(answer.say(host))
 }
 

@@ -26,10 +26,7 @@ pub fn control_in<S: Shelf>(alloc: Global, shelf: &mut S, name: &ShelfName) -> R
     ensures unchanged { IsTrue S.tells → S.files shelf.new ≡ S.files shelf.old }
     ensures causes { ShelfCauses (S.faults shelf.old) (S.faults shelf.new) result }
 {
-    let bytes = match file_in(alloc, shelf, name, FILE_LIMIT) {
-        Ok(bytes) => bytes,
-        Err(halt) => return Err(halt),
-    };
+    let bytes = file_in(alloc, shelf, name, FILE_LIMIT)?;
     match read_control(alloc, bytes.as_slice()) {
         Ok(control) => Ok(control),
         Err(error) => Err(halt_of(error)),

@@ -47,13 +47,8 @@ pub fn folder_in<S: Shelf>(alloc: Global, shelf: &mut S, folder: &ShelfName) -> 
     ensures causes { ShelfCauses (S.faults shelf.old) (S.faults shelf.new) result }
 {
     let name = control_name(alloc, folder)?;
-    let control = match control_in(alloc, shelf, &name) {
-        Ok(control) => control,
-        Err(halt) => return Err(halt),
-    };
+    let control = control_in(alloc, shelf, &name)?;
     let name = messages_name(alloc, folder)?;
-    match packet_in(alloc, shelf, &name) {
-        Ok(messages) => Ok(Packet { control, messages }),
-        Err(halt) => Err(halt),
-    }
+    let messages = packet_in(alloc, shelf, &name)?;
+    Ok(Packet { control, messages })
 }

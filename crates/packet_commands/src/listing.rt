@@ -16,8 +16,6 @@ pub fn list<S: Shelf>(alloc: Global, shelf: &mut S, file: &ShelfName) -> Result<
     ensures serves { IsTrue S.tells → Serves (lists file.now) (S.files shelf.old) (S.files shelf.new) (served (λ text. text) result) }
     ensures causes { ShelfCauses (S.faults shelf.old) (S.faults shelf.new) result }
 {
-    match packet_in(alloc, shelf, file) {
-        Ok(messages) => Ok(list_packet(alloc, &messages)?),
-        Err(halt) => Err(halt),
-    }
+    let messages = packet_in(alloc, shelf, file)?;
+    Ok(list_packet(alloc, &messages)?)
 }

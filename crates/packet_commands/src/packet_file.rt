@@ -18,10 +18,7 @@ pub fn packet_in<S: Shelf>(
     ensures unchanged { IsTrue S.tells → S.files shelf.new ≡ S.files shelf.old }
     ensures causes { ShelfCauses (S.faults shelf.old) (S.faults shelf.new) result }
 {
-    let bytes = match file_in(alloc, shelf, name, PACKET_LIMIT) {
-        Ok(bytes) => bytes,
-        Err(halt) => return Err(halt),
-    };
+    let bytes = file_in(alloc, shelf, name, PACKET_LIMIT)?;
     match read_messages(alloc, bytes.as_slice()) {
         Ok(messages) => Ok(messages),
         Err(QwkError::Fault(fault)) => Err(Halt::Refused(Refusal::Broken(fault))),

@@ -18,10 +18,8 @@ pub fn read<S: Shelf>(alloc: Global, shelf: &mut S, folder: &ShelfName) -> Resul
     ensures serves { IsTrue S.tells → Serves (reads folder.now) (S.files shelf.old) (S.files shelf.new) (served (λ text. text) result) }
     ensures causes { ShelfCauses (S.faults shelf.old) (S.faults shelf.new) result }
 {
-    match folder_in(alloc, shelf, folder) {
-        Ok(packet) => Ok(list_folder(alloc, &packet.control, &packet.messages)?),
-        Err(halt) => Err(halt),
-    }
+    let packet = folder_in(alloc, shelf, folder)?;
+    Ok(list_folder(alloc, &packet.control, &packet.messages)?)
 }
 
 /// The message in a place of a packet's folder, from 1.
@@ -35,10 +33,7 @@ pub fn show<S: Shelf>(
     ensures serves { IsTrue S.tells → Serves (shows folder.now place) (S.files shelf.old) (S.files shelf.new) (served (λ text. text) result) }
     ensures causes { ShelfCauses (S.faults shelf.old) (S.faults shelf.new) result }
 {
-    let packet = match folder_in(alloc, shelf, folder) {
-        Ok(packet) => packet,
-        Err(halt) => return Err(halt),
-    };
+    let packet = folder_in(alloc, shelf, folder)?;
     match show_message(alloc, &packet.messages, place) {
         Ok(text) => Ok(text),
         Err(ShowError::NoMessage) => Err(Halt::Refused(Refusal::NoMessage)),

@@ -33,10 +33,7 @@ fn composed<S: Shelf>(
     ensures unchanged { IsTrue S.tells → S.files shelf.new ≡ S.files shelf.old }
     ensures causes { ShelfCauses (S.faults shelf.old) (S.faults shelf.new) result }
 {
-    let entries = match sheet_in(alloc, shelf, sheet) {
-        Ok(entries) => entries,
-        Err(halt) => return Err(halt),
-    };
+    let entries = sheet_in(alloc, shelf, sheet)?;
     match draft_entries(alloc, control, conference, &entries, now) {
         Ok(drafts) => enlarge(alloc, shelf, rep, control.bbsid.as_slice(), drafts),
         Err(error) => Err(halt_of(error)),
@@ -60,10 +57,7 @@ fn made_messages<S: Shelf>(
     ensures causes { ShelfCauses (S.faults shelf.old) (S.faults shelf.new) result }
 {
     let name = control_name(alloc, folder)?;
-    let control = match control_in(alloc, shelf, &name) {
-        Ok(control) => control,
-        Err(halt) => return Err(halt),
-    };
+    let control = control_in(alloc, shelf, &name)?;
     match listed_conference(&control, conference) {
         Some(number) => composed(alloc, shelf, &control, number, sheet, rep, now),
         None => Err(Halt::Refused(Refusal::NoConference)),
@@ -85,8 +79,6 @@ pub fn compose<S: Shelf>(
     ensures serves { IsTrue S.tells → Serves (composes folder.now conference sheet.now rep.now now) (S.files shelf.old) (S.files shelf.new) (served (composed_line rep.now) result) }
     ensures causes { ShelfCauses (S.faults shelf.old) (S.faults shelf.new) result }
 {
-    match made_messages(alloc, shelf, folder, conference, sheet, rep, now) {
-        Ok(made) => put(alloc, shelf, rep, &made),
-        Err(halt) => Err(halt),
-    }
+    let made = made_messages(alloc, shelf, folder, conference, sheet, rep, now)?;
+    put(alloc, shelf, rep, &made)
 }

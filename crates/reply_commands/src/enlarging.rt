@@ -38,10 +38,7 @@ pub(crate) fn enlarge<S: Shelf>(
     ensures unchanged { IsTrue S.tells → S.files shelf.new ≡ S.files shelf.old }
     ensures causes { ShelfCauses (S.faults shelf.old) (S.faults shelf.new) result }
 {
-    let mut rep = match rep_in(alloc, shelf, name, bbsid) {
-        Ok(rep) => rep,
-        Err(halt) => return Err(halt),
-    };
+    let mut rep = rep_in(alloc, shelf, name, bbsid)?;
     let added = drafts.len() as u64;
     add_drafts(alloc, &mut rep, drafts)?;
     if rep.size() > u64::from(REP_LIMIT) {

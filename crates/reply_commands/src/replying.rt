@@ -37,10 +37,7 @@ fn answer<S: Shelf>(
     ensures unchanged { IsTrue S.tells → S.files shelf.new ≡ S.files shelf.old }
     ensures causes { ShelfCauses (S.faults shelf.old) (S.faults shelf.new) result }
 {
-    let bytes = match file_in(alloc, shelf, text, FILE_LIMIT) {
-        Ok(bytes) => bytes,
-        Err(halt) => return Err(halt),
-    };
+    let bytes = file_in(alloc, shelf, text, FILE_LIMIT)?;
     match draft_reply(alloc, control, answered, bytes.as_slice(), now) {
         Ok(drafts) => enlarge(alloc, shelf, rep, control.bbsid.as_slice(), drafts),
         Err(error) => Err(halt_of(error)),
@@ -63,10 +60,7 @@ fn made_reply<S: Shelf>(
     ensures unchanged { IsTrue S.tells → S.files shelf.new ≡ S.files shelf.old }
     ensures causes { ShelfCauses (S.faults shelf.old) (S.faults shelf.new) result }
 {
-    let packet = match folder_in(alloc, shelf, folder) {
-        Ok(packet) => packet,
-        Err(halt) => return Err(halt),
-    };
+    let packet = folder_in(alloc, shelf, folder)?;
     match message_at(&packet.messages, place) {
         Some(answered) => answer(alloc, shelf, &packet.control, answered, text, rep, now),
         None => Err(Halt::Refused(Refusal::NoMessage)),
@@ -88,8 +82,6 @@ pub fn reply<S: Shelf>(
     ensures serves { IsTrue S.tells → Serves (replies folder.now place text.now rep.now now) (S.files shelf.old) (S.files shelf.new) (served (reply_line place rep.now) result) }
     ensures causes { ShelfCauses (S.faults shelf.old) (S.faults shelf.new) result }
 {
-    match made_reply(alloc, shelf, folder, place, text, rep, now) {
-        Ok(made) => put(alloc, shelf, rep, &made),
-        Err(halt) => Err(halt),
-    }
+    let made = made_reply(alloc, shelf, folder, place, text, rep, now)?;
+    put(alloc, shelf, rep, &made)
 }

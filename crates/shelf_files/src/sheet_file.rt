@@ -27,10 +27,7 @@ pub fn sheet_in<S: Shelf>(alloc: Global, shelf: &mut S, name: &ShelfName) -> Res
     ensures unchanged { IsTrue S.tells → S.files shelf.new ≡ S.files shelf.old }
     ensures causes { ShelfCauses (S.faults shelf.old) (S.faults shelf.new) result }
 {
-    let bytes = match file_in(alloc, shelf, name, FILE_LIMIT) {
-        Ok(bytes) => bytes,
-        Err(halt) => return Err(halt),
-    };
+    let bytes = file_in(alloc, shelf, name, FILE_LIMIT)?;
     match read_sheet(alloc, bytes.as_slice()) {
         Ok(sheets) => Ok(sheets),
         Err(error) => Err(halt_of(error)),

@@ -11,8 +11,6 @@ pub fn write_file<S: Shelf>(shelf: &mut S, name: &ShelfName, bytes: &[u8]) -> Re
     ensures done { IsTrue S.tells → MatchResult result (λ _. S.files shelf.new ≡ map.insert (S.files shelf.old) name.now bytes.now) (λ _. SameBut (name.now ∷ []) (S.files shelf.old) (S.files shelf.new)) }
     ensures cause { HasCause (S.faults shelf.old) (S.faults shelf.new) result }
 {
-    match shelf.begin(name) {
-        Ok(()) => shelf.append(name, bytes),
-        Err(fault) => Err(fault),
-    }
+    shelf.begin(name)?;
+    shelf.append(name, bytes)
 }

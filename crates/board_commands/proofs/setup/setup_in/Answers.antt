@@ -12,5 +12,5 @@ returns-in-Err-Line-clause-setup g c tells =
     let line = c.in-Err-Line.line in
     let rule = c.in-Err-Line.rule in
     let first : SetupFault c.as_slice.result.now line rule = c.in-Err-Line.ensures.fault line rule (ap Err c.in-Err-Line.field-0-is) in
-    refused_by SetupReads BreaksSetup (λ (fault : ℕ × SetupRule). Setup fault.0 fault.1) _ c.in-Ok.bytes (line, rule) (c.in-Ok.ensures.file tells)
+    refused_by SetupReads BreaksSetup (λ (fault : ℕ × SetupRule). Setup fault.0 fault.1) _ c.in_ok-bytes.bytes (line, rule) (c.in_ok-bytes.ensures.file tells)
     (subst (λ (bytes : List ℕ). SetupFault bytes line rule) c.as_slice.ensures.same first)

@@ -1,3 +1,4 @@
+use Rattle.std.proofs.lemmas.Result.{err_from_is_err_and}
 use Rattle.entry_runs.proofs.Commands.{spoken_causes}
 use Rattle.entry_runs.proofs.Entries.{performs_spoken, performs_stopped}
 use Rattle.board_commands.specs.State.{Stores}
@@ -5,17 +6,20 @@ use Rattle.mail_cli.specs.Step.{act}
 use Rattle.door_commands.specs.declared.entry.Entry.TheVariants.{Run}
 use Rattle.mail_cli.proofs.perform.perform_command.Goals as goal
 
-pub returns-in-Err-clause-performs : goal.returns-in-Err-clause-performs
-returns-in-Err-clause-performs g c tells shelf_tells world at =
-    performs_stopped Stores (act c.args.now (Run c.args.command.now)) (c.in-Err.ensures.works tells shelf_tells world at)
+pub returns-in_err-answer-clause-performs : goal.returns-in_err-answer-clause-performs
+returns-in_err-answer-clause-performs g c tells shelf_tells world at =
+    let p = err_from_is_err_and c.from_residual.result c.from_residual.ensures.1 in
+    rw (p.1, p.2) (performs_stopped Stores (act c.args.now (Run c.args.command.now)) (c.in_err-answer.ensures.works tells shelf_tells world at))
 
-pub returns-in-Err-clause-causes : goal.returns-in-Err-clause-causes
-returns-in-Err-clause-causes g c = c.in-Err.ensures.causes
+pub returns-in_err-answer-clause-causes : goal.returns-in_err-answer-clause-causes
+returns-in_err-answer-clause-causes g c =
+    let p = err_from_is_err_and c.from_residual.result c.from_residual.ensures.1 in
+    rw (p.1, p.2) c.in_err-answer.ensures.causes
 
 pub returns-clause-performs : goal.returns-clause-performs
 returns-clause-performs g c tells shelf_tells world at =
     rw c.once_said.ensures (rw c.class.ensures
-    (performs_spoken Stores (act c.args.now (Run c.args.command.now)) (c.in-Ok.ensures.works tells shelf_tells world at) c.say.result (c.say.ensures.voiced tells)))
+    (performs_spoken Stores (act c.args.now (Run c.args.command.now)) (c.in_ok-answer.ensures.works tells shelf_tells world at) c.say.result (c.say.ensures.voiced tells)))
 
 pub returns-clause-causes : goal.returns-clause-causes
-returns-clause-causes g c = rw c.once_said.ensures (spoken_causes c.class.result c.say.result c.in-Ok.ensures.causes c.say.ensures.disk c.say.ensures.cause)
+returns-clause-causes g c = rw c.once_said.ensures (spoken_causes c.class.result c.say.result c.in_ok-answer.ensures.causes c.say.ensures.disk c.say.ensures.cause)

@@ -10,8 +10,8 @@ use Rattle.packet_commands.proofs.control_file.control_in.Goals as goal
 
 pub returns-clause-control : goal.returns-clause-control
 returns-clause-control g c tells =
-    let error = c.in-Err-read_control.error in
-    let fault : (error ≡ OutOfMemory) ⊎ ControlFault c.in-Ok.bytes error =
-    subst (λ (bytes : List ℕ). (error ≡ OutOfMemory) ⊎ ControlFault bytes error) c.as_slice.ensures.same (c.in-Err-read_control.ensures.fault error refl) in
+    let error = c.in-Err.error in
+    let fault : (error ≡ OutOfMemory) ⊎ ControlFault c.in_ok-bytes.bytes error =
+    subst (λ (bytes : List ℕ). (error ≡ OutOfMemory) ⊎ ControlFault bytes error) c.as_slice.ensures.same (c.in-Err.ensures.fault error refl) in
     subst (λ (halt : Halt). Comes {Value = Control} (Err halt) (ControlOf (g.S.Shelf.files c.args.shelf.now) c.args.name.now)) (sym c.halt_of.ensures)
-    (control_comes _ c.in-Ok.bytes error (c.in-Ok.ensures.file tells) fault)
+    (control_comes _ c.in_ok-bytes.bytes error (c.in_ok-bytes.ensures.file tells) fault)

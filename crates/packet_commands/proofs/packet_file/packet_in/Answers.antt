@@ -9,5 +9,5 @@ pub returns-in-Err-Fault-clause-packet : goal.returns-in-Err-Fault-clause-packet
 returns-in-Err-Fault-clause-packet g c tells =
     let fault = c.in-Err-Fault.fault in
     let first : FirstFault c.as_slice.result.now fault = c.in-Err-Fault.ensures.fault fault (ap Err c.in-Err-Fault.field-0-is) in
-    refused_by PacketReads FirstFault (λ (f : QwkFault). Broken f) _ c.in-Ok.bytes fault (c.in-Ok.ensures.file tells)
+    refused_by PacketReads FirstFault (λ (f : QwkFault). Broken f) _ c.in_ok-bytes.bytes fault (c.in_ok-bytes.ensures.file tells)
     (subst (λ (bytes : List ℕ). FirstFault bytes fault) c.as_slice.ensures.same first)

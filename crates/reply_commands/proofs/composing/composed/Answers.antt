@@ -8,15 +8,15 @@ use Rattle.reply_commands.proofs.Steps.{comes_next, enlarges}
 use Rattle.reply_commands.proofs.composing.composed.Goals as goal
 
 pub draft_entries-requires : goal.draft_entries-requires
-draft_entries-requires g c = entries_few c.in-Ok.entries c.in-Ok.ensures.read
+draft_entries-requires g c = entries_few c.in_ok-entries.entries c.in_ok-entries.ensures.read
 
 pub enlarge-requires-clause-writable : goal.enlarge-requires-clause-writable
-enlarge-requires-clause-writable g c = c.in-Ok-draft_entries.ensures.writable (entries_clean c.args.conference c.in-Ok.entries c.in-Ok.ensures.read)
+enlarge-requires-clause-writable g c = c.in-Ok.ensures.writable (entries_clean c.args.conference c.in_ok-entries.entries c.in_ok-entries.ensures.read)
 
-pub returns-in-Ok-draft_entries-clause-made : goal.returns-in-Ok-draft_entries-clause-made
-returns-in-Ok-draft_entries-clause-made g c tells =
+pub returns-in-Ok-clause-made : goal.returns-in-Ok-clause-made
+returns-in-Ok-clause-made g c tells =
     let old = g.S.Shelf.files c.args.shelf.now in
     let drafts = λ (entries : List Sheet). entry_drafts c.args.control.now c.args.conference entries c.args.now in
-    comes_next (SheetOf old c.args.sheet.now) (λ entries. Enlarges old c.args.rep.now c.args.control.now.bbsid (drafts entries)) c.in-Ok.entries c.enlarge.result (c.in-Ok.ensures.sheet tells)
-    (enlarges old (g.S.Shelf.files c.sheet_in.new.shelf) c.args.rep.now c.args.control.now.bbsid c.as_slice.result.now (drafts c.in-Ok.entries) c.in-Ok-draft_entries.drafts c.enlarge.result
-    (c.in-Ok.ensures.unchanged tells) c.as_slice.ensures.same c.in-Ok-draft_entries.ensures.drafts (c.enlarge.ensures.made tells))
+    comes_next (SheetOf old c.args.sheet.now) (λ entries. Enlarges old c.args.rep.now c.args.control.now.bbsid (drafts entries)) c.in_ok-entries.entries c.enlarge.result (c.in_ok-entries.ensures.sheet tells)
+    (enlarges old (g.S.Shelf.files c.sheet_in.new.shelf) c.args.rep.now c.args.control.now.bbsid c.as_slice.result.now (drafts c.in_ok-entries.entries) c.in-Ok.drafts c.enlarge.result
+    (c.in_ok-entries.ensures.unchanged tells) c.as_slice.ensures.same c.in-Ok.ensures.drafts (c.enlarge.ensures.made tells))

@@ -5,6 +5,6 @@ use Rattle.reply_commands.proofs.enlarging.enlarge.Goals as goal
 
 pub returns-clause-may_be_written : goal.returns-clause-may_be_written
 returns-clause-may_be_written g c = record {
-  rep = subst IsRep (sym c.in_ok-add_drafts.ensures.ok) (rep_with_drafts c.in-Ok.rep c.args.drafts c.in-Ok.ensures.writable c.requires.writable);
+  rep = subst IsRep (sym c.in_ok-add_drafts.ensures.ok) (rep_with_drafts c.in_ok-rep.rep c.args.drafts c.in_ok-rep.ensures.writable c.requires.writable);
   short = omega (arith, c.size.ensures, c.from.ensures);
 }

@@ -12,13 +12,13 @@ use Rattle.reply_commands.proofs.Steps.{comes_next}
 use Rattle.reply_commands.proofs.replying.made_reply.Goals as goal
 
 pub answer-requires-clause-clean : goal.answer-requires-clause-clean
-answer-requires-clause-clean g c = answered_clean c.in-Ok.packet.messages c.args.place c.in-Some.answered.now c.in-Ok.ensures.read.messages (sym c.in-Some.ensures)
+answer-requires-clause-clean g c = answered_clean c.in_ok-packet.packet.messages c.args.place c.in-Some.answered.now c.in_ok-packet.ensures.read.messages (sym c.in-Some.ensures)
 
 pub returns-in-Some-clause-made : goal.returns-in-Some-clause-made
 returns-in-Some-clause-made g c tells =
     let old = g.S.Shelf.files c.args.shelf.now in
     let makes = λ (packet : Packet) (answered : QwkMessage). AnswerMakes packet.control answered c.args.text.now c.args.rep.now c.args.now old in
-    let packet = c.in-Ok.packet in
-    comes_next (FolderOf old c.args.folder.now) (λ (packet : Packet). Then (MessageIn packet.messages c.args.place) (makes packet)) packet c.answer.result (c.in-Ok.ensures.packet tells)
+    let packet = c.in_ok-packet.packet in
+    comes_next (FolderOf old c.args.folder.now) (λ (packet : Packet). Then (MessageIn packet.messages c.args.place) (makes packet)) packet c.answer.result (c.in_ok-packet.ensures.packet tells)
     (comes_next (MessageIn packet.messages c.args.place) (makes packet) c.in-Some.answered.now c.answer.result (ap (or_refused NoMessage) c.in-Some.ensures)
-    (subst (λ (files : Files). Comes c.answer.result (AnswerMakes packet.control c.in-Some.answered.now c.args.text.now c.args.rep.now c.args.now files)) (c.in-Ok.ensures.unchanged tells) (c.answer.ensures.made tells)))
+    (subst (λ (files : Files). Comes c.answer.result (AnswerMakes packet.control c.in-Some.answered.now c.args.text.now c.args.rep.now c.args.now files)) (c.in_ok-packet.ensures.unchanged tells) (c.answer.ensures.made tells)))
