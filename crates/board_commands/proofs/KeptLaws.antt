@@ -1,5 +1,5 @@
 -- What is kept of a board that a call was given: the next board, the same, or nothing once it is in doubt.
-use Rattle.std.proofs.Common.{◌≡◌, true, false, cond, refl, sym, ◌∙◌, ap, subst, Option, Some, None, Result, Ok, Err}
+use Rattle.std.proofs.Common.{◌≡◌, true, false, cond, sym, ◌∙◌, ap, subst, Option, Some, None, Result, Ok, Err}
 use Rattle.std.specs.Prelude.{OnOk}
 use Rattle.board_layout.specs.Board.{Board}
 use Rattle.board_layout.specs.Valid.{IsBoard}

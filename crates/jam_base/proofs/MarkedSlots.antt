@@ -10,13 +10,13 @@ use Rattle.jam_layout.specs.Fields.{subfields_of}
 use Rattle.jam_layout.specs.Headers.{header_size}
 use Rattle.jam_layout.specs.Bodies.{bodies_text}
 use Rattle.jam_layout.specs.Index.{index_records}
-use Rattle.jam_layout.specs.Layout.{layout, entries_of, entries_in}
+use Rattle.jam_layout.specs.Layout.{layout, entries_of}
 use Rattle.jam_layout.specs.Sizes.{slot_header}
 use Rattle.jam_layout.specs.declared.files.BaseFiles.{BaseFiles}
 use Rattle.jam_writing.specs.Pieces.{body_piece, index_piece}
 use Rattle.jam_writing.proofs.PieceLaws.{bodies_are, index_more}
 use Rattle.jam_base.specs.Contents.{Contents, with_slots}
-use Rattle.jam_base.specs.Slots.{numbered, slot_deleted, slots_deleted, is_due, message_received, slot_received, slots_received}
+use Rattle.jam_base.specs.Slots.{slot_deleted, slots_deleted, is_due, slot_received, slots_received}
 use Rattle.jam_base.specs.declared.receipt.Receipt.{Receipt}
 use Rattle.jam_base.proofs.SlotChanges.{numbered_is}
 

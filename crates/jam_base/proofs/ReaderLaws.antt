@@ -2,16 +2,11 @@
 use Rattle.std.proofs.Common.{◌≡◌, ℕ, ◌+◌, ◌≤◌, ◌<◌, List, [], ◌∷◌, ◌++◌, length, sym, ap, ◌∙◌, subst, arith, length-append}
 use Rattle.std.specs.Prelude.{All, replicate, Some}
 use Rattle.std.proofs.Math.ListN.{set, length-replicate}
-use Rattle.std.proofs.lemmas.List.{append-nil, get_or-replicate}
+use Rattle.std.proofs.lemmas.List.{get_or-replicate}
 use Rattle.std.proofs.lemmas.List.Elements.{All-drop, All-append, All-cons, All-nil}
-use Rattle.jam_records.specs.BaseHeaders.{base_text}
 use Rattle.jam_records.specs.declared.message.Slot.{Slot}
-use Rattle.jam_threads.specs.Links.{AreLinks}
-use Rattle.jam_threads.specs.declared.link.Link.{Link}
-use Rattle.jam_layout.specs.Layout.{base_header, layout}
 use Rattle.jam_base.specs.Contents.{Contents, no_slots, with_reader, with_pointer, reader_place, pointers_with}
 use Rattle.jam_layout.specs.Messages.{IsSlot}
-use Rattle.jam_layout.specs.Readers.{last_reads}
 use Rattle.jam_layout.specs.Valid.{Rise, IsShape, IsConference}
 use Rattle.jam_layout.specs.declared.conference.Conference.{Conference}
 use Rattle.jam_layout.specs.declared.reader.Reader.{Reader}

@@ -1,6 +1,6 @@
 -- A base with other slots is a conference of its shape: more messages, one deleted, some received.
-use Rattle.std.proofs.Common.{◌≡◌, ◌⊎◌, ⊎_elim, ℕ, suc, zero, Bool, true, false, cond, ◌+◌, ◌-◌, ◌^◌, min, ◌≤◌, ◌<◌, List, [], ◌∷◌, ◌++◌, length, get_or, refl, sym, ap, ◌∙◌, subst, arith, length-append}
-use Rattle.std.specs.Prelude.{All, IsTrue, fold, ◌==◌, slice_get, Option, None, unwrap_or}
+use Rattle.std.proofs.Common.{◌≡◌, ⊎_elim, ℕ, suc, zero, Bool, true, false, cond, ◌+◌, ◌-◌, ◌^◌, ◌≤◌, ◌<◌, List, [], ◌∷◌, ◌++◌, length, get_or, refl, sym, ap, ◌∙◌, subst, arith, length-append}
+use Rattle.std.specs.Prelude.{All, ◌==◌, slice_get, Option, None, unwrap_or}
 use Rattle.std.proofs.lemmas.Option.{unwrap_or-slice_get}
 use Rattle.std.proofs.lemmas.Bool.{cases_lt, cond-false, ne_eqb}
 use Rattle.std.proofs.lemmas.List.{get_or_past}
@@ -11,11 +11,10 @@ use Rattle.jam_records.specs.declared.message.Message.{Message}
 use Rattle.jam_records.specs.declared.message.Slot.{Slot}
 use Rattle.jam_records.specs.declared.message.Slot.TheVariants.{Gone, Held}
 use Rattle.jam_layout.specs.Messages.{AreBytes, IsMessage, IsSlot}
-use Rattle.jam_layout.specs.Valid.{PointersFit, IsConference}
-use Rattle.jam_layout.specs.declared.shape.Shape.{Shape}
-use Rattle.jam_base.specs.Contents.{Contents, with_slots, counter_after}
+use Rattle.jam_layout.specs.Valid.{IsConference}
+use Rattle.jam_base.specs.Contents.{Contents, with_slots}
 use Rattle.jam_layout.specs.Conference.{is_live}
-use Rattle.jam_base.specs.Slots.{numbered, has_live, slots_with, slots_with_all, slot_deleted, slots_deleted, is_due, message_received, slot_received, slots_received}
+use Rattle.jam_base.specs.Slots.{numbered, has_live, slots_with_all, slot_deleted, slots_deleted, is_due, slot_received, slots_received}
 use Rattle.jam_base.specs.declared.receipt.Receipt.{Receipt}
 
 -- ---- other slots

@@ -1,8 +1,7 @@
 -- The files of slots are the pieces of each slot, one after the other.
-use Rattle.std.proofs.Common.{◌≡◌, ℕ, ◌+◌, ◌^◌, ◌≤◌, ◌<◌, List, [], ◌∷◌, ◌++◌, length, drop, get_or, refl, sym, ap, ◌∙◌, arith, append_assoc, append-nil, length-append}
+use Rattle.std.proofs.Common.{◌≡◌, ℕ, ◌+◌, ◌^◌, ◌<◌, List, [], ◌∷◌, ◌++◌, length, refl, ap, arith, length-append}
 use Rattle.std.specs.Prelude.{sum_by}
 use Rattle.std.specs.List.{flat_map}
-use Rattle.std.proofs.lemmas.List.{drop_all, drop_more}
 use Rattle.std.proofs.lemmas.List.Sums.{sum_by-cons}
 use Rattle.jam_records.specs.IndexRecords.{index_text}
 use Rattle.jam_records.specs.declared.message.Kind.{Kind}
@@ -11,9 +10,9 @@ use Rattle.jam_records.specs.declared.message.Slot.TheVariants.{Gone, Held}
 use Rattle.jam_threads.specs.Links.{link_of}
 use Rattle.jam_threads.specs.declared.link.Link.{Link}
 use Rattle.jam_layout.specs.Bodies.{bodies_text}
-use Rattle.jam_layout.specs.Headers.{headers_text, entry_text, header_size}
-use Rattle.jam_layout.specs.Index.{index_records, no_pair, pair_of}
-use Rattle.jam_layout.specs.Layout.{base_header, entries_of, entries_in, layout}
+use Rattle.jam_layout.specs.Headers.{headers_text, entry_text}
+use Rattle.jam_layout.specs.Index.{index_records, no_pair}
+use Rattle.jam_layout.specs.Layout.{base_header, entries_of, entries_in}
 use Rattle.jam_records.specs.BaseHeaders.{base_text}
 use Rattle.jam_layout.specs.Sizes.{slot_header}
 use Rattle.jam_layout.specs.Valid.{IsConference}

@@ -1,12 +1,11 @@
 -- A line reads as one list of words at most, and its words are found one after the other.
-use Rattle.std.proofs.Common.{◌≡◌, ◌≢◌, ◌⊎◌, inl, inr, ⊎_elim, ℕ, ◌<◌, zero, suc, List, [], ◌∷◌, ◌++◌, length, get_or, take, drop, ◌-◌, refl, sym, ◌∙◌, ap, subst, arith, append_assoc}
-use Rattle.std.specs.Prelude.{All}
+use Rattle.std.proofs.Common.{◌≡◌, ◌≢◌, inl, inr, ℕ, ◌<◌, List, [], ◌∷◌, ◌++◌, length, get_or, take, drop, ◌-◌, refl, sym, ◌∙◌, ap, subst, arith, append_assoc}
 use Rattle.std.proofs.lemmas.List.{append-nil, take_all}
 use Rattle.std.proofs.lemmas.List.Elements.{All-append, All-head, All-tail, All-nil, All-push}
 use Rattle.text_fields.proofs.Splits.{not_split, split_once}
 use Rattle.text_fields.specs.Split.{Lacks, SplitsAt}
 use Rattle.text_fields.specs.Trim.{BeginsWithNone}
-use Rattle.line_words.specs.Line.{AreSpaces, EndsWord, IsBare, BeginsQuoted, BeginsBare, Begins, SkipsSpaces, LineReads}
+use Rattle.line_words.specs.Line.{AreSpaces, EndsWord, BeginsQuoted, BeginsBare, Begins, SkipsSpaces, LineReads}
 
 abbrev IsSpace : ℕ → Type 0
 IsSpace b = b ≡ 32

@@ -1,5 +1,5 @@
 -- What is asked of a board.
-use Rattle.std.specs.Prelude.{ℕ, ◌+◌, ◌-◌, List, slice_get, position, Option, Some, None, option_map, option_and_then, ◌&&◌, ◌==◌, if◌then◌else◌}
+use Rattle.std.specs.Prelude.{ℕ, ◌+◌, List, slice_get, position, Option, Some, None, option_map, option_and_then, ◌&&◌, ◌==◌, if◌then◌else◌}
 use Rattle.std.specs.List.{find}
 use Rattle.std.specs.Str.{bytes_eq, str_eq_ignore_ascii_case}
 use Rattle.board_ledger.specs.declared.upload.Counts.{Counts}
@@ -7,11 +7,8 @@ use Rattle.board_ledger.specs.declared.user.User.{User}
 use Rattle.board_layout.specs.Board.{Board}
 use Rattle.board_layout.specs.Lookups.{user_of, held_in}
 use Rattle.board_layout.specs.Renewed.{contents_of}
-use Rattle.jam_base.specs.Contents.{pointer_of}
 use Rattle.jam_base.specs.Slots.{numbered}
 use Rattle.jam_records.specs.declared.message.Message.{Message}
-use Rattle.jam_records.specs.declared.message.Slot.{Slot}
-use Rattle.jam_records.specs.declared.message.Slot.TheVariants.{Gone, Held}
 
 -- the place of the conference of a number
 abbrev pub place_of : ℕ → Board → Option ℕ

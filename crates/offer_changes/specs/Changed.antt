@@ -1,5 +1,5 @@
 -- Boards after the offer of a packet, and after its acknowledgement.
-use Rattle.std.specs.Prelude.{◌≢◌, ℕ, ◌+◌, ◌-◌, ◌<◌, List, [], ◌∷◌, length, replicate, slice_get, slice_set, Option, Some, None, Bool, false, IsSome, IsSomeAnd, ◌==◌, nat_lt, if◌then◌else◌}
+use Rattle.std.specs.Prelude.{◌≢◌, ℕ, ◌+◌, ◌-◌, ◌<◌, List, [], ◌∷◌, length, replicate, slice_set, Option, Some, None, Bool, false, IsSome, IsSomeAnd, nat_lt, if◌then◌else◌}
 use Rattle.board_layout.specs.Board.{Board, board_with}
 use Rattle.board_layout.specs.Lookups.{user_of}
 use Rattle.board_layout.specs.Renewed.{contents_of}

@@ -1,5 +1,5 @@
 -- What a user is offered of a board.
-use Rattle.std.specs.Prelude.{ℕ, List, length, map, filter, take, fold, max, slice_get, Option, Some, None, option_and_then, flat_map, Bool, false, ◌&&◌, ◌==◌, nat_lt}
+use Rattle.std.specs.Prelude.{ℕ, List, length, map, filter, take, fold, max, Option, Some, None, flat_map, Bool, false, ◌&&◌, ◌==◌, nat_lt}
 use Rattle.std.specs.List.{range_with_len}
 use Rattle.board_layout.specs.Board.{Board}
 use Rattle.board_layout.specs.Lookups.{pointer_at}

@@ -1,5 +1,5 @@
 -- What a user may see of a board.
-use Rattle.std.specs.Prelude.{ℕ, ◌-◌, List, [], slice_get, Option, Some, None, option_map, unwrap_or, Bool, false, not, ◌&&◌, ◌||◌, ◌==◌, if◌then◌else◌}
+use Rattle.std.specs.Prelude.{ℕ, List, [], slice_get, Option, Some, None, option_map, unwrap_or, Bool, false, not, ◌&&◌, ◌||◌}
 use Rattle.std.specs.Str.{str_eq_ignore_ascii_case}
 use Rattle.board_ledger.specs.Users.{is_member}
 use Rattle.board_ledger.specs.declared.ledger.Ledger.{Ledger}
@@ -9,7 +9,6 @@ use Rattle.board_layout.specs.Lookups.{user_of, held_in}
 use Rattle.jam_base.specs.Slots.{numbered, has_live}
 use Rattle.jam_records.specs.declared.message.Message.{Message}
 use Rattle.jam_records.specs.declared.message.Slot.{Slot}
-use Rattle.jam_records.specs.declared.message.Slot.TheVariants.{Gone, Held}
 
 -- ---- what a board has
 -- the slots of the conference in a place, none where no conference is there

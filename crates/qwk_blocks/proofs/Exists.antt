@@ -1,13 +1,13 @@
 -- Every text, and every field but a count, reads as something, so that bytes of the length that their count says are a
 -- message.
-use Rattle.std.proofs.Common.{◌≡◌, ◌≢◌, ℕ, ◌+◌, ◌-◌, ◌*◌, ◌<◌, ◌≤◌, List, [], ◌∷◌, ◌++◌, ◌⊎◌, Option, Some, None, length, take, drop, refl, sym, ap, ◌∙◌, subst, inl, inr, arith, length-append}
+use Rattle.std.proofs.Common.{◌≡◌, ◌≢◌, ℕ, ◌-◌, ◌*◌, ◌≤◌, List, [], ◌∷◌, ◌++◌, ◌⊎◌, Option, Some, None, length, take, drop, refl, sym, ap, ◌∙◌, subst, inl, inr, arith, length-append}
 use Rattle.std.proofs.lemmas.Bool.{cases_lt, cases_eq}
 use Rattle.std.proofs.lemmas.List.{append_assoc, take_all, length-take-le}
 use Rattle.std.proofs.lemmas.List.Elements.{All-nil, All-cons, All-head, All-tail, All-push}
 use Rattle.std.specs.List.{All}
 use Rattle.std.specs.Char.{digit_value}
 use Rattle.std.specs.Str.Parse.{AllDigits, digits_value}
-use Rattle.text_fields.specs.Number.{Digits, Number}
+use Rattle.text_fields.specs.Number.{Digits}
 use Rattle.text_fields.specs.Trim.{TrimmedEnd, Trimmed}
 use Rattle.text_fields.proofs.Numbers.{no_number}
 use Rattle.text_fields.proofs.Trimming.{CutBoth, nothing_begins, nothing_ends}

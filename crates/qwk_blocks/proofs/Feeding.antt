@@ -1,17 +1,15 @@
 -- What a reader holds after a feed, and what the feed answers.
-use Rattle.std.proofs.Common.{◌≡◌, ◌⊎◌, ℕ, ◌+◌, ◌-◌, ◌*◌, ◌/◌, ◌%◌, ◌<◌, ◌≤◌, min, List, [], ◌∷◌, ◌++◌, length, take, drop, replicate, refl, sym, ◌∙◌, ap, subst, Bool, true, false, IsTrue, Result, Ok, Err, inl, inr, arith, length-append, length-take}
+use Rattle.std.proofs.Common.{◌≡◌, ℕ, ◌+◌, ◌-◌, ◌*◌, ◌/◌, ◌%◌, ◌<◌, ◌≤◌, min, List, [], ◌++◌, length, take, drop, refl, sym, ◌∙◌, ap, subst, Bool, true, false, IsTrue, Result, Ok, Err, inl, inr, arith, length-append}
 use borrow.Rule.Slice.PartMut.{put_mid}
 use Rattle.std.proofs.lemmas.Bool.{cases_lt}
 use Rattle.std.proofs.lemmas.Slice.{take-put_mid}
 use Rattle.std.proofs.lemmas.List.{take_all, drop_all, take-append-le, drop-append-le, length-drop, length-take-le, append-nil, drop-drop}
 use Rattle.qwk_blocks.specs.Header.{CountReads}
-use Rattle.qwk_blocks.specs.Packet.{PacketReads, FirstFault}
-use Rattle.qwk_blocks.specs.Reader.{CountsMessages, HasBadCount, IsLastBlock, FillsBlock, PacketBefore, Awaits, IsProgress, ReaderState, HoldsStream, next_bytes}
+use Rattle.qwk_blocks.specs.Packet.{FirstFault}
+use Rattle.qwk_blocks.specs.Reader.{CountsMessages, IsLastBlock, PacketBefore, Awaits, IsProgress, ReaderState, HoldsStream, next_bytes}
 use Rattle.qwk_blocks.specs.declared.event.Fed.{Fed}
 use Rattle.qwk_blocks.specs.declared.fault.BlocksFault.{BlocksFault}
-use Rattle.qwk_blocks.specs.declared.fault.QwkFault.{QwkFault}
 use Rattle.qwk_blocks.specs.declared.fault.QwkFault.TheVariants.{Truncated, BadBlocks}
-use Rattle.qwk_blocks.specs.declared.message.QwkMessage.{QwkMessage}
 use Rattle.qwk_blocks.specs.declared.progress.Awaited.{Awaited}
 use Rattle.qwk_blocks.specs.declared.progress.Awaited.TheVariants.{Notice, Header, Text, Nothing}
 use Rattle.qwk_blocks.specs.declared.progress.Progress.{Progress}

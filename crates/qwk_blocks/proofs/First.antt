@@ -1,5 +1,5 @@
 -- The message at the front of some bytes, and the packet with one more.
-use Rattle.std.proofs.Common.{◌≡◌, ℕ, ◌+◌, ◌-◌, ◌*◌, ◌<◌, ◌≤◌, List, [], ◌∷◌, ◌++◌, length, take, drop, Err, sym, ap, ◌∙◌, subst, inr, arith, refl}
+use Rattle.std.proofs.Common.{◌≡◌, ℕ, ◌+◌, ◌-◌, ◌*◌, ◌<◌, ◌≤◌, List, [], ◌∷◌, ◌++◌, length, take, drop, sym, ap, ◌∙◌, subst, arith, refl}
 use Rattle.std.proofs.lemmas.List.{take_at, take-take, drop-take, length-take-le, length-drop, append-nil}
 use Rattle.qwk_blocks.specs.Header.{field, CountReads, HeaderReads}
 use Rattle.qwk_blocks.specs.Text.{TextReads}

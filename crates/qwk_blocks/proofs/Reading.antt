@@ -1,17 +1,16 @@
 -- The messages that are read from blocks, and how a loop over a file goes on.
-use Rattle.std.proofs.Common.{◌≡◌, ◌⊎◌, ⊎_elim, ℕ, ◌+◌, ◌-◌, ◌*◌, ◌%◌, ◌<◌, ◌≤◌, List, [], ◌∷◌, ◌++◌, length, take, drop, Some, Result, Ok, Err, refl, sym, ◌∙◌, ap, subst, inl, inr, arith, length-append, length-take}
+use Rattle.std.proofs.Common.{◌≡◌, ⊎_elim, ℕ, ◌+◌, ◌-◌, ◌*◌, ◌%◌, ◌<◌, ◌≤◌, List, [], ◌∷◌, ◌++◌, length, take, drop, Some, Result, Ok, Err, sym, ◌∙◌, ap, subst, inl, inr, arith, length-append, length-take}
 use Rattle.std.proofs.Math.Seq.{take-add}
 use Rattle.std.proofs.lemmas.Bool.{cases_lt}
-use Rattle.std.proofs.lemmas.List.{append_assoc, take-append-drop, take_all, take-take, take-append-le, drop-append-le, length-drop, length-take-le}
+use Rattle.std.proofs.lemmas.List.{append_assoc, take-append-drop, take_all, take-take, take-append-le, drop-append-le, length-drop}
 use Rattle.qwk_blocks.specs.Header.{CountReads}
-use Rattle.qwk_blocks.specs.Packet.{MessageReads, PacketReads, PacketAt, StopsWith, FirstFault}
+use Rattle.qwk_blocks.specs.Packet.{MessageReads, PacketReads, FirstFault}
 use Rattle.qwk_blocks.specs.Answer.{HasRead}
-use Rattle.qwk_blocks.specs.Reader.{CountsMessages, HasBadCount, EndsMessage, IsEvent, MovesFront, PacketBefore, Awaits, IsProgress, ReaderState, HoldsStream, next_bytes}
+use Rattle.qwk_blocks.specs.Reader.{CountsMessages, EndsMessage, IsEvent, MovesFront, Awaits, ReaderState, HoldsStream, next_bytes}
 use Rattle.qwk_blocks.specs.declared.event.Event.{Event}
 use Rattle.qwk_blocks.specs.declared.event.Event.TheVariants as event
 use Rattle.qwk_blocks.specs.declared.event.Fed.{Fed}
 use Rattle.qwk_blocks.specs.declared.fault.BlocksFault.{BlocksFault}
-use Rattle.qwk_blocks.specs.declared.fault.QwkFault.{QwkFault}
 use Rattle.qwk_blocks.specs.declared.fault.QwkFault.TheVariants.{Truncated, BadBlocks}
 use Rattle.qwk_blocks.specs.declared.message.QwkMessage.{QwkMessage}
 use Rattle.qwk_blocks.specs.declared.progress.Awaited.{Awaited}
@@ -19,7 +18,7 @@ use Rattle.qwk_blocks.specs.declared.progress.Awaited.TheVariants.{Notice, Heade
 use Rattle.qwk_blocks.specs.declared.progress.Progress.{Progress}
 use Rattle.qwk_blocks.proofs.First.{count_of_front, count_of_whole, goes_on, no_count, notice_alone}
 use Rattle.qwk_blocks.proofs.Messages.{longest}
-use Rattle.qwk_blocks.proofs.OneFault.{fault_unique, no_fault}
+use Rattle.qwk_blocks.proofs.OneFault.{no_fault}
 use Rattle.qwk_blocks.proofs.Stream.{header_cut, notice_cut, text_cut, bad_count}
 
 -- no packet is shorter than its notice

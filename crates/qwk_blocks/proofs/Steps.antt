@@ -1,13 +1,11 @@
 -- How far a reader has come with one more full block.
-use Rattle.std.proofs.Common.{◌≡◌, ℕ, ◌+◌, ◌-◌, ◌*◌, ◌<◌, ◌≤◌, List, [], ◌∷◌, ◌++◌, length, take, drop, refl, sym, ◌∙◌, ap, subst, inl, inr, arith, length-append, Some, None}
+use Rattle.std.proofs.Common.{◌≡◌, ℕ, ◌+◌, ◌-◌, ◌*◌, ◌≤◌, List, [], ◌∷◌, ◌++◌, length, take, drop, refl, sym, ◌∙◌, ap, subst, inl, inr, arith, length-append, Some, None}
 use Rattle.std.proofs.lemmas.List.{take_all, length-drop}
 use Rattle.qwk_blocks.specs.Header.{CountReads}
 use Rattle.qwk_blocks.specs.Packet.{MessageReads, PacketReads, PacketAt}
 use Rattle.qwk_blocks.specs.Reader.{PacketBefore, Awaits, AwaitsText, IsProgress, FollowsBlock}
-use Rattle.qwk_blocks.specs.declared.event.Event.{Event}
 use Rattle.qwk_blocks.specs.declared.event.Event.TheVariants as event
 use Rattle.qwk_blocks.specs.declared.message.QwkMessage.{QwkMessage}
-use Rattle.qwk_blocks.specs.declared.progress.Awaited.{Awaited}
 use Rattle.qwk_blocks.specs.declared.progress.Awaited.TheVariants.{Notice, Header, Text, Nothing}
 use Rattle.qwk_blocks.specs.declared.progress.Progress.{Progress}
 use Rattle.qwk_blocks.proofs.Exists.{some_message}

@@ -1,7 +1,6 @@
 -- What a stream is, by how far its reader has come: messages and nothing else, or its first fault.
-use Rattle.std.proofs.Common.{◌≡◌, Result, Ok, Err, ◌∙◌, ℕ, ◌+◌, ◌-◌, ◌*◌, ◌<◌, ◌≤◌, List, length, take, drop, refl, sym, subst, inl, inr, arith, ap, length-append, length-take}
+use Rattle.std.proofs.Common.{◌≡◌, Result, Ok, Err, ◌∙◌, ℕ, ◌<◌, ◌≤◌, List, length, take, drop, refl, sym, subst, inl, inr, arith, ap, length-append, length-take}
 use Rattle.std.proofs.lemmas.List.{take_all, length-drop}
-use Rattle.qwk_blocks.specs.Header.{CountReads}
 use Rattle.qwk_blocks.specs.Packet.{MessageReads, PacketReads, PacketAt, StopsWith, FirstFault}
 use Rattle.qwk_blocks.specs.Reader.{CountsMessages, PacketBefore, Awaits, IsProgress}
 use Rattle.qwk_blocks.specs.declared.fault.QwkFault.{QwkFault}

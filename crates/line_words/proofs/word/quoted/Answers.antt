@@ -1,4 +1,4 @@
-use Rattle.std.proofs.Common.{true, sym, ◌∙◌}
+use Rattle.std.proofs.Common.{sym, ◌∙◌}
 use Rattle.std.proofs.lemmas.Bool.{true≢false}
 use Rattle.line_words.proofs.LineLaws.{badly_ended, open_quote}
 use Rattle.line_words.proofs.word.quoted.Goals as goal

@@ -1,4 +1,4 @@
-use Rattle.std.proofs.Common.{rules, ◌≡◌, ◌≢◌, ℕ, List, [], ◌∷◌, ◌++◌, length, sym, subst}
+use Rattle.std.proofs.Common.{rules, ◌≢◌, ℕ, List, [], ◌∷◌, ◌++◌, length, sym, subst}
 use Rattle.std.proofs.lemmas.Bool.{eqb-true}
 use Rattle.line_words.proofs.LineLaws.{SoFar, begun, breaks_off, ends, goes_on, no_bytes}
 use Rattle.line_words.proofs.words.words_of.Goals as goal

@@ -1,5 +1,5 @@
 use Rattle.std.proofs.Common.{ℕ, ◌-◌, List, ◌++◌, length, take, drop, refl, subst, arith}
-use Rattle.std.proofs.lemmas.List.{take_all, take_rest, length-take, length-drop}
+use Rattle.std.proofs.lemmas.List.{take_all, take_rest, length-take}
 use Rattle.offline_reader.specs.Scan.{HasFed}
 use Rattle.offline_reader.proofs.Scanning.{fed_ok, fed_err, more_fed, all_fed}
 use Rattle.offline_reader.proofs.scan.feed_all.Goals as goal

@@ -1,4 +1,4 @@
-use Rattle.std.proofs.Common.{◌≤◌, ◌<◌, ◌++◌, Option, List, ℕ, length, take, drop, subst, ap, ◌∙◌, arith, length-take, length-drop, length-append}
+use Rattle.std.proofs.Common.{◌≤◌, ◌++◌, Option, List, ℕ, length, take, drop, subst, ap, ◌∙◌, arith, length-take, length-drop, length-append}
 use Rattle.door_outside.specs.Shelf.{held, PieceIs, PieceWithin}
 use Rattle.door_outside.specs.declared.shelf.Piece.{Piece}
 use Rattle.door_outside.specs.declared.shelf.Piece.TheVariants.{Count}

@@ -1,4 +1,4 @@
-use Rattle.std.proofs.Common.{rules, ◌≡◌, Ok, Err, refl, sym, ap}
+use Rattle.std.proofs.Common.{Ok, Err, refl, sym, ap}
 use Rattle.door_outside.specs.Shelf.{held}
 use Rattle.shelf_files.specs.Halts.{done, refused}
 use Rattle.shelf_files.specs.declared.refusal.Refusal.TheVariants.{NoFile, TooLarge, Broken}

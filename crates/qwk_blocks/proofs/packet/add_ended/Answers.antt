@@ -3,7 +3,6 @@ use Rattle.std.proofs.lemmas.List.{take_rest}
 use Rattle.qwk_blocks.specs.Header.{CountReads}
 use Rattle.qwk_blocks.specs.Packet.{MessageReads}
 use Rattle.qwk_blocks.specs.Reader.{IsEvent}
-use Rattle.qwk_blocks.specs.declared.event.Event.{Event}
 use Rattle.qwk_blocks.proofs.Reading.{reads_ended, reads_notice}
 use Rattle.qwk_blocks.proofs.packet.add_ended.Goals as goal
 

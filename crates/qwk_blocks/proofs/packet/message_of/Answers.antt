@@ -1,4 +1,4 @@
-use Rattle.std.proofs.Common.{List, ℕ, ◌*◌, ◌-◌, length, take, drop, subst, arith}
+use Rattle.std.proofs.Common.{List, ℕ, ◌*◌, ◌-◌, take, drop, subst, arith}
 use Rattle.std.proofs.lemmas.List.{take_all}
 use Rattle.qwk_blocks.specs.Packet.{MessageReads}
 use Rattle.qwk_blocks.specs.Text.{TextReads}

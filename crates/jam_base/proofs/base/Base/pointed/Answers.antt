@@ -1,6 +1,5 @@
-use Rattle.std.proofs.Common.{◌≡◌, ◌∙◌, refl, sym, ap, Some}
+use Rattle.std.proofs.Common.{◌≡◌, ◌∙◌, refl, sym, Some}
 use Rattle.jam_layout.specs.Layout.{layout}
-use Rattle.jam_layout.specs.declared.shape.Shape.{Shape}
 use Rattle.jam_base.specs.Contents.{Contents, with_pointer, reader_place}
 use Rattle.jam_base.proofs.ReaderLaws.{pointed_base}
 use Rattle.jam_base.proofs.ChangeClauses.{jlr_changes}

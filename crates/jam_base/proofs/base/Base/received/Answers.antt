@@ -1,7 +1,6 @@
-use Rattle.std.proofs.Common.{◌≡◌, ◌∙◌, ◌<◌, ◌^◌, List, refl, ap, arith}
+use Rattle.std.proofs.Common.{◌≡◌, ◌∙◌, refl, ap, arith}
 use Rattle.jam_layout.specs.Layout.{layout}
 use Rattle.jam_layout.specs.declared.conference.Conference.{Conference}
-use Rattle.jam_records.specs.declared.message.Slot.{Slot}
 use Rattle.jam_base.specs.Contents.{Contents, with_slots}
 use Rattle.jam_base.specs.Slots.{slots_received}
 use Rattle.jam_base.specs.declared.receipt.Receipt.{Receipt}

@@ -1,7 +1,6 @@
-use Rattle.std.proofs.Common.{◌++◌, sym, subst, refl, ap, arith}
-use Rattle.qwk_blocks.specs.Packet.{FirstFault}
+use Rattle.std.proofs.Common.{◌++◌, sym, subst, refl, arith}
 use Rattle.qwk_blocks.specs.Reader.{ReaderState, HoldsStream, IsEvent, next_bytes}
-use Rattle.qwk_blocks.proofs.Feeding.{feed_part, feed_ready, feed_full, progress_sound, progress_bad, one_place, not_stopped, no_fault_exact, fault_exact}
+use Rattle.qwk_blocks.proofs.Feeding.{feed_part, feed_ready, feed_full, progress_sound, progress_bad, not_stopped, no_fault_exact, fault_exact}
 use Rattle.qwk_blocks.proofs.reader.BlockReader.feed.Goals as goal
 
 pub returns-then-is_stopped-clause-holds : goal.returns-then-is_stopped-clause-holds
