@@ -30,11 +30,11 @@ pub record Gathered (P : Files → Type 0) (ledger : List ℕ) (old new : List B
   pub no_journal : All (λ patch. file_of patch ≢ journal_file) patches
   pub below : All (λ patch. file_of patch < jhr_file count) patches
   pub once : IsTrue (is_once patches)
-  pub short : length (patches_text patches) ≤ 11 + length ledger + 44 * count + sum_by files_size (take count new)
+  pub short : 5 * length (patches_text patches) ≤ 5 * (11 + length ledger + 44 * count) + 6 * sum_by files_size (take count new)
 
 -- together they fit the journal
 abbrev pub FitJournal : List ℕ → List BaseFiles → Type 0
-FitJournal ledger new = 13 + (11 + length ledger + 44 * length new + sum_by files_size new) ≤ 41943040
+FitJournal ledger new = 5 * (13 + (11 + length ledger + 44 * length new)) + 6 * sum_by files_size new ≤ 5 * 41943040
 
 -- an intent may have these patches behind its own
 pub record Joins (intent patches : List Patch) : Type 0 where

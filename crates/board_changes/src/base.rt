@@ -38,12 +38,14 @@ pub fn with_base(
     requires next { IsBoard (with_base_of place (Some change.base) board.now) }
     ensures { IfOk result (λ next. Becomes board.now (with_base_of place (Some change.base) board.now) next) }
 {
-    let ledger = copy_of(alloc, board.ledger())?;
+    let ledger = board.ledger();
     let mut intent = Intent::new(alloc);
     add_all(&mut intent, change.patches)?;
+    let bases = only_in(alloc, place, change.base)?;
+    // The ledger is the dearest to drop, so it is copied where no exit follows.
     Ok(BoardChange {
-        ledger,
-        bases: only_in(alloc, place, change.base)?,
+        ledger: copy_of(alloc, ledger)?,
+        bases,
         intent,
     })
 }

@@ -97,6 +97,22 @@ fn joined_bases(
     Ok(bases)
 }
 
+/// The change of a board by this user, behind the others.
+fn enrolled_as(alloc: Global, board: &StoredBoard, user: &User) -> Result<BoardChange, AllocError>
+    requires { IsBoard (with_member user.now board.now) }
+    ensures { IfOk result (λ change. Becomes board.now (with_member user.now board.now) change) }
+{
+    let ledger = board.ledger();
+    let next = with_user(alloc, ledger, user.duplicate(alloc)?)?;
+    let mut intent = ledger_intent(alloc, &next)?;
+    let bases = joined_bases(alloc, board, user, &mut intent)?;
+    Ok(BoardChange {
+        ledger: next,
+        bases,
+        intent,
+    })
+}
+
 /// The change of a board by a user who is new on it: behind the others, with pointers 0 in the conferences in
 /// these places, bit k for place k. The board that it makes is valid.
 ///
@@ -111,14 +127,7 @@ pub fn enrolled(
     requires { IsBoard (enrolled_of name.now net members board.now) }
     ensures { IfOk result (λ change. Becomes board.now (enrolled_of name.now net members board.now) change) }
 {
-    let ledger = board.ledger();
-    let user = new_user(alloc, name, net, members, ledger.setup.conferences.len())?;
-    let next = with_user(alloc, ledger, user.duplicate(alloc)?)?;
-    let mut intent = ledger_intent(alloc, &next)?;
-    let bases = joined_bases(alloc, board, &user, &mut intent)?;
-    Ok(BoardChange {
-        ledger: next,
-        bases,
-        intent,
-    })
+    let count = board.ledger().setup.conferences.len();
+    let user = new_user(alloc, name, net, members, count)?;
+    enrolled_as(alloc, board, &user)
 }

@@ -166,7 +166,7 @@ conference_most c ok = omega (arith, conference_length c, name_small c.name ok.n
 user_most : (count : ℕ) (u : User) → count ≤ 64 → IsUser count u → length (user_text u) ≤ 400
 user_most count u few ok = omega (arith, user_length u, user_small u.name ok.name, ok.one_high_each)
 
-text_short : (l : Ledger) → IsLedger l → length (ledger_text l) < 2 ^ 31
+pub text_short : (l : Ledger) → IsLedger l → length (ledger_text l) < 2 ^ 31
 text_short l ok =
     let s : Setup = l.setup in
     let board = board_small s.board ok.setup.board in

@@ -18,3 +18,5 @@ pub mod OpeningLaws
 pub mod LedgerLaws
 pub mod ReadingClauses
 pub mod LedgerBounds
+pub mod Writes
+pub mod UploadPutLaws

@@ -8,3 +8,4 @@ pub mod Users
 pub mod Uploads
 pub mod Ledger
 pub mod Valid
+pub mod UploadPuts

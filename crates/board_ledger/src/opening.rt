@@ -1,5 +1,7 @@
-ghost use Rattle.std.specs.Prelude.{◌≡◌, ◌≤◌, ◌<◌, ◌++◌, length, IfOk, MatchOption};
+ghost use Rattle.std.specs.Prelude.{◌≡◌, ◌≤◌, ◌<◌, ◌++◌, [], ◌∷◌, length, not, IfOk, MatchOption};
 ghost use Rattle.damage_rules.specs.Rules.{first_broken, by_rules};
+ghost use Rattle.setup_file.specs.Texts.{is_bbsid as is_bbsid_text};
+ghost use Rattle.setup_file.specs.Zones.{are_zones as are_zone_numbers};
 ghost use Rattle.board_ledger.specs.Rules.{Gives};
 ghost use Rattle.board_ledger.specs.Opening.{places_of as places_in, setup_of as setup_in, opening_of as opening_in, opening_at as opening_read, wrong_counts as counts_wrong, wrong_texts as texts_wrong, fixed_rules, setup_rules};
 
@@ -130,6 +132,22 @@ fn broken_fixed(bytes: &[u8]) -> Option<DamageRule>
     None
 }
 
+/// The first rule that the setup in record 0 breaks.
+fn broken_setup(setup: &Setup) -> Option<DamageRule>
+    ensures { result ≡ first_broken ((DamageRule.Text, texts_wrong setup.now) ∷ (DamageRule.Id, not (is_bbsid_text setup.now.bbsid)) ∷ (DamageRule.Zones, not (are_zone_numbers setup.now.zones)) ∷ []) }
+{
+    if wrong_texts(setup) {
+        return Some(DamageRule::Text);
+    }
+    if !is_bbsid(setup.bbsid.as_slice()) {
+        return Some(DamageRule::Id);
+    }
+    if !are_zones(setup.zones.as_slice()) {
+        return Some(DamageRule::Zones);
+    }
+    None
+}
+
 /// The setup behind the first 24 bytes and the length of record 0, or the first rule that they break.
 #[tactic(auto, unfolding(crate::specs::Opening::setup_rules))]
 fn setup_behind(alloc: Global, bytes: &[u8]) -> Result<(Setup, usize), LedgerError>
@@ -141,16 +159,10 @@ fn setup_behind(alloc: Global, bytes: &[u8]) -> Result<(Setup, usize), LedgerErr
         return Err(damaged(0, DamageRule::Short));
     };
     let setup = setup_of(alloc, &places, bytes)?;
-    if wrong_texts(&setup) {
-        return Err(damaged(0, DamageRule::Text));
+    match broken_setup(&setup) {
+        Some(rule) => Err(damaged(0, rule)),
+        None => Ok((setup, places.end)),
     }
-    if !is_bbsid(setup.bbsid.as_slice()) {
-        return Err(damaged(0, DamageRule::Id));
-    }
-    if !are_zones(setup.zones.as_slice()) {
-        return Err(damaged(0, DamageRule::Zones));
-    }
-    Ok((setup, places.end))
 }
 
 /// Record 0, or the first rule that it breaks.

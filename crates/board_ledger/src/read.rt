@@ -1,13 +1,16 @@
-ghost use Rattle.std.specs.Prelude.{◌≡◌};
+ghost use Rattle.std.specs.Prelude.{◌≡◌, ◌≤◌, length, Ok};
 ghost use Rattle.board_ledger.specs.Rules.{Gives};
-ghost use Rattle.board_ledger.specs.Ledger.{with_conferences as setup_with, ledger_of as ledger_in};
+ghost use Rattle.board_ledger.specs.Ledger.{with_conferences as setup_with, ledger_with, ledger_of as ledger_in};
+ghost use Rattle.board_ledger.specs.Opening.{opening_at as opening_read};
 
 use crate::conferences::conferences_of;
 use crate::damaged::damaged;
 use crate::error::LedgerError;
 use crate::ledger::Ledger;
 use crate::opening::{Opening, opening_of};
+use crate::upload::Uploads;
 use crate::uploads::uploads_of;
+use crate::user::Users;
 use crate::users::users_of;
 use jam_records::DamageRule;
 use setup_file::{Conferences, Setup};
@@ -23,11 +26,17 @@ fn with_conferences(setup: Setup, conferences: Conferences) -> Setup
     }
 }
 
-/// The ledger of the bytes, or the first rule that they break.
-pub(crate) fn ledger_of(alloc: Global, bytes: &[u8]) -> Result<Ledger, LedgerError>
-    ensures { Gives (λ x. x) result (ledger_in bytes.now) }
+/// The conferences, the users and the upload records behind record 0, or the first rule that they break.
+fn records_of(
+    alloc: Global,
+    opening: &Opening,
+    bytes: &[u8],
+) -> Result<(Conferences, Users, Uploads), LedgerError>
+    requires opening { opening_read bytes.now ≡ Ok opening.now }
+    requires size { opening.now.size ≤ length bytes.now }
+    requires counts { (opening.now.conferences ≤ 64) × (opening.now.users ≤ 500) × (opening.now.uploads ≤ 100000) }
+    ensures { Gives (λ x. ledger_with opening.now x.0 x.1 x.2) result (ledger_in bytes.now) }
 {
-    let opening = opening_of(alloc, bytes)?;
     let (conferences, rest) = conferences_of(alloc, opening.conferences, &bytes[opening.size..])?;
     let (users, rest) = users_of(alloc, opening.conferences, opening.users, rest)?;
     let first = 1 + u32::from(opening.conferences) + u32::from(opening.users);
@@ -35,6 +44,15 @@ pub(crate) fn ledger_of(alloc: Global, bytes: &[u8]) -> Result<Ledger, LedgerErr
     if !rest.is_empty() {
         return Err(damaged(first + opening.uploads, DamageRule::Rest));
     }
+    Ok((conferences, users, uploads))
+}
+
+/// The ledger of the bytes, or the first rule that they break.
+pub(crate) fn ledger_of(alloc: Global, bytes: &[u8]) -> Result<Ledger, LedgerError>
+    ensures { Gives (λ x. x) result (ledger_in bytes.now) }
+{
+    let opening = opening_of(alloc, bytes)?;
+    let (conferences, users, uploads) = records_of(alloc, &opening, bytes)?;
     Ok(Ledger {
         setup: with_conferences(opening.setup, conferences),
         created: opening.created,

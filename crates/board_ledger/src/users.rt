@@ -1,10 +1,12 @@
-ghost use Rattle.std.specs.Prelude.{◌≡◌, ◌≤◌, ◌<◌, ◌+◌, ◌^◌, ◌++◌, ◌||◌, ℕ, List, [], length, map, All, IfOk, OnOk};
+ghost use Rattle.std.specs.Prelude.{◌≡◌, ◌≤◌, ◌<◌, ◌+◌, ◌^◌, ◌++◌, ◌||◌, ℕ, List, [], ◌∷◌, length, map, nat_lt, not, All, IfOk, OnOk, Ok, None};
 ghost use Rattle.std.specs.List.{flat_map, list_any};
 ghost use Rattle.std.specs.Str.{bytes_eq};
+ghost use Rattle.damage_rules.specs.Rules.{first_broken};
+ghost use Rattle.setup_file.specs.Texts.{is_user_name as is_name};
 ghost use Rattle.board_ledger.specs.Rules.{Gives};
 ghost use Rattle.board_ledger.specs.Met.{is_met};
 ghost use Rattle.board_ledger.specs.Records.{records_at};
-ghost use Rattle.board_ledger.specs.Users.{lowered as lowered_name, user_text, user_at, IsUser};
+ghost use Rattle.board_ledger.specs.Users.{lowered as lowered_name, right_members, right_offer, user_text, user_at, IsUser};
 
 use crate::damaged::damaged;
 use crate::error::LedgerError;
@@ -21,6 +23,47 @@ fn lowered(alloc: Global, name: &[u8]) -> Result<Vec<u8>, AllocError>
     ensures { IfOk result (λ key. key.items ≡ lowered_name name.now) }
 {
     name.iter().map(|b| b.to_ascii_lowercase()).collect(alloc)
+}
+
+/// The first rule that the user of a record breaks behind the name, where the flags are this byte.
+fn broken_behind_name(conferences: u16, user: &User, flags: u8) -> Option<DamageRule>
+    requires conferences { conferences ≤ 64 }
+    requires highs { length user.now.highs ≡ conferences }
+    ensures { result ≡ first_broken ((DamageRule.Flags, nat_lt 1 flags) ∷ (DamageRule.Member, not (right_members conferences user.now.members)) ∷ (DamageRule.Offer, not (right_offer user.now)) ∷ []) }
+{
+    if flags > 1 {
+        return Some(DamageRule::Flags);
+    }
+    if !user.right_members(conferences) {
+        return Some(DamageRule::Member);
+    }
+    if !user.right_offer() {
+        return Some(DamageRule::Offer);
+    }
+    None
+}
+
+/// The first rule that the user of a record breaks, where the flags are this byte and the names before were met.
+fn broken_user(
+    alloc: Global,
+    conferences: u16,
+    user: &User,
+    flags: u8,
+    names: &mut Met,
+) -> Result<Option<DamageRule>, AllocError>
+    requires conferences { conferences ≤ 64 }
+    requires highs { length user.now.highs ≡ conferences }
+    ensures rule { IfOk result (λ rule. rule ≡ first_broken ((DamageRule.Name, not (is_name user.now.name)) ∷ (DamageRule.Twice, is_met names.old (lowered_name user.now.name)) ∷ (DamageRule.Flags, nat_lt 1 flags) ∷ (DamageRule.Member, not (right_members conferences user.now.members)) ∷ (DamageRule.Offer, not (right_offer user.now)) ∷ [])) }
+    ensures added { result ≡ Ok None → (key : List ℕ) → is_met names.new key ≡ (bytes_eq (lowered_name user.now.name) key || is_met names.old key) }
+{
+    let name = user.name.as_slice();
+    if !is_user_name(name) {
+        return Ok(Some(DamageRule::Name));
+    }
+    if names.add(alloc, &lowered(alloc, name)?)? {
+        return Ok(Some(DamageRule::Twice));
+    }
+    Ok(broken_behind_name(conferences, user, flags))
 }
 
 /// The user at the front, behind those before, whose names were met, and the length of the record.
@@ -48,23 +91,10 @@ fn user_of(
         return Err(damaged(item, DamageRule::Short));
     }
     let user = User::read(alloc, conferences, place, bytes)?;
-    let name = user.name.as_slice();
-    if !is_user_name(name) {
-        return Err(damaged(item, DamageRule::Name));
+    match broken_user(alloc, conferences, &user, bytes[place], names)? {
+        Some(rule) => Err(damaged(item, rule)),
+        None => Ok((user, end)),
     }
-    if names.add(alloc, &lowered(alloc, name)?)? {
-        return Err(damaged(item, DamageRule::Twice));
-    }
-    if bytes[place] > 1 {
-        return Err(damaged(item, DamageRule::Flags));
-    }
-    if !user.right_members(conferences) {
-        return Err(damaged(item, DamageRule::Member));
-    }
-    if !user.right_offer() {
-        return Err(damaged(item, DamageRule::Offer));
-    }
-    Ok((user, end))
 }
 
 /// So many users, where there are so many conferences, and the bytes behind the last.

@@ -4,3 +4,17 @@ pub mod SlotChanges
 pub mod MarkedSlots
 pub mod ChangeClauses
 pub mod ReadingLaws
+pub mod Writes
+pub mod HeaderPlaces
+pub mod AppendLaws
+pub mod PutLaws
+pub mod AppendPuts
+pub mod PutBounds
+pub mod AppendCosts
+pub mod LinkLoop
+pub mod AppendClauses
+pub mod SameLinks
+pub mod MarkTurns
+pub mod MarkLoop
+pub mod MarkClauses
+pub mod PointerPuts

@@ -1,5 +1,7 @@
 -- A change of marks alone leaves .JDT, .JDX and .JLR: the bodies, the recipients and the lengths of headers are the same.
 use Rattle.std.proofs.Common.{◌≡◌, ℕ, suc, zero, Bool, true, false, cond, ◌+◌, ◌-◌, ◌≤◌, ◌<◌, List, [], ◌∷◌, ◌++◌, length, get_or, refl, sym, ap, ◌∙◌, subst, arith}
+use Rattle.std.specs.Prelude.{sum_by}
+use Rattle.std.proofs.lemmas.List.Sums.{sum_by-cons}
 use Rattle.std.specs.List.{flat_map}
 use Rattle.std.proofs.Math.ListN.{set}
 use Rattle.jam_records.specs.declared.message.Message.{Message}
@@ -60,6 +62,12 @@ same_index at (s ∷ ss) (t ∷ ts) marked =
     ∙ (ap (λ n. index_piece at s ++ index_records (at + n) ts) marked.0.size
     ∙ (ap (λ xs. index_piece at s ++ xs) (same_index (at + slot_header s) ss ts marked.1) ∙ sym (index_more at s ss))))
 
+same_sizes : (old new : List Slot) → AllMarked old new → sum_by slot_header new ≡ sum_by slot_header old
+same_sizes [] [] marked = refl
+same_sizes [] (t ∷ ts) marked = absurd marked
+same_sizes (s ∷ ss) [] marked = absurd marked
+same_sizes (s ∷ ss) (t ∷ ts) marked = omega (arith, marked.0.size, same_sizes ss ts marked.1, sum_by-cons slot_header s ss, sum_by-cons slot_header t ts)
+
 -- the new files are the old ones with another .JHR
 marked_files : (base : Contents) (slots : List Slot) → AllMarked base.conference.slots slots
     → record (layout base.shape base.conference) { jhr = (layout base.shape (with_slots slots base).conference).jhr } ≡ layout base.shape (with_slots slots base).conference
@@ -109,3 +117,9 @@ all_received name r n (s ∷ slots) = (received_marked name r n s, all_received 
 pub received_files : (base : Contents) (slots : List Slot) (name : List ℕ) (r : Receipt) → slots ≡ slots_received name r 1 base.conference.slots
     → record (layout base.shape base.conference) { jhr = (layout base.shape (with_slots slots base).conference).jhr } ≡ layout base.shape (with_slots slots base).conference
 received_files base slots name r is = marked_files base slots (subst (AllMarked base.conference.slots) (sym is) (all_received name r 1 base.conference.slots))
+
+pub received_sizes : (slots : List Slot) (name : List ℕ) (r : Receipt) (n : ℕ) → sum_by slot_header (slots_received name r n slots) ≡ sum_by slot_header slots
+received_sizes slots name r n = same_sizes slots (slots_received name r n slots) (all_received name r n slots)
+
+pub deleted_sizes : (slots : List Slot) (place : ℕ) → place < length slots → sum_by slot_header (set slots place (slot_deleted (get_or slots place Gone))) ≡ sum_by slot_header slots
+deleted_sizes slots place within = same_sizes slots (set slots place (slot_deleted (get_or slots place Gone))) (one_marked slots place Gone (slot_deleted (get_or slots place Gone)) within (deleted_marked (get_or slots place Gone)))

@@ -1,5 +1,5 @@
 -- What whole patches do to the files of a place, and what an intent asks of them.
-use Rattle.std.proofs.Common.{◌≡◌, ◌≢◌, inl, inr, true, false, ℕ, ◌+◌, ◌<◌, ◌≤◌, List, [], ◌∷◌, ◌++◌, length, refl, ap, ◌∙◌, arith, length-append}
+use Rattle.std.proofs.Common.{◌≡◌, ◌≢◌, inl, inr, true, false, ℕ, ◌+◌, ◌*◌, ◌<◌, ◌≤◌, List, [], ◌∷◌, ◌++◌, length, refl, ap, ◌∙◌, arith, length-append}
 use Rattle.std.specs.Prelude.{All, IsTrue, ◌==◌}
 use Rattle.std.proofs.lemmas.Bool.{and_parts, and_from, eq-eqb, ne_eqb, cond-true, cond-false}
 use Rattle.std.proofs.lemmas.List.Elements.{All-cons, All-nil}
@@ -22,8 +22,8 @@ elsewhere patch files file other = cond-false (file == file_of patch) _ _ (ne_eq
 text_more : (file : ℕ) (bytes rest : List ℕ) → length (patch_text (Whole file bytes) ++ rest) ≡ 11 + (length bytes + length rest)
 text_more file bytes rest = omega (arith, length-append bytes rest)
 
-at_most : (n m most : ℕ) → n ≡ m → m ≤ most → n ≤ most
-at_most n m most same le = omega (arith, same, le)
+at_most : (n m size : ℕ) → n ≡ m → m ≤ 4 * 11 + size → 5 * n ≤ 5 * (4 * 11) + 6 * size
+at_most n m size same le = omega (arith, same, le)
 
 not_here : (place file : ℕ) → IsElsewhere place file → (k : ℕ) → IsOfPlace place k → file ≢ k
 not_here place file (inl below) k within = λ e. omega (arith, e, below, within.0)

@@ -30,13 +30,13 @@ pub record Turns (place : ℕ) (old new : BaseFiles) (patches : List Patch) : Ty
   pub base : (files : Files) → files_of_place place files ≡ old → files_of_place place (patched patches files) ≡ new
   pub others : (files : Files) (file : ℕ) → IsElsewhere place file → patched patches files file ≡ files file
 
--- what an intent asks of patches: each is of one of the four files, none has two, none ends behind as many bytes as
--- the new files have, and with 11 bytes for each file they are spelled in no more than these
+-- what an intent asks of patches: each is of one of the four files, no two clash, none ends behind as many bytes as the
+-- new files have, and but for 11 bytes for each file they are spelled in no more than these and a fifth of them
 pub record SuitsIntent (place : ℕ) (new : BaseFiles) (patches : List Patch) : Type 0 where
   pub within : All (λ patch. IsOfPlace place (file_of patch)) patches
   pub once : IsTrue (is_once patches)
   pub ends : All (λ patch. place_of patch + length (bytes_of patch) ≤ files_size new) patches
-  pub short : length (patches_text patches) ≤ 4 * 11 + files_size new
+  pub short : 5 * length (patches_text patches) ≤ 5 * (4 * 11) + 6 * files_size new
 
 -- some of a place's four files, whole, and all of them
 abbrev pub whole_jhr : ℕ → BaseFiles → List Patch

@@ -1,5 +1,9 @@
 pub mod Change
 pub mod Contents
+pub mod MarkPuts
+pub mod OneAppend
+pub mod Places
+pub mod Puts
 pub mod Slots
 pub use Rattle.jam_layout.specs.Conference
 pub use Rattle.jam_layout.specs.Fields

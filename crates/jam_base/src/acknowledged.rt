@@ -62,8 +62,10 @@ impl Base {
         let Some(place) = shape.readers.position(user) else {
             unreachable!()
         };
+        let marks = self.reception(alloc, name, receipt)?;
         let slots = slots_received(alloc, name, receipt, slots)?;
         let next = with_reading(alloc, old, slots, place, upto)?;
-        BaseChange::of_reading(alloc, Base::linked(alloc, shape, next)?)
+        let change = BaseChange::of_marks(alloc, Base::linked(alloc, shape, next)?, marks)?;
+        BaseChange::of_pointer(alloc, change.base, change.patches, place, upto)
     }
 }

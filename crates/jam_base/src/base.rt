@@ -4,22 +4,34 @@ ghost use Rattle.jam_threads.specs.Children.{original};
 ghost use Rattle.jam_layout.specs.Layout.{layout, files_size};
 ghost use Rattle.jam_base.specs.Change.{Turns, SuitsIntent};
 ghost use Rattle.jam_base.specs.Contents.{reader_place, pointer_of, no_slots, with_reader, with_slots, with_messages as with_messages_of, with_deleted as with_deleted_of, with_received, with_pointer};
-ghost use Rattle.jam_base.specs.Slots.{has_live as has_live_of};
+ghost use Rattle.jam_base.specs.Puts.{counts_put, last_headers as last_headers_of, last_bodies as last_bodies_of, last_records as last_records_of, link_puts, Costs};
+ghost use Rattle.jam_base.specs.Slots.{has_live as has_live_of, numbered, slots_with_all};
+ghost use Rattle.jam_base.specs.MarkPuts.{delete_puts, receive_puts};
+ghost use Rattle.intent_journal.specs.Patches.{byte_count};
+ghost use Rattle.jam_threads.specs.Threading.{AreThreads};
 ghost use Rattle.jam_layout.specs.Messages.{IsMessage};
 ghost use Rattle.jam_layout.specs.Conference.{live_count};
 ghost use Rattle.jam_layout.specs.Valid.{IsShape, IsConference};
 ghost use Rattle.jam_layout.specs.declared.files.BaseFiles.{BaseFiles};
 
 use crate::change::BaseChange;
+use crate::linked::add_messages;
+use crate::marks::{delete_patches, receive_patches};
+use crate::numbers::two_numbers;
 use crate::pointers::{moved, no_pointers};
 use crate::receipt::{Receipt, any_due, slots_received};
 use crate::refusal::{AppendRefusal, KillRefusal};
 use crate::slots::{has_live, with_deleted, with_messages};
 use byte_lists::{Bytes, Duplicate};
+use door_outside::FileId;
+use intent_journal::{Patch, Patches};
 use jam_layout::{Conference, Reader, Shape, files_size as size_of_files};
-use jam_records::{Messages, Slot, Slots};
-use jam_threads::{Links, links};
-use jam_writing::{write_jdt, write_jdx, write_jhr, write_jlr};
+use jam_records::{Message, Messages, Slot, Slots};
+use jam_threads::{Threads, links};
+use jam_writing::{
+    body_place, header_place, write_jdt, write_jdx, write_jhr, write_jlr, write_last_bodies,
+    write_last_headers, write_last_records,
+};
 use std::alloc::{AllocError, Global};
 use std::marker::Model;
 
@@ -28,20 +40,20 @@ use std::marker::Model;
 pub struct Base {
     shape: Shape,
     conference: Conference,
-    /// The links of its slots, which its files show too.
-    links: Links,
+    /// The threads of its slots.
+    threads: Threads,
 }
 
 impl Model for Base {
     ghost use Rattle.jam_base.specs.Contents.{Contents};
     ghost use Rattle.jam_layout.specs.Valid.{IsShape, IsConference};
-    ghost use Rattle.jam_threads.specs.Links.{AreLinks};
+    ghost use Rattle.jam_threads.specs.Threading.{AreThreads};
 
     ghost Value = { Contents };
 
     ghost view = { λ s. record { shape = s.shape; conference = s.conference } };
 
-    ghost invariant = { λ s. IsShape s.shape × IsConference s.shape s.conference × AreLinks s.conference.slots s.links };
+    ghost invariant = { λ s. IsShape s.shape × IsConference s.shape s.conference × AreThreads s.conference.slots s.threads };
 }
 
 impl Base {
@@ -55,12 +67,12 @@ impl Base {
         requires conference { IsConference shape.now conference }
         ensures { IfOk result (λ base. base ≡ record { shape = shape.now; conference = conference }) }
     {
-        let links = links(alloc, &conference.slots)?;
+        let threads = Threads::of(alloc, &conference.slots)?;
         let shape = shape.duplicate(alloc)?;
         Ok(Base {
             shape,
             conference,
-            links,
+            threads,
         })
     }
 
@@ -74,9 +86,15 @@ impl Base {
         (&self.shape, &self.conference)
     }
 
-    /// The base with other slots, by one change.
-    fn changed(&self, alloc: Global, slots: Slots) -> Result<Base, AllocError>
-        requires { IsConference self.now.shape (with_slots slots self.now).conference }
+    /// The base with other slots, by one change, whose threads these are.
+    fn with_threads(
+        &self,
+        alloc: Global,
+        slots: Slots,
+        threads: Threads,
+    ) -> Result<Base, AllocError>
+        requires conference { IsConference self.now.shape (with_slots slots self.now).conference }
+        requires threads { AreThreads slots threads }
         ensures { IfOk result (λ base. base ≡ with_slots slots self.now) }
     {
         let (shape, old) = self.parts();
@@ -85,7 +103,38 @@ impl Base {
             slots,
             pointers: old.pointers.copy(alloc)?,
         };
-        Base::linked(alloc, shape, conference)
+        let shape = shape.duplicate(alloc)?;
+        Ok(Base {
+            shape,
+            conference,
+            threads,
+        })
+    }
+
+    /// The base with other slots, by one change.
+    fn changed(&self, alloc: Global, slots: Slots) -> Result<Base, AllocError>
+        requires { IsConference self.now.shape (with_slots slots self.now).conference }
+        ensures { IfOk result (λ base. base ≡ with_slots slots self.now) }
+    {
+        let threads = Threads::of(alloc, &slots)?;
+        self.with_threads(alloc, slots, threads)
+    }
+
+    /// The threads with these messages at the end, and the patches of the links that these change in the
+    /// headers of older ones.
+    fn threaded(
+        &self,
+        alloc: Global,
+        messages: &[Message],
+    ) -> Result<(Threads, Patches), AllocError>
+        requires { length self.now.conference.slots + length messages.now ≤ 9999 }
+        ensures threads { IfOk result (λ made. AreThreads (slots_with_all self.now.conference.slots messages.now) made.0) }
+        ensures patches { IfOk result (λ made. made.1 ≡ link_puts self.now.shape.place self.now.conference.slots self.now.conference.slots messages.now) }
+    {
+        let mut threads = self.threads.copy(alloc)?;
+        let slots = self.conference.slots.as_slice();
+        let links = add_messages(alloc, self.place(), slots, &mut threads, messages)?;
+        Ok((threads, links))
     }
 
     /// No change.
@@ -110,7 +159,8 @@ impl Base {
     pub(crate) fn jhr(&self, alloc: Global) -> Result<Bytes, AllocError>
         ensures { IfOk result (λ jhr. jhr ≡ (layout self.now.shape self.now.conference).jhr) }
     {
-        write_jhr(alloc, &self.shape, &self.conference, &self.links)
+        let links = links(alloc, &self.conference.slots)?;
+        write_jhr(alloc, &self.shape, &self.conference, &links)
     }
 
     /// The bytes of its .JDT.
@@ -133,6 +183,80 @@ impl Base {
     {
         let pointers = self.conference.pointers.as_slice();
         write_jlr(alloc, self.shape.readers.as_slice(), pointers)
+    }
+
+    /// The patch of its change counter and its count of messages that aren't deleted.
+    pub(crate) fn counts(&self, alloc: Global) -> Result<Patch, AllocError>
+        ensures { IfOk result (λ patch. patch ≡ counts_put self.now.shape.place self.now.conference) }
+    {
+        let bytes = two_numbers(self.conference.counter, self.live_count());
+        Ok(Patch::Put {
+            file: FileId::jhr(self.place()),
+            at: 8,
+            bytes: Bytes::from_slice(alloc, &bytes)?,
+        })
+    }
+
+    /// The patches that mark the message of a number deleted.
+    fn deletion(&self, alloc: Global, number: u32) -> Result<Patches, AllocError>
+        requires above { 0 < number }
+        requires within { number ≤ length self.now.conference.slots }
+        ensures { IfOk result (λ patches. patches ≡ delete_puts self.now.shape.kind self.now.shape.place self.now.conference.slots number (numbered self.now.conference.slots number)) }
+    {
+        let slots = self.conference.slots.as_slice();
+        delete_patches(alloc, self.place(), self.shape.kind, slots, number)
+    }
+
+    /// The patches that mark read what is due of this receipt.
+    pub(crate) fn reception(
+        &self,
+        alloc: Global,
+        name: &[u8],
+        receipt: Receipt,
+    ) -> Result<Patches, AllocError>
+        ensures { IfOk result (λ patches. patches ≡ receive_puts self.now.shape.kind self.now.shape.place name.now receipt 1024 1 self.now.conference.slots) }
+    {
+        let slots = self.conference.slots.as_slice();
+        receive_patches(alloc, self.place(), self.shape.kind, name, receipt, slots)
+    }
+
+    /// The patch of the headers behind so many slots.
+    pub(crate) fn last_headers(&self, alloc: Global, count: usize) -> Result<Patch, AllocError>
+        requires { count ≤ length self.now.conference.slots }
+        ensures { IfOk result (λ patch. patch ≡ last_headers_of self.now.shape count self.now.conference) }
+    {
+        let slots = self.conference.slots.as_slice();
+        let offset = body_place(slots, count);
+        let at = header_place(slots, count);
+        let kind = self.shape.kind;
+        let bytes = write_last_headers(alloc, kind, slots, &self.threads, count, offset)?;
+        let file = FileId::jhr(self.place());
+        Ok(Patch::Put { file, at, bytes })
+    }
+
+    /// The patch of the bodies behind so many slots.
+    pub(crate) fn last_bodies(&self, alloc: Global, count: usize) -> Result<Patch, AllocError>
+        requires { count ≤ length self.now.conference.slots }
+        ensures { IfOk result (λ patch. patch ≡ last_bodies_of self.now.shape.place count self.now.conference) }
+    {
+        let slots = self.conference.slots.as_slice();
+        let at = body_place(slots, count);
+        let bytes = write_last_bodies(alloc, slots, count)?;
+        let file = FileId::jdt(self.place());
+        Ok(Patch::Put { file, at, bytes })
+    }
+
+    /// The patch of the index records behind so many slots.
+    pub(crate) fn last_records(&self, alloc: Global, count: usize) -> Result<Patch, AllocError>
+        requires { count ≤ length self.now.conference.slots }
+        ensures { IfOk result (λ patch. patch ≡ last_records_of self.now.shape.place count self.now.conference) }
+    {
+        let slots = self.conference.slots.as_slice();
+        let first = header_place(slots, count);
+        let bytes = write_last_records(alloc, slots, count, first)?;
+        let file = FileId::jdx(self.place());
+        let at = 8 * count as u32;
+        Ok(Patch::Put { file, at, bytes })
     }
 
     /// The base of a new conference: no slots, and the pointer of each reader 0. Its patches write its four
@@ -181,6 +305,7 @@ impl Base {
     pub fn appended(&self, alloc: Global, messages: &Messages) -> Result<BaseChange, AppendRefusal>
         requires { All (IsMessage self.now.shape.kind) messages.now }
         ensures base { IfOk result (λ change. change.base ≡ with_messages_of messages.now self.now) }
+        ensures costs { IfOk result (λ change. Costs (length messages.now) (layout self.now.shape self.now.conference) (layout change.base.shape change.base.conference) change.patches) }
         ensures files { IfOk result (λ change. Turns self.now.shape.place (layout self.now.shape self.now.conference) (layout change.base.shape change.base.conference) change.patches) }
         ensures intent { IfOk result (λ change. SuitsIntent self.now.shape.place (layout change.base.shape change.base.conference) change.patches) }
         ensures slots { (s : ℕ) → (result ≡ Err (AppendRefusal.Slots s)) ↔ ((s ≡ length self.now.conference.slots + length messages.now) × (9999 < s)) }
@@ -201,6 +326,7 @@ impl Base {
         requires messages { All (IsMessage self.now.shape.kind) messages }
         requires few { length self.now.conference.slots + length messages ≤ 9999 }
         ensures base { IfOk result (λ change. change.base ≡ with_messages_of messages self.now) }
+        ensures costs { IfOk result (λ change. Costs (length messages) (layout self.now.shape self.now.conference) (layout change.base.shape change.base.conference) change.patches) }
         ensures files { IfOk result (λ change. Turns self.now.shape.place (layout self.now.shape self.now.conference) (layout change.base.shape change.base.conference) change.patches) }
         ensures intent { IfOk result (λ change. SuitsIntent self.now.shape.place (layout change.base.shape change.base.conference) change.patches) }
     {
@@ -208,8 +334,10 @@ impl Base {
             return self.unchanged(alloc);
         }
         let (_, conference) = self.parts();
+        let (threads, links) = self.threaded(alloc, messages.as_slice())?;
         let slots = with_messages(alloc, &conference.slots, messages)?;
-        BaseChange::of_messages(alloc, self.changed(alloc, slots)?)
+        let base = self.with_threads(alloc, slots, threads)?;
+        BaseChange::of_appended(alloc, base, conference.slots.len(), links)
     }
 
     /// The base with the message of a number marked deleted. Its patches make its files of those of this base.
@@ -219,6 +347,7 @@ impl Base {
     /// there is no memory.
     pub fn killed(&self, alloc: Global, number: u32) -> Result<BaseChange, KillRefusal>
         ensures base { IfOk result (λ change. change.base ≡ with_deleted_of number self.now) }
+        ensures costs { IfOk result (λ change. (length change.patches ≤ 2) × (byte_count change.patches ≤ 24)) }
         ensures files { IfOk result (λ change. Turns self.now.shape.place (layout self.now.shape self.now.conference) (layout change.base.shape change.base.conference) change.patches) }
         ensures intent { IfOk result (λ change. SuitsIntent self.now.shape.place (layout change.base.shape change.base.conference) change.patches) }
         ensures none { (result ≡ Err KillRefusal.NoMessage) ↔ ¬ IsTrue (has_live_of number self.now.conference.slots) }
@@ -227,9 +356,10 @@ impl Base {
         if !has_live(number, &conference.slots) {
             return Err(KillRefusal::NoMessage);
         }
+        let marks = self.deletion(alloc, number)?;
         let slots = with_deleted(alloc, number, &conference.slots)?;
         let base = self.changed(alloc, slots)?;
-        Ok(BaseChange::of_jhr(alloc, base)?)
+        Ok(BaseChange::of_marks(alloc, base, marks)?)
     }
 
     /// The base with each message to a name, ignoring case, marked read at a moment in Unix seconds that isn't
@@ -256,8 +386,9 @@ impl Base {
         if !any_due(name, receipt, slots) {
             return self.unchanged(alloc);
         }
+        let marks = self.reception(alloc, name, receipt)?;
         let slots = slots_received(alloc, name, receipt, slots)?;
-        BaseChange::of_jhr(alloc, self.changed(alloc, slots)?)
+        BaseChange::of_marks(alloc, self.changed(alloc, slots)?, marks)
     }
 
     /// The base with the pointer of a reader, the user of this id, at a message number: 0, or one of a slot. Its
@@ -280,7 +411,8 @@ impl Base {
             slots: old.slots.copy(alloc)?,
             pointers: moved(alloc, &old.pointers, place, number)?,
         };
-        BaseChange::of_jlr(alloc, Base::linked(alloc, shape, conference)?)
+        let base = Base::linked(alloc, shape, conference)?;
+        BaseChange::of_pointer(alloc, base, Patches::new(alloc), place, number)
     }
 
     /// How many slots the conference has, 0 to 9,999. It is the greatest message number.
@@ -328,6 +460,6 @@ impl Base {
     pub fn reply_to(&self, number: u32) -> u32
         ensures { result ≡ original self.now.conference.slots number }
     {
-        self.links.original(number)
+        self.threads.reply_to(number)
     }
 }

@@ -1,8 +1,11 @@
-ghost use Rattle.std.specs.Prelude.{◌≡◌, [], IfOk};
+ghost use Rattle.std.specs.Prelude.{◌≡◌, ◌≤◌, [], ◌∷◌, ◌++◌, length, IfOk};
 ghost use Rattle.jam_layout.specs.Layout.{layout};
-ghost use Rattle.jam_base.specs.Change.{whole_jhr, whole_jlr, whole_reading, whole_messages, whole_files};
+ghost use Rattle.jam_base.specs.Change.{whole_jlr, whole_files};
+ghost use Rattle.jam_base.specs.MarkPuts.{pointer_patch as pointer_patch_of};
+ghost use Rattle.jam_base.specs.Puts.{counts_put, last_puts};
 
 use crate::base::Base;
+use crate::pointers::pointer_patch;
 use byte_lists::Bytes;
 use door_outside::FileId;
 use intent_journal::{Patch, Patches};
@@ -29,13 +32,16 @@ impl BaseChange {
         }
     }
 
-    /// The change to this base that writes its .JHR.
-    pub(crate) fn of_jhr(alloc: Global, base: Base) -> Result<BaseChange, AllocError>
+    /// The change to this base that writes these marks, and its counts.
+    pub(crate) fn of_marks(
+        alloc: Global,
+        base: Base,
+        marks: Patches,
+    ) -> Result<BaseChange, AllocError>
         ensures base { IfOk result (λ change. change.base ≡ base) }
-        ensures patches { IfOk result (λ change. change.patches ≡ whole_jhr base.shape.place (layout base.shape base.conference)) }
+        ensures patches { IfOk result (λ change. change.patches ≡ marks ++ counts_put base.shape.place base.conference ∷ []) }
     {
-        let mut patches = Patches::new(alloc);
-        patches.add(whole(FileId::jhr(base.place()), base.jhr(alloc)?))?;
+        let patches = counted(alloc, &base, marks)?;
         Ok(BaseChange { base, patches })
     }
 
@@ -44,33 +50,38 @@ impl BaseChange {
         ensures base { IfOk result (λ change. change.base ≡ base) }
         ensures patches { IfOk result (λ change. change.patches ≡ whole_jlr base.shape.place (layout base.shape base.conference)) }
     {
-        let mut patches = Patches::new(alloc);
-        patches.add(whole(FileId::jlr(base.place()), base.jlr(alloc)?))?;
+        let patches = jlr_of(alloc, &base)?;
         Ok(BaseChange { base, patches })
     }
 
-    /// The change to this base that writes its .JHR and .JLR.
-    pub(crate) fn of_reading(alloc: Global, base: Base) -> Result<BaseChange, AllocError>
+    /// The change to this base that writes the pointer of the reader in a place from 0, behind these patches.
+    pub(crate) fn of_pointer(
+        alloc: Global,
+        base: Base,
+        before: Patches,
+        reader: usize,
+        number: u32,
+    ) -> Result<BaseChange, AllocError>
         ensures base { IfOk result (λ change. change.base ≡ base) }
-        ensures patches { IfOk result (λ change. change.patches ≡ whole_reading base.shape.place (layout base.shape base.conference)) }
+        ensures patches { IfOk result (λ change. change.patches ≡ before ++ pointer_patch_of base reader number ∷ []) }
     {
-        let place = base.place();
-        let mut patches = Patches::new(alloc);
-        patches.add(whole(FileId::jhr(place), base.jhr(alloc)?))?;
-        patches.add(whole(FileId::jlr(place), base.jlr(alloc)?))?;
+        let patches = pointed_of(alloc, &base, before, reader, number)?;
         Ok(BaseChange { base, patches })
     }
 
-    /// The change to this base that writes its .JHR, .JDT and .JDX.
-    pub(crate) fn of_messages(alloc: Global, base: Base) -> Result<BaseChange, AllocError>
+    /// The change to this base that writes what the slots behind so many others add to its files, and these
+    /// patches of links before.
+    pub(crate) fn of_appended(
+        alloc: Global,
+        base: Base,
+        count: usize,
+        links: Patches,
+    ) -> Result<BaseChange, AllocError>
+        requires { count ≤ length base.conference.slots }
         ensures base { IfOk result (λ change. change.base ≡ base) }
-        ensures patches { IfOk result (λ change. change.patches ≡ whole_messages base.shape.place (layout base.shape base.conference)) }
+        ensures patches { IfOk result (λ change. change.patches ≡ links ++ (counts_put base.shape.place base.conference ∷ last_puts base.shape count base.conference)) }
     {
-        let place = base.place();
-        let mut patches = Patches::new(alloc);
-        patches.add(whole(FileId::jhr(place), base.jhr(alloc)?))?;
-        patches.add(whole(FileId::jdt(place), base.jdt(alloc)?))?;
-        patches.add(whole(FileId::jdx(place), base.jdx(alloc)?))?;
+        let patches = ends_of(alloc, &base, count, links)?;
         Ok(BaseChange { base, patches })
     }
 
@@ -79,12 +90,7 @@ impl BaseChange {
         ensures base { IfOk result (λ change. change.base ≡ base) }
         ensures patches { IfOk result (λ change. change.patches ≡ whole_files base.shape.place (layout base.shape base.conference)) }
     {
-        let place = base.place();
-        let mut patches = Patches::new(alloc);
-        patches.add(whole(FileId::jhr(place), base.jhr(alloc)?))?;
-        patches.add(whole(FileId::jdt(place), base.jdt(alloc)?))?;
-        patches.add(whole(FileId::jdx(place), base.jdx(alloc)?))?;
-        patches.add(whole(FileId::jlr(place), base.jlr(alloc)?))?;
+        let patches = files_of(alloc, &base)?;
         Ok(BaseChange { base, patches })
     }
 }
@@ -94,4 +100,63 @@ fn whole(file: FileId, bytes: Bytes) -> Patch
     ensures { result ≡ Patch.Whole file bytes }
 {
     Patch::Whole { file, bytes }
+}
+
+/// These patches, and behind them the one of a base's counts.
+fn counted(alloc: Global, base: &Base, before: Patches) -> Result<Patches, AllocError>
+    ensures { IfOk result (λ patches. patches ≡ before ++ counts_put base.now.shape.place base.now.conference ∷ []) }
+{
+    let mut patches = before;
+    patches.add(base.counts(alloc)?)?;
+    Ok(patches)
+}
+
+/// These patches, and behind them the one of the pointer of the reader in a place from 0.
+fn pointed_of(
+    alloc: Global,
+    base: &Base,
+    before: Patches,
+    reader: usize,
+    number: u32,
+) -> Result<Patches, AllocError>
+    ensures { IfOk result (λ patches. patches ≡ before ++ pointer_patch_of base.now reader number ∷ []) }
+{
+    let mut patches = before;
+    patches.add(pointer_patch(alloc, base, reader, number)?)?;
+    Ok(patches)
+}
+
+/// These patches, and behind them those of a base's counts and of what the slots behind so many others add.
+fn ends_of(alloc: Global, base: &Base, count: usize, before: Patches) -> Result<Patches, AllocError>
+    requires { count ≤ length base.now.conference.slots }
+    ensures { IfOk result (λ patches. patches ≡ before ++ (counts_put base.now.shape.place base.now.conference ∷ last_puts base.now.shape count base.now.conference)) }
+{
+    let mut patches = before;
+    patches.add(base.counts(alloc)?)?;
+    patches.add(base.last_headers(alloc, count)?)?;
+    patches.add(base.last_bodies(alloc, count)?)?;
+    patches.add(base.last_records(alloc, count)?)?;
+    Ok(patches)
+}
+
+/// What writes a base's .JLR.
+fn jlr_of(alloc: Global, base: &Base) -> Result<Patches, AllocError>
+    ensures { IfOk result (λ patches. patches ≡ whole_jlr base.now.shape.place (layout base.now.shape base.now.conference)) }
+{
+    let mut patches = Patches::new(alloc);
+    patches.add(whole(FileId::jlr(base.place()), base.jlr(alloc)?))?;
+    Ok(patches)
+}
+
+/// What writes a base's four files.
+fn files_of(alloc: Global, base: &Base) -> Result<Patches, AllocError>
+    ensures { IfOk result (λ patches. patches ≡ whole_files base.now.shape.place (layout base.now.shape base.now.conference)) }
+{
+    let place = base.place();
+    let mut patches = Patches::new(alloc);
+    patches.add(whole(FileId::jhr(place), base.jhr(alloc)?))?;
+    patches.add(whole(FileId::jdt(place), base.jdt(alloc)?))?;
+    patches.add(whole(FileId::jdx(place), base.jdx(alloc)?))?;
+    patches.add(whole(FileId::jlr(place), base.jlr(alloc)?))?;
+    Ok(patches)
 }

@@ -4,6 +4,10 @@
 mod acknowledged;
 mod base;
 mod change;
+pub mod laws;
+mod linked;
+mod marks;
+mod numbers;
 mod pointers;
 mod read;
 mod receipt;
@@ -12,6 +16,6 @@ mod slots;
 
 pub use base::Base;
 pub use change::BaseChange;
-pub use jam_layout::{BaseError, BaseFiles, Conference, Reader, Readers, Shape, laws};
+pub use jam_layout::{BaseError, BaseFiles, Conference, Reader, Readers, Shape};
 pub use read::read_base;
 pub use refusal::{AppendRefusal, KillRefusal};

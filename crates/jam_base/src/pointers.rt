@@ -1,8 +1,16 @@
 // The last-read pointers of a conference.
 ghost use Rattle.std.specs.Prelude.{◌≡◌, ◌<◌, length, replicate, slice_set, IfOk};
+ghost use Rattle.jam_base.specs.MarkPuts.{pointer_patch as pointer_patch_of};
 
-use byte_lists::List;
+use crate::base::Base;
+use crate::numbers::two_numbers;
+use byte_lists::{Bytes, List};
+use door_outside::FileId;
+use intent_journal::Patch;
 use std::alloc::{AllocError, Global};
+
+/// How many readers have records that end below 2^31, as a patch does.
+const PUT_LIMIT: usize = 0x7FF_FFFF;
 
 /// So many pointers, each 0.
 pub fn no_pointers(alloc: Global, count: usize) -> Result<List<u32>, AllocError>
@@ -26,4 +34,23 @@ pub fn moved(
     let mut items = pointers.copy(alloc)?.into_vec();
     items[place] = number;
     Ok(List::from_vec(items))
+}
+
+/// The patch that moves the pointer of the reader in a place, from 0, to a number, at which it is in this base.
+pub fn pointer_patch(
+    alloc: Global,
+    base: &Base,
+    reader: usize,
+    number: u32,
+) -> Result<Patch, AllocError>
+    ensures { IfOk result (λ patch. patch ≡ pointer_patch_of base.now reader number) }
+{
+    let file = FileId::jlr(base.place());
+    if reader >= PUT_LIMIT {
+        let bytes = base.jlr(alloc)?;
+        return Ok(Patch::Whole { file, bytes });
+    }
+    let bytes = Bytes::from_slice(alloc, &two_numbers(number, number))?;
+    let at = 16 * reader as u32 + 8;
+    Ok(Patch::Put { file, at, bytes })
 }

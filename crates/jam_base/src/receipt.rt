@@ -17,7 +17,7 @@ pub struct Receipt {
 }
 
 /// Whether the message of a number is to the name, isn't deleted, isn't read and is within the bounds.
-fn is_due(name: &[u8], receipt: Receipt, number: u32, message: &Message) -> bool
+pub(crate) fn is_due(name: &[u8], receipt: Receipt, number: u32, message: &Message) -> bool
     ensures { result ≡ is_due_of name.now receipt number message.now }
 {
     let to_name = message.to.as_slice().eq_ignore_ascii_case(name);

@@ -94,11 +94,10 @@ chains_hung slots s links lasts o n after_links after_lasts chains is some numbe
     }
 
 -- the last child so far of the original of a new message
-pub last_child_so_far : (slots : List Slot) (s : Slot) (links : List Link) (lasts pushed : List ℕ) (o : ℕ) → AreChains slots links lasts → o ≡ slot_original slots (Some s) → (o ≡ 0 → ⊥) → pushed ≡ lasts ++ 0 ∷ [] → get_or pushed (o - 1) 0 ≤ length links
-last_child_so_far slots s links lasts pushed o chains is some push =
+pub last_child_so_far : (slots : List Slot) (links : List Link) (lasts pushed : List ℕ) (o : ℕ) → AreChains slots links lasts → 0 < o → o ≤ length links → pushed ≡ lasts ++ 0 ∷ [] → get_or pushed (o - 1) 0 ≤ length links
+last_child_so_far slots links lasts pushed o chains some within push =
     let count = chains.count in
     let count_lasts = chains.count_lasts in
-    let within : o ≤ length slots = omega (arith, is, slot_original-le slots (Some s)) in
     let found : get_or pushed (o - 1) 0 ≡ last_in (children slots (suc (o - 1))) =
     ap (λ ns. get_or ns (o - 1) 0) push ∙ get_or_append_left lasts (0 ∷ []) 0 (o - 1) (omega arith) ∙ chains.last (o - 1) (omega arith) in
     omega (arith, found, count, last-le slots (suc (o - 1)))

@@ -16,7 +16,7 @@ use Rattle.jam_threads.specs.declared.link.Link.{Link}
 pub other_number : (a b : ℕ) → (a ≡ b → ⊥) → (a == b) ≡ false
 other_number a b apart = grind (arith, nat_tests)
 
-slice_get_front : {A : Type 0} (xs ys : List A) (i : ℕ) → i < length xs → slice_get (xs ++ ys) i ≡ slice_get xs i
+pub slice_get_front : {A : Type 0} (xs ys : List A) (i : ℕ) → i < length xs → slice_get (xs ++ ys) i ≡ slice_get xs i
 slice_get_front [] ys i within = absurd (omega arith)
 slice_get_front (x ∷ xs) ys zero within = refl
 slice_get_front (x ∷ xs) ys (suc i) within = slice_get_front xs ys i (omega arith)
@@ -41,7 +41,7 @@ pub original_behind_some : (slots : List Slot) (id : List ℕ) → (length id ==
 original_behind_some slots [] some = cc
 original_behind_some slots (b ∷ id) some = refl
 
-original_behind-le : (slots : List Slot) (id : List ℕ) → original_behind slots id ≤ length slots
+pub original_behind-le : (slots : List Slot) (id : List ℕ) → original_behind slots id ≤ length slots
 original_behind-le slots [] = omega arith
 original_behind-le slots (b ∷ id) = first_of_id-le slots (b ∷ id)
 
@@ -360,3 +360,7 @@ last-le slots m = elim (last_child slots m) [ inl none ↦ omega (arith, none.1)
 pub hung_apart : (o n p k : ℕ) (l : Link) → (suc k ≡ o → ⊥) → (suc k ≡ p → ⊥) → hung o n p k l ≡ l
 hung_apart o n p k l not_original not_last =
     elim (cases_eq p 0) [ inl none ↦ hung_first_other o n p k l none not_original | inr some ↦ hung_next_other o n p k l some not_last ]
+
+-- the last child is a message with that original
+pub last_found : (slots : List Slot) (m : ℕ) → (last_in (children slots m) ≡ 0) ⊎ ((0 < last_in (children slots m)) × (original slots (last_in (children slots m)) ≡ m))
+last_found slots m = elim (last_child slots m) [ inl none ↦ inl (none.1) | inr last ↦ inr (last.some, eqb-true (original slots (last_in (children slots m))) m last.passes) ]

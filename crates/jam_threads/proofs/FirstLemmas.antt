@@ -1,7 +1,7 @@
 -- The first message of each id, once a message is added.
 use Rattle.std.proofs.Common.{◌≡◌, ℕ, suc, ◌+◌, ◌<◌, ◌≤◌, ◌==◌, ◌&&◌, not, List, [], ◌∷◌, ◌++◌, length, Bool, true, false, cond, Option, Some, refl, sym, ap, ◌∙◌, arith, subst, inl, inr, nat_lt}
 use Rattle.std.specs.Prelude.{unwrap_or}
-use Rattle.std.specs.List.{position_or_len}
+use Rattle.std.specs.List.{position_or_len, AllZip}
 use Rattle.std.specs.Str.{bytes_eq}
 use Rattle.std.specs.Ordering.{nat_cmp}
 use Rattle.std.specs.Cmp.{eq_by_cmp_equiv}
@@ -112,3 +112,20 @@ pub number_updates : {K : Type 0} (bytes : K → List ℕ) (bs : List ℕ) (m n 
 number_updates bytes bs m n number updates cs =
     ap (λ found. unwrap_or found 0) (key_updates bytes bs m n (Some number) updates cs)
     ∙ or_zero (bytes_eq bs cs) number (tree.get_by (λ k. slice_cmp nat_cmp cs (bytes k)) m)
+
+-- ---- a copy
+pub same_items : (xs ys : List ℕ) → AllZip (λ x y. y ≡ x) xs ys → ys ≡ xs
+same_items [] [] all = refl
+same_items [] (y ∷ ys) all = absurd all
+same_items (x ∷ xs) [] all = absurd all
+same_items (x ∷ xs) (y ∷ ys) all = λ i. all.0 i ∷ same_items xs ys all.1 i
+
+found_again : {K : Type 0} (test : K → Bool) (C : K → K → Type 0) (D : ℕ → ℕ → Type 0) → ((x y : K) → C x y → test y ≡ test x) → ((n m : ℕ) → D n m → m ≡ n) → (es fs : List (K × ℕ)) → AllZip (λ p q. C p.0 q.0 × D p.1 q.1) es fs → lookup test fs ≡ lookup test es
+found_again test C D keys values [] [] all = refl
+found_again test C D keys values [] (f ∷ fs) all = absurd all
+found_again test C D keys values (e ∷ es) [] all = absurd all
+found_again test C D keys values (e ∷ es) (f ∷ fs) all = λ i. cond (keys e.0 f.0 all.0.0 i) (Some (values e.1 f.1 all.0.1 i)) (found_again test C D keys values es fs all.1 i)
+
+pub number_copied : {K : Type 0} {C : K → K → Type 0} {D : ℕ → ℕ → Type 0} (bytes : K → List ℕ) (m n : BTreeMap K ℕ) → tree.IsClone C D m n → ((x y : K) → C x y → bytes y ≡ bytes x) → ((n m : ℕ) → D n m → m ≡ n) → (id : List ℕ) → unwrap_or (tree.get_by (λ k. slice_cmp nat_cmp id (bytes k)) n) 0 ≡ unwrap_or (tree.get_by (λ k. slice_cmp nat_cmp id (bytes k)) m) 0
+number_copied {C = C} {D = D} bytes m n all keys values id =
+    ap (λ found. unwrap_or found 0) (found_again (tree.is_at (λ k. slice_cmp nat_cmp id (bytes k))) C D (λ x y same. ap (λ ks. tree.is_at (slice_cmp nat_cmp id) ks) (keys x y same)) values m.entries n.entries all)

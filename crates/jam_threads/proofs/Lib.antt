@@ -1,4 +1,5 @@
 pub mod ChildrenLemmas
 pub mod ChainLemmas
+pub mod ChangeLemmas
 pub mod FirstLemmas
 pub mod LookUpLemmas

@@ -1,4 +1,4 @@
-ghost use Rattle.std.specs.Prelude.{◌≡◌, ℕ, List, length, ◌==◌, ◌&&◌, if◌then◌else◌, OnOk};
+ghost use Rattle.std.specs.Prelude.{◌≡◌, ℕ, List, length, ◌==◌, ◌&&◌, if◌then◌else◌, IfOk, OnOk};
 ghost use Rattle.std.specs.Str.{bytes_eq};
 ghost use Rattle.jam_threads.specs.FirstNumbers.{kept_number};
 
@@ -6,7 +6,7 @@ use std::alloc::{AllocError, Global};
 use std::collections::BTreeMap;
 
 /// The number of the first message of each id.
-#[derive(Drop)]
+#[derive(Debug, Drop)]
 pub(crate) struct FirstNumbers {
     numbers: BTreeMap<Vec<u8>, u32>,
 }
@@ -48,5 +48,14 @@ impl FirstNumbers {
             self.numbers.insert(Vec::from_slice(alloc, id)?, number)?;
         }
         Ok(())
+    }
+
+    /// The same numbers.
+    pub(crate) fn copy(&self) -> Result<FirstNumbers, AllocError>
+        ensures { IfOk result (λ copy. (id : List ℕ) → kept_number copy id ≡ kept_number self.now id) }
+    {
+        Ok(FirstNumbers {
+            numbers: self.numbers.clone()?,
+        })
     }
 }

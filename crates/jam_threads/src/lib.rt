@@ -3,11 +3,13 @@
 #![tactic(auto)]
 
 mod first_numbers;
+pub mod laws;
 mod link;
 mod linking;
 mod original;
 mod threads;
 
-pub use link::{Link, Links};
+pub use link::{Link, LinkField, LinkPatch, Links};
 pub use linking::links;
 pub use original::original_of;
+pub use threads::Threads;

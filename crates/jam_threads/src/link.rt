@@ -18,6 +18,26 @@ pub struct Link {
     pub next: u32,
 }
 
+/// A link number of a message that answers to come may change.
+#[derive(Debug, Clone, Copy, PartialEq, Eq)]
+pub enum LinkField {
+    /// Reply1st.
+    First,
+    /// ReplyNext.
+    Next,
+}
+
+/// A link number of a message, and what it becomes.
+#[derive(Debug, Clone, Copy, PartialEq, Eq)]
+pub struct LinkPatch {
+    /// The number of the message.
+    pub number: u32,
+    /// Which of its link numbers.
+    pub field: LinkField,
+    /// What that becomes.
+    pub value: u32,
+}
+
 /// The links of the messages of a list of slots, in its order.
 #[derive(Debug, Drop)]
 pub struct Links {

@@ -7,15 +7,12 @@ use jam_records::Slots;
 use std::alloc::{AllocError, Global};
 
 /// The links of each slot: those of its message, and zeros for a slot that is gone.
+#[tactic(auto, using(crate::proofs::ChangeLemmas::threads_links))]
 pub fn links(alloc: Global, slots: &Slots) -> Result<Links, AllocError>
     requires { length slots.now + 1 < 2 ^ 32 }
     ensures { IfOk result (λ links. AreLinks slots.now links) }
 {
-    let mut threads = Threads::new(alloc);
-    let slots = slots.as_slice();
-    for place in 0..slots.len() {
-        threads.add(alloc, slots, place)?;
-    }
+    let threads = Threads::of(alloc, slots)?;
     Ok(Links {
         inner: threads.links,
     })

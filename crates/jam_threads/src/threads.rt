@@ -1,18 +1,24 @@
-ghost use Rattle.std.specs.Prelude.{◌≡◌, ℕ, suc, ◌+◌, ◌-◌, ◌≤◌, ◌<◌, ◌^◌, List, [], ◌∷◌, ◌++◌, length, take, slice_index, slice_index_or, slice_set, IfOk, OnOk, Some};
+ghost use Rattle.std.specs.Prelude.{◌≡◌, ℕ, suc, ◌+◌, ◌-◌, ◌≤◌, ◌<◌, ◌^◌, List, [], ◌∷◌, ◌++◌, length, slice_get, slice_index, slice_index_or, slice_set, IfOk, OnOk, Some};
+ghost use Rattle.jam_records.specs.declared.message.Message.{Message};
 ghost use Rattle.jam_records.specs.declared.message.Slot.{Slot};
-ghost use Rattle.jam_threads.specs.Children.{slot_original};
+ghost use Rattle.jam_records.specs.declared.message.Slot.TheVariants.{Held};
+ghost use Rattle.jam_threads.specs.Children.{original_behind, slot_original, original as original_in};
+ghost use Rattle.jam_threads.specs.LinkChanges.{change_by, link_change};
+ghost use Rattle.jam_threads.specs.Links.{link_of};
 ghost use Rattle.jam_threads.specs.declared.link.Link.{Link};
-ghost use Rattle.jam_threads.specs.FirstNumbers.{kept_number};
-ghost use Rattle.jam_threads.specs.Chains.{AreFirsts, AreChains, hung};
+ghost use Rattle.jam_threads.specs.Chains.{AreChains, hung};
+ghost use Rattle.jam_threads.specs.Threading.{AreThreads, AreOfSlots};
 
 use crate::first_numbers::FirstNumbers;
-use crate::link::Link;
-use jam_records::Slot;
+use crate::link::{Link, LinkField, LinkPatch};
+use jam_records::{Slot, Slots};
 use std::alloc::{AllocError, Global};
 
-/// The links of a list of slots that grows at its end, and what finds those of the next slot.
-#[derive(Drop)]
-pub(crate) struct Threads {
+/// The links of a list of slots that grows at its end, and what finds those of a message there: by one look-up
+/// of its ids, however many slots there are.
+#[derive(Debug, Drop)]
+pub struct Threads {
+    alloc: Global,
     /// The first message of each id.
     pub(crate) firsts: FirstNumbers,
     /// The links of each message.
@@ -21,36 +27,51 @@ pub(crate) struct Threads {
     pub(crate) last_answers: Vec<u32>,
 }
 
-/// The original of what the slot holds, whose id is added with its number.
-fn enter(
-    alloc: Global,
-    firsts: &mut FirstNumbers,
-    slot: &Slot,
-    number: u32,
-) -> Result<u32, AllocError>
-    ensures { IfOk result (λ original. (slots : List Slot) → AreFirsts slots (kept_number firsts.old) → number ≡ suc (length slots) → (original ≡ slot_original slots (Some slot.now)) × AreFirsts (slots ++ slot.now ∷ []) (kept_number firsts.new)) }
+/// The one link number that a message of a number changes, whose original has this last answer, or 0.
+fn change(original: u32, last: u32, number: u32) -> LinkPatch
+    requires { 0 < original }
+    ensures { Some result ≡ change_by original last number }
 {
-    match slot {
-        Slot::Gone => Ok(0),
-        Slot::Held(message) => {
-            let original = firsts.original(message.replyid.as_slice());
-            firsts.add(alloc, message.msgid.as_slice(), number)?;
-            Ok(original)
+    if last == 0 {
+        LinkPatch {
+            number: original,
+            field: LinkField::First,
+            value: number,
+        }
+    } else {
+        LinkPatch {
+            number: last,
+            field: LinkField::Next,
+            value: number,
         }
     }
 }
 
 impl Threads {
     /// Those of no slots. It takes no memory.
-    pub(crate) fn new(alloc: Global) -> Threads
-        ensures firsts { AreFirsts [] (kept_number result.firsts) }
-        ensures chains { AreChains [] result.links.items result.last_answers.items }
+    #[tactic(auto, using(crate::proofs::ChangeLemmas::no_threads))]
+    pub fn new(alloc: Global) -> Threads
+        ensures { AreThreads [] result }
     {
         Threads {
+            alloc,
             firsts: FirstNumbers::new(alloc),
             links: Vec::new(alloc),
             last_answers: Vec::new(alloc),
         }
+    }
+
+    /// Those of these slots.
+    pub fn of(alloc: Global, slots: &Slots) -> Result<Threads, AllocError>
+        requires { length slots.now + 1 < 2 ^ 32 }
+        ensures { IfOk result (λ threads. AreThreads slots.now threads) }
+    {
+        let mut threads = Threads::new(alloc);
+        let slots = slots.as_slice();
+        for place in 0..slots.len() {
+            threads.add_slot(&slots[place])?;
+        }
+        Ok(threads)
     }
 
     /// Makes the message of this number the last answer to its original.
@@ -74,22 +95,13 @@ impl Threads {
         self.last_answers[place] = number;
     }
 
-    /// Adds the slot in a place, where those before it were added.
-    pub(crate) fn add(
-        &mut self,
-        alloc: Global,
-        slots: &[Slot],
-        place: usize,
-    ) -> Result<(), AllocError>
-        requires within { place < length slots.now }
-        requires few { length slots.now + 1 < 2 ^ 32 }
-        requires firsts { AreFirsts (take place slots.now) (kept_number self.old.firsts) }
-        requires chains { AreChains (take place slots.now) self.old.links.items self.old.last_answers.items }
-        ensures firsts { OnOk result (AreFirsts (take (place + 1) slots.now) (kept_number self.new.firsts)) }
-        ensures chains { OnOk result (AreChains (take (place + 1) slots.now) self.new.links.items self.new.last_answers.items) }
+    /// Adds the links of a slot at the end that has this number and this original, or 0.
+    fn add_link(&mut self, original: u32, number: u32) -> Result<(), AllocError>
+        requires slots { (slots : List Slot) × AreChains slots self.old.links.items self.old.last_answers.items }
+        requires within { original ≤ length self.old.links.items }
+        ensures chains { OnOk result ((slots : List Slot) (s : Slot) → AreChains slots self.old.links.items self.old.last_answers.items → original ≡ slot_original slots (Some s) → number ≡ suc (length slots) → AreChains (slots ++ s ∷ []) self.new.links.items self.new.last_answers.items) }
+        ensures firsts { self.new.firsts ≡ self.old.firsts }
     {
-        let number = place as u32 + 1;
-        let original = enter(alloc, &mut self.firsts, &slots[place], number)?;
         let link = Link {
             to: original,
             first: 0,
@@ -101,5 +113,99 @@ impl Threads {
             self.hang(original, number);
         }
         Ok(())
+    }
+
+    /// Adds a message of these ids at the end. The list with it has fewer than 4,294,967,295 slots.
+    ///
+    /// The error comes where there is no memory. They are of no use then.
+    pub fn add(&mut self, msgid: &[u8], replyid: &[u8]) -> Result<(), AllocError>
+        requires slots { AreOfSlots self.old }
+        requires few { (slots : List Slot) → AreThreads slots self.old → length slots + 2 < 2 ^ 32 }
+        ensures { OnOk result ((slots : List Slot) (m : Message) → AreThreads slots self.old → m.msgid ≡ msgid.now → m.replyid ≡ replyid.now → AreThreads (slots ++ Held m ∷ []) self.new) }
+    {
+        let original = self.firsts.original(replyid);
+        let number = self.links.len() as u32 + 1;
+        self.firsts.add(self.alloc, msgid, number)?;
+        self.add_link(original, number)
+    }
+
+    /// Adds a slot at the end.
+    fn add_slot(&mut self, slot: &Slot) -> Result<(), AllocError>
+        requires slots { AreOfSlots self.old }
+        requires few { (slots : List Slot) → AreThreads slots self.old → length slots + 2 < 2 ^ 32 }
+        ensures { OnOk result ((slots : List Slot) → AreThreads slots self.old → AreThreads (slots ++ slot.now ∷ []) self.new) }
+    {
+        match slot {
+            Slot::Gone => {
+                let number = self.links.len() as u32 + 1;
+                self.add_link(0, number)
+            }
+            Slot::Held(message) => self.add(message.msgid.as_slice(), message.replyid.as_slice()),
+        }
+    }
+
+    /// The original of a message that is added next and answers this id: the smallest number of a message of
+    /// that id, and 0 where the id is empty or no message has it. It takes no memory.
+    #[tactic(auto, using(crate::proofs::FirstLemmas::original_kept))]
+    pub fn original(&self, replyid: &[u8]) -> u32
+        ensures { (slots : List Slot) → AreThreads slots self.now → result ≡ original_behind slots replyid.now }
+    {
+        self.firsts.original(replyid)
+    }
+
+    /// The one link number of an older message that a message changes which is added next and answers this id,
+    /// or None where it changes none. It takes no memory.
+    pub fn link_new(&self, replyid: &[u8]) -> Option<LinkPatch>
+        requires { AreOfSlots self.now }
+        ensures { (slots : List Slot) → AreThreads slots self.now → result ≡ link_change slots replyid.now }
+    {
+        let original = self.original(replyid);
+        if original == 0 {
+            return None;
+        }
+        let last = self.last_answers[original as usize - 1];
+        let number = self.links.len() as u32 + 1;
+        Some(change(original, last, number))
+    }
+
+    /// The links of the slot in a place from 0.
+    pub fn link(&self, place: usize) -> Link
+        requires { (slots : List Slot) × AreThreads slots self.now × (place < length slots) }
+        ensures { (slots : List Slot) → AreThreads slots self.now → result ≡ link_of slots (place + 1) }
+    {
+        self.links[place]
+    }
+
+    /// The links of the slot in a place from 0, or None past the last.
+    fn found(&self, place: usize) -> Option<Link>
+        ensures { result ≡ slice_get self.now.links.items place }
+    {
+        self.links.get(place).copied()
+    }
+
+    /// The number of the message that the one of this number answers, or 0 where it answers none that is
+    /// there or no slot has the number.
+    pub fn reply_to(&self, number: u32) -> u32
+        ensures { (slots : List Slot) → AreThreads slots self.now → result ≡ original_in slots number }
+    {
+        if number == 0 {
+            return 0;
+        }
+        match self.found(number as usize - 1) {
+            Some(link) => link.to,
+            None => 0,
+        }
+    }
+
+    /// Threads of the same slots.
+    pub fn copy(&self, alloc: Global) -> Result<Threads, AllocError>
+        ensures { IfOk result (λ copy. (slots : List Slot) → AreThreads slots self.now → AreThreads slots copy) }
+    {
+        Ok(Threads {
+            alloc,
+            firsts: self.firsts.copy()?,
+            links: Vec::from_slice(alloc, self.links.as_slice())?,
+            last_answers: Vec::from_slice(alloc, self.last_answers.as_slice())?,
+        })
     }
 }

@@ -1,8 +1,10 @@
-mod base;
 mod changes;
 mod conference;
 mod crc;
 mod layout;
 mod numbers;
+mod patched;
 mod records;
+mod stage;
+mod texts;
 mod threads;

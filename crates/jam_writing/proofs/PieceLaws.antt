@@ -40,7 +40,7 @@ bodies_are links n (Gone ∷ slots) = bodies_are links (n + 1) slots
 bodies_are links n (Held m ∷ slots) = ap (λ xs. m.body ++ xs) (bodies_are links (n + 1) slots)
 
 -- ---- lengths
-headers_length : (links : ℕ → Link) (kind : Kind) (offset n : ℕ) (slots : List Slot) → length (headers_text kind offset (entries_of links n slots)) ≡ sum_by slot_header slots
+pub headers_length : (links : ℕ → Link) (kind : Kind) (offset n : ℕ) (slots : List Slot) → length (headers_text kind offset (entries_of links n slots)) ≡ sum_by slot_header slots
 headers_length links kind offset n [] = refl
 headers_length links kind offset n (Gone ∷ slots) = omega (arith, headers_length links kind offset (n + 1) slots, sum_by-cons slot_header Gone slots)
 headers_length links kind offset n (Held m ∷ slots) =
@@ -48,7 +48,7 @@ headers_length links kind offset n (Held m ∷ slots) =
     let rest : List ℕ = headers_text kind (offset + length m.body) (entries_of links (n + 1) slots) in
     omega (arith, length-append (entry_text kind offset e) rest, entry_length kind offset e, headers_length links kind (offset + length m.body) (n + 1) slots, sum_by-cons slot_header (Held m) slots)
 
-bodies_length : (slots : List Slot) → length (flat_map body_piece slots) ≡ sum_by body_size slots
+pub bodies_length : (slots : List Slot) → length (flat_map body_piece slots) ≡ sum_by body_size slots
 bodies_length [] = refl
 bodies_length (s ∷ slots) = omega (arith, length-append (body_piece s) (flat_map body_piece slots), bodies_length slots, sum_by-cons body_size s slots)
 

@@ -1,8 +1,8 @@
 -- The loops that write .JHR and .JDX: what is written, and the pieces of the slots that are left, are the whole.
-use Rattle.std.proofs.Common.{◌≡◌, ℕ, ◌+◌, ◌≤◌, ◌<◌, List, [], ◌∷◌, ◌++◌, length, drop, get_or, refl, sym, ap, ◌∙◌, arith, append_assoc, append-nil}
+use Rattle.std.proofs.Common.{◌≡◌, ℕ, ◌+◌, ◌≤◌, ◌<◌, List, [], ◌∷◌, ◌++◌, length, take, drop, get_or, refl, sym, ap, ◌∙◌, arith, append_assoc, append-nil}
 use Rattle.std.specs.Prelude.{sum_by}
-use Rattle.std.proofs.lemmas.List.{drop_all, drop_more}
-use Rattle.std.proofs.lemmas.List.Sums.{sum_by-cons, get_or-le-sum_by}
+use Rattle.std.proofs.lemmas.List.{drop_all, drop_more, take_all, take_more, take-append-drop}
+use Rattle.std.proofs.lemmas.List.Sums.{sum_by-cons, sum_by-append, get_or-le-sum_by}
 use Rattle.jam_records.specs.declared.message.Kind.{Kind}
 use Rattle.jam_records.specs.declared.message.Slot.{Slot}
 use Rattle.jam_threads.specs.Links.{link_of}
@@ -21,6 +21,10 @@ left slots place s within item = drop_more slots place s within ∙ ap (λ (x : 
 left_sum : (size : Slot → ℕ) (slots : List Slot) (place : ℕ) (s : Slot) → place < length slots → s ≡ get_or slots place s → sum_by size (drop place slots) ≡ size s + sum_by size (drop (place + 1) slots)
 left_sum size slots place s within item = ap (sum_by size) (left slots place s within item) ∙ sum_by-cons size s (drop (place + 1) slots)
 
+-- a sum over a list in two parts
+sum_parts : (size : Slot → ℕ) (slots : List Slot) (place : ℕ) → sum_by size (take place slots) + sum_by size (drop place slots) ≡ sum_by size slots
+sum_parts size slots place = sym (sum_by-append size (take place slots) (drop place slots)) ∙ ap (sum_by size) (take-append-drop place slots)
+
 -- no slot has more than all
 pub part_small : (size : Slot → ℕ) (slots : List Slot) (place most : ℕ) (s : Slot) → place < length slots → s ≡ get_or slots place s → sum_by size slots < most → size s < most
 part_small size slots place most s within item small = omega (arith, get_or-le-sum_by size slots place s within, ap size item, small)
@@ -32,6 +36,10 @@ pub record HeadersSoFar (kind : Kind) (slots : List Slot) (place offset : ℕ) (
 
 pub headers_begin : (kind : Kind) (slots : List Slot) (text : List ℕ) → HeadersSoFar kind slots 0 0 text (text ++ headers_text kind 0 (entries_of (link_of slots) 1 slots))
 headers_begin kind slots text = record { text_is = refl; offset_is = omega arith }
+
+-- the slots from a place on
+pub headers_from : (kind : Kind) (slots : List Slot) (from offset : ℕ) → offset ≡ sum_by body_size (take from slots) → HeadersSoFar kind slots from offset [] (headers_text kind offset (entries_of (link_of slots) (from + 1) (drop from slots)))
+headers_from kind slots from offset is = record { text_is = refl; offset_is = omega (arith, is, sum_parts body_size slots from) }
 
 pub body_fits : (kind : Kind) (slots : List Slot) (place offset most : ℕ) (text whole : List ℕ) (s : Slot) → place < length slots → s ≡ get_or slots place s → sum_by body_size slots < most → HeadersSoFar kind slots place offset text whole → offset + body_size s < most
 body_fits kind slots place offset most text whole s within item small so_far = omega (arith, so_far.offset_is, left_sum body_size slots place s within item, small)
@@ -63,6 +71,10 @@ pub record IndexSoFar (slots : List Slot) (place first at : ℕ) (text whole : L
 pub index_begin : (slots : List Slot) (first : ℕ) → IndexSoFar slots 0 first first [] (index_records first slots)
 index_begin slots first = record { text_is = refl; at_is = refl }
 
+-- the slots from a place on
+pub index_from : (slots : List Slot) (from at : ℕ) → at ≡ 1024 + sum_by slot_header (take from slots) → IndexSoFar slots from 1024 at [] (index_records at (drop from slots))
+index_from slots from at is = record { text_is = refl; at_is = omega (arith, is, sum_parts slot_header slots from) }
+
 pub index_fits : (slots : List Slot) (place first at most : ℕ) (text whole : List ℕ) (s : Slot) → place < length slots → s ≡ get_or slots place s → first + sum_by slot_header slots < most → IndexSoFar slots place first at text whole → at + slot_header s < most
 index_fits slots place first at most text whole s within item small so_far = omega (arith, so_far.at_is, left_sum slot_header slots place s within item, small)
 
@@ -81,3 +93,28 @@ record_added slots place first at next text new whole s within item written move
 pub index_end : (slots : List Slot) (place first at : ℕ) (text whole : List ℕ) → length slots ≤ place → IndexSoFar slots place first at text whole → text ≡ whole
 index_end slots place first at text whole none so_far =
     sym (append-nil text) ∙ (ap (λ (xs : List Slot). text ++ index_records at xs) (sym (drop_all place slots none)) ∙ so_far.text_is)
+
+-- ---- where the pieces of a slot stand: the sum so far over the slots before a place
+pub record SumSoFar (size : Slot → ℕ) (slots : List Slot) (place first index at : ℕ) : Type 0 where
+  pub at_is : at ≡ first + sum_by size (take index (take place slots))
+
+add_zero_nil : (size : Slot → ℕ) (s : Slot) → size s + sum_by size [] ≡ size s
+add_zero_nil size s = omega arith
+
+sum_step : (size : Slot → ℕ) (slots : List Slot) (index : ℕ) (s : Slot) → index < length slots → s ≡ get_or slots index s → sum_by size (take (index + 1) slots) ≡ sum_by size (take index slots) + size s
+sum_step size slots index s within item =
+    ap (sum_by size) (take_more slots index s within ∙ ap (λ (x : Slot). take index slots ++ x ∷ []) (sym item))
+    ∙ (sum_by-append size (take index slots) (s ∷ []) ∙ ap (λ n. sum_by size (take index slots) + n) (sum_by-cons size s [] ∙ add_zero_nil size s))
+
+pub sum_begin : (size : Slot → ℕ) (slots : List Slot) (place first : ℕ) → SumSoFar size slots place first 0 first
+sum_begin size slots place first = record { at_is = omega arith }
+
+pub sum_fits : (size : Slot → ℕ) (slots : List Slot) (place first index at most : ℕ) (s : Slot) → index < length (take place slots) → s ≡ get_or (take place slots) index s → first + sum_by size slots < most → SumSoFar size slots place first index at → at + size s < most
+sum_fits size slots place first index at most s within item small so_far =
+    omega (arith, so_far.at_is, sum_step size (take place slots) index s within item, sum_parts size (take place slots) (index + 1), sum_parts size slots place, small)
+
+pub sum_more : (size : Slot → ℕ) (slots : List Slot) (place first index at next : ℕ) (s : Slot) → index < length (take place slots) → s ≡ get_or (take place slots) index s → next ≡ at + size s → SumSoFar size slots place first index at → SumSoFar size slots place first (index + 1) next
+sum_more size slots place first index at next s within item moved so_far = record { at_is = omega (arith, so_far.at_is, sum_step size (take place slots) index s within item, moved) }
+
+pub sum_end : (size : Slot → ℕ) (slots : List Slot) (place first index at : ℕ) → length (take place slots) ≤ index → SumSoFar size slots place first index at → at ≡ first + sum_by size (take place slots)
+sum_end size slots place first index at none so_far = so_far.at_is ∙ ap (λ (xs : List Slot). first + sum_by size xs) (take_all index (take place slots) none)

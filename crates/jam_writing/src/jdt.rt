@@ -9,7 +9,7 @@ use jam_records::Slot;
 use std::alloc::{AllocError, Global};
 
 /// Adds the body of what a slot holds.
-fn add_slot(jdt: &mut Bytes, slot: &Slot) -> Result<(), AllocError>
+pub(crate) fn add_slot(jdt: &mut Bytes, slot: &Slot) -> Result<(), AllocError>
     ensures { OnOk result (jdt.new ≡ jdt.old ++ body_piece slot.now) }
 {
     match slot {

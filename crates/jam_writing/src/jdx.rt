@@ -29,7 +29,7 @@ fn record_of(message: &Message, at: u32) -> IndexRecord
 
 /// Adds the record of a slot, where the next header stands at a place in .JHR, and answers where the one
 /// after it does.
-fn add_slot(jdx: &mut Bytes, at: u32, slot: &Slot) -> Result<u32, AllocError>
+pub(crate) fn add_slot(jdx: &mut Bytes, at: u32, slot: &Slot) -> Result<u32, AllocError>
     requires { at + slot_header slot.now < 2 ^ 31 }
     ensures text { OnOk result (jdx.new ≡ jdx.old ++ index_piece at slot.now) }
     ensures next { IfOk result (λ next. next ≡ at + slot_header slot.now) }

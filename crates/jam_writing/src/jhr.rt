@@ -28,7 +28,7 @@ fn header_of_base(shape: &Shape, conference: &Conference) -> BaseHeader
 }
 
 /// Adds the header of what a slot holds, and answers where the next body begins.
-fn add_slot(
+pub(crate) fn add_slot(
     alloc: Global,
     jhr: &mut Bytes,
     kind: Kind,

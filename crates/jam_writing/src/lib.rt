@@ -7,6 +7,7 @@ mod jdt;
 mod jdx;
 mod jhr;
 mod jlr;
+mod last;
 mod message_subfields;
 
 pub use files::write_files;
@@ -15,3 +16,7 @@ pub use jdt::write_jdt;
 pub use jdx::write_jdx;
 pub use jhr::write_jhr;
 pub use jlr::write_jlr;
+pub use last::{
+    body_place, header_length, header_place, write_last_bodies, write_last_headers,
+    write_last_records,
+};

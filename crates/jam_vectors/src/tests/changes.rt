@@ -1,26 +1,110 @@
-ghost use Rattle.std.specs.Prelude.{◌≡◌, All, IfOk, IsTrue};
+//! A base with its files, and its changes.
+ghost use Rattle.std.specs.Prelude.{◌≡◌, ◌≤◌, ◌<◌, ◌^◌, length, All, IfOk, IsSome, IsTrue};
 ghost use Rattle.byte_lists.specs.Byte.{IsByte};
+ghost use Rattle.jam_base.specs.Contents.{reader_place};
 ghost use Rattle.jam_layout.specs.Fields.{is_text};
+ghost use Rattle.jam_layout.specs.Layout.{files_size, layout};
 ghost use Rattle.jam_layout.specs.Messages.{EmptyOr, IsMessage};
 
-use super::base::{
-    BASE, FIRST_ANSWER, JDX, ORIGINAL, SECOND_ANSWER, THIRD_ANSWER, answered, counts, message,
-    parts, pointer,
-};
-use super::conference::{JDT, JLR, general};
+use super::stage::Stage;
+use super::texts::{Subject, expect, number_of, parted};
 use byte_lists::Bytes;
-use intent_journal::Patch;
-use jam_base::{AppendRefusal, Base, BaseChange, KillRefusal};
+use jam_base::{Base, BaseChange, laws};
 use jam_records::{Kind, Message, Messages};
 use std::alloc::{AllocError, Global};
 use std::test::Fail;
 
+/// Changes of the base of four readers in place 0. What is found of a change is how many slots, live messages and bytes
+/// there are then, and that it has no patches; or why it is refused. `file` looks at one of its files, which the patches
+/// of all changes since `new` made.
+///
+/// Messages are named by their numbers, with that of the message that they answer. `fill` appends so many copies of the
+/// first. `cost` looks whether a commit of the last change writes at most so many bytes.
+const TABLE: &str = r#"
+new = 0 0 1088
+file 2 JAM\0\0\xCA\x9A;\0\0\0\0\0\0\0\0\xFF\xFF\xFF\xFF\x01\z\0\0\0 = same
+file 3  = same
+file 4  = same
+file 5 \x99W\x03\x9F\x01\0\0\0\0\0\0\0\0\0\0\0\x91d\x92\xC6\x02\0\0\0\0\0\0\0\0\0\0\0#9\xC6m\x03\0\0\0\0\0\0\0\0\0\0\0\xAA\xFEL\x8E\x04\0\0\0\0\0\0\0\0\0\0\0 = same
+join = 0 0 1104
+pointer 5 = Some(0)
+file 5 \x99W\x03\x9F\x01\0\0\0\0\0\0\0\0\0\0\0\x91d\x92\xC6\x02\0\0\0\0\0\0\0\0\0\0\0#9\xC6m\x03\0\0\0\0\0\0\0\0\0\0\0\xAA\xFEL\x8E\x04\0\0\0\0\0\0\0\0\0\0\0\xE8\xC3gg\x05\0\0\0\0\0\0\0\0\0\0\0 = same
+new = 0 0 1088
+append = 0 0 1088 unchanged
+append 1 2 = 2 2 1394
+file 2 JAM\0\0\xCA\x9A;\x01\0\0\0\x02\0\0\0\xFF\xFF\xFF\xFF\x01\z\0\0\0JAM\0\x01\0\0\0:\0\0\0\0\0\0\0qc\x95\xF7\xFF\xFF\xFF\xFF\0\0\0\0\0\0\0\0\0\0\0\0\0\xCA\x9A;\0\0\0\0\0\xCA\x9A;\x01\0\0\0\x01\0\x80\0\0\0\0\0\0\0\0\0\x0B\0\0\0\xFF\xFF\xFF\xFF\0\0\0\0\x02\0\0\0\x07\0\0\0Bob Ray\x03\0\0\0\x03\0\0\0All\x04\0\0\0\x0B\0\0\00.1.TESTBBS\x06\0\0\0\x05\0\0\0HelloJAM\0\x01\0\0\0:\0\0\0\0\0\0\0\xB4_\x18\xCE\xFF\xFF\xFF\xFF\0\0\0\0\0\0\0\0\0\0\0\0\0\xCA\x9A;\0\0\0\0\0\xCA\x9A;\x02\0\0\0\x01\0\x80\0\0\0\0\0\x0B\0\0\0\x0B\0\0\0\xFF\xFF\xFF\xFF\0\0\0\0\x02\0\0\0\x07\0\0\0Bob Ray\x03\0\0\0\x03\0\0\0All\x04\0\0\0\x0B\0\0\00.2.TESTBBS\x06\0\0\0\x05\0\0\0Hello = same
+file 3 First line\rFirst line\r = same
+file 4 "\x8E\xE7\xC4\0\x04\0\0"\x8E\xE7\xC4\x86\x04\0\0 = same
+file 5 \x99W\x03\x9F\x01\0\0\0\0\0\0\0\0\0\0\0\x91d\x92\xC6\x02\0\0\0\0\0\0\0\0\0\0\0#9\xC6m\x03\0\0\0\0\0\0\0\0\0\0\0\xAA\xFEL\x8E\x04\0\0\0\0\0\0\0\0\0\0\0 = same
+point 2 2 = 2 2 1394
+pointer 2 = Some(2)
+pointer 1 = Some(0)
+file 5 \x99W\x03\x9F\x01\0\0\0\0\0\0\0\0\0\0\0\x91d\x92\xC6\x02\0\0\0\x02\0\0\0\x02\0\0\0#9\xC6m\x03\0\0\0\0\0\0\0\0\0\0\0\xAA\xFEL\x8E\x04\0\0\0\0\0\0\0\0\0\0\0 = same
+new = 0 0 1088
+append 1 = 1 1 1241
+append 2<1 3<1 4<1 = 4 4 1757
+reply 0 = 0
+reply 1 = 0
+reply 2 = 1
+reply 3 = 1
+reply 4 = 1
+reply 5 = 0
+file 2 JAM\0\0\xCA\x9A;\x02\0\0\0\x04\0\0\0\xFF\xFF\xFF\xFF\x01\z\0\0\0JAM\0\x01\0\0\0:\0\0\0\0\0\0\0qc\x95\xF7\xFF\xFF\xFF\xFF\0\0\0\0\x02\0\0\0\0\0\0\0\0\xCA\x9A;\0\0\0\0\0\xCA\x9A;\x01\0\0\0\x01\0\x80\0\0\0\0\0\0\0\0\0\x0B\0\0\0\xFF\xFF\xFF\xFF\0\0\0\0\x02\0\0\0\x07\0\0\0Bob Ray\x03\0\0\0\x03\0\0\0All\x04\0\0\0\x0B\0\0\00.1.TESTBBS\x06\0\0\0\x05\0\0\0HelloJAM\0\x01\0\0\0M\0\0\0\0\0\0\0\xB4_\x18\xCEqc\x95\xF7\x01\0\0\0\0\0\0\0\x03\0\0\0\0\xCA\x9A;\0\0\0\0\0\xCA\x9A;\x02\0\0\0\x01\0\x80\0\0\0\0\0\x0B\0\0\0\x0B\0\0\0\xFF\xFF\xFF\xFF\0\0\0\0\x02\0\0\0\x07\0\0\0Bob Ray\x03\0\0\0\x03\0\0\0All\x04\0\0\0\x0B\0\0\00.2.TESTBBS\x05\0\0\0\x0B\0\0\00.1.TESTBBS\x06\0\0\0\x05\0\0\0HelloJAM\0\x01\0\0\0M\0\0\0\0\0\0\0\xF7Kc\xD9qc\x95\xF7\x01\0\0\0\0\0\0\0\x04\0\0\0\0\xCA\x9A;\0\0\0\0\0\xCA\x9A;\x03\0\0\0\x01\0\x80\0\0\0\0\0\x16\0\0\0\x0B\0\0\0\xFF\xFF\xFF\xFF\0\0\0\0\x02\0\0\0\x07\0\0\0Bob Ray\x03\0\0\0\x03\0\0\0All\x04\0\0\0\x0B\0\0\00.3.TESTBBS\x05\0\0\0\x0B\0\0\00.1.TESTBBS\x06\0\0\0\x05\0\0\0HelloJAM\0\x01\0\0\0M\0\0\0\0\0\0\0>&\x02\xBDqc\x95\xF7\x01\0\0\0\0\0\0\0\0\0\0\0\0\xCA\x9A;\0\0\0\0\0\xCA\x9A;\x04\0\0\0\x01\0\x80\0\0\0\0\0!\0\0\0\x0B\0\0\0\xFF\xFF\xFF\xFF\0\0\0\0\x02\0\0\0\x07\0\0\0Bob Ray\x03\0\0\0\x03\0\0\0All\x04\0\0\0\x0B\0\0\00.4.TESTBBS\x05\0\0\0\x0B\0\0\00.1.TESTBBS\x06\0\0\0\x05\0\0\0Hello = same
+file 3 First line\rFirst line\rFirst line\rFirst line\r = same
+file 4 "\x8E\xE7\xC4\0\x04\0\0"\x8E\xE7\xC4\x86\x04\0\0"\x8E\xE7\xC4\x1F\x05\0\0"\x8E\xE7\xC4\xB8\x05\0\0 = same
+file 5 \x99W\x03\x9F\x01\0\0\0\0\0\0\0\0\0\0\0\x91d\x92\xC6\x02\0\0\0\0\0\0\0\0\0\0\0#9\xC6m\x03\0\0\0\0\0\0\0\0\0\0\0\xAA\xFEL\x8E\x04\0\0\0\0\0\0\0\0\0\0\0 = same
+receive 0 4 Bob Ray = 4 4 1757 unchanged
+kill 3 = 4 3 1757
+file 2 JAM\0\0\xCA\x9A;\x03\0\0\0\x03\0\0\0\xFF\xFF\xFF\xFF\x01\z\0\0\0JAM\0\x01\0\0\0:\0\0\0\0\0\0\0qc\x95\xF7\xFF\xFF\xFF\xFF\0\0\0\0\x02\0\0\0\0\0\0\0\0\xCA\x9A;\0\0\0\0\0\xCA\x9A;\x01\0\0\0\x01\0\x80\0\0\0\0\0\0\0\0\0\x0B\0\0\0\xFF\xFF\xFF\xFF\0\0\0\0\x02\0\0\0\x07\0\0\0Bob Ray\x03\0\0\0\x03\0\0\0All\x04\0\0\0\x0B\0\0\00.1.TESTBBS\x06\0\0\0\x05\0\0\0HelloJAM\0\x01\0\0\0M\0\0\0\0\0\0\0\xB4_\x18\xCEqc\x95\xF7\x01\0\0\0\0\0\0\0\x03\0\0\0\0\xCA\x9A;\0\0\0\0\0\xCA\x9A;\x02\0\0\0\x01\0\x80\0\0\0\0\0\x0B\0\0\0\x0B\0\0\0\xFF\xFF\xFF\xFF\0\0\0\0\x02\0\0\0\x07\0\0\0Bob Ray\x03\0\0\0\x03\0\0\0All\x04\0\0\0\x0B\0\0\00.2.TESTBBS\x05\0\0\0\x0B\0\0\00.1.TESTBBS\x06\0\0\0\x05\0\0\0HelloJAM\0\x01\0\0\0M\0\0\0\0\0\0\0\xF7Kc\xD9qc\x95\xF7\x01\0\0\0\0\0\0\0\x04\0\0\0\0\xCA\x9A;\0\0\0\0\0\xCA\x9A;\x03\0\0\0\x01\0\x80\x80\0\0\0\0\x16\0\0\0\x0B\0\0\0\xFF\xFF\xFF\xFF\0\0\0\0\x02\0\0\0\x07\0\0\0Bob Ray\x03\0\0\0\x03\0\0\0All\x04\0\0\0\x0B\0\0\00.3.TESTBBS\x05\0\0\0\x0B\0\0\00.1.TESTBBS\x06\0\0\0\x05\0\0\0HelloJAM\0\x01\0\0\0M\0\0\0\0\0\0\0>&\x02\xBDqc\x95\xF7\x01\0\0\0\0\0\0\0\0\0\0\0\0\xCA\x9A;\0\0\0\0\0\xCA\x9A;\x04\0\0\0\x01\0\x80\0\0\0\0\0!\0\0\0\x0B\0\0\0\xFF\xFF\xFF\xFF\0\0\0\0\x02\0\0\0\x07\0\0\0Bob Ray\x03\0\0\0\x03\0\0\0All\x04\0\0\0\x0B\0\0\00.4.TESTBBS\x05\0\0\0\x0B\0\0\00.1.TESTBBS\x06\0\0\0\x05\0\0\0Hello = same
+kill 0 = NoMessage
+kill 3 = NoMessage
+kill 5 = NoMessage
+read = 4 3 1757
+reply 0 = 0
+reply 1 = 0
+reply 2 = 1
+reply 3 = 1
+reply 4 = 1
+reply 5 = 0
+pointer 4 = Some(0)
+pointer 5 = None
+message 3 = "Bob Ray" "All" "Hello" "0.3.TESTBBS" "0.1.TESTBBS" "" "" "First line\r" 1000000000 0 1000000000 true false false true
+new = 0 0 1088
+append 1 = 1 1 1241
+append 2<1 3<1 4<1 = 4 4 1757
+receive 1 3 aLL = 4 4 1757
+message 1 = "Bob Ray" "All" "Hello" "0.1.TESTBBS" "" "" "" "First line\r" 1000000000 0 1000000000 true false false false
+message 2 = "Bob Ray" "All" "Hello" "0.2.TESTBBS" "0.1.TESTBBS" "" "" "First line\r" 1000000000 1000000100 1000000000 true false true false
+message 3 = "Bob Ray" "All" "Hello" "0.3.TESTBBS" "0.1.TESTBBS" "" "" "First line\r" 1000000000 1000000100 1000000000 true false true false
+message 4 = "Bob Ray" "All" "Hello" "0.4.TESTBBS" "0.1.TESTBBS" "" "" "First line\r" 1000000000 0 1000000000 true false false false
+file 2 JAM\0\0\xCA\x9A;\x03\0\0\0\x04\0\0\0\xFF\xFF\xFF\xFF\x01\z\0\0\0JAM\0\x01\0\0\0:\0\0\0\0\0\0\0qc\x95\xF7\xFF\xFF\xFF\xFF\0\0\0\0\x02\0\0\0\0\0\0\0\0\xCA\x9A;\0\0\0\0\0\xCA\x9A;\x01\0\0\0\x01\0\x80\0\0\0\0\0\0\0\0\0\x0B\0\0\0\xFF\xFF\xFF\xFF\0\0\0\0\x02\0\0\0\x07\0\0\0Bob Ray\x03\0\0\0\x03\0\0\0All\x04\0\0\0\x0B\0\0\00.1.TESTBBS\x06\0\0\0\x05\0\0\0HelloJAM\0\x01\0\0\0M\0\0\0\0\0\0\0\xB4_\x18\xCEqc\x95\xF7\x01\0\0\0\0\0\0\0\x03\0\0\0\0\xCA\x9A;d\xCA\x9A;\0\xCA\x9A;\x02\0\0\0\x09\0\x80\0\0\0\0\0\x0B\0\0\0\x0B\0\0\0\xFF\xFF\xFF\xFF\0\0\0\0\x02\0\0\0\x07\0\0\0Bob Ray\x03\0\0\0\x03\0\0\0All\x04\0\0\0\x0B\0\0\00.2.TESTBBS\x05\0\0\0\x0B\0\0\00.1.TESTBBS\x06\0\0\0\x05\0\0\0HelloJAM\0\x01\0\0\0M\0\0\0\0\0\0\0\xF7Kc\xD9qc\x95\xF7\x01\0\0\0\0\0\0\0\x04\0\0\0\0\xCA\x9A;d\xCA\x9A;\0\xCA\x9A;\x03\0\0\0\x09\0\x80\0\0\0\0\0\x16\0\0\0\x0B\0\0\0\xFF\xFF\xFF\xFF\0\0\0\0\x02\0\0\0\x07\0\0\0Bob Ray\x03\0\0\0\x03\0\0\0All\x04\0\0\0\x0B\0\0\00.3.TESTBBS\x05\0\0\0\x0B\0\0\00.1.TESTBBS\x06\0\0\0\x05\0\0\0HelloJAM\0\x01\0\0\0M\0\0\0\0\0\0\0>&\x02\xBDqc\x95\xF7\x01\0\0\0\0\0\0\0\0\0\0\0\0\xCA\x9A;\0\0\0\0\0\xCA\x9A;\x04\0\0\0\x01\0\x80\0\0\0\0\0!\0\0\0\x0B\0\0\0\xFF\xFF\xFF\xFF\0\0\0\0\x02\0\0\0\x07\0\0\0Bob Ray\x03\0\0\0\x03\0\0\0All\x04\0\0\0\x0B\0\0\00.4.TESTBBS\x05\0\0\0\x0B\0\0\00.1.TESTBBS\x06\0\0\0\x05\0\0\0Hello = same
+receive 0 4 All = 4 4 1757
+file 2 JAM\0\0\xCA\x9A;\x04\0\0\0\x04\0\0\0\xFF\xFF\xFF\xFF\x01\z\0\0\0JAM\0\x01\0\0\0:\0\0\0\0\0\0\0qc\x95\xF7\xFF\xFF\xFF\xFF\0\0\0\0\x02\0\0\0\0\0\0\0\0\xCA\x9A;d\xCA\x9A;\0\xCA\x9A;\x01\0\0\0\x09\0\x80\0\0\0\0\0\0\0\0\0\x0B\0\0\0\xFF\xFF\xFF\xFF\0\0\0\0\x02\0\0\0\x07\0\0\0Bob Ray\x03\0\0\0\x03\0\0\0All\x04\0\0\0\x0B\0\0\00.1.TESTBBS\x06\0\0\0\x05\0\0\0HelloJAM\0\x01\0\0\0M\0\0\0\0\0\0\0\xB4_\x18\xCEqc\x95\xF7\x01\0\0\0\0\0\0\0\x03\0\0\0\0\xCA\x9A;d\xCA\x9A;\0\xCA\x9A;\x02\0\0\0\x09\0\x80\0\0\0\0\0\x0B\0\0\0\x0B\0\0\0\xFF\xFF\xFF\xFF\0\0\0\0\x02\0\0\0\x07\0\0\0Bob Ray\x03\0\0\0\x03\0\0\0All\x04\0\0\0\x0B\0\0\00.2.TESTBBS\x05\0\0\0\x0B\0\0\00.1.TESTBBS\x06\0\0\0\x05\0\0\0HelloJAM\0\x01\0\0\0M\0\0\0\0\0\0\0\xF7Kc\xD9qc\x95\xF7\x01\0\0\0\0\0\0\0\x04\0\0\0\0\xCA\x9A;d\xCA\x9A;\0\xCA\x9A;\x03\0\0\0\x09\0\x80\0\0\0\0\0\x16\0\0\0\x0B\0\0\0\xFF\xFF\xFF\xFF\0\0\0\0\x02\0\0\0\x07\0\0\0Bob Ray\x03\0\0\0\x03\0\0\0All\x04\0\0\0\x0B\0\0\00.3.TESTBBS\x05\0\0\0\x0B\0\0\00.1.TESTBBS\x06\0\0\0\x05\0\0\0HelloJAM\0\x01\0\0\0M\0\0\0\0\0\0\0>&\x02\xBDqc\x95\xF7\x01\0\0\0\0\0\0\0\0\0\0\0\0\xCA\x9A;d\xCA\x9A;\0\xCA\x9A;\x04\0\0\0\x09\0\x80\0\0\0\0\0!\0\0\0\x0B\0\0\0\xFF\xFF\xFF\xFF\0\0\0\0\x02\0\0\0\x07\0\0\0Bob Ray\x03\0\0\0\x03\0\0\0All\x04\0\0\0\x0B\0\0\00.4.TESTBBS\x05\0\0\0\x0B\0\0\00.1.TESTBBS\x06\0\0\0\x05\0\0\0Hello = same
+receive 0 4 All = 4 4 1757 unchanged
+new = 0 0 1088
+append 1 = 1 1 1241
+append 2<1 3<1 4<1 = 4 4 1757
+acknowledge 2 2 All = 4 4 1757
+message 1 = "Bob Ray" "All" "Hello" "0.1.TESTBBS" "" "" "" "First line\r" 1000000000 1000000100 1000000000 true false true false
+message 2 = "Bob Ray" "All" "Hello" "0.2.TESTBBS" "0.1.TESTBBS" "" "" "First line\r" 1000000000 1000000100 1000000000 true false true false
+message 3 = "Bob Ray" "All" "Hello" "0.3.TESTBBS" "0.1.TESTBBS" "" "" "First line\r" 1000000000 0 1000000000 true false false false
+file 2 JAM\0\0\xCA\x9A;\x03\0\0\0\x04\0\0\0\xFF\xFF\xFF\xFF\x01\z\0\0\0JAM\0\x01\0\0\0:\0\0\0\0\0\0\0qc\x95\xF7\xFF\xFF\xFF\xFF\0\0\0\0\x02\0\0\0\0\0\0\0\0\xCA\x9A;d\xCA\x9A;\0\xCA\x9A;\x01\0\0\0\x09\0\x80\0\0\0\0\0\0\0\0\0\x0B\0\0\0\xFF\xFF\xFF\xFF\0\0\0\0\x02\0\0\0\x07\0\0\0Bob Ray\x03\0\0\0\x03\0\0\0All\x04\0\0\0\x0B\0\0\00.1.TESTBBS\x06\0\0\0\x05\0\0\0HelloJAM\0\x01\0\0\0M\0\0\0\0\0\0\0\xB4_\x18\xCEqc\x95\xF7\x01\0\0\0\0\0\0\0\x03\0\0\0\0\xCA\x9A;d\xCA\x9A;\0\xCA\x9A;\x02\0\0\0\x09\0\x80\0\0\0\0\0\x0B\0\0\0\x0B\0\0\0\xFF\xFF\xFF\xFF\0\0\0\0\x02\0\0\0\x07\0\0\0Bob Ray\x03\0\0\0\x03\0\0\0All\x04\0\0\0\x0B\0\0\00.2.TESTBBS\x05\0\0\0\x0B\0\0\00.1.TESTBBS\x06\0\0\0\x05\0\0\0HelloJAM\0\x01\0\0\0M\0\0\0\0\0\0\0\xF7Kc\xD9qc\x95\xF7\x01\0\0\0\0\0\0\0\x04\0\0\0\0\xCA\x9A;\0\0\0\0\0\xCA\x9A;\x03\0\0\0\x01\0\x80\0\0\0\0\0\x16\0\0\0\x0B\0\0\0\xFF\xFF\xFF\xFF\0\0\0\0\x02\0\0\0\x07\0\0\0Bob Ray\x03\0\0\0\x03\0\0\0All\x04\0\0\0\x0B\0\0\00.3.TESTBBS\x05\0\0\0\x0B\0\0\00.1.TESTBBS\x06\0\0\0\x05\0\0\0HelloJAM\0\x01\0\0\0M\0\0\0\0\0\0\0>&\x02\xBDqc\x95\xF7\x01\0\0\0\0\0\0\0\0\0\0\0\0\xCA\x9A;\0\0\0\0\0\xCA\x9A;\x04\0\0\0\x01\0\x80\0\0\0\0\0!\0\0\0\x0B\0\0\0\xFF\xFF\xFF\xFF\0\0\0\0\x02\0\0\0\x07\0\0\0Bob Ray\x03\0\0\0\x03\0\0\0All\x04\0\0\0\x0B\0\0\00.4.TESTBBS\x05\0\0\0\x0B\0\0\00.1.TESTBBS\x06\0\0\0\x05\0\0\0Hello = same
+file 5 \x99W\x03\x9F\x01\0\0\0\0\0\0\0\0\0\0\0\x91d\x92\xC6\x02\0\0\0\x02\0\0\0\x02\0\0\0#9\xC6m\x03\0\0\0\0\0\0\0\0\0\0\0\xAA\xFEL\x8E\x04\0\0\0\0\0\0\0\0\0\0\0 = same
+"#;
+
+/// What a message costs in place, and a conference that is full.
+const FULL: &str = r#"
+new = 0 0 1088
+fill 1000 = 1000 1000 154088
+append 1001 = 1001 1001 154244
+cost 1112 = true
+new = 0 0 1088
+fill 9999 = 9999 9999 1530935
+append 1 = Slots(10000)
+"#;
+
 /// The moment at which each message was written.
 const NOW: u32 = 1_000_000_000;
-
-/// The second header of two messages of which neither answers the other.
-const SECOND: [u8; 134] =
-    *b"JAM\0\x01\0\0\0:\0\0\0\0\0\0\0\xB4_\x18\xCE\xFF\xFF\xFF\xFF\0\0\0\0\0\0\0\0\0\0\0\0\0\xCA\x9A;\0\0\0\0\0\xCA\x9A;\x02\0\0\0\x01\0\x80\0\0\0\0\0\x0B\0\0\0\x0B\0\0\0\xFF\xFF\xFF\xFF\0\0\0\0\x02\0\0\0\x07\0\0\0Bob Ray\x03\0\0\0\x03\0\0\0All\x04\0\0\0\x0B\0\0\00.2.TESTBBS\x06\0\0\0\x05\0\0\0Hello";
 
 /// A text of these bytes.
 fn text(alloc: Global, bytes: &[u8]) -> Result<Bytes, AllocError>
@@ -55,274 +139,146 @@ fn hello(alloc: Global, msgid: &[u8], replyid: &[u8]) -> Result<Message, AllocEr
     })
 }
 
-/// The message of example `import-two` and `reply-chain`.
+/// The id of the message of a number.
 #[tactic(auto, unfolding(jam_layout::specs::Fields::is_text))]
-fn original(alloc: Global) -> Result<Messages, AllocError>
-    ensures { IfOk result (All (IsMessage Kind.Local)) }
+fn id_of(number: &str) -> &'static [u8]
+    ensures { IsTrue (is_text 80 result.now) }
 {
-    let mut messages = Messages::new(alloc);
-    messages.add(hello(alloc, b"0.1.TESTBBS", b"")?)?;
-    Ok(messages)
-}
-
-/// The two messages of example `import-two`.
-#[tactic(auto, unfolding(jam_layout::specs::Fields::is_text))]
-fn two(alloc: Global) -> Result<Messages, AllocError>
-    ensures { IfOk result (All (IsMessage Kind.Local)) }
-{
-    let mut messages = Messages::new(alloc);
-    messages.add(hello(alloc, b"0.1.TESTBBS", b"")?)?;
-    messages.add(hello(alloc, b"0.2.TESTBBS", b"")?)?;
-    Ok(messages)
-}
-
-/// The three answers of example `reply-chain`.
-#[tactic(auto, unfolding(jam_layout::specs::Fields::is_text))]
-fn answers(alloc: Global) -> Result<Messages, AllocError>
-    ensures { IfOk result (All (IsMessage Kind.Local)) }
-{
-    let mut messages = Messages::new(alloc);
-    messages.add(hello(alloc, b"0.2.TESTBBS", b"0.1.TESTBBS")?)?;
-    messages.add(hello(alloc, b"0.3.TESTBBS", b"0.1.TESTBBS")?)?;
-    messages.add(hello(alloc, b"0.4.TESTBBS", b"0.1.TESTBBS")?)?;
-    Ok(messages)
-}
-
-/// As many messages as a conference has slots.
-#[tactic(auto, unfolding(jam_layout::specs::Fields::is_text))]
-fn many(alloc: Global) -> Result<Messages, AllocError>
-    ensures { IfOk result (All (IsMessage Kind.Local)) }
-{
-    let message = hello(alloc, b"0.1.TESTBBS", b"")?;
-    let mut messages = Messages::new(alloc);
-    messages.fill(alloc, &message, 9999)?;
-    Ok(messages)
-}
-
-/// A base of four readers and no messages.
-fn empty(alloc: Global) -> Result<Base, AllocError>
-    ensures { IfOk result (λ base. base.shape.kind ≡ Kind.Local) }
-{
-    let shape = general(alloc)?;
-    Ok(Base::fresh(alloc, &shape)?.base)
-}
-
-/// The change by which messages are appended.
-fn append(alloc: Global, base: &Base, messages: &Messages) -> Result<BaseChange, AppendRefusal>
-    requires kind { base.now.shape.kind ≡ Kind.Local }
-    requires messages { All (IsMessage Kind.Local) messages.now }
-    ensures { IfOk result (λ change. change.base.shape.kind ≡ Kind.Local) }
-{
-    base.appended(alloc, messages)
-}
-
-/// The change by which the answers are appended, after that of the message.
-fn chain(alloc: Global) -> Result<BaseChange, AppendRefusal> {
-    let first = append(alloc, &empty(alloc)?, &original(alloc)?)?;
-    append(alloc, &first.base, &answers(alloc)?)
-}
-
-/// The change by which the two messages are appended.
-fn import(alloc: Global) -> Result<BaseChange, AppendRefusal> {
-    append(alloc, &empty(alloc)?, &two(alloc)?)
-}
-
-/// The change by which so many messages as there can be are appended, and what comes of one more.
-fn full(alloc: Global) -> Result<(BaseChange, Option<AppendRefusal>), AppendRefusal> {
-    let change = append(alloc, &empty(alloc)?, &many(alloc)?)?;
-    let more = append(alloc, &change.base, &original(alloc)?);
-    Ok((change, more.err()))
-}
-
-/// The change by which no message is appended.
-fn nothing(alloc: Global) -> Result<BaseChange, AppendRefusal> {
-    append(alloc, &empty(alloc)?, &Messages::new(alloc))
-}
-
-/// The file numbers and the bytes of patches.
-fn wanted(patches: &[Patch], files: &[(u16, &[u8])]) -> bool {
-    if patches.len() != files.len() {
-        return false;
+    match number {
+        "1" => b"0.1.TESTBBS",
+        "2" => b"0.2.TESTBBS",
+        "3" => b"0.3.TESTBBS",
+        "4" => b"0.4.TESTBBS",
+        _ => b"0.1001.TESTBBS",
     }
-    for (patch, file) in patches.iter().zip(files) {
-        let (number, bytes) = parts(patch);
-        if number != file.0 || bytes != file.1 {
-            return false;
+}
+
+/// The message of a number, which answers another one or none.
+fn message_of(alloc: Global, word: &str) -> Result<Message, AllocError>
+    ensures { IfOk result (λ message. IsMessage Kind.Local message) }
+{
+    match word.split_once('<') {
+        Some((number, answered)) => hello(alloc, id_of(number), id_of(answered)),
+        None => hello(alloc, id_of(word), b""),
+    }
+}
+
+/// The messages of these numbers.
+fn messages_of(alloc: Global, words: &str) -> Result<Messages, AllocError>
+    ensures { IfOk result (All (IsMessage Kind.Local)) }
+{
+    let mut messages = Messages::new(alloc);
+    for word in words.split_ascii_whitespace() {
+        messages.add(message_of(alloc, word)?)?;
+    }
+    Ok(messages)
+}
+
+/// So many copies of the first message.
+fn copies(alloc: Global, count: usize) -> Result<Messages, AllocError>
+    requires { count ≤ 9999 }
+    ensures { IfOk result (All (IsMessage Kind.Local)) }
+{
+    let message = message_of(alloc, "1")?;
+    let mut messages = Messages::new(alloc);
+    messages.fill(alloc, &message, count)?;
+    Ok(messages)
+}
+
+/// Whether a reader and the message of a number are there, in short files.
+fn has(base: &Base, user: u32, number: u32) -> bool
+    ensures reader { IsTrue result → IsSome (reader_place user base.now.shape.readers) }
+    ensures within { IsTrue result → number ≤ length base.now.conference.slots }
+    ensures small { IsTrue result → files_size (layout base.now.shape base.now.conference) < 2 ^ 31 }
+{
+    base.pointer(user).is_some() && number <= base.slot_count() && base.size() < 1 << 31
+}
+
+impl Stage {
+    fn append(&mut self, alloc: Global, words: &str) -> Result<String, Fail> {
+        let messages = messages_of(alloc, words)?;
+        self.extend(alloc, &messages)
+    }
+
+    fn fill(&mut self, alloc: Global, count: &str) -> Result<String, Fail> {
+        let count = number_of(count)? as usize;
+        let messages = copies(alloc, count.min(9999))?;
+        self.extend(alloc, &messages)
+    }
+
+    fn kill(&mut self, alloc: Global, number: &str) -> Result<String, Fail> {
+        match self.base.killed(alloc, number_of(number)?) {
+            Ok(change) => self.make(alloc, change),
+            Err(error) => Ok(format!(in alloc; "{error:?}")?),
         }
     }
-    true
-}
 
-/// The bytes of these parts.
-fn joined(alloc: Global, pieces: &[&[u8]]) -> Result<Bytes, AllocError> {
-    let mut bytes = Bytes::new(alloc);
-    for piece in pieces {
-        bytes.add(piece)?;
+    /// `receive ABOVE UPTO NAME`, a hundred seconds after the messages were written.
+    fn receive(&mut self, alloc: Global, words: &str) -> Result<String, Fail> {
+        let (above, words) = parted(words)?;
+        let (upto, name) = parted(words)?;
+        let (above, upto) = (number_of(above)?, number_of(upto)?);
+        let name = name.as_bytes();
+        let change = self.base.received(alloc, name, above, upto, NOW + 100)?;
+        self.make(alloc, change)
     }
-    Ok(bytes)
-}
 
-#[test]
-fn two_messages_are_appended(rt: HostRuntime) -> Result<(), Fail> {
-    let change = import(rt.alloc())?;
-    assert_eq!(rt; counts(&change.base), (2, 2, 1292 + 22 + 16 + 64));
-    let head = *b"JAM\0\0\xCA\x9A;\x01\0\0\0\x02\0\0\0\xFF\xFF\xFF\xFF\x01\0\0\0";
-    let mut first = ORIGINAL;
-    // Nobody answers the first.
-    first[28] = 0;
-    let jhr = joined(rt.alloc(), &[&head, &[0; 1000], &first, &SECOND])?;
-    let files: [(u16, &[u8]); 3] = [(2, jhr.as_slice()), (3, &JDT), (4, &JDX[..16])];
-    assert!(rt; wanted(change.patches.as_slice(), &files));
-    Ok(())
-}
-
-/// The bytes of the patch in a place.
-fn bytes_of(change: &BaseChange, place: usize) -> &[u8] {
-    match change.patches.get(place) {
-        Some(patch) => parts(patch).1,
-        None => &[],
+    /// `point USER NUMBER`, or `acknowledge USER NUMBER NAME` at the same moment.
+    fn point(&mut self, alloc: Global, words: &str) -> Result<String, Fail> {
+        let (user, words) = parted(words)?;
+        let (number, name) = words.split_once(' ').unwrap_or((words, ""));
+        let (user, number) = (number_of(user)?, number_of(number)?);
+        if !has(&self.base, user, number) {
+            return Err(Fail::from("no reader or no message"));
+        }
+        let change = pointed(alloc, &self.base, user, number, name.as_bytes())?;
+        self.make(alloc, change)
     }
 }
 
-/// The numbers of the messages that five messages answer, from number 1.
-fn originals(base: &Base) -> [u32; 5] {
-    [1, 2, 3, 4, 5].map(|number| answered(base, number))
-}
-
-#[test]
-fn a_chain_of_answers_is_appended(rt: HostRuntime) -> Result<(), Fail> {
-    let change = chain(rt.alloc())?;
-    assert_eq!(rt; originals(&change.base), [0, 1, 1, 1, 0]);
-    let jdt = joined(rt.alloc(), &[&JDT, &JDT])?;
-    assert_eq!(rt; bytes_of(&change, 1), jdt.as_slice());
-    assert_eq!(rt; bytes_of(&change, 2), JDX.as_slice());
-    Ok(())
-}
-
-/// The change by which a message is killed.
-fn kill(alloc: Global, base: &Base, number: u32) -> Result<BaseChange, KillRefusal> {
-    base.killed(alloc, number)
-}
-
-/// The .JHR of the chain, in which the second answer is deleted.
-fn jhr_of_chain(alloc: Global) -> Result<Bytes, AllocError> {
-    let head = joined(alloc, &[&BASE, &[0; 1000]])?;
-    joined(
-        alloc,
-        &[
-            head.as_slice(),
-            &ORIGINAL,
-            &FIRST_ANSWER,
-            &SECOND_ANSWER,
-            &THIRD_ANSWER,
-        ],
-    )
-}
-
-#[test]
-fn an_answer_is_killed(rt: HostRuntime) -> Result<(), Fail> {
-    let chain = chain(rt.alloc())?;
-    let change = kill(rt.alloc(), &chain.base, 3)?;
-    let jhr = jhr_of_chain(rt.alloc())?;
-    assert!(rt; wanted(change.patches.as_slice(), &[(2, jhr.as_slice())]));
-    for number in [0, 3, 5] {
-        let again = kill(rt.alloc(), &change.base, number);
-        assert_eq!(rt; again.err(), Some(KillRefusal::NoMessage));
-    }
-    Ok(())
-}
-
-#[test]
-fn slots_are_full(rt: HostRuntime) -> Result<(), Fail> {
-    let (change, more) = full(rt.alloc())?;
-    assert_eq!(rt; change.base.slot_count(), 9999);
-    assert_eq!(rt; more, Some(AppendRefusal::Slots(10_000)));
-    Ok(())
-}
-
-#[test]
-fn no_message_is_no_change(rt: HostRuntime) -> Result<(), Fail> {
-    let change = nothing(rt.alloc())?;
-    assert_eq!(rt; (change.base.slot_count(), change.patches.len()), (0, 0));
-    Ok(())
-}
-
-/// The change by which messages to a name between two numbers are received.
-fn receive(
+/// The change by which a reader has read up to a number, or by which a reader of this name has acknowledged that.
+fn pointed(
     alloc: Global,
     base: &Base,
+    user: u32,
+    number: u32,
     name: &[u8],
-    above: u32,
-    upto: u32,
-) -> Result<BaseChange, AllocError> {
-    base.received(alloc, name, above, upto, NOW + 100)
-}
-
-/// Whether a message is read, and when it was received.
-fn received(base: &Base, number: u32) -> Option<(bool, u32)> {
-    let message = message(base, number)?;
-    Some((message.seen, message.received))
-}
-
-#[test]
-fn messages_to_a_name_are_received(rt: HostRuntime) -> Result<(), Fail> {
-    let chain = chain(rt.alloc())?;
-    let change = receive(rt.alloc(), &chain.base, b"aLL", 1, 3)?;
-    let unread = Some((false, 0));
-    let read = Some((true, NOW + 100));
-    for (number, wanted) in [(1, unread), (2, read), (3, read), (4, unread)] {
-        assert_eq!(rt; received(&change.base, number), wanted);
+) -> Result<BaseChange, AllocError>
+    requires reader { IsSome (reader_place user base.now.shape.readers) }
+    requires within { number ≤ length base.now.conference.slots }
+    requires small { files_size (layout base.now.shape base.now.conference) < 2 ^ 31 }
+    ensures { IfOk result (λ change. change.base.shape.kind ≡ base.now.shape.kind) }
+{
+    if name.is_empty() {
+        return base.pointed(alloc, user, number);
     }
-    let jhr = bytes_of(&change, 0);
-    // Three changes, and the mark and the moment of the second message.
-    assert_eq!(rt;
-        (jhr.get(8), jhr.get(1210), jhr.get(1198)),
-        (Some(&3), Some(&9), Some(&100))
-    );
-    Ok(())
+    base.acknowledged(alloc, user, name, number, NOW + 100)
 }
 
-#[test]
-fn messages_are_received_once(rt: HostRuntime) -> Result<(), Fail> {
-    let chain = chain(rt.alloc())?;
-    let change = receive(rt.alloc(), &chain.base, b"All", 0, 4)?;
-    let again = receive(rt.alloc(), &change.base, b"All", 0, 4)?;
-    let sender = receive(rt.alloc(), &chain.base, b"Bob Ray", 0, 4)?;
-    assert_eq!(rt;
-        (
-            change.patches.len(),
-            again.patches.len(),
-            sender.patches.len()
-        ),
-        (1, 0, 0)
-    );
-    Ok(())
-}
-
-/// The change by which the second reader has read two messages, where both are there.
-fn point(alloc: Global, base: &Base) -> Result<Option<BaseChange>, AllocError> {
-    if base.pointer(2).is_none() || base.slot_count() < 2 {
-        return Ok(None);
+impl Subject for Stage {
+    fn found(&mut self, alloc: Global, asked: &str) -> Result<String, Fail> {
+        let (verb, words) = asked.split_once(' ').unwrap_or((asked, ""));
+        match verb {
+            "append" => self.append(alloc, words),
+            "fill" => self.fill(alloc, words),
+            "kill" => self.kill(alloc, words),
+            "receive" => self.receive(alloc, words),
+            "point" | "acknowledge" => self.point(alloc, words),
+            "file" => self.compare(alloc, words),
+            _ => self.look(alloc, verb, words),
+        }
     }
-    Ok(Some(base.pointed(alloc, 2, 2)?))
-}
-
-/// The same, after an import of two messages.
-fn pointed(alloc: Global) -> Result<Option<BaseChange>, AppendRefusal> {
-    let base = import(alloc)?.base;
-    Ok(point(alloc, &base)?)
 }
 
 #[test]
-fn a_reader_has_read_two(rt: HostRuntime) -> Result<(), Fail> {
-    let change = pointed(rt.alloc())?.ok_or("no reader")?;
-    assert_eq!(rt;
-        (pointer(&change.base, 2), pointer(&change.base, 1)),
-        (Some(2), Some(0))
-    );
-    let mut jlr = JLR;
-    jlr[24] = 2;
-    jlr[28] = 2;
-    assert!(rt; wanted(change.patches.as_slice(), &[(5, jlr.as_slice())]));
-    Ok(())
+fn bases_are_changed(rt: HostRuntime) -> Result<(), Fail> {
+    laws::one_append();
+    let mut stage = Stage::new(rt.alloc())?;
+    expect(rt.alloc(), &mut stage, TABLE)
+}
+
+#[test]
+fn bases_are_filled(rt: HostRuntime) -> Result<(), Fail> {
+    let mut stage = Stage::new(rt.alloc())?;
+    expect(rt.alloc(), &mut stage, FULL)
 }

@@ -4,15 +4,8 @@ ghost use Rattle.jam_layout.specs.Valid.{IsShape};
 
 use byte_lists::Bytes;
 use jam_layout::{BaseFiles, Reader, Readers, Shape};
-use jam_records::Kind;
+use jam_records::{Kind, Message};
 use std::alloc::{AllocError, Global};
-
-/// The bodies of two messages.
-pub const JDT: [u8; 22] = *b"First line\rFirst line\r";
-
-/// The .JLR of its four readers, who have read nothing.
-pub const JLR: [u8; 64] =
-    *b"\x99W\x03\x9F\x01\0\0\0\0\0\0\0\0\0\0\0\x91d\x92\xC6\x02\0\0\0\0\0\0\0\0\0\0\0#9\xC6m\x03\0\0\0\0\0\0\0\0\0\0\0\xAA\xFEL\x8E\x04\0\0\0\0\0\0\0\0\0\0\0";
 
 /// What the board says of it.
 pub fn general(alloc: Global) -> Result<Shape, AllocError>
@@ -37,16 +30,6 @@ pub fn general(alloc: Global) -> Result<Shape, AllocError>
     })
 }
 
-/// The .JHR of these headers behind the first 24 bytes of a base header, which 1000 zeros fill up.
-pub fn headers(alloc: Global, base: &[u8], headers: &[&[u8]]) -> Result<Bytes, AllocError> {
-    let mut jhr = Bytes::from_slice(alloc, base)?;
-    jhr.add(&[0; 1000])?;
-    for header in headers {
-        jhr.add(*header)?;
-    }
-    Ok(jhr)
-}
-
 /// Whether each file is as short as those who read it ask.
 pub fn are_short(files: &BaseFiles) -> bool
     ensures jhr { IsTrue result → length files.now.jhr < 2 ^ 31 }
@@ -57,4 +40,36 @@ pub fn are_short(files: &BaseFiles) -> bool
     let most = 1usize << 31;
     let records = files.jdx.as_slice().len() < most && files.jlr.as_slice().len() < most;
     records && files.jhr.as_slice().len() < most && files.jdt.as_slice().len() < most
+}
+
+/// The texts of a message, each in quotes and before a space.
+fn texts_of(alloc: Global, message: &Message) -> Result<String, AllocError> {
+    let texts = [
+        &message.from,
+        &message.to,
+        &message.subject,
+        &message.msgid,
+        &message.replyid,
+        &message.origin,
+        &message.destination,
+        &message.body,
+    ];
+    let mut line = String::new(alloc);
+    for text in texts {
+        let text = String::from_utf8_lossy(alloc, text.as_slice())?;
+        let quoted = format!(in alloc; "{text:?} ")?;
+        line.push_str(quoted.as_str())?;
+    }
+    Ok(line)
+}
+
+/// A message as a text: from whom and to whom it is, about what, its ids, its addresses, its body, when it was written,
+/// received and processed, and whether it is local, private, seen and deleted.
+pub fn line_of(alloc: Global, message: &Message) -> Result<String, AllocError> {
+    let texts = texts_of(alloc, message)?;
+    let (written, received) = (message.written, message.received);
+    let (local, private) = (message.local, message.private);
+    let (seen, deleted) = (message.seen, message.deleted);
+    let processed = message.processed;
+    format!(in alloc; "{texts}{written} {received} {processed} {local} {private} {seen} {deleted}")
 }

@@ -1,305 +1,208 @@
-ghost use Rattle.std.specs.Prelude.{IfOk};
+//! Conferences read of their files.
+ghost use Rattle.std.specs.Prelude.{◌<◌, IfOk};
 ghost use Rattle.jam_layout.specs.Valid.{IsShape};
 
-use super::conference::{JDT, JLR, are_short, general, headers};
+use super::conference::{are_short, general, line_of};
+use super::patched::{file_of, no_files, set};
+use super::texts::{Subject, bytes_of, expect, number_of, parted};
 use byte_lists::Bytes;
 use jam_layout::{BaseError, BaseFiles, Conference, Reader, Readers, Shape, read_conference};
-use jam_records::{Damage, DamageRule, Kind, Message, Slot};
+use jam_records::{Kind, Slot};
 use std::alloc::{AllocError, Global};
 use std::test::Fail;
 
-/// The first 24 bytes of the .JHR of a conference of two messages. 1000 zeros follow.
-const BASE: [u8; 24] = *b"JAM\0\0\xCA\x9A;\x01\0\0\0\x02\0\0\0\xFF\xFF\xFF\xFF\x01\0\0\0";
+/// The .JHR, .JDT, .JDX and .JLR of a conference of four readers and two messages.
+const TWO: [&str; 4] = [
+    r"JAM\0\0\xCA\x9A;\x01\0\0\0\x02\0\0\0\xFF\xFF\xFF\xFF\x01\z\0\0\0JAM\0\x01\0\0\0:\0\0\0\0\0\0\0qc\x95\xF7\xFF\xFF\xFF\xFF\0\0\0\0\0\0\0\0\0\0\0\0\0\xCA\x9A;\0\0\0\0\0\xCA\x9A;\x01\0\0\0\x01\0\x80\0\0\0\0\0\0\0\0\0\x0B\0\0\0\xFF\xFF\xFF\xFF\0\0\0\0\x02\0\0\0\x07\0\0\0Bob Ray\x03\0\0\0\x03\0\0\0All\x04\0\0\0\x0B\0\0\00.1.TESTBBS\x06\0\0\0\x05\0\0\0HelloJAM\0\x01\0\0\0:\0\0\0\0\0\0\0\xB4_\x18\xCE\xFF\xFF\xFF\xFF\0\0\0\0\0\0\0\0\0\0\0\0\0\xCA\x9A;\0\0\0\0\0\xCA\x9A;\x02\0\0\0\x01\0\x80\0\0\0\0\0\x0B\0\0\0\x0B\0\0\0\xFF\xFF\xFF\xFF\0\0\0\0\x02\0\0\0\x07\0\0\0Bob Ray\x03\0\0\0\x03\0\0\0All\x04\0\0\0\x0B\0\0\00.2.TESTBBS\x06\0\0\0\x05\0\0\0Hello",
+    r"First line\rFirst line\r",
+    r"\x22\x8E\xE7\xC4\0\x04\0\0\x22\x8E\xE7\xC4\x86\x04\0\0",
+    r"\x99W\x03\x9F\x01\0\0\0\0\0\0\0\0\0\0\0\x91d\x92\xC6\x02\0\0\0\0\0\0\0\0\0\0\0#9\xC6m\x03\0\0\0\0\0\0\0\0\0\0\0\xAA\xFEL\x8E\x04\0\0\0\0\0\0\0\0\0\0\0",
+];
 
-/// The headers of its messages, of 134 bytes each.
-const FIRST: [u8; 134] =
-    *b"JAM\0\x01\0\0\0:\0\0\0\0\0\0\0qc\x95\xF7\xFF\xFF\xFF\xFF\0\0\0\0\0\0\0\0\0\0\0\0\0\xCA\x9A;\0\0\0\0\0\xCA\x9A;\x01\0\0\0\x01\0\x80\0\0\0\0\0\0\0\0\0\x0B\0\0\0\xFF\xFF\xFF\xFF\0\0\0\0\x02\0\0\0\x07\0\0\0Bob Ray\x03\0\0\0\x03\0\0\0All\x04\0\0\0\x0B\0\0\00.1.TESTBBS\x06\0\0\0\x05\0\0\0Hello";
+/// Those of a netmail conference of one reader, whose first slot is gone and whose second holds a message.
+const NET: [&str; 4] = [
+    r"JAM\0\0\xCA\x9A;\x07\0\0\0\x01\0\0\0\xFF\xFF\xFF\xFF\x01\z\0\0\0JAM\0\x01\0\0\0\xAF\0\0\0\0\0\0\0\x9D\xF3\xB5\xFF\xFF\xFF\xFF\xFF\0\0\0\0\0\0\0\0\0\0\0\0\0\xAB\x90A\0\x8C\x86G<\xAB\x90A\x02\0\0\0\x0C\0\0\x02\0\0\0\0\0\0\0\0\x0A\0\0\0\xFF\xFF\xFF\xFF\0\0\0\0\0\0\0\0\x0B\0\0\02:5020/1042\x01\0\0\0\x0A\0\0\01:105/42.7\x02\0\0\0\x07\0\0\0Bob Ray\x03\0\0\0\x07\0\0\0Ann Lee\x04\0\0\0\x14\0\0\02:5020/1042 5e6f7a8b\x06\0\0\0H\0\0\0The hub moves on Sunday: poll the new address from 06:00, not the old..!",
+    r"Line one\r\r",
+    r"\xFF\xFF\xFF\xFF\xFF\xFF\xFF\xFF\x99W\x03\x9F\0\x04\0\0",
+    r"\x99W\x03\x9F\x01\0\0\0\x02\0\0\0\x02\0\0\0",
+];
 
-const SECOND: [u8; 134] =
-    *b"JAM\0\x01\0\0\0:\0\0\0\0\0\0\0\xB4_\x18\xCE\xFF\xFF\xFF\xFF\0\0\0\0\0\0\0\0\0\0\0\0\0\xCA\x9A;\0\0\0\0\0\xCA\x9A;\x02\0\0\0\x01\0\x80\0\0\0\0\0\x0B\0\0\0\x0B\0\0\0\xFF\xFF\xFF\xFF\0\0\0\0\x02\0\0\0\x07\0\0\0Bob Ray\x03\0\0\0\x03\0\0\0All\x04\0\0\0\x0B\0\0\00.2.TESTBBS\x06\0\0\0\x05\0\0\0Hello";
+/// Those of an echo conference of one reader and one message, which has no body.
+const ECHO: [&str; 4] = [
+    r"JAM\0\0\xCA\x9A;\x01\0\0\0\x01\0\0\0\xFF\xFF\xFF\xFF\x01\z\0\0\0JAM\0\x01\0\0\0-\0\0\0\0\0\0\0qc\x95\xF7\xFF\xFF\xFF\xFF\0\0\0\0\0\0\0\0\0\0\0\0\0\xAB\x90A\0\0\0\0\0\xAB\x90A\x01\0\0\0\x01\0\0\x01\0\0\0\0\0\0\0\0\0\0\0\0\xFF\xFF\xFF\xFF\0\0\0\0\x02\0\0\0\x07\0\0\0Ann Lee\x03\0\0\0\x03\0\0\0All\x04\0\0\0\x0B\0\0\00.1.TESTBBS",
+    r"",
+    r"\x22\x8E\xE7\xC4\0\x04\0\0",
+    r"\x99W\x03\x9F\x01\0\0\0\x01\0\0\0\x01\0\0\0",
+];
 
-/// Its .JDX.
-const JDX: [u8; 16] = *b"\x22\x8E\xE7\xC4\0\x04\0\0\x22\x8E\xE7\xC4\x86\x04\0\0";
+/// Conferences, of which one file may be changed: bytes in it from a place on, its length, or bytes behind it. `far` has
+/// the headers of two messages alone, in another place of the board. What is found is the change counter, how many slots
+/// and live messages there are, and the pointers; or the file, the item and the rule of the first damage. With `message`
+/// and a place from 0 it is the message there.
+const TABLE: &str = r#"
+two = 1 2 2 [0, 0, 0, 0]
+two 4 add \xFF\xFF\xFF\xFF\xFF\xFF\xFF\xFF = 1 3 2 [0, 0, 0, 0]
+net = 7 2 1 [2]
+echo = 1 1 1 [1]
+two 2 at 12 \x03 = 2 0 Active
+two 2 at 1024 \0 = 2 1 Signature
+two 2 at 1048 \x01 = 2 1 Links
+two 2 cut 1291 = 2 2 Subfields
+two 3 at 10 x = 3 1 Line
+two 3 cut 21 = 3 2 Short
+two 3 add \0 = 3 3 Rest
+two 4 cut 8 = 4 1 Missing
+two 4 cut 15 = 4 1 Short
+two 5 at 8 \x09 = 5 0 Pointer
+far 2 at 4 \x01 = 6 0 Created
+net message 0 = none
+net message 1 = "Bob Ray" "Ann Lee" "The hub moves on Sunday: poll the new address from 06:00, not the old..!" "2:5020/1042 5e6f7a8b" "" "2:5020/1042" "1:105/42.7" "Line one\r\r" 1100000000 1200000000 1100000060 false true true false
+echo message 0 = "Ann Lee" "All" "" "0.1.TESTBBS" "" "" "" "" 1100000000 0 1100000000 true false false false
+"#;
 
-/// The files of a netmail conference whose first slot is gone and whose second holds a message. 1000 zeros
-/// follow the first 24 bytes of its .JHR.
-const NET_BASE: [u8; 24] = *b"JAM\0\0\xCA\x9A;\x07\0\0\0\x01\0\0\0\xFF\xFF\xFF\xFF\x01\0\0\0";
-
-const NET_HEADER: [u8; 251] =
-    *b"JAM\0\x01\0\0\0\xAF\0\0\0\0\0\0\0\x9D\xF3\xB5\xFF\xFF\xFF\xFF\xFF\0\0\0\0\0\0\0\0\0\0\0\0\0\xAB\x90A\0\x8C\x86G<\xAB\x90A\x02\0\0\0\x0C\0\0\x02\0\0\0\0\0\0\0\0\x0A\0\0\0\xFF\xFF\xFF\xFF\0\0\0\0\0\0\0\0\x0B\0\0\02:5020/1042\x01\0\0\0\x0A\0\0\01:105/42.7\x02\0\0\0\x07\0\0\0Bob Ray\x03\0\0\0\x07\0\0\0Ann Lee\x04\0\0\0\x14\0\0\02:5020/1042 5e6f7a8b\x06\0\0\0H\0\0\0The hub moves on Sunday: poll the new address from 06:00, not the old..!";
-
-const NET_JDT: [u8; 10] = *b"Line one\r\r";
-
-const NET_JDX: [u8; 16] = *b"\xFF\xFF\xFF\xFF\xFF\xFF\xFF\xFF\x99W\x03\x9F\0\x04\0\0";
-
-const NET_JLR: [u8; 16] = *b"\x99W\x03\x9F\x01\0\0\0\x02\0\0\0\x02\0\0\0";
-
-/// The files of an echo conference of one message, which has no body.
-const ECHO_BASE: [u8; 24] = *b"JAM\0\0\xCA\x9A;\x01\0\0\0\x01\0\0\0\xFF\xFF\xFF\xFF\x01\0\0\0";
-
-const ECHO_HEADER: [u8; 121] =
-    *b"JAM\0\x01\0\0\0-\0\0\0\0\0\0\0qc\x95\xF7\xFF\xFF\xFF\xFF\0\0\0\0\0\0\0\0\0\0\0\0\0\xAB\x90A\0\0\0\0\0\xAB\x90A\x01\0\0\0\x01\0\0\x01\0\0\0\0\0\0\0\0\0\0\0\0\xFF\xFF\xFF\xFF\0\0\0\0\x02\0\0\0\x07\0\0\0Ann Lee\x03\0\0\0\x03\0\0\0All\x04\0\0\0\x0B\0\0\00.1.TESTBBS";
-
-const ECHO_JDX: [u8; 8] = *b"\x22\x8E\xE7\xC4\0\x04\0\0";
-
-const ECHO_JLR: [u8; 16] = *b"\x99W\x03\x9F\x01\0\0\0\x01\0\0\0\x01\0\0\0";
-
-/// One change of a file.
-#[derive(Clone, Copy)]
-enum Change {
-    None,
-    Byte(usize, u8),
-    Cut(usize),
-    More(&'static [u8]),
-}
-
-/// A file after a change.
-fn changed(alloc: Global, bytes: &[u8], change: Change) -> Result<Bytes, AllocError> {
-    let mut made = bytes.to_vec(alloc)?;
-    match change {
-        Change::None => {}
-        Change::Byte(at, byte) => {
-            if let Some(old) = made.get_mut(at) {
-                *old = byte;
-            }
-        }
-        Change::Cut(len) => made.truncate(len),
-        Change::More(more) => made.extend_from_slice(more)?,
-    }
-    Ok(Bytes::from_vec(made))
-}
-
-/// The change, where it is one of this file.
-fn of_file(file: u16, changed: u16, change: Change) -> Change {
-    if file == changed {
-        change
-    } else {
-        Change::None
-    }
-}
-
-/// The .JHR of the conference.
-fn two_headers(alloc: Global) -> Result<Bytes, AllocError> {
-    headers(alloc, &BASE, &[FIRST.as_slice(), SECOND.as_slice()])
-}
-
-/// The four files of the conference, of which one is changed.
-fn files(alloc: Global, file: u16, change: Change) -> Result<BaseFiles, AllocError> {
-    let jhr = two_headers(alloc)?;
-    Ok(BaseFiles {
-        jhr: changed(alloc, jhr.as_slice(), of_file(2, file, change))?,
-        jdt: changed(alloc, &JDT, of_file(3, file, change))?,
-        jdx: changed(alloc, &JDX, of_file(4, file, change))?,
-        jlr: changed(alloc, &JLR, of_file(5, file, change))?,
-    })
-}
-
-/// Reads files whose lengths `read_conference` allows.
-fn read(alloc: Global, files: &BaseFiles, shape: &Shape) -> Option<Result<Conference, BaseError>>
-    requires { IsShape shape.now }
-{
-    if !are_short(files) {
-        return None;
-    }
-    Some(read_conference(alloc, files, shape))
-}
-
-/// The change counter of a conference, and how many slots and live messages it has.
-fn counts(conference: &Conference) -> (u32, usize, usize) {
-    let live = conference.live_count();
-    (conference.counter, conference.slots.len(), live)
-}
-
-/// What the board says of a conference of this kind with one reader.
-fn with_one_reader(alloc: Global, kind: Kind) -> Result<Shape, AllocError>
+/// What the board says of a conference of this kind with so many readers, one at most.
+fn shape_of(alloc: Global, place: u8, kind: Kind, has_reader: bool) -> Result<Shape, AllocError>
+    requires { place < 64 }
     ensures { IfOk result IsShape }
 {
     let mut readers = Readers::new(alloc);
-    let name = Bytes::from_slice(alloc, b"Ann Lee")?;
-    readers.add(Reader { id: 1, name })?;
+    if has_reader {
+        let name = Bytes::from_slice(alloc, b"Ann Lee")?;
+        readers.add(Reader { id: 1, name })?;
+    }
     Ok(Shape {
-        place: 0,
+        place,
         created: 1_000_000_000,
         kind,
         readers,
     })
 }
 
-/// The files of the netmail conference.
-fn net_files(alloc: Global) -> Result<BaseFiles, AllocError> {
-    Ok(BaseFiles {
-        jhr: headers(alloc, &NET_BASE, &[NET_HEADER.as_slice()])?,
-        jdt: Bytes::from_slice(alloc, &NET_JDT)?,
-        jdx: Bytes::from_slice(alloc, &NET_JDX)?,
-        jlr: Bytes::from_slice(alloc, &NET_JLR)?,
-    })
-}
-
-/// The files of the echo conference.
-fn echo_files(alloc: Global) -> Result<BaseFiles, AllocError> {
-    Ok(BaseFiles {
-        jhr: headers(alloc, &ECHO_BASE, &[ECHO_HEADER.as_slice()])?,
-        jdt: Bytes::new(alloc),
-        jdx: Bytes::from_slice(alloc, &ECHO_JDX)?,
-        jlr: Bytes::from_slice(alloc, &ECHO_JLR)?,
-    })
-}
-
-/// The conference of this kind and one reader that the files hold.
-fn held(alloc: Global, kind: Kind, files: &BaseFiles) -> Result<Option<Conference>, AllocError> {
-    let shape = with_one_reader(alloc, kind)?;
-    match read(alloc, files, &shape) {
-        Some(Ok(conference)) => Ok(Some(conference)),
-        _ => Ok(None),
+/// What the board says of the conference of a name.
+fn shape(alloc: Global, name: &str) -> Result<Shape, AllocError>
+    ensures { IfOk result IsShape }
+{
+    match name {
+        "two" => general(alloc),
+        "net" => shape_of(alloc, 0, Kind::Net, true),
+        "echo" => shape_of(alloc, 0, Kind::Echo, true),
+        _ => shape_of(alloc, 1, Kind::Net, false),
     }
 }
 
-/// The message in a place, from 0.
-fn message(conference: &Conference, place: usize) -> Option<&Message> {
+/// The bytes of a file after a change.
+fn changed(alloc: Global, bytes: &[u8], change: &str) -> Result<Bytes, Fail> {
+    let (verb, words) = parted(change)?;
+    let mut made = bytes.to_vec(alloc)?;
+    match verb {
+        "cut" => made.truncate(number_of(words)? as usize),
+        "add" => made.extend_from_slice(bytes_of(alloc, words)?.as_slice())?,
+        _ => {
+            let (at, text) = parted(words)?;
+            let (at, part) = (number_of(at)? as usize, bytes_of(alloc, text)?);
+            for (old, new) in made.iter_mut().skip(at).zip(part.as_slice()) {
+                *old = *new;
+            }
+        }
+    }
+    Ok(Bytes::from_vec(made))
+}
+
+/// The files of these texts.
+fn files_of(alloc: Global, texts: [&str; 4]) -> Result<BaseFiles, Fail> {
+    let mut files = no_files(alloc);
+    for (number, text) in (2..6).zip(texts) {
+        let bytes = bytes_of(alloc, text)?;
+        set(&mut files, number, bytes);
+    }
+    Ok(files)
+}
+
+/// The texts of the files of a name.
+fn texts_of(name: &str) -> [&'static str; 4] {
+    match name {
+        "two" => TWO,
+        "net" => NET,
+        "echo" => ECHO,
+        _ => [TWO[0], "", "", ""],
+    }
+}
+
+/// Makes a change of the file of a number, or none without one.
+fn change(alloc: Global, files: &mut BaseFiles, number: &str, change: &str) -> Result<(), Fail> {
+    if number.is_empty() {
+        return Ok(());
+    }
+    let number = u16::try_from(number_of(number)?).unwrap_or(0);
+    let file = file_of(files, number).ok_or("no file")?;
+    let made = changed(alloc, file.as_slice(), change)?;
+    set(files, number, made);
+    Ok(())
+}
+
+/// What is read of the files of a name.
+fn read(
+    alloc: Global,
+    name: &str,
+    files: &BaseFiles,
+) -> Result<Result<Conference, BaseError>, Fail> {
+    if !are_short(files) {
+        return Err(Fail::from("a file is long"));
+    }
+    let shape = shape(alloc, name)?;
+    Ok(read_conference(alloc, files, &shape))
+}
+
+/// The counts and the pointers of a conference, or its first damage.
+fn told(alloc: Global, read: &Result<Conference, BaseError>) -> Result<String, AllocError> {
+    match read {
+        Ok(conference) => {
+            let (slots, live) = (conference.slots.len(), conference.live_count());
+            let (counter, pointers) = (conference.counter, conference.pointers.as_slice());
+            format!(in alloc; "{counter} {slots} {live} {pointers:?}")
+        }
+        Err(BaseError::Damaged(damage)) => {
+            let (file, item, rule) = (damage.file, damage.item, damage.rule);
+            format!(in alloc; "{file} {item} {rule:?}")
+        }
+        Err(error) => format!(in alloc; "{error:?}"),
+    }
+}
+
+/// The message in a place.
+fn message_in(
+    alloc: Global,
+    read: &Result<Conference, BaseError>,
+    place: usize,
+) -> Result<String, AllocError> {
+    let Ok(conference) = read else {
+        return told(alloc, read);
+    };
     match conference.slots.get(place) {
-        Some(Slot::Held(message)) => Some(message),
-        _ => None,
+        Some(Slot::Held(message)) => line_of(alloc, message),
+        _ => String::from_str(alloc, "none"),
     }
 }
 
-/// Its local, private, seen and deleted marks.
-fn marks(message: &Message) -> [bool; 4] {
-    [
-        message.local,
-        message.private,
-        message.seen,
-        message.deleted,
-    ]
-}
+/// What is read of conferences.
+#[derive(Drop)]
+struct Conferences;
 
-/// The netmail conference.
-fn net_conference(alloc: Global) -> Result<Conference, Fail> {
-    let files = net_files(alloc)?;
-    Ok(held(alloc, Kind::Net, &files)?.ok_or("no conference")?)
-}
-
-#[test]
-fn a_private_message_between_addresses_is_read(rt: HostRuntime) -> Result<(), Fail> {
-    let conference = net_conference(rt.alloc())?;
-    assert_eq!(rt; counts(&conference), (7, 2, 1));
-    assert_eq!(rt; conference.pointers.as_slice(), [2].as_slice());
-    assert!(rt; message(&conference, 0).is_none());
-    let message = message(&conference, 1).ok_or("no message")?;
-    assert_eq!(rt;
-        (message.written, message.received, message.processed),
-        (1_100_000_000, 1_200_000_000, 1_100_000_060)
-    );
-    assert_eq!(rt; marks(message), [false, true, true, false]);
-    Ok(())
-}
-
-#[test]
-fn the_texts_of_a_message_are_read(rt: HostRuntime) -> Result<(), Fail> {
-    let conference = net_conference(rt.alloc())?;
-    let message = message(&conference, 1).ok_or("no message")?;
-    let texts = [
-        (&message.origin, b"2:5020/1042".as_slice()),
-        (&message.destination, b"1:105/42.7".as_slice()),
-        (&message.from, b"Bob Ray".as_slice()),
-        (&message.to, b"Ann Lee".as_slice()),
-        (&message.msgid, b"2:5020/1042 5e6f7a8b".as_slice()),
-        (&message.replyid, b"".as_slice()),
-        (
-            &message.subject,
-            b"The hub moves on Sunday: poll the new address from 06:00, not the old..!".as_slice(),
-        ),
-        (&message.body, b"Line one\r\r".as_slice()),
-    ];
-    for (text, wanted) in texts {
-        assert_eq!(rt; text.as_slice(), wanted);
+impl Subject for Conferences {
+    fn found(&mut self, alloc: Global, asked: &str) -> Result<String, Fail> {
+        let (name, words) = asked.split_once(' ').unwrap_or((asked, ""));
+        let (verb, words) = words.split_once(' ').unwrap_or(("", ""));
+        let mut files = files_of(alloc, texts_of(name))?;
+        if verb == "message" {
+            let place = number_of(words)? as usize;
+            return Ok(message_in(alloc, &read(alloc, name, &files)?, place)?);
+        }
+        change(alloc, &mut files, verb, words)?;
+        Ok(told(alloc, &read(alloc, name, &files)?)?)
     }
-    Ok(())
 }
 
 #[test]
-fn a_message_of_an_echo_is_read(rt: HostRuntime) -> Result<(), Fail> {
-    let files = echo_files(rt.alloc())?;
-    let conference = held(rt.alloc(), Kind::Echo, &files)?.ok_or("no conference")?;
-    assert_eq!(rt; counts(&conference), (1, 1, 1));
-    let message = message(&conference, 0).ok_or("no message")?;
-    assert_eq!(rt; message.msgid.as_slice(), b"0.1.TESTBBS".as_slice());
-    assert_eq!(rt; marks(message), [true, false, false, false]);
-    assert!(rt; message.body.as_slice().is_empty());
-    Ok(())
-}
-
-#[test]
-fn two_messages_are_read(rt: HostRuntime) -> Result<(), Fail> {
-    let shape = general(rt.alloc())?;
-    let Some(result) = read(rt.alloc(), &files(rt.alloc(), 2, Change::None)?, &shape) else {
-        panic!(rt; "the files are long");
-    };
-    assert_eq!(rt; counts(&result?), (1, 2, 2));
-    Ok(())
-}
-
-#[test]
-fn three_slots_are_read(rt: HostRuntime) -> Result<(), Fail> {
-    let shape = general(rt.alloc())?;
-    let gone = files(rt.alloc(), 4, Change::More(&[0xFF; 8]))?;
-    let Some(result) = read(rt.alloc(), &gone, &shape) else {
-        panic!(rt; "the files are long");
-    };
-    assert_eq!(rt; counts(&result?), (1, 3, 2));
-    Ok(())
-}
-
-#[test]
-fn the_first_damage_is_named(rt: HostRuntime) -> Result<(), Fail> {
-    let shape = general(rt.alloc())?;
-    let table = [
-        (2, Change::Byte(12, 3), 2, 0, DamageRule::Active),
-        (2, Change::Byte(1024, 0), 2, 1, DamageRule::Signature),
-        (2, Change::Byte(1048, 1), 2, 1, DamageRule::Links),
-        (2, Change::Cut(1291), 2, 2, DamageRule::Subfields),
-        (3, Change::Byte(10, b'x'), 3, 1, DamageRule::Line),
-        (3, Change::Cut(21), 3, 2, DamageRule::Short),
-        (3, Change::More(&[0]), 3, 3, DamageRule::Rest),
-        (4, Change::Cut(8), 4, 1, DamageRule::Missing),
-        (4, Change::Cut(15), 4, 1, DamageRule::Short),
-        (5, Change::Byte(8, 9), 5, 0, DamageRule::Pointer),
-    ];
-    for (file, change, in_file, item, rule) in table {
-        let damage = Damage {
-            file: in_file,
-            item,
-            rule,
-        };
-        let result = read(rt.alloc(), &files(rt.alloc(), file, change)?, &shape);
-        assert!(rt; matches!(&result, Some(Err(BaseError::Damaged(named))) if *named == damage));
-    }
-    Ok(())
-}
-
-#[test]
-fn another_moment_is_damage(rt: HostRuntime) -> Result<(), Fail> {
-    let shape = Shape {
-        place: 1,
-        created: 1_000_000_000,
-        kind: Kind::Net,
-        readers: Readers::new(rt.alloc()),
-    };
-    let other = BaseFiles {
-        jhr: changed(
-            rt.alloc(),
-            two_headers(rt.alloc())?.as_slice(),
-            Change::Byte(4, 1),
-        )?,
-        jdt: Bytes::new(rt.alloc()),
-        jdx: Bytes::new(rt.alloc()),
-        jlr: Bytes::new(rt.alloc()),
-    };
-    let damage = Damage {
-        file: 6,
-        item: 0,
-        rule: DamageRule::Created,
-    };
-    let result = read(rt.alloc(), &other, &shape);
-    assert!(rt; matches!(&result, Some(Err(BaseError::Damaged(named))) if *named == damage));
-    Ok(())
+fn conferences_are_read(rt: HostRuntime) -> Result<(), Fail> {
+    expect(rt.alloc(), &mut Conferences, TABLE)
 }

@@ -1,117 +1,145 @@
+//! Records of JAM, read and written.
+use super::texts::{Subject, bytes_of, expect, parted};
 use jam_records::{
-    BaseHeader, IndexRecord, LastRead, RecordError, SubfieldError, address_text, read_base_header,
-    read_index, read_last, read_message_header, read_subfields, write_base_header, write_index,
-    write_last, write_message_header, write_subfields,
+    address_text, read_base_header, read_index, read_last, read_message_header, read_subfields,
+    write_base_header, write_index, write_last, write_message_header, write_subfields,
 };
+use std::alloc::{AllocError, Global};
 use std::test::Fail;
 
-/// The subfields of the message 0.1.TESTBBS from Bob Ray to All about Hello.
-const SUBFIELDS: [u8; 58] =
-    *b"\x02\0\0\0\x07\0\0\0Bob Ray\x03\0\0\0\x03\0\0\0All\x04\0\0\0\x0B\0\0\x000.1.TESTBBS\x06\0\0\0\x05\0\0\0Hello";
+/// Records by their bytes, and what is read of them: the numbers, and whether what is read is written as these bytes; or
+/// why nothing is read. Numbers of 32 bits that are checksums or marks are hexadecimal.
+///
+/// The first header is that of the message 0.1.TESTBBS from Bob Ray to All about Hello, whose subfields follow it.
+const TABLE: &str = r#"
+header JAM\0\x01\0\0\0:\0\0\0\0\0\0\0\x01\x02\x03\x04\xFF\xFF\xFF\xFF\0\0\0\0\0\0\0\0\0\0\0\0\0\xCA\x9A;\0\0\0\0\0\xCA\x9A;\x01\0\0\0\x01\0\x80\0\0\0\0\0\0\0\0\0\x0B\0\0\0\xFF\xFF\xFF\xFF\0\0\0\0 = 58 4030201 1000000000 1 800001 11 true
+header AM\0\x01\0\0\0:\0\0\0\0\0\0\0\x01\x02\x03\x04\xFF\xFF\xFF\xFF\0\0\0\0\0\0\0\0\0\0\0\0\0\xCA\x9A;\0\0\0\0\0\xCA\x9A;\x01\0\0\0\x01\0\x80\0\0\0\0\0\0\0\0\0\x0B\0\0\0\xFF\xFF\xFF\xFF\0\0\0\0 = Short
+header JAM\0\x02\0\0\0:\0\0\0\0\0\0\0\x01\x02\x03\x04\xFF\xFF\xFF\xFF\0\0\0\0\0\0\0\0\0\0\0\0\0\xCA\x9A;\0\0\0\0\0\xCA\x9A;\x01\0\0\0\x01\0\x80\0\0\0\0\0\0\0\0\0\x0B\0\0\0\xFF\xFF\xFF\xFF\0\0\0\0 = Revision
+header JAM\x01\x02\0\0\0:\0\0\0\0\0\0\0\x01\x02\x03\x04\xFF\xFF\xFF\xFF\0\0\0\0\0\0\0\0\0\0\0\0\0\xCA\x9A;\0\0\0\0\0\xCA\x9A;\x01\0\0\0\x01\0\x80\0\0\0\0\0\0\0\0\0\x0B\0\0\0\xFF\xFF\xFF\xFF\0\0\0\0 = Signature
+subfields \x02\0\0\0\x07\0\0\0Bob Ray\x03\0\0\0\x03\0\0\0All\x04\0\0\0\x0B\0\0\00.1.TESTBBS\x06\0\0\0\x05\0\0\0Hello = 4 2 0 "Bob Ray" true
+subfields \x02\0\0\0\x07\0\0\0Bob Ray\x03\0\0\0\x03\0\0\0All\x04\0\0\0\x0B\0\0\00.1.TESTBBS\x06\0\0\0\x05\0\0\0Hell = SubfieldEnd(45)
+subfields \x02\0\0\0\x07\0\0\0Bob Ray\x03\0\0\0\x03\0\0\0All\x04\0\0\0\x0B\0\0\00.1.TESTBBS\x06\0\0\0\x05\0\0 = SubfieldEnd(45)
+subfields \x02\0\0\0\x07\0\0\0Bob Ray\x03\0\0\0\x03\0\0\0All\x04\0\0\0\x0B\0\0\00.1.TESTBB = SubfieldEnd(26)
+subfields \x02\0\0\0\x07\0\0\0Bob Ra = SubfieldEnd(0)
+subfields \x02\0\0\0\x07\0\0 = SubfieldEnd(0)
+base JAM\0\0\xCA\x9A;\x01\0\0\0\x02\0\0\0\xFF\xFF\xFF\xFF\x01\z\0\0\0 = 1000000000 1 2 ffffffff 1 true
+base JAM\0\0\xCA\x9A;\x01\0\0\0\x02\0\0\0\xFF\xFF\xFF\xFF\x01\0\0\0 = Short
+index \xD9\xC6\x0B4\0\x04\0\0 = 340bc6d9 1024 true
+last \x01\0\0\0\x02\0\0\0\x03\0\0\0\0\x04\0\0 = 1 2 3 1024 true
+address 0:0/0 = true
+address 2:5020/400.1 = true
+address 32767:32767/32767.32767 = true
+address  = false
+address 2:5020 = false
+address 2:5020/ = false
+address 2/5020:400 = false
+address 02:5020/400 = false
+address 2:5020/400.0 = false
+address 2:5020/400. = false
+address 2:5020/40000 = false
+address +2:5020/400 = false
+address 2:5020/400  = false
+address 2:5020/400.1.1 = false
+"#;
 
-/// The fixed part of its header.
-const HEADER: [u8; 76] =
-    *b"JAM\0\x01\0\0\0\x3A\0\0\0\0\0\0\0\x01\x02\x03\x04\xFF\xFF\xFF\xFF\0\0\0\0\0\0\0\0\0\0\0\0\0\xCA\x9A\x3B\0\0\0\0\0\xCA\x9A\x3B\x01\0\0\0\x01\0\x80\0\0\0\0\0\0\0\0\0\x0B\0\0\0\xFF\xFF\xFF\xFF\0\0\0\0";
+/// What is read of records.
+#[derive(Drop)]
+struct Records;
 
-#[test]
-fn a_message_header(rt: HostRuntime) -> Result<(), Fail> {
-    let header = read_message_header(&HEADER)?;
-    assert_eq!(rt; header.subfield_len, 58);
-    assert_eq!(rt; header.msgid_crc, 0x0403_0201);
-    assert_eq!(rt; header.written, 1_000_000_000);
-    assert_eq!(rt; header.number, 1);
-    assert_eq!(rt; header.attribute, 0x0080_0001);
-    assert_eq!(rt; header.text_len, 11);
-    assert_eq!(rt; write_message_header(&header).as_slice(), HEADER.as_slice());
-    Ok(())
-}
-
-#[test]
-fn what_is_no_message_header(rt: HostRuntime) {
-    let mut bytes = HEADER;
-    assert_eq!(rt; read_message_header(&bytes[1..]), Err(RecordError::Short));
-    bytes[4] = 2;
-    assert_eq!(rt; read_message_header(&bytes), Err(RecordError::Revision));
-    bytes[3] = 1;
-    assert_eq!(rt; read_message_header(&bytes), Err(RecordError::Signature));
-}
-
-#[test]
-fn the_subfields_of_a_message(rt: HostRuntime) -> Result<(), Fail> {
-    let subfields = read_subfields(rt.alloc(), &SUBFIELDS)?;
-    assert_eq!(rt; subfields.len(), 4);
-    let name = subfields.get(0).ok_or("no subfield")?;
-    assert_eq!(rt; (name.lo, name.hi), (2, 0));
-    assert_eq!(rt; name.value.as_slice(), b"Bob Ray".as_slice());
-    let bytes = write_subfields(rt.alloc(), &subfields.copy(rt.alloc())?)?;
-    assert_eq!(rt; bytes.as_slice(), SUBFIELDS.as_slice());
-    Ok(())
-}
-
-#[test]
-fn a_subfield_past_the_end(rt: HostRuntime) {
-    for (len, place) in [(57, 45), (52, 45), (44, 26), (14, 0), (7, 0)] {
-        let result = read_subfields(rt.alloc(), &SUBFIELDS[..len]);
-        assert!(rt; matches!(&result, Err(SubfieldError::SubfieldEnd(at)) if *at == place));
+impl Subject for Records {
+    fn found(&mut self, alloc: Global, asked: &str) -> Result<String, Fail> {
+        let (verb, text) = parted(asked)?;
+        let bytes = bytes_of(alloc, text)?;
+        let found = match verb {
+            "header" => header(alloc, bytes.as_slice()),
+            "subfields" => subfields(alloc, bytes.as_slice()),
+            "base" => base(alloc, bytes.as_slice()),
+            "index" => index(alloc, bytes.as_slice()),
+            "last" => last(alloc, bytes.as_slice()),
+            _ => address(alloc, bytes.as_slice()),
+        };
+        Ok(found?)
     }
 }
 
-#[test]
-fn a_base_header(rt: HostRuntime) -> Result<(), Fail> {
-    let header = BaseHeader {
-        created: 1_000_000_000,
-        mod_counter: 1,
-        active: 2,
-        password_crc: 0xFFFF_FFFF,
-        base_number: 1,
-    };
-    let bytes = write_base_header(&header);
-    let front = b"JAM\0\0\xCA\x9A\x3B\x01\0\0\0\x02\0\0\0\xFF\xFF\xFF\xFF\x01\0\0\0";
-    assert!(rt; bytes.starts_with(front));
-    assert_eq!(rt; read_base_header(&bytes)?, header);
-    assert_eq!(rt; read_base_header(front), Err(RecordError::Short));
-    Ok(())
+fn header(alloc: Global, bytes: &[u8]) -> Result<String, AllocError> {
+    match read_message_header(bytes) {
+        Err(error) => format!(in alloc; "{error:?}"),
+        Ok(header) => {
+            let same = write_message_header(&header).as_slice() == bytes;
+            let (msgid, mark) = (header.msgid_crc, header.attribute);
+            let (len, written) = (header.subfield_len, header.written);
+            let (number, text) = (header.number, header.text_len);
+            format!(in alloc; "{len} {msgid:x} {written} {number} {mark:x} {text} {same}")
+        }
+    }
+}
+
+/// How many subfields there are, and the first.
+fn subfields(alloc: Global, bytes: &[u8]) -> Result<String, AllocError> {
+    // No case has so many bytes, which the reader doesn't take.
+    if bytes.len() >= 1 << 31 {
+        return format!(in alloc; "too long");
+    }
+    match read_subfields(alloc, bytes) {
+        Err(error) => format!(in alloc; "{error:?}"),
+        Ok(subfields) => {
+            let count = subfields.len();
+            let Some(first) = subfields.get(0) else {
+                return format!(in alloc; "{count}");
+            };
+            let value = String::from_utf8_lossy(alloc, first.value.as_slice())?;
+            let again = write_subfields(alloc, &subfields.copy(alloc)?)?;
+            let same = again.as_slice() == bytes;
+            let (lo, hi) = (first.lo, first.hi);
+            format!(in alloc; "{count} {lo} {hi} {value:?} {same}")
+        }
+    }
+}
+
+fn base(alloc: Global, bytes: &[u8]) -> Result<String, AllocError> {
+    match read_base_header(bytes) {
+        Err(error) => format!(in alloc; "{error:?}"),
+        Ok(header) => {
+            let same = write_base_header(&header).as_slice() == bytes;
+            let (created, changes) = (header.created, header.mod_counter);
+            let (active, password) = (header.active, header.password_crc);
+            let number = header.base_number;
+            format!(in alloc; "{created} {changes} {active} {password:x} {number} {same}")
+        }
+    }
+}
+
+fn index(alloc: Global, bytes: &[u8]) -> Result<String, AllocError> {
+    match read_index(bytes) {
+        Err(error) => format!(in alloc; "{error:?}"),
+        Ok(index) => {
+            let same = write_index(&index).as_slice() == bytes;
+            let (to, offset) = (index.to_crc, index.offset);
+            format!(in alloc; "{to:x} {offset} {same}")
+        }
+    }
+}
+
+fn last(alloc: Global, bytes: &[u8]) -> Result<String, AllocError> {
+    match read_last(bytes) {
+        Err(error) => format!(in alloc; "{error:?}"),
+        Ok(last) => {
+            let same = write_last(&last).as_slice() == bytes;
+            let (user, id) = (last.user_crc, last.user_id);
+            let (last, high) = (last.last, last.high);
+            format!(in alloc; "{user} {id} {last} {high} {same}")
+        }
+    }
+}
+
+/// Whether a text is an address as it is stored.
+fn address(alloc: Global, text: &[u8]) -> Result<String, AllocError> {
+    let right = address_text(text);
+    format!(in alloc; "{right}")
 }
 
 #[test]
-fn index_and_last_read_records(rt: HostRuntime) -> Result<(), Fail> {
-    let index = IndexRecord {
-        to_crc: 0x340B_C6D9,
-        offset: 1024,
-    };
-    let bytes = write_index(&index);
-    assert_eq!(rt; bytes, *b"\xD9\xC6\x0B\x34\0\x04\0\0");
-    assert_eq!(rt; read_index(&bytes)?, index);
-    let last = LastRead {
-        user_crc: 1,
-        user_id: 2,
-        last: 3,
-        high: 0x0400,
-    };
-    let bytes = write_last(&last);
-    assert_eq!(rt; bytes, *b"\x01\0\0\0\x02\0\0\0\x03\0\0\0\0\x04\0\0");
-    assert_eq!(rt; read_last(&bytes)?, last);
-    Ok(())
-}
-
-#[test]
-fn addresses_as_they_are_stored(rt: HostRuntime) {
-    for text in ["0:0/0", "2:5020/400.1", "32767:32767/32767.32767"] {
-        assert!(rt; address_text(text.as_bytes()), "{text}");
-    }
-    for text in [
-        "",
-        "2:5020",
-        "2:5020/",
-        "2/5020:400",
-        "02:5020/400",
-        "2:5020/400.0",
-        "2:5020/400.",
-        "2:5020/40000",
-        "+2:5020/400",
-        "2:5020/400 ",
-        "2:5020/400.1.1",
-    ] {
-        assert!(rt; !address_text(text.as_bytes()), "{text}");
-    }
+fn records_are_read_and_written(rt: HostRuntime) -> Result<(), Fail> {
+    expect(rt.alloc(), &mut Records, TABLE)
 }

@@ -1,14 +1,42 @@
+//! Links between messages and their answers.
+ghost use Rattle.std.specs.Prelude.{◌<◌, ◌++◌, ◌∷◌, [], length, IfOk};
+ghost use Rattle.jam_records.specs.declared.message.Slot.TheVariants.{Held};
+ghost use Rattle.jam_threads.specs.Threading.{AreThreads};
+
+use super::texts::{Subject, expect, parted};
 use byte_lists::Bytes;
 use jam_records::{Message, Slot, Slots};
-use jam_threads::{links, original_of};
+use jam_threads::{Link, Threads, laws, links, original_of};
 use std::alloc::{AllocError, Global};
 use std::test::Fail;
 
-/// The id of a message and the id that it answers, one byte each. A dot is an empty id, and two dashes
-/// are a slot that is gone.
-type Ids = [u8; 2];
+/// Slots, each by the id of its message and the id that it answers, of one letter each: a dot is an empty id, and two
+/// dashes are a slot that is gone.
+///
+/// `links` gives how many there are, and the links of each to the original, the first answer and the next. `next` and the
+/// id that a message answers which is added next gives its original, and the link number that it changes. `add` and such
+/// a message gives the links of those before it, and the original of each, once it is there.
+const TABLE: &str = r#"
+links  = 0
+links a. ba ca da = 4 0,2,0 1,0,3 1,0,4 1,0,0
+links a. ba cb dc eb fa = 6 0,2,0 1,3,6 2,4,5 3,0,0 2,0,0 1,0,0
+links aa aa aa aa = 4 0,2,0 1,0,3 1,0,4 1,0,0
+links ba ab ba .. a. = 5 0,2,0 1,3,0 2,0,0 0,0,0 0,0,0
+links -- aa -- ba ca -- = 6 0,0,0 0,4,0 0,0,0 2,0,5 2,0,0 0,0,0
+next a  = 0 0 None
+next a a. = 1 1 Some(LinkPatch { number: 1, field: First, value: 2 })
+next a a. ba = 1 1 Some(LinkPatch { number: 2, field: Next, value: 3 })
+next a a. ba ca = 1 1 Some(LinkPatch { number: 3, field: Next, value: 4 })
+next b a. ba ca = 2 2 Some(LinkPatch { number: 2, field: First, value: 4 })
+next x a. ba ca = 0 0 None
+next a -- .. a. a. = 3 3 Some(LinkPatch { number: 3, field: First, value: 5 })
+next . -- .. a. a. = 0 0 None
+next b -- .. a. a. = 0 0 None
+add da a. ba ca =  0,2,0 0 1,0,3 1 1,0,4 1
+add b. ba =  0,0,0 0
+"#;
 
-/// The bytes of an id.
+/// An id by its letter.
 fn id_of(alloc: Global, id: u8) -> Result<Bytes, AllocError> {
     if id == b'.' {
         return Ok(Bytes::new(alloc));
@@ -17,13 +45,13 @@ fn id_of(alloc: Global, id: u8) -> Result<Bytes, AllocError> {
 }
 
 /// A message of these ids.
-fn message(alloc: Global, msgid: u8, replyid: u8) -> Result<Message, AllocError> {
-    Ok(Message {
+fn message(alloc: Global, msgid: Bytes, replyid: Bytes) -> Message {
+    Message {
         from: Bytes::new(alloc),
         to: Bytes::new(alloc),
         subject: Bytes::new(alloc),
-        msgid: id_of(alloc, msgid)?,
-        replyid: id_of(alloc, replyid)?,
+        msgid,
+        replyid,
         origin: Bytes::new(alloc),
         destination: Bytes::new(alloc),
         body: Bytes::new(alloc),
@@ -34,105 +62,134 @@ fn message(alloc: Global, msgid: u8, replyid: u8) -> Result<Message, AllocError>
         private: false,
         seen: false,
         deleted: true,
-    })
+    }
 }
 
-fn slots_of(alloc: Global, ids: &[Ids]) -> Result<Slots, AllocError> {
+/// A slot by its letters.
+fn slot_of(alloc: Global, ids: &str) -> Result<Slot, Fail> {
+    let &[msgid, replyid] = ids.as_bytes() else {
+        return Err(Fail::from("no slot"));
+    };
+    if msgid == b'-' {
+        return Ok(Slot::Gone);
+    }
+    let msgid = id_of(alloc, msgid)?;
+    Ok(Slot::Held(message(alloc, msgid, id_of(alloc, replyid)?)))
+}
+
+/// At most nine slots.
+fn slots_of(alloc: Global, all: &str) -> Result<Slots, Fail>
+    ensures { IfOk result (λ slots. length slots < 10) }
+{
     let mut slots = Slots::new(alloc);
-    for [msgid, replyid] in ids {
-        if *msgid == b'-' {
-            slots.add(Slot::Gone)?;
-        } else {
-            slots.add(Slot::Held(message(alloc, *msgid, *replyid)?))?;
-        }
+    for ids in all.split_ascii_whitespace() {
+        slots.add(slot_of(alloc, ids)?)?;
+    }
+    if slots.len() > 9 {
+        return Err(Fail::from("too many slots"));
     }
     Ok(slots)
 }
 
-/// The original of the slot in a place, found by going over all before it.
-fn plain_original(ids: &[Ids], place: usize) -> usize {
-    if place >= ids.len() || ids[place][1] == b'.' || ids[place][1] == b'-' {
-        return 0;
-    }
-    for earlier in 0..place {
-        if ids[earlier][0] == ids[place][1] {
-            return earlier + 1;
-        }
-    }
-    0
+fn text_of(alloc: Global, link: Link) -> Result<String, AllocError> {
+    let Link { to, first, next } = link;
+    format!(in alloc; " {to},{first},{next}")
 }
 
-/// The first number above one whose original is the given one, found by going over all.
-fn plain_child(ids: &[Ids], original: usize, above: usize) -> usize {
-    for place in above..ids.len() {
-        if original != 0 && plain_original(ids, place) == original {
-            return place + 1;
+/// How many links there are, and each of them.
+fn found_links(alloc: Global, slots: &Slots) -> Result<String, AllocError>
+    requires { length slots.now < 10 }
+{
+    let links = links(alloc, slots)?;
+    let count = slots.len();
+    let mut text = format!(in alloc; "{count}")?;
+    for place in 0..count {
+        if let Some(link) = links.get(place) {
+            text.push_str(text_of(alloc, link)?.as_str())?;
         }
     }
-    0
+    Ok(text)
 }
 
-/// Whether the links of these are those of the plain program.
-fn as_plain(alloc: Global, ids: &[Ids]) -> Result<bool, AllocError> {
-    let slots = slots_of(alloc, ids)?;
-    if slots.len() != ids.len() || slots.len() > 9 {
-        return Ok(false);
+/// The threads of slots, which a copy of them keeps.
+fn threads_of(alloc: Global, slots: &Slots) -> Result<Threads, AllocError>
+    requires { length slots.now < 10 }
+    ensures { IfOk result (AreThreads slots.now) }
+{
+    let threads = Threads::of(alloc, slots)?;
+    threads.copy(alloc)
+}
+
+/// The original of a message that is added next and answers this id, by both calls, and the link number that it
+/// changes.
+fn found_next(alloc: Global, slots: &Slots, replyid: &[u8]) -> Result<String, AllocError>
+    requires { length slots.now < 10 }
+{
+    let threads = threads_of(alloc, slots)?;
+    let (one, other) = (original_of(slots, replyid), threads.original(replyid));
+    let change = threads.link_new(replyid);
+    format!(in alloc; "{one} {other} {change:?}")
+}
+
+/// The threads of the slots and of one message more.
+fn with_message(alloc: Global, slots: &Slots, message: &Message) -> Result<Threads, AllocError>
+    requires { length slots.now < 10 }
+    ensures { IfOk result (AreThreads (slots.now ++ Held message.now ∷ [])) }
+{
+    let mut threads = threads_of(alloc, slots)?;
+    threads.add(message.msgid.as_slice(), message.replyid.as_slice())?;
+    Ok(threads)
+}
+
+/// The links of the slots, and the number that each answers, once one message more is there.
+fn found_with(alloc: Global, slots: &Slots, message: &Message) -> Result<String, AllocError>
+    requires { length slots.now < 10 }
+{
+    let threads = with_message(alloc, slots, message)?;
+    let mut text = String::new(alloc);
+    for place in 0..slots.len() {
+        let (link, original) = (threads.link(place), threads.reply_to(place as u32 + 1));
+        let one = format!(in alloc; " {},{},{} {original}", link.to, link.first, link.next)?;
+        text.push_str(one.as_str())?;
     }
-    let found = links(alloc, &slots)?;
-    for place in 0..ids.len() {
-        let Some(link) = found.get(place) else {
-            return Ok(false);
-        };
-        let to = plain_original(ids, place);
-        let first = plain_child(ids, place + 1, 0);
-        let next = plain_child(ids, to, place + 1);
-        if link.to as usize != to || link.first as usize != first || link.next as usize != next {
-            return Ok(false);
+    Ok(text)
+}
+
+/// What is found of slots.
+#[derive(Drop)]
+struct Links;
+
+impl Links {
+    /// What is found of slots, and of an id or a message beside them.
+    fn beside(alloc: Global, verb: &str, word: &str, slots: &Slots) -> Result<String, Fail>
+        requires { length slots.now < 10 }
+    {
+        if verb == "next" {
+            let id = word.trim_matches('.');
+            return Ok(found_next(alloc, slots, id.as_bytes())?);
+        }
+        match slot_of(alloc, word)? {
+            Slot::Held(message) => Ok(found_with(alloc, slots, &message)?),
+            Slot::Gone => Err(Fail::from("no message")),
         }
     }
-    Ok(found.get(ids.len()).is_none())
+}
+
+impl Subject for Links {
+    fn found(&mut self, alloc: Global, asked: &str) -> Result<String, Fail> {
+        let (verb, words) = parted(asked)?;
+        if verb == "links" {
+            let slots = slots_of(alloc, words)?;
+            return Ok(found_links(alloc, &slots)?);
+        }
+        let (word, words) = parted(words)?;
+        let slots = slots_of(alloc, words)?;
+        Links::beside(alloc, verb, word, &slots)
+    }
 }
 
 #[test]
-fn links_are_those_of_the_plain_program(rt: HostRuntime) -> Result<(), Fail> {
-    assert!(rt; as_plain(rt.alloc(), &[])?);
-    assert!(rt; as_plain(rt.alloc(), &[*b"a.", *b"ba", *b"ca", *b"da"])?);
-    assert!(rt;
-        as_plain(
-            rt.alloc(),
-            &[*b"a.", *b"ba", *b"cb", *b"dc", *b"eb", *b"fa"]
-        )?
-    );
-    assert!(rt; as_plain(rt.alloc(), &[*b"aa", *b"aa", *b"aa", *b"aa"])?);
-    assert!(rt; as_plain(rt.alloc(), &[*b"ba", *b"ab", *b"ba", *b"..", *b"a."])?);
-    assert!(rt;
-        as_plain(
-            rt.alloc(),
-            &[*b"--", *b"aa", *b"--", *b"ba", *b"ca", *b"--"]
-        )?
-    );
-    Ok(())
-}
-
-#[test]
-fn a_message_and_three_replies(rt: HostRuntime) -> Result<(), Fail> {
-    let slots = slots_of(rt.alloc(), &[*b"a.", *b"ba", *b"ca", *b"da"])?;
-    assert_eq!(rt; slots.len(), 4);
-    let found = links(rt.alloc(), &slots)?;
-    let expected = [[0, 2, 0], [1, 0, 3], [1, 0, 4], [1, 0, 0]];
-    for (place, numbers) in expected.iter().enumerate() {
-        let link = found.get(place).ok_or("no link")?;
-        assert_eq!(rt; [link.to, link.first, link.next], *numbers);
-    }
-    Ok(())
-}
-
-#[test]
-fn the_original_of_the_next_message(rt: HostRuntime) -> Result<(), Fail> {
-    let slots = slots_of(rt.alloc(), &[*b"--", *b"..", *b"a.", *b"a."])?;
-    assert_eq!(rt; slots.len(), 4);
-    assert_eq!(rt; original_of(&slots, b"a"), 3);
-    assert_eq!(rt; original_of(&slots, b""), 0);
-    assert_eq!(rt; original_of(&slots, b"b"), 0);
-    Ok(())
+fn messages_have_these_links(rt: HostRuntime) -> Result<(), Fail> {
+    laws::one_link();
+    expect(rt.alloc(), &mut Links, TABLE)
 }

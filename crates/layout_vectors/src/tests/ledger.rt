@@ -1,5 +1,9 @@
-use board_ledger::{Ledger, LedgerError};
+ghost use Rattle.board_ledger.specs.Valid.{IsLedger};
+
+use board_ledger::{Ledger, LedgerError, upload_patches};
 use byte_lists::Bytes;
+use door_outside::FileId;
+use intent_journal::{Patch, Patches};
 use jam_records::{Damage, DamageRule};
 use std::alloc::{AllocError, Global};
 use std::test::Fail;
@@ -220,5 +224,50 @@ fn each_rule_of_the_opening_and_conferences(rt: HostRuntime) -> Result<(), Fail>
 fn each_rule_of_users_and_uploads(rt: HostRuntime) -> Result<(), Fail> {
     let bytes = ledger_text(rt.alloc(), &[&ANN, &EVE], &[&FIRST, &SECOND])?;
     assert_eq!(rt; first_wrong(rt.alloc(), &bytes, &RECORD_DAMAGES)?, None);
+    Ok(())
+}
+
+/// The patches by which a ledger without upload records gets the first of another ledger of as many users.
+fn first_upload(
+    alloc: Global,
+    ledger: &Ledger,
+    other: &Ledger,
+) -> Result<Option<Patches>, AllocError>
+    requires ledger { IsLedger ledger.now }
+    requires other { IsLedger other.now }
+{
+    let Some(upload) = other.uploads.get(0) else {
+        return Ok(None);
+    };
+    if ledger.uploads.len() != 0 {
+        return Ok(None);
+    }
+    if ledger.users.len() != other.users.len() {
+        return Ok(None);
+    }
+    Ok(Some(upload_patches(alloc, ledger, upload)?))
+}
+
+/// Whether a patch puts these bytes at a place of the ledger.
+fn puts(patch: Option<&Patch>, place: u32, wanted: &[u8]) -> bool {
+    match patch {
+        Some(Patch::Put { file, at, bytes }) => {
+            let same = bytes.as_slice() == wanted;
+            *file == FileId::ledger() && *at == place && same
+        }
+        _ => false,
+    }
+}
+
+#[test]
+fn an_upload_is_put(rt: HostRuntime) -> Result<(), Fail> {
+    let bytes = ledger_text(rt.alloc(), &[&ANN, &EVE], &[])?;
+    let ledger = Ledger::read(rt.alloc(), bytes.as_slice())?;
+    let bytes = ledger_text(rt.alloc(), &[&ANN, &EVE], &[&FIRST])?;
+    let other = Ledger::read(rt.alloc(), bytes.as_slice())?;
+    let patches = first_upload(rt.alloc(), &ledger, &other)?.ok_or("no upload")?;
+    assert_eq!(rt; patches.len(), 2);
+    assert!(rt; puts(patches.get(0), 12, b"\x01\0\0\0"));
+    assert!(rt; puts(patches.get(1), 119 + 76, &FIRST));
     Ok(())
 }

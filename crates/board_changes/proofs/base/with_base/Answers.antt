@@ -14,7 +14,7 @@ add_all-requires c =
     let b : Board = c.args.board.now in
     let there = changed_there (base_at c.args.place b) c.args.change c.requires.change in
     subst (λ (intent : List Patch). Joins intent c.args.change.patches) (sym c.new-intent.ensures)
-    (base_joins b c.args.place there.0 c.args.change c.ledger.ensures.board there.1 there.2 c.requires.next)
+    (base_joins b c.args.place there.0 c.args.change c.ledger-ledger.ensures.board there.1 there.2 c.requires.next)
 
 pub returns : goal.returns
 returns c =
@@ -22,7 +22,7 @@ returns c =
     let there = changed_there (base_at c.args.place b) c.args.change c.requires.change in
     let added : c.add_all.new.intent ≡ c.args.change.patches = c.in_ok-add_all.ensures ∙ ap (λ (intent : List Patch). intent ++ c.args.change.patches) c.new-intent.ensures in
     record {
-      ledger = c.in_ok-ledger.ensures ∙ c.ledger.ensures.ledger;
-      bases = ap (renewed (contents_of b)) c.in_ok-only_in.ensures ∙ base_becomes b c.args.place there.0 c.args.change c.ledger.ensures.board there.1 there.2 c.requires.next;
-      intent = subst (Leads (IsLayout b) (with_base c.args.place (Some c.args.change.base) b)) (sym added) (base_leads b c.args.place there.0 c.args.change c.ledger.ensures.board there.1 there.2 c.requires.next);
+      ledger = c.in_ok-copy_of.ensures ∙ c.ledger-ledger.ensures.ledger;
+      bases = ap (renewed (contents_of b)) c.in_ok-bases.ensures ∙ base_becomes b c.args.place there.0 c.args.change c.ledger-ledger.ensures.board there.1 there.2 c.requires.next;
+      intent = subst (Leads (IsLayout b) (with_base c.args.place (Some c.args.change.base) b)) (sym added) (base_leads b c.args.place there.0 c.args.change c.ledger-ledger.ensures.board there.1 there.2 c.requires.next);
     }

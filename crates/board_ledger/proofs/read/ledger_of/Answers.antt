@@ -1,15 +1,8 @@
-use Rattle.std.proofs.Common.{◌≡◌, ◌+◌, ◌∙◌, [], ◌∷◌, List, ℕ, Bool, true, false, not, eqb, length, sym, ap, subst, Ok, arith}
-use Rattle.std.proofs.lemmas.List.{take_rest}
+use Rattle.std.proofs.Common.{◌∙◌, sym, ap, Ok}
 use Rattle.std.proofs.lemmas.Result.{err_from_is_err_and}
-use Rattle.jam_records.specs.declared.damage.DamageRule.TheVariants.{Rest}
-use Rattle.damage_rules.specs.Rules.{Stops, by_rules}
 use Rattle.setup_file.specs.declared.setup.Setup.{Setup}
 use Rattle.board_ledger.specs.Rules.{told}
-use Rattle.board_ledger.specs.Records.{records_at}
-use Rattle.board_ledger.specs.Conferences.{conference_at}
-use Rattle.board_ledger.specs.Uploads.{upload_at}
-use Rattle.board_ledger.specs.Ledger.{ledger_with}
-use Rattle.board_ledger.proofs.ReadingSteps.{opening_fails, conferences_fail, users_fail, uploads_fail, at_end}
+use Rattle.board_ledger.proofs.ReadingSteps.{opening_fails}
 use Rattle.board_ledger.proofs.read.ledger_of.Goals as goal
 
 pub returns-in_err-opening : goal.returns-in_err-opening
@@ -20,59 +13,7 @@ returns-in_err-opening c =
 pub returns-in_err-conferences : goal.returns-in_err-conferences
 returns-in_err-conferences c =
     let p = err_from_is_err_and c.from_residual-in_err-conferences.result c.from_residual-in_err-conferences.ensures.1 in
-    let o = c.in_ok-opening.opening in
-    let bytes = c.args.bytes.now in
-    let same = take_rest bytes o.size in
-    let e = told c.in_err-conferences.field-0.0 in
-    let failed = subst (λ (xs : List ℕ). Stops e (records_at conference_at o.conferences [] xs)) same c.in_err-conferences.ensures in
-    rw (p.1, p.2) (conferences_fail bytes o e c.in_ok-opening.ensures.gives failed)
-
-pub returns-in_err-users : goal.returns-in_err-users
-returns-in_err-users c =
-    let p = err_from_is_err_and c.from_residual-in_err-users.result c.from_residual-in_err-users.ensures.1 in
-    let o = c.in_ok-opening.opening in
-    let bytes = c.args.bytes.now in
-    let same = take_rest bytes o.size in
-    let conferences = ap (records_at conference_at o.conferences []) (sym same) ∙ c.in_ok-conferences.ensures in
-    let e = told c.in_err-users.field-0.0 in
-    rw (p.1, p.2) (users_fail bytes o (c.in_ok-conferences.conferences, c.in_ok-conferences.rest.now) e c.in_ok-opening.ensures.gives conferences c.in_err-users.ensures)
-
-pub returns-in_err-uploads : goal.returns-in_err-uploads
-returns-in_err-uploads c =
-    let p = err_from_is_err_and c.from_residual-in_err-uploads.result c.from_residual-in_err-uploads.ensures.1 in
-    let o = c.in_ok-opening.opening in
-    let bytes = c.args.bytes.now in
-    let same = take_rest bytes o.size in
-    let conferences = ap (records_at conference_at o.conferences []) (sym same) ∙ c.in_ok-conferences.ensures in
-    let first : 1 + c.from.result + c.from-2.result ≡ 1 + o.conferences + o.users = omega (arith, c.from.ensures, c.from-2.ensures) in
-    let e = told c.in_err-uploads.field-0.0 in
-    let failed = subst (λ (n : ℕ). Stops e (records_at (upload_at n o.users) o.uploads [] c.in_ok-users.rest.now)) first c.in_err-uploads.ensures in
-    rw (p.1, p.2) (uploads_fail bytes o (c.in_ok-conferences.conferences, c.in_ok-conferences.rest.now) (c.in_ok-users.users, c.in_ok-users.rest.now) e c.in_ok-opening.ensures.gives conferences c.in_ok-users.ensures failed)
-
-pub returns-then-not-is_empty : goal.returns-then-not-is_empty
-returns-then-not-is_empty c =
-    let o = c.in_ok-opening.opening in
-    let bytes = c.args.bytes.now in
-    let same = take_rest bytes o.size in
-    let conferences = ap (records_at conference_at o.conferences []) (sym same) ∙ c.in_ok-conferences.ensures in
-    let first : 1 + c.from.result + c.from-2.result ≡ 1 + o.conferences + o.users = omega (arith, c.from.ensures, c.from-2.ensures) in
-    let uploads = ap (λ n. records_at (upload_at n o.users) o.uploads [] c.in_ok-users.rest.now) (sym first) ∙ c.in_ok-uploads.ensures in
-    let whole = at_end bytes o (c.in_ok-conferences.conferences, c.in_ok-conferences.rest.now) (c.in_ok-users.users, c.in_ok-users.rest.now) (c.in_ok-uploads.uploads, c.in_ok-uploads.rest.now) c.in_ok-opening.ensures.gives conferences c.in_ok-users.ensures uploads in
-    let rest : not (eqb (length c.in_ok-uploads.rest.now) 0) ≡ true = ap not (sym c.if-not-is_empty.ensures) in
-    let item : 1 + o.conferences + o.users + o.uploads ≡ 1 + c.from.result + c.from-2.result + o.uploads = omega arith in
-    let l = ledger_with o c.in_ok-conferences.conferences c.in_ok-users.users c.in_ok-uploads.uploads in
-    rw c.damaged.ensures (whole ∙ (ap (λ (b : Bool). by_rules 0 (1 + o.conferences + o.users + o.uploads) ((Rest, b) ∷ []) l) rest ∙ ap (λ (n : ℕ). by_rules 0 n ((Rest, true) ∷ []) l) item))
+    rw (p.1, p.2) c.in_err-conferences.ensures
 
 pub returns : goal.returns
-returns c =
-    let o = c.in_ok-opening.opening in
-    let bytes = c.args.bytes.now in
-    let same = take_rest bytes o.size in
-    let conferences = ap (records_at conference_at o.conferences []) (sym same) ∙ c.in_ok-conferences.ensures in
-    let first : 1 + c.from.result + c.from-2.result ≡ 1 + o.conferences + o.users = omega (arith, c.from.ensures, c.from-2.ensures) in
-    let uploads = ap (λ n. records_at (upload_at n o.users) o.uploads [] c.in_ok-users.rest.now) (sym first) ∙ c.in_ok-uploads.ensures in
-    let whole = at_end bytes o (c.in_ok-conferences.conferences, c.in_ok-conferences.rest.now) (c.in_ok-users.users, c.in_ok-users.rest.now) (c.in_ok-uploads.uploads, c.in_ok-uploads.rest.now) c.in_ok-opening.ensures.gives conferences c.in_ok-users.ensures uploads in
-    let rest : not (eqb (length c.in_ok-uploads.rest.now) 0) ≡ false = ap not (sym c.if-not-is_empty.ensures) in
-    let l = ledger_with o c.in_ok-conferences.conferences c.in_ok-users.users c.in_ok-uploads.uploads in
-    whole ∙ (ap (λ (b : Bool). by_rules 0 (1 + o.conferences + o.users + o.uploads) ((Rest, b) ∷ []) l) rest
-    ∙ ap (λ (s : Setup). Ok (record { setup = s; created = o.created; users = c.in_ok-users.users; uploads = c.in_ok-uploads.uploads })) (sym c.with_conferences.ensures))
+returns c = c.in_ok-conferences.ensures ∙ ap (λ (s : Setup). Ok (record { setup = s; created = c.in_ok-opening.opening.created; users = c.in_ok-conferences.users; uploads = c.in_ok-conferences.uploads })) (sym c.with_conferences.ensures)

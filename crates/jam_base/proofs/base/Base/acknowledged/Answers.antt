@@ -1,14 +1,17 @@
-use Rattle.std.proofs.Common.{◌≡◌, ◌∙◌, ℕ, true, Option, Some, refl, sym, ap, subst, arith}
-use Rattle.std.specs.Prelude.{unwrap_or}
-use Rattle.jam_layout.specs.Layout.{layout}
+use Rattle.std.proofs.Common.{◌≡◌, ◌∙◌, ℕ, true, Option, Some, List, [], ◌∷◌, ◌++◌, sym, ap, subst, arith}
+use Rattle.std.specs.Prelude.{unwrap_or, IfOk}
 use Rattle.jam_layout.specs.Valid.{IsConference}
 use Rattle.jam_layout.specs.declared.conference.Conference.{Conference}
 use Rattle.jam_layout.specs.declared.shape.Shape.{Shape}
 use Rattle.jam_base.specs.Contents.{Contents, pointer_of, reader_place, receipt_to, with_acknowledged, with_pointer}
+use Rattle.intent_journal.specs.declared.patch.Patch.{Patch}
+use Rattle.jam_base.specs.MarkPuts.{pointer_patch, receive_puts}
+use Rattle.jam_base.specs.Puts.{counts_put}
 use Rattle.jam_base.specs.Slots.{any_due, slots_received}
 use Rattle.jam_base.specs.declared.change.BaseChange.{BaseChange}
-use Rattle.jam_base.proofs.ChangeClauses.{one_ok, reading_changes, reading_suits}
-use Rattle.jam_base.proofs.ReadingLaws.{reading_files, reading_is, reading_next, received_to, slots_to, some_due}
+use Rattle.jam_base.proofs.ChangeClauses.{one_ok}
+use Rattle.jam_base.proofs.PointerPuts.{acknowledged_turns, acknowledged_suits}
+use Rattle.jam_base.proofs.ReadingLaws.{reading_is, reading_next, received_to, slots_to, some_due}
 use Rattle.jam_base.proofs.base.Base.acknowledged.Goals as goal
 
 pub linked-requires-clause-conference : goal.linked-requires-clause-conference
@@ -35,9 +38,9 @@ returns-clause-base c =
     let new : Contents = with_pointer c.args.user c.args.upto (received_to base c.args.user c.args.name.now c.args.upto c.args.now) in
     let next : c.in_ok-next.next ≡ new.conference = reading_next base c.args.user c.args.name.now c.args.upto c.args.now c.parts.result.1.now c.in_ok-next.next c.in_ok-slots.slots c.in-Some.place c.parts.ensures.conference c.in_ok-next.ensures slots there in
     let due : any_due c.args.name.now (receipt_to c.args.user c.args.upto c.args.now base) 1 base.conference.slots ≡ true = sym (c.any_due.ensures ∙ (λ i. any_due c.args.name.now (receipt i) 1 (was i))) ∙ c.if-not-any_due.false in
-    let made : c.in_ok-linked.field-0 ≡ new = c.in_ok-linked.ensures ∙ (λ i. record { shape = c.parts.ensures.shape i; conference = next i }) in
-    let all : c.in_ok-linked.field-0 ≡ with_acknowledged c.args.user c.args.name.now c.args.upto c.args.now base = made ∙ sym (some_due base c.args.user c.args.name.now c.args.upto c.args.now due) in
-    one_ok (λ (change : BaseChange). change.base ≡ c.in_ok-linked.field-0) (λ (change : BaseChange). change.base ≡ with_acknowledged c.args.user c.args.name.now c.args.upto c.args.now base) c.of_reading.result (λ change is. is ∙ all) c.of_reading.ensures.base
+    let made : c.in_ok-change.change.base ≡ new = c.in_ok-change.ensures.base ∙ (c.in_ok-linked.ensures ∙ (λ i. record { shape = c.parts.ensures.shape i; conference = next i })) in
+    let all : c.in_ok-change.change.base ≡ with_acknowledged c.args.user c.args.name.now c.args.upto c.args.now base = made ∙ sym (some_due base c.args.user c.args.name.now c.args.upto c.args.now due) in
+    one_ok (λ (change : BaseChange). change.base ≡ c.in_ok-change.change.base) (λ (change : BaseChange). change.base ≡ with_acknowledged c.args.user c.args.name.now c.args.upto c.args.now base) c.of_pointer.result (λ change is. is ∙ all) c.of_pointer.ensures.base
 
 pub returns-clause-files : goal.returns-clause-files
 returns-clause-files c =
@@ -49,8 +52,16 @@ returns-clause-files c =
     let there : reader_place c.args.user base.shape.readers ≡ Some c.in-Some.place = ap (λ (s : Shape). reader_place c.args.user s.readers) (sym c.parts.ensures.shape) ∙ (sym c.position.ensures.place ∙ c.in-Some.is) in
     let new : Contents = with_pointer c.args.user c.args.upto (received_to base c.args.user c.args.name.now c.args.upto c.args.now) in
     let next : c.in_ok-next.next ≡ new.conference = reading_next base c.args.user c.args.name.now c.args.upto c.args.now c.parts.result.1.now c.in_ok-next.next c.in_ok-slots.slots c.in-Some.place c.parts.ensures.conference c.in_ok-next.ensures slots there in
-    let made : c.in_ok-linked.field-0 ≡ new = c.in_ok-linked.ensures ∙ (λ i. record { shape = c.parts.ensures.shape i; conference = next i }) in
-    reading_changes base.shape.place (layout base.shape base.conference) new c.in_ok-linked.field-0 c.of_reading.result made refl (reading_files base c.args.user c.args.name.now c.args.upto c.args.now) c.of_reading.ensures.base c.of_reading.ensures.patches
+    let linked : c.in_ok-change.change.base ≡ new = c.in_ok-change.ensures.base ∙ (c.in_ok-linked.ensures ∙ (λ i. record { shape = c.parts.ensures.shape i; conference = next i })) in
+    let marks : c.in_ok-marks.marks ≡ receive_puts base.shape.kind base.shape.place c.args.name.now (receipt_to c.args.user c.args.upto c.args.now base) 1024 1 base.conference.slots =
+    c.in_ok-marks.ensures ∙ (λ i. receive_puts base.shape.kind base.shape.place c.args.name.now (receipt i) 1024 1 base.conference.slots) in
+    let place_there : reader_place c.args.user base.shape.readers ≡ Some c.in-Some.place = there in
+    let puts : IfOk c.of_pointer.result (λ change. change.patches ≡ (c.in_ok-marks.marks ++ counts_put c.in_ok-change.change.base.shape.place c.in_ok-change.change.base.conference ∷ []) ++ pointer_patch c.in_ok-change.change.base c.in-Some.place c.args.upto ∷ []) =
+    one_ok (λ (change : BaseChange). change.patches ≡ c.in_ok-change.change.patches ++ pointer_patch c.in_ok-change.change.base c.in-Some.place c.args.upto ∷ [])
+    (λ (change : BaseChange). change.patches ≡ (c.in_ok-marks.marks ++ counts_put c.in_ok-change.change.base.shape.place c.in_ok-change.change.base.conference ∷ []) ++ pointer_patch c.in_ok-change.change.base c.in-Some.place c.args.upto ∷ []) c.of_pointer.result
+    (λ change p. p ∙ (ap (λ (ps : List Patch). ps ++ pointer_patch c.in_ok-change.change.base c.in-Some.place c.args.upto ∷ []) c.in_ok-change.ensures.patches
+    ∙ ap (λ (k : Contents). (c.in_ok-marks.marks ++ counts_put k.shape.place k.conference ∷ []) ++ pointer_patch c.in_ok-change.change.base c.in-Some.place c.args.upto ∷ []) (sym c.in_ok-change.ensures.base))) c.of_pointer.ensures.patches in
+    acknowledged_turns base c.args.user c.args.name.now c.args.upto c.args.now c.in-Some.place c.in_ok-marks.marks c.in_ok-change.change.base c.of_pointer.result place_there c.parts.ensures.is_conference.pointers.all marks linked c.of_pointer.ensures.base puts
 
 pub returns-clause-intent : goal.returns-clause-intent
 returns-clause-intent c =
@@ -62,5 +73,13 @@ returns-clause-intent c =
     let there : reader_place c.args.user base.shape.readers ≡ Some c.in-Some.place = ap (λ (s : Shape). reader_place c.args.user s.readers) (sym c.parts.ensures.shape) ∙ (sym c.position.ensures.place ∙ c.in-Some.is) in
     let new : Contents = with_pointer c.args.user c.args.upto (received_to base c.args.user c.args.name.now c.args.upto c.args.now) in
     let next : c.in_ok-next.next ≡ new.conference = reading_next base c.args.user c.args.name.now c.args.upto c.args.now c.parts.result.1.now c.in_ok-next.next c.in_ok-slots.slots c.in-Some.place c.parts.ensures.conference c.in_ok-next.ensures slots there in
-    let made : c.in_ok-linked.field-0 ≡ new = c.in_ok-linked.ensures ∙ (λ i. record { shape = c.parts.ensures.shape i; conference = next i }) in
-    reading_suits base.shape.place (layout base.shape base.conference) new c.in_ok-linked.field-0 c.of_reading.result made refl c.of_reading.ensures.base c.of_reading.ensures.patches
+    let linked : c.in_ok-change.change.base ≡ new = c.in_ok-change.ensures.base ∙ (c.in_ok-linked.ensures ∙ (λ i. record { shape = c.parts.ensures.shape i; conference = next i })) in
+    let marks : c.in_ok-marks.marks ≡ receive_puts base.shape.kind base.shape.place c.args.name.now (receipt_to c.args.user c.args.upto c.args.now base) 1024 1 base.conference.slots =
+    c.in_ok-marks.ensures ∙ (λ i. receive_puts base.shape.kind base.shape.place c.args.name.now (receipt i) 1024 1 base.conference.slots) in
+    let place_there : reader_place c.args.user base.shape.readers ≡ Some c.in-Some.place = there in
+    let puts : IfOk c.of_pointer.result (λ change. change.patches ≡ (c.in_ok-marks.marks ++ counts_put c.in_ok-change.change.base.shape.place c.in_ok-change.change.base.conference ∷ []) ++ pointer_patch c.in_ok-change.change.base c.in-Some.place c.args.upto ∷ []) =
+    one_ok (λ (change : BaseChange). change.patches ≡ c.in_ok-change.change.patches ++ pointer_patch c.in_ok-change.change.base c.in-Some.place c.args.upto ∷ [])
+    (λ (change : BaseChange). change.patches ≡ (c.in_ok-marks.marks ++ counts_put c.in_ok-change.change.base.shape.place c.in_ok-change.change.base.conference ∷ []) ++ pointer_patch c.in_ok-change.change.base c.in-Some.place c.args.upto ∷ []) c.of_pointer.result
+    (λ change p. p ∙ (ap (λ (ps : List Patch). ps ++ pointer_patch c.in_ok-change.change.base c.in-Some.place c.args.upto ∷ []) c.in_ok-change.ensures.patches
+    ∙ ap (λ (k : Contents). (c.in_ok-marks.marks ++ counts_put k.shape.place k.conference ∷ []) ++ pointer_patch c.in_ok-change.change.base c.in-Some.place c.args.upto ∷ []) (sym c.in_ok-change.ensures.base))) c.of_pointer.ensures.patches in
+    acknowledged_suits base c.args.user c.args.name.now c.args.upto c.args.now c.in-Some.place c.in_ok-marks.marks c.in_ok-change.change.base c.of_pointer.result place_there c.parts.ensures.is_conference.pointers.all marks linked c.of_pointer.ensures.base puts

@@ -1,31 +1,31 @@
-use Rattle.std.proofs.Common.{◌≡◌, ◌+◌, ◌∷◌, [], ◌++◌, length, take, length-take, sym, ap, ◌∙◌, arith}
-use Rattle.std.proofs.lemmas.List.{take_more}
-use Rattle.jam_threads.proofs.ChildrenLemmas.{length-push}
-use Rattle.jam_threads.proofs.ChainLemmas.{added_plain, added_hung, last_child_so_far}
+use Rattle.std.proofs.Common.{◌≡◌, ◌+◌, ℕ, List, length, sym, ap, ◌∙◌, arith, cond, ◌==◌, ◌&&◌}
+use Rattle.std.specs.Str.{bytes_eq}
+use Rattle.jam_records.specs.declared.message.Slot.TheVariants.{Held}
+use Rattle.jam_threads.specs.Children.{original_behind}
+use Rattle.jam_threads.specs.FirstNumbers.{kept_number}
+use Rattle.jam_threads.proofs.ChildrenLemmas.{length-push, original_behind-le}
+use Rattle.jam_threads.proofs.ChangeLemmas.{on_ok}
+use Rattle.jam_threads.proofs.FirstLemmas.{firsts_more, original_kept}
 use Rattle.jam_threads.proofs.threads.Threads.add.Goals as goal
 
-pub hang-requires-clause-last : goal.hang-requires-clause-last
-hang-requires-clause-last c =
-    let before = take c.args.place c.args.slots.now in
-    let count : length before ≡ c.args.place = omega (arith, length-take c.args.place c.args.slots.now) in
-    let entered = c.in_ok-original.ensures before c.requires.firsts (omega (arith, count)) in
-    let bound = last_child_so_far before c.index-slots-place.result c.args.self.now.links.items c.args.self.now.last_answers.items c.push-2.new.self.items c.in_ok-original.original c.requires.chains entered.0 c.if-original-ne0.true c.in_ok-push-2.ensures.items in
-    omega (arith, bound, ap length c.in_ok-push.ensures.items ∙ length-push c.args.self.now.links.items _)
+pub add_link-requires : goal.add_link-requires
+add_link-requires c =
+    let slots = c.requires.slots.slots in
+    let are = c.requires.slots.are in
+    let original : c.original-original.result ≡ original_behind slots c.args.replyid.now = c.original-original.ensures ∙ original_kept slots (kept_number c.args.self.now.firsts) c.args.replyid.now are.firsts in
+    record { slots = (slots, are.chains); within = omega (arith, original, original_behind-le slots c.args.replyid.now, are.chains.count) }
 
-pub returns-then-original-ne0-clause-chains : goal.returns-then-original-ne0-clause-chains
-returns-then-original-ne0-clause-chains c =
-    let before = take c.args.place c.args.slots.now in
-    let slot = c.index-slots-place.result in
-    let count : length before ≡ c.args.place = omega (arith, length-take c.args.place c.args.slots.now) in
-    let longer : take (c.args.place + 1) c.args.slots.now ≡ before ++ slot ∷ [] = take_more c.args.slots.now c.args.place slot c.requires.within ∙ ap (λ s. before ++ s ∷ []) (sym c.index-slots-place.is) in
-    let entered = c.in_ok-original.ensures before c.requires.firsts (omega (arith, count)) in
-    added_hung before _ slot c.args.self.now.links.items c.push.new.self.items _ c.args.self.now.last_answers.items c.push-2.new.self.items _ c.in_ok-original.original _ longer c.in_ok-push.ensures.items c.in_ok-push-2.ensures.items c.requires.chains entered.0 c.if-original-ne0.true (omega (arith, count)) c.hang.ensures.count c.hang.ensures.links c.hang.ensures.lasts
-
-pub returns-else-original-ne0-clause-chains : goal.returns-else-original-ne0-clause-chains
-returns-else-original-ne0-clause-chains c =
-    let before = take c.args.place c.args.slots.now in
-    let slot = c.index-slots-place.result in
-    let count : length before ≡ c.args.place = omega (arith, length-take c.args.place c.args.slots.now) in
-    let longer : take (c.args.place + 1) c.args.slots.now ≡ before ++ slot ∷ [] = take_more c.args.slots.now c.args.place slot c.requires.within ∙ ap (λ s. before ++ s ∷ []) (sym c.index-slots-place.is) in
-    let entered = c.in_ok-original.ensures before c.requires.firsts (omega (arith, count)) in
-    added_plain before _ slot c.args.self.now.links.items c.push.new.self.items c.args.self.now.last_answers.items c.push-2.new.self.items c.in_ok-original.original longer c.in_ok-push.ensures.items c.in_ok-push-2.ensures.items c.requires.chains entered.0 c.if-original-ne0.false
+pub returns : goal.returns
+returns c = on_ok _ _ c.add_link.result (λ chained slots m are msgid replyid.
+    let old : List ℕ → ℕ = kept_number c.args.self.now.firsts in
+    let original : c.original-original.result ≡ original_behind slots m.replyid = c.original-original.ensures ∙ original_kept slots old c.args.replyid.now are.firsts ∙ ap (original_behind slots) (sym replyid) in
+    let count = are.chains.count in
+    let number : c.len.result + 1 ≡ length slots + 1 = omega (arith, count, c.len.ensures) in
+    let few = c.requires.few slots are in
+    record {
+      few = omega (arith, few, length-push slots (Held m));
+      firsts = λ id. ap (λ f. kept_number f id) c.add_link.ensures.firsts
+          ∙ firsts_more slots (Held m) old (kept_number c.add.new.self) (c.len.result + 1) are.firsts (omega (arith, number))
+          (λ other. c.in_ok-add.ensures other ∙ ap (λ ms. cond (old other == 0 && bytes_eq ms other) (c.len.result + 1) (old other)) (sym msgid)) id;
+      chains = chained slots (Held m) are.chains original (omega (arith, number));
+    }) c.add_link.ensures.chains

@@ -1,0 +1,133 @@
+// What the slots from a place on, from 0, give to the files of their conference, and where that stands.
+ghost use Rattle.std.specs.Prelude.{◌≡◌, ◌+◌, ◌++◌, ◌≤◌, ◌<◌, ◌^◌, length, take, drop, sum_by, IfOk};
+ghost use Rattle.std.specs.List.{flat_map};
+ghost use Rattle.jam_threads.specs.Links.{link_of};
+ghost use Rattle.jam_threads.specs.Threading.{AreThreads};
+ghost use Rattle.jam_layout.specs.Headers.{headers_text};
+ghost use Rattle.jam_layout.specs.Index.{index_records};
+ghost use Rattle.jam_layout.specs.Layout.{entries_of};
+ghost use Rattle.jam_layout.specs.Sizes.{slot_header};
+ghost use Rattle.jam_writing.specs.Pieces.{body_piece, body_size};
+
+use crate::jdt::add_slot as add_body;
+use crate::jdx::add_slot as add_record;
+use crate::jhr::add_slot as add_slot_header;
+use byte_lists::Bytes;
+use jam_layout::header_size;
+use jam_records::{Kind, Slot};
+use jam_threads::Threads;
+use std::alloc::{AllocError, Global};
+
+/// How many bytes the header of what a slot holds has, with its subfields.
+pub fn header_length(slot: &Slot) -> u32
+    requires { slot_header slot.now < 2 ^ 31 }
+    ensures { result ≡ slot_header slot.now }
+{
+    match slot {
+        Slot::Gone => 0,
+        Slot::Held(message) => header_size(message),
+    }
+}
+
+/// How many bytes the body of what a slot holds has.
+fn body_length(slot: &Slot) -> u32
+    requires { body_size slot.now < 2 ^ 31 }
+    ensures { result ≡ body_size slot.now }
+{
+    match slot {
+        Slot::Gone => 0,
+        Slot::Held(message) => message.body.as_slice().len() as u32,
+    }
+}
+
+/// Where the header of the message in a place stands in .JHR, or would stand.
+pub fn header_place(slots: &[Slot], place: usize) -> u32
+    requires small { 1024 + sum_by slot_header slots.now < 2 ^ 31 }
+    requires within { place ≤ length slots.now }
+    ensures { result ≡ 1024 + sum_by slot_header (take place slots.now) }
+{
+    let mut at = 1024;
+    for slot in &slots[..place] {
+        at += header_length(slot);
+    }
+    at
+}
+
+/// Where the body of the message in a place begins in .JDT, or would begin.
+pub fn body_place(slots: &[Slot], place: usize) -> u32
+    requires small { sum_by body_size slots.now < 2 ^ 31 }
+    requires within { place ≤ length slots.now }
+    ensures { result ≡ sum_by body_size (take place slots.now) }
+{
+    let mut at = 0;
+    for slot in &slots[..place] {
+        at += body_length(slot);
+    }
+    at
+}
+
+/// The headers of the messages from a place on, whose bodies begin at an offset in .JDT. The threads are those of
+/// all slots.
+///
+/// The error comes where there is no memory.
+pub fn write_last_headers(
+    alloc: Global,
+    kind: Kind,
+    slots: &[Slot],
+    threads: &Threads,
+    from: usize,
+    offset: u32,
+) -> Result<Bytes, AllocError>
+    requires threads { AreThreads slots.now threads.now }
+    requires few { length slots.now ≤ 9999 }
+    requires within { from ≤ length slots.now }
+    requires headers { sum_by slot_header slots.now < 2 ^ 31 }
+    requires bodies { sum_by body_size slots.now < 2 ^ 31 }
+    requires offset { offset ≡ sum_by body_size (take from slots.now) }
+    ensures { IfOk result (λ text. text ≡ headers_text kind offset (entries_of (link_of slots.now) (from + 1) (drop from slots.now))) }
+{
+    let mut text = Bytes::new(alloc);
+    let mut at = offset;
+    for place in from..slots.len() {
+        let link = threads.link(place);
+        let number = place as u32 + 1;
+        at = add_slot_header(alloc, &mut text, kind, number, at, link, &slots[place])?;
+    }
+    Ok(text)
+}
+
+/// The bodies of the messages from a place on.
+///
+/// The error comes where there is no memory.
+pub fn write_last_bodies(alloc: Global, slots: &[Slot], from: usize) -> Result<Bytes, AllocError>
+    requires { from ≤ length slots.now }
+    ensures { IfOk result (λ text. text ≡ flat_map body_piece (drop from slots.now)) }
+{
+    let mut text = Bytes::new(alloc);
+    for slot in &slots[from..] {
+        add_body(&mut text, slot)?;
+    }
+    Ok(text)
+}
+
+/// The records of the slots from a place on, where the first header stands at a place in .JHR.
+///
+/// The error comes where there is no memory.
+pub fn write_last_records(
+    alloc: Global,
+    slots: &[Slot],
+    from: usize,
+    first: u32,
+) -> Result<Bytes, AllocError>
+    requires within { from ≤ length slots.now }
+    requires small { 1024 + sum_by slot_header slots.now < 2 ^ 31 }
+    requires first { first ≡ 1024 + sum_by slot_header (take from slots.now) }
+    ensures { IfOk result (λ text. text ≡ index_records first (drop from slots.now)) }
+{
+    let mut text = Bytes::new(alloc);
+    let mut at = first;
+    for place in from..slots.len() {
+        at = add_record(&mut text, at, &slots[place])?;
+    }
+    Ok(text)
+}
