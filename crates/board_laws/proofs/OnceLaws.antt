@@ -36,7 +36,7 @@ use Rattle.packet_verdicts.specs.Judged.{judged, refused_count}
 use Rattle.post_changes.specs.Posted.{record_of}
 use Rattle.sha2.specs.Sha256.{sha256}
 use Rattle.shelf_files.specs.declared.refusal.Refusal.{Refusal}
-use Rattle.upload_commands.specs.Upload.{UploadsFile, UploadsRead, uploaded_text}
+use Rattle.exchange_commands.specs.Upload.{UploadsFile, UploadsRead, uploaded_text}
 
 -- ---- a record stays
 -- the records of a board after a change are those before it, and perhaps more

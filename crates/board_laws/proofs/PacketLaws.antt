@@ -13,8 +13,8 @@ use Rattle.board_laws.specs.Passed.{IsExport, PacketsRise}
 use Rattle.board_ledger.specs.declared.user.User.{User}
 use Rattle.door_export.specs.Export.{ExportRefusal, Handout, export_as, export_of, export_to, packet_to, unless_refused, user_refusal}
 use Rattle.entry_runs.specs.Door.{here}
-use Rattle.export_commands.specs.Export.{handing_of}
-use Rattle.export_commands.specs.Handing.{Handing}
+use Rattle.exchange_commands.specs.Export.{handing_of}
+use Rattle.exchange_commands.specs.Handing.{Handing}
 use Rattle.mail_board.specs.Changes.{changed}
 use Rattle.mail_board.specs.Readers.{user_id}
 use Rattle.mail_board.specs.declared.change.Change.{Change}

@@ -23,9 +23,9 @@ use Rattle.entry_runs.specs.Entry.{Reply}
 use Rattle.entry_runs.specs.Runs.{Stepped}
 use Rattle.entry_runs.specs.declared.class.Class.{Class}
 use Rattle.entry_runs.specs.declared.class.Class.TheVariants.{Done}
-use Rattle.export_commands.specs.Ack.{turn_of as ack_turn_of}
-use Rattle.export_commands.specs.Export.{handing_of}
-use Rattle.export_commands.specs.Handing.{Handing}
+use Rattle.exchange_commands.specs.Ack.{turn_of as ack_turn_of}
+use Rattle.exchange_commands.specs.Export.{handing_of}
+use Rattle.exchange_commands.specs.Handing.{Handing}
 use Rattle.import_sheet.specs.declared.sheet.Sheet.{Sheet}
 use Rattle.jam_records.specs.declared.message.Message.{Message}
 use Rattle.mail_board.specs.Changes.{changed}
@@ -38,7 +38,7 @@ use Rattle.message_commands.specs.Kill.{has_message, kill_at, killed_line, killi
 use Rattle.offer_changes.specs.Changed.{acknowledged}
 use Rattle.offered_packets.specs.Offered.{highs, offered}
 use Rattle.packet_verdicts.specs.Judged.{judged, refused_count}
-use Rattle.sample_commands.specs.Sample.{sample_refusals, sampled_posts, sampling}
+use Rattle.message_commands.specs.Sample.{sample_refusals, sampled_posts, sampling}
 use Rattle.setup_file.specs.declared.setup.Setup.{Setup}
 use Rattle.shelf_files.specs.ShelfFile.{file_of}
 use Rattle.shelf_files.specs.Halts.{done}
@@ -46,7 +46,7 @@ use Rattle.shelf_files.specs.declared.refusal.Refusal.{Refusal}
 use Rattle.shelf_files.specs.declared.refusal.Refusal.TheVariants.{NoMessage}
 use Rattle.sha2.specs.Sha256.{sha256}
 use Rattle.slot_changes.specs.Changed.{deleted}
-use Rattle.upload_commands.specs.Upload.{UploadsFile, UploadsRead, rep_limit}
+use Rattle.exchange_commands.specs.Upload.{UploadsFile, UploadsRead, rep_limit}
 
 -- ---- from no board
 -- there is still none, or one that was made of a setup

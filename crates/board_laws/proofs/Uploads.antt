@@ -16,7 +16,7 @@ use Rattle.post_changes.specs.Posted.{uploaded}
 use Rattle.qwk_blocks.specs.declared.message.QwkMessage.{QwkMessage}
 use Rattle.rep_packet.specs.declared.rep.Rep.{Rep}
 use Rattle.sha2.specs.Sha256.{sha256}
-use Rattle.upload_commands.specs.Upload.{counts_line, tally, turn_of, uploaded_text}
+use Rattle.exchange_commands.specs.Upload.{counts_line, tally, turn_of, uploaded_text}
 
 -- the packet was recorded, and its counts are said again
 pub record SaidAgain (b : Board) (user : ℕ) (digest : List ℕ) (next : State) (reply : Reply) : Type 0 where

@@ -6,12 +6,12 @@ use Rattle.board_commands.specs.Check.{checks}
 use Rattle.board_commands.specs.Enroll.{enrolls}
 use Rattle.board_commands.specs.Init.{inits}
 use Rattle.board_commands.specs.State.{State}
-use Rattle.export_commands.specs.Ack.{acknowledges}
-use Rattle.export_commands.specs.Export.{exports}
+use Rattle.exchange_commands.specs.Ack.{acknowledges}
+use Rattle.exchange_commands.specs.Export.{exports}
 use Rattle.message_commands.specs.Import.{imports}
 use Rattle.message_commands.specs.Kill.{kills}
-use Rattle.sample_commands.specs.Sample.{samples}
-use Rattle.upload_commands.specs.Upload.{uploads}
+use Rattle.message_commands.specs.Sample.{samples}
+use Rattle.exchange_commands.specs.Upload.{uploads}
 
 pub data BoardCommand : Type 0 where
   -- the setup file

@@ -1,10 +1,11 @@
 //! Lists and their copies.
 use board_ledger::{Counts, Highs, UploadRecord, Uploads, User, Users};
 use byte_lists::Bytes;
-use door_outside::{CallNumbers, ShelfName};
+use door_outside::ShelfName;
 use jam_layout::{Reader, Readers};
 use jam_records::{Message, Messages, Slot, Slots};
 use jam_threads::links;
+use memory_outside::CallNumbers;
 use std::alloc::{AllocError, Global};
 use std::test::Fail;
 

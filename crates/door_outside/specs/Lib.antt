@@ -1,11 +1,5 @@
 pub mod Cause
-pub mod Contents
 pub mod Disk
-pub mod Events
 pub mod File
-pub mod Images
-pub mod MemoryHost
-pub mod MemoryShelf
 pub mod Name
-pub mod Plan
 pub mod Shelf

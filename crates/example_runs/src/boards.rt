@@ -1,7 +1,7 @@
 //! The board of the examples.
 use crate::files::{copies, put};
 use crate::miss::Miss;
-use door_outside::MemoryShelf;
+use memory_outside::MemoryShelf;
 use std::alloc::Global;
 
 const SETUP: &[u8] =

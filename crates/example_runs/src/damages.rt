@@ -5,7 +5,8 @@ use crate::files::copies;
 use crate::miss::Miss;
 use crate::outside::no_faults;
 use byte_lists::Bytes;
-use door_outside::{FileId, ImageChoice, MemoryHost};
+use door_outside::FileId;
+use memory_outside::{ImageChoice, MemoryHost};
 use std::alloc::Global;
 
 /// How a file is damaged.

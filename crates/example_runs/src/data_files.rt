@@ -1,6 +1,7 @@
 //! Data files of a host.
 use crate::miss::Miss;
-use door_outside::{FileId, MemoryHost};
+use door_outside::FileId;
+use memory_outside::MemoryHost;
 
 /// The data file of a number.
 pub(crate) fn data_file(number: &str) -> Result<FileId, Miss> {

@@ -2,7 +2,7 @@
 use crate::boards::put_setups;
 use crate::files::{copies, put};
 use crate::miss::Miss;
-use door_outside::MemoryShelf;
+use memory_outside::MemoryShelf;
 use std::alloc::Global;
 
 /// Its commands, as one batch.

@@ -1,7 +1,8 @@
 //! Files of a shelf.
 use crate::miss::Miss;
 use byte_lists::Bytes;
-use door_outside::{MemoryShelf, ShelfName};
+use door_outside::ShelfName;
+use memory_outside::MemoryShelf;
 use std::alloc::{AllocError, Global};
 
 /// The name that a text is.

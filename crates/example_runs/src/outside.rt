@@ -1,5 +1,5 @@
 //! Hosts and shelves in memory, and the plans by which their calls fail.
-use door_outside::{CallNumbers, FaultPlan, MemoryHost, MemoryShelf};
+use memory_outside::{CallNumbers, FaultPlan, MemoryHost, MemoryShelf};
 use std::alloc::{AllocError, Global};
 
 /// A plan by which no call fails.

@@ -2,7 +2,7 @@
 use crate::files::put;
 use crate::miss::Miss;
 use byte_lists::Bytes;
-use door_outside::MemoryShelf;
+use memory_outside::MemoryShelf;
 use std::alloc::{AllocError, Global};
 
 /// The CONTROL.DAT of the example, in lines that end with CR LF.

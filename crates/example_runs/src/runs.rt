@@ -1,11 +1,11 @@
 //! Runs of the program over a host and a shelf in memory.
 ghost use Rattle.std.specs.Prelude.{IfOk};
-ghost use Rattle.door_outside.specs.MemoryHost.{disk_of};
+ghost use Rattle.memory_outside.specs.MemoryHost.{disk_of};
 ghost use Rattle.intent_journal.specs.Hosts.{IsSettled};
 
 use crate::miss::Miss;
-use door_outside::{FaultPlan, ImageChoice, MemoryHost, MemoryShelf};
 use mail_cli::{Status, Words, run};
+use memory_outside::{FaultPlan, ImageChoice, MemoryHost, MemoryShelf};
 use std::alloc::{AllocError, Global};
 
 /// 2001-09-09 01:46:40 UTC.

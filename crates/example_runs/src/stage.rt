@@ -11,7 +11,7 @@ use crate::packets::{put_folders, put_packets};
 use crate::runs::NOW;
 use crate::transcripts::{PROMPT, run_command};
 use byte_lists::Bytes;
-use door_outside::{ImageChoice, MemoryHost, MemoryShelf};
+use memory_outside::{ImageChoice, MemoryHost, MemoryShelf};
 use std::alloc::Global;
 
 /// What stands before each direction of a transcript.

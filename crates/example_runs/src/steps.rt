@@ -2,8 +2,9 @@
 use crate::miss::Miss;
 use crate::outside::{no_faults, stops_at};
 use crate::runs::{expect_status, has_said, run_after_crash, run_next};
-use door_outside::{FileId, ImageChoice, MemoryHost, MemoryShelf};
+use door_outside::FileId;
 use mail_cli::Status;
+use memory_outside::{ImageChoice, MemoryHost, MemoryShelf};
 use std::alloc::Global;
 
 /// Whether all data files of two hosts are equal.

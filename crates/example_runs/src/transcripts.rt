@@ -2,8 +2,8 @@
 use crate::miss::Miss;
 use crate::outside::no_faults;
 use crate::runs::{expect_said, expect_status, run_image, run_next, said_since};
-use door_outside::{ImageChoice, MemoryHost, MemoryShelf};
 use mail_cli::Status;
+use memory_outside::{ImageChoice, MemoryHost, MemoryShelf};
 use std::alloc::Global;
 
 /// What stands before each command line of a transcript.

@@ -6,7 +6,7 @@ use Rattle.entry_runs.specs.Runs.{Stepped}
 use Rattle.entry_runs.specs.declared.class.Class.TheVariants.{Damaged}
 use Rattle.entry_runs.proofs.ShelfLaws.{IsLawfulOnShelf, lawful_look, lawful_on_shelf, lawful_saying}
 use Rattle.entry_runs.specs.Entry.{ShelfAct, on_shelf}
-use Rattle.export_commands.proofs.ExportActs.{ack_turns, keeps_exports, lawful_exports}
+use Rattle.exchange_commands.proofs.ExportActs.{ack_turns, keeps_exports, lawful_exports}
 use Rattle.message_commands.proofs.MessageActs.{import_turns, kill_turns}
 use Rattle.packet_commands.proofs.PacketLaws.{lawful_lists, lawful_reads, lawful_scans, lawful_shows}
 use Rattle.packet_commands.specs.List.{lists}
@@ -15,10 +15,10 @@ use Rattle.packet_commands.specs.Scan.{scans}
 use Rattle.reply_commands.proofs.ReplyLaws.{lawful_composes, lawful_replies}
 use Rattle.reply_commands.specs.Compose.{composes}
 use Rattle.reply_commands.specs.Reply.{replies}
-use Rattle.sample_commands.proofs.SampleActs.{sample_turns}
+use Rattle.message_commands.proofs.SampleActs.{sample_turns}
 use Rattle.shelf_files.proofs.Replies.{some_refusal}
 use Rattle.shelf_files.specs.Halts.{refused}
-use Rattle.upload_commands.proofs.UploadActs.{upload_turns}
+use Rattle.exchange_commands.proofs.UploadActs.{upload_turns}
 use Rattle.door_commands.specs.Answers.{usage, usage_line}
 use Rattle.board_commands.proofs.BoardActs.{KeepsState, check_turns, enroll_turns, init_turns, keeps_state, lawful_on_board}
 use Rattle.board_commands.specs.State.{State, IsSpoiled}

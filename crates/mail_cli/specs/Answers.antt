@@ -6,16 +6,16 @@ use Rattle.board_commands.specs.Init.{made_line}
 use Rattle.entry_runs.specs.Entry.{Reply}
 use Rattle.entry_runs.specs.Promise.{counts, ended, HasCauses}
 use Rattle.entry_runs.specs.declared.stop.Stop.{Stop}
-use Rattle.export_commands.specs.Ack.{acknowledged_line}
-use Rattle.export_commands.specs.Export.{packet_line}
+use Rattle.exchange_commands.specs.Ack.{acknowledged_line}
+use Rattle.exchange_commands.specs.Export.{packet_line}
 use Rattle.message_commands.specs.Import.{imported_line}
 use Rattle.message_commands.specs.Kill.{killed_line}
 use Rattle.packet_commands.specs.Scan.{count_line}
 use Rattle.reply_commands.specs.Compose.{composed_line}
 use Rattle.reply_commands.specs.Reply.{reply_line}
-use Rattle.sample_commands.specs.Sample.{sampled_line}
+use Rattle.message_commands.specs.Sample.{sampled_line}
 use Rattle.shelf_files.specs.Halts.{done, refused}
-use Rattle.upload_commands.specs.Upload.{uploaded_text}
+use Rattle.exchange_commands.specs.Upload.{uploaded_text}
 use Rattle.mail_cli.specs.declared.answer.Answer.{Answer}
 use Rattle.mail_cli.specs.declared.answer.Answer.TheVariants.{Text, Counted, Made, Enrolled, Imported, Killed, Sampled, Exported, Acknowledged, Uploaded, Replied, Composed, Refused, Damaged}
 

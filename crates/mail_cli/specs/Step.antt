@@ -6,8 +6,8 @@ use Rattle.board_commands.specs.Check.{checks}
 use Rattle.board_commands.specs.Enroll.{enrolls}
 use Rattle.board_commands.specs.Init.{inits}
 use Rattle.board_commands.specs.State.{State, Stores}
-use Rattle.export_commands.specs.Ack.{acknowledges}
-use Rattle.export_commands.specs.Export.{exports}
+use Rattle.exchange_commands.specs.Ack.{acknowledges}
+use Rattle.exchange_commands.specs.Export.{exports}
 use Rattle.message_commands.specs.Import.{imports}
 use Rattle.message_commands.specs.Kill.{kills}
 use Rattle.packet_commands.specs.List.{lists}
@@ -15,9 +15,9 @@ use Rattle.packet_commands.specs.Read.{reads, shows}
 use Rattle.packet_commands.specs.Scan.{scans}
 use Rattle.reply_commands.specs.Compose.{composes}
 use Rattle.reply_commands.specs.Reply.{replies}
-use Rattle.sample_commands.specs.Sample.{samples}
+use Rattle.message_commands.specs.Sample.{samples}
 use Rattle.shelf_files.specs.Halts.{refused}
-use Rattle.upload_commands.specs.Upload.{uploads}
+use Rattle.exchange_commands.specs.Upload.{uploads}
 use Rattle.door_commands.specs.Answers.{usage}
 use Rattle.door_commands.specs.declared.command.Command.{Command}
 use Rattle.door_commands.specs.declared.command.Command.TheVariants as command

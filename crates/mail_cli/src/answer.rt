@@ -3,26 +3,25 @@ ghost use Rattle.board_commands.specs.Enroll.{enrolled_line};
 ghost use Rattle.board_commands.specs.Init.{made_line};
 ghost use Rattle.door_outside.specs.Cause.{HasCause};
 ghost use Rattle.entry_runs.specs.Saying.{Voiced};
-ghost use Rattle.export_commands.specs.Ack.{acknowledged_line};
-ghost use Rattle.export_commands.specs.Export.{packet_line};
+ghost use Rattle.exchange_commands.specs.Ack.{acknowledged_line};
+ghost use Rattle.exchange_commands.specs.Export.{packet_line};
 ghost use Rattle.message_commands.specs.Import.{imported_line};
 ghost use Rattle.message_commands.specs.Kill.{killed_line};
 ghost use Rattle.reply_commands.specs.Writing.{total_text};
-ghost use Rattle.sample_commands.specs.Sample.{sampled_line};
+ghost use Rattle.message_commands.specs.Sample.{sampled_line};
 
 use board_commands::{BoardHalt, Enrolled, say_damage};
 use byte_lists::Bytes;
 use door_outside::{Host, ShelfName, VoiceFault};
 use entry_runs::{Class, Stop, say_all};
-use export_commands::Exported;
+use exchange_commands::{Exported, Uploaded, say_uploaded};
 use itoa::Buffer;
 use jam_records::Damage;
 use reply_commands::Added;
 use shelf_files::{Halt, Refusal};
-use upload_commands::{Uploaded, say_uploaded};
 
 /// What a command answers.
-#[derive(Debug, Drop)]
+#[derive(Drop)]
 pub enum Answer {
     /// It was carried out, and this is its reply.
     Text(Bytes),
@@ -219,14 +218,14 @@ impl Answer {
     ghost use Rattle.board_commands.specs.Enroll.{enrolled_line};
     ghost use Rattle.board_commands.specs.Halts.{told};
     ghost use Rattle.board_commands.specs.Init.{made_line};
-    ghost use Rattle.export_commands.specs.Ack.{acknowledged_line};
-    ghost use Rattle.export_commands.specs.Export.{packet_line};
+    ghost use Rattle.exchange_commands.specs.Ack.{acknowledged_line};
+    ghost use Rattle.exchange_commands.specs.Export.{packet_line};
     ghost use Rattle.message_commands.specs.Import.{imported_line};
     ghost use Rattle.message_commands.specs.Kill.{killed_line};
     ghost use Rattle.reply_commands.specs.Compose.{composed_line};
     ghost use Rattle.reply_commands.specs.Reply.{reply_line};
-    ghost use Rattle.sample_commands.specs.Sample.{sampled_line};
-    ghost use Rattle.upload_commands.specs.Upload.{uploaded_text};
+    ghost use Rattle.message_commands.specs.Sample.{sampled_line};
+    ghost use Rattle.exchange_commands.specs.Upload.{uploaded_text};
     ghost use Rattle.mail_cli.specs.Answers.{reply_of, answered};
 
     /// What a command over the shelf answers, whose reply is a text, or why the run stops.

@@ -2,6 +2,7 @@
 ghost use Rattle.std.specs.Prelude.{◌≡◌, IsTrue, All};
 ghost use Rattle.entry_runs.specs.Door.{any_touches};
 ghost use Rattle.entry_runs.specs.Promise.{counts, HasCauses};
+ghost use Rattle.board_commands.specs.Kept.{AreSure, IsKept};
 ghost use Rattle.intent_journal.specs.Hosts.{IsSettled};
 ghost use Rattle.door_commands.specs.Entries.{EntryCanRun, HasWrong, BeginsWrong};
 ghost use Rattle.mail_cli.specs.Run.{EntriesLeave, EntriesSurvive, DamagedOnlyIfSpoiled, AnswersUsage};
@@ -11,7 +12,45 @@ use crate::perform::perform;
 use door_commands::Entry;
 use door_outside::{Host, Shelf};
 use entry_runs::Status;
+use mail_board::Loaded;
 use std::alloc::Global;
+
+/// Carries out entries in order, and says their replies, with the board as it was kept, up to and with the first that
+/// ends the run.
+fn carry_on<H: Host, S: Shelf>(
+    alloc: Global,
+    entries: &[Entry],
+    host: &mut H,
+    shelf: &mut S,
+    kept: &mut Option<Loaded>,
+    now: u32,
+) -> Status
+    requires can_run { All EntryCanRun entries.now }
+    requires settled { IsTrue H.tells → IsSettled (H.disk host.old) }
+    requires sure { AreSure kept.old }
+    requires kept { IsTrue H.tells → IsKept kept.old (H.disk host.old) }
+    ensures settled { IsTrue H.tells → IsSettled (H.disk host.new) }
+    ensures leaves { IsTrue H.tells → IsTrue S.tells → EntriesLeave now entries.now result (H.disk host.old) (H.disk host.new) (S.files shelf.old) (S.files shelf.new) }
+    ensures survives { IsTrue H.tells → IsTrue S.tells → EntriesSurvive now entries.now (H.disk host.old) (H.disk host.new) (S.files shelf.old) }
+    ensures damaged { IsTrue H.tells → IsTrue S.tells → DamagedOnlyIfSpoiled result (H.disk host.old) (S.files shelf.old) }
+    ensures touched { result ≡ Status.Damaged → IsTrue (any_touches (door now) entries.now) }
+    ensures causes { HasCauses (counts (H.disk_faults host.old) (H.voice_faults host.old) (S.faults shelf.old)) (counts (H.disk_faults host.new) (H.voice_faults host.new) (S.faults shelf.new)) result }
+    ensures usage { result ≡ Status.Usage → HasWrong entries.now }
+    ensures wrong { BeginsWrong entries.now → AnswersUsage result }
+{
+    let mut status = Status::Done;
+    for entry in entries {
+        let class = match perform(alloc, host, shelf, kept, entry, now) {
+            Ok(class) => class,
+            Err(stop) => return stop.status(),
+        };
+        status = class.after(status);
+        if class.is_last() {
+            return status;
+        }
+    }
+    status
+}
 
 /// Carries out entries in order, and says their replies, up to and with the first that ends the run.
 pub fn run_entries<H: Host, S: Shelf>(
@@ -32,17 +71,6 @@ pub fn run_entries<H: Host, S: Shelf>(
     ensures usage { result ≡ Status.Usage → HasWrong entries.now }
     ensures wrong { BeginsWrong entries.now → AnswersUsage result }
 {
-    let mut status = Status::Done;
     let mut kept = None;
-    for entry in entries {
-        let class = match perform(alloc, host, shelf, &mut kept, entry, now) {
-            Ok(class) => class,
-            Err(stop) => return stop.status(),
-        };
-        status = class.after(status);
-        if class.is_last() {
-            return status;
-        }
-    }
-    status
+    carry_on(alloc, entries, host, shelf, &mut kept, now)
 }

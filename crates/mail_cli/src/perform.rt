@@ -18,14 +18,12 @@ use board_commands::{check, enroll, init};
 use door_commands::{Command, Entry};
 use door_outside::{Host, Shelf, ShelfName};
 use entry_runs::{Class, Stop};
-use export_commands::{ack, export};
+use exchange_commands::{ack, export, upload};
 use mail_board::Loaded;
-use message_commands::{import, kill};
+use message_commands::{import, kill, sample};
 use packet_commands::{list, read, scan, show};
 use reply_commands::{compose, reply};
-use sample_commands::sample;
 use std::alloc::Global;
-use upload_commands::upload;
 
 /// Adds a reply to a reply packet. The name is copied first, since no memory is taken once the packet is written.
 fn carry_out_reply<S: Shelf>(

@@ -1,4 +1,1 @@
-mod host;
-mod shelf;
-mod short_calls;
 mod start;

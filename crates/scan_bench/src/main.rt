@@ -6,7 +6,8 @@ mod argument;
 
 use argument::turns;
 use byte_lists::Bytes;
-use door_outside::{CallNumbers, FaultPlan, MemoryShelf, ShelfName};
+use door_outside::ShelfName;
+use memory_outside::{CallNumbers, FaultPlan, MemoryShelf};
 use offline_reader::{Scanned, scan_packet};
 use std::alloc::{AllocError, Global};
 use std::io;

@@ -1,6 +1,6 @@
 //! Boards whose files are damaged, and what `check` says of them.
-use door_outside::MemoryHost;
 use example_runs::{Miss, Stage, played};
+use memory_outside::MemoryHost;
 use std::alloc::Global;
 
 /// Damages, and what is said of them. The byte 88 is `X`, and 120 is `x`.

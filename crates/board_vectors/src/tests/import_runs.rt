@@ -1,7 +1,8 @@
 //! Runs of the commands by which a sysop changes messages: `import` and `kill`.
 use byte_lists::Bytes;
-use door_outside::{FileId, MemoryHost};
+use door_outside::FileId;
 use example_runs::{Miss, copies, expect_part, expect_transcript, played, put_data};
+use memory_outside::MemoryHost;
 use std::alloc::Global;
 
 /// The files of the conference 0 after the sheet given twice. In a net conference its message is private.

@@ -1,7 +1,7 @@
 //! Calls that fail alone.
-use door_outside::{ImageChoice, MemoryHost, MemoryShelf};
 use example_runs::{Miss, Steps, fails_at, played, run_twice};
 use mail_cli::Status;
+use memory_outside::{ImageChoice, MemoryHost, MemoryShelf};
 use std::alloc::Global;
 
 const IMPORT: &str = "import 0 one";

@@ -1,7 +1,7 @@
 //! Recoveries that are stopped too.
-use door_outside::{ImageChoice, MemoryHost, MemoryShelf};
 use example_runs::{Miss, Steps, played, run_after_crash, run_next, stops_at};
 use mail_cli::Status;
+use memory_outside::{ImageChoice, MemoryHost, MemoryShelf};
 use std::alloc::Global;
 
 const IMPORT: &str = "import 0 one";

@@ -1,7 +1,7 @@
 //! Exports whose shelf fails.
-use door_outside::MemoryHost;
 use example_runs::{Miss, Stage, failing_shelf, no_faults, played, run_to_fault};
 use mail_cli::Status;
+use memory_outside::MemoryHost;
 use std::alloc::Global;
 
 const ONE: &str = "

@@ -1,7 +1,7 @@
 use board_layout::{ReadError, StoredBoard, read_board};
 use door_outside::FileId;
 use jam_records::{Damage, DamageRule};
-use door_outside::{CallNumbers, FaultPlan, MemoryHost};
+use memory_outside::{CallNumbers, FaultPlan, MemoryHost};
 use std::alloc::{AllocError, Global};
 use std::test::Fail;
 

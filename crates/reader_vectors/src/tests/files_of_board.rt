@@ -1,9 +1,10 @@
 //! The data files of a board, and `check`, which reads them all.
 use super::answers::Answers;
 use super::changes::damages_at;
-use door_outside::{FileId, ImageChoice, MemoryHost, MemoryShelf};
+use door_outside::FileId;
 use example_runs::{Damage, Miss, host_with, no_faults, played, reply_of, run_next, stops_at};
 use mail_cli::Status;
+use memory_outside::{ImageChoice, MemoryHost, MemoryShelf};
 use std::alloc::Global;
 
 /// What `check` says of a whole board.

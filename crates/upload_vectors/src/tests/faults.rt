@@ -1,8 +1,8 @@
 //! Uploads whose shelf fails.
 use super::four::{FOUR, UPLOADED};
-use door_outside::{ImageChoice, MemoryHost};
 use example_runs::{Miss, Stage, Steps, failing_shelf, no_faults, played, run_to_fault};
 use mail_cli::Status;
+use memory_outside::{ImageChoice, MemoryHost};
 use std::alloc::Global;
 
 const UPLOAD: &str = r#"upload "Ann Lee" rep"#;

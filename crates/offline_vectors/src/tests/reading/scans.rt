@@ -1,6 +1,7 @@
 //! Packets on a shelf that are scanned.
 use byte_lists::Bytes;
-use door_outside::{CallNumbers, FaultPlan, MemoryShelf, ShelfFault, ShelfName};
+use door_outside::{ShelfFault, ShelfName};
+use memory_outside::{CallNumbers, FaultPlan, MemoryShelf};
 use offline_reader::{Scanned, scan_packet};
 use qwk_blocks::QwkFault;
 use std::alloc::{AllocError, Global};

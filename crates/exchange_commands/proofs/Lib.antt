@@ -1,0 +1,10 @@
+pub mod AckExits
+pub mod Causes
+pub mod ExportActs
+pub mod ExportExits
+pub mod HandingActs
+pub mod HandingExits
+pub mod KeptExports
+pub mod OutcomeLines
+pub mod UploadActs
+pub mod UploadExits

@@ -1,0 +1,104 @@
+use Rattle.std.proofs.Common.{rules, ◌≡◌, ℕ, true≢false, Option, None, Err, refl, sym, ◌∙◌, ap, subst}
+use Rattle.std.specs.Prelude.{Result}
+use Rattle.board_commands.proofs.FindLaws.{same_host}
+use Rattle.board_commands.specs.Halts.{told, of_read}
+use Rattle.board_commands.specs.Kept.{AreSure, IsKept, kept_board, unread}
+use Rattle.board_commands.specs.State.{Made, Stores, state_of}
+use Rattle.board_commands.specs.declared.halt.BoardHalt.{BoardHalt}
+use Rattle.door_outside.specs.Disk.{Unchanged}
+use Rattle.entry_runs.specs.Entry.{Works}
+use Rattle.entry_runs.specs.Promise.{HasCauses, counts, ended}
+use Rattle.mail_board.specs.Causes.{HasFault}
+use Rattle.mail_board.specs.Held.{Rests}
+use Rattle.mail_board.specs.declared.loading.Loaded.{Loaded}
+use Rattle.shelf_files.specs.declared.refusal.Refusal.TheVariants.{NotMade}
+use Rattle.door_export.proofs.ExportLaws.{export_board}
+use Rattle.door_export.specs.Export.{board_after, export_of}
+use Rattle.door_export.specs.Folder.{folder_names}
+use Rattle.door_export.specs.declared.exporting.ExportError.TheVariants.{DiskFault}
+use Rattle.door_export.specs.declared.exporting.Exported.{Exported}
+use Rattle.exchange_commands.proofs.Causes.{export_causes}
+use Rattle.exchange_commands.proofs.ExportExits.{works}
+use Rattle.exchange_commands.proofs.HandingExits.{answered, unfound}
+use Rattle.exchange_commands.proofs.KeptExports.{export_kept, export_sure}
+use Rattle.exchange_commands.specs.Export.{export_handing, exports, packet_line}
+use Rattle.exchange_commands.specs.Handing.{refuses}
+use Rattle.exchange_commands.proofs.exporting.export.Goals as goal
+
+pub returns-in_err-find-clause-works : goal.returns-in_err-find-clause-works
+returns-in_err-find-clause-works g c tells shelf_tells world at =
+    let is : c.from_residual.result ≡ Err (of_read c.in_err-find.field-0.0) = search rules in
+    subst (λ (r : Result Exported BoardHalt). Works Stores (exports c.args.user.now c.args.limit c.args.folder.now c.args.now) unread world (g.H.Host.disk c.args.host.now) (g.H.Host.disk c.find.new.host) (g.S.Shelf.files c.args.shelf.now) (told packet_line r)) (sym is)
+    (unfound (folder_names c.args.folder.now) (λ files board h. h ≡ export_handing c.args.user.now c.args.limit c.args.folder.now c.args.now files board) at packet_line c.find.new.kept c.in_err-find.field-0.0
+    (c.in_err-find.ensures.finds tells world.state at.board.stores) (c.in_err-find.ensures.state tells world.state at.board.stores))
+
+pub returns-in_err-board-clause-works : goal.returns-in_err-board-clause-works
+returns-in_err-board-clause-works g c tells shelf_tells world at =
+    let e : BoardHalt = c.in_err-board.field-0.0 in
+    let is : c.from_residual-in_err-board.result ≡ Err e = search rules in
+    let none : world.state ≡ state_of None = c.in_ok-find.ensures.state tells world.state at.board.stores ∙ ap state_of c.in_err-board.ensures.none.1 in
+    subst (λ (r : Result Exported BoardHalt). Works Stores (exports c.args.user.now c.args.limit c.args.folder.now c.args.now) unread world (g.H.Host.disk c.args.host.now) (g.H.Host.disk c.find.new.host) (g.S.Shelf.files c.args.shelf.now) (told packet_line r)) (sym is)
+    (subst (λ (halt : BoardHalt). Works Stores (exports c.args.user.now c.args.limit c.args.folder.now c.args.now) unread world (g.H.Host.disk c.args.host.now) (g.H.Host.disk c.find.new.host) (g.S.Shelf.files c.args.shelf.now) (told packet_line (Err halt))) (sym c.in_err-board.ensures.none.0)
+    (answered (folder_names c.args.folder.now) (λ files board h. h ≡ export_handing c.args.user.now c.args.limit c.args.folder.now c.args.now files board) at {board = None} (c.in_ok-find.ensures.finds tells world.state at.board.stores) none (refuses NotMade world.shelf None) refl refl refl))
+
+pub returns-clause-works : goal.returns-clause-works
+returns-clause-works g c tells shelf_tells world at =
+    let held = c.in_ok-board.board in
+    let here : c.find.new.kept ≡ _ = c.in_ok-board.ensures.board in
+    let certain = subst AreSure here c.in_ok-find.ensures.sure in
+    let is : world.state ≡ Made held.board = c.in_ok-find.ensures.state tells world.state at.board.stores ∙ ap (λ (kept : Option Loaded). state_of (kept_board kept)) here in
+    let gives = c.export-exported.ensures in
+    subst (λ (r : Result Exported BoardHalt). Works Stores (exports c.args.user.now c.args.limit c.args.folder.now c.args.now) unread world (g.H.Host.disk c.args.host.now) (g.H.Host.disk c.export-exported.new.host) (g.S.Shelf.files c.export-exported.new.shelf) (told packet_line r))
+    (sym c.answered.ensures)
+    (works c.args.user.now c.args.limit c.args.folder.now c.args.now held.board certain.0 at (c.in_ok-find.ensures.finds tells world.state at.board.stores) is
+    (export_of c.args.user.now c.args.limit c.args.now held.board) refl c.export-exported.result (record {
+      moments = gives.moments tells certain.1;
+      now_is = gives.now tells certain.1;
+      settled = gives.settled tells certain.1;
+      refused_is = gives.refused;
+      certain = λ doubt. true≢false (sym (gives.doubt.0 doubt).1 ∙ certain.1);
+      same = λ early. (
+        subst (λ host. Unchanged (g.H.Host.disk c.find.new.host) (g.H.Host.disk host)) (sym (gives.unchanged early).1) (same_host (g.H.Host.disk c.find.new.host)),
+        ap (λ shelf. g.S.Shelf.files shelf) (gives.unchanged early).2,
+      );
+      answer = gives.answer;
+      files = gives.files shelf_tells;
+      others = gives.others shelf_tells;
+      fault = λ is. ap (λ shelf. g.S.Shelf.files shelf) (gives.fault is).1;
+      rests = λ kept. gives.rests kept tells;
+    }))
+
+pub returns-clause-kept : goal.returns-clause-kept
+returns-clause-kept g c tells =
+    let held = c.in_ok-board.board in
+    let here : c.find.new.kept ≡ _ = c.in_ok-board.ensures.board in
+    let certain = subst AreSure here c.in_ok-find.ensures.sure in
+    let rests = subst (λ (kept : Option Loaded). IsKept kept (g.H.Host.disk c.find.new.host)) here (c.in_ok-find.ensures.kept tells) in
+    let gives = c.export-exported.ensures in
+    subst (λ (kept : Option Loaded). IsKept kept (g.H.Host.disk c.export-exported.new.host)) (sym c.keep_board.ensures)
+    (export_kept held c.export-exported.new.board (board_after held.board (export_of c.args.user.now c.args.limit c.args.now held.board)) certain.1 c.export-exported.result
+    (g.H.Host.disk c.export-exported.new.host) gives.board (λ kept. gives.rests kept tells) (λ early. (gives.unchanged early).0)
+    (λ early. subst (λ host. Rests held.board (g.H.Host.disk host)) (sym (gives.unchanged early).1) rests) (λ is. (gives.fault is).0) (gives.settled tells certain.1))
+
+pub returns-clause-sure : goal.returns-clause-sure
+returns-clause-sure g c =
+    let held = c.in_ok-board.board in
+    let here : c.find.new.kept ≡ _ = c.in_ok-board.ensures.board in
+    let certain = subst AreSure here c.in_ok-find.ensures.sure in
+    let gives = c.export-exported.ensures in
+    subst AreSure (sym c.keep_board.ensures)
+    (export_sure held c.export-exported.new.board (board_after held.board (export_of c.args.user.now c.args.limit c.args.now held.board)) certain.1 c.export-exported.result certain.0
+    (export_board c.args.user.now c.args.limit c.args.now held.board certain.0) gives.board (λ early. (gives.unchanged early).0) (λ is. (gives.fault is).0))
+
+pub returns-clause-causes : goal.returns-clause-causes
+returns-clause-causes g c =
+    let here : c.find.new.kept ≡ _ = c.in_ok-board.ensures.board in
+    let certain = subst AreSure here c.in_ok-find.ensures.sure in
+    let gives = c.export-exported.ensures in
+    let disk : g.H.Host.disk_faults c.find.new.host ≡ g.H.Host.disk_faults c.args.host.now = search rules in
+    let voice : g.H.Host.voice_faults c.find.new.host ≡ g.H.Host.voice_faults c.args.host.now = c.in_ok-find.ensures.voice in
+    subst (λ (r : Result Exported BoardHalt). HasCauses (counts (g.H.Host.disk_faults c.args.host.now) (g.H.Host.voice_faults c.args.host.now) (g.S.Shelf.faults c.args.shelf.now)) (counts (g.H.Host.disk_faults c.export-exported.new.host) (g.H.Host.voice_faults c.export-exported.new.host) (g.S.Shelf.faults c.export-exported.new.shelf)) (ended (told packet_line r)))
+    (sym c.answered.ensures)
+    (export_causes (gives.voice ∙ voice) packet_line c.export-exported.result
+    (subst (λ (before : ℕ). HasFault DiskFault before (g.H.Host.disk_faults c.export-exported.new.host) c.export-exported.result) disk gives.disk_cause) gives.shelf_cause
+    (λ doubt. true≢false (sym (gives.doubt.0 doubt).1 ∙ certain.1)))

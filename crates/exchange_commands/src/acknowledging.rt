@@ -1,0 +1,62 @@
+//! The command `ack`.
+ghost use Rattle.std.specs.Prelude.{◌≡◌, ◌≢◌, Err, IsTrue};
+ghost use Rattle.board_commands.specs.Halts.{told};
+ghost use Rattle.board_commands.specs.Kept.{AreSure, IsKept, unread};
+ghost use Rattle.board_commands.specs.State.{State, Stores};
+ghost use Rattle.door_export.specs.declared.acknowledging.AckError.TheVariants.{Doubt};
+ghost use Rattle.door_outside.specs.Shelf.{Files};
+ghost use Rattle.entry_runs.specs.Door.{World};
+ghost use Rattle.entry_runs.specs.Entry.{IsAt, Works};
+ghost use Rattle.entry_runs.specs.Promise.{counts, ended, HasCauses};
+ghost use Rattle.exchange_commands.specs.Ack.{acknowledged_line, acknowledges};
+ghost use Rattle.exchange_commands.specs.Acknowledging.{halted};
+
+use board_commands::{BoardHalt, find, keep_board, take_board};
+use door_export::{AckError, acknowledge};
+use door_outside::Host;
+use mail_board::Loaded;
+use shelf_files::Refusal;
+use std::alloc::Global;
+
+/// What an acknowledgement on a board in no doubt answers, or why the command isn't carried out.
+fn answered(acknowledged: Result<(), AckError>) -> Result<(), BoardHalt>
+    requires { acknowledged ≢ Err Doubt }
+    ensures { result ≡ halted acknowledged }
+{
+    match acknowledged {
+        Ok(()) => Ok(()),
+        Err(AckError::NoUser) => Err(BoardHalt::Refused(Refusal::NoUser)),
+        Err(AckError::NoPacket(offer)) => Err(BoardHalt::Refused(Refusal::NoPacket(offer))),
+        Err(AckError::DiskFault) => Err(BoardHalt::DiskFault),
+        Err(AckError::Doubt) => unreachable!(),
+        Err(AckError::OutOfMemory) => Err(BoardHalt::OutOfMemory),
+    }
+}
+
+/// Acknowledges a packet for the user of a name, ignoring ASCII case: in each conference with a high above his
+/// last-read pointer the messages to him up to that high are marked read at a moment in Unix seconds, and the pointer
+/// is the high. The offer goes.
+///
+/// It is refused where there is no board, then where no user has the name, then where the packet isn't the one that
+/// is offered to him.
+pub fn ack<H: Host>(
+    alloc: Global,
+    host: &mut H,
+    kept: &mut Option<Loaded>,
+    user: &[u8],
+    packet: u32,
+    now: u32,
+) -> Result<(), BoardHalt>
+    requires sure { AreSure kept.old }
+    requires kept { IsTrue H.tells → IsKept kept.old (H.disk host.old) }
+    ensures works { IsTrue H.tells → (world : World State) (shelf : Files) → IsAt Stores unread world (H.disk host.old) shelf → Works Stores (acknowledges user.now packet now) unread world (H.disk host.old) (H.disk host.new) shelf (told (λ _. acknowledged_line packet) result) }
+    ensures kept { IsTrue H.tells → IsKept kept.new (H.disk host.new) }
+    ensures sure { AreSure kept.new }
+    ensures causes { (shelf : _) → HasCauses (counts (H.disk_faults host.old) (H.voice_faults host.old) shelf) (counts (H.disk_faults host.new) (H.voice_faults host.new) shelf) (ended (told (λ _. acknowledged_line packet) result)) }
+{
+    find(alloc, host, kept)?;
+    let mut board = take_board(kept)?;
+    let acknowledged = acknowledge(alloc, &mut board, host, user, packet, now);
+    keep_board(kept, board);
+    answered(acknowledged)
+}

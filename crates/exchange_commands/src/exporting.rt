@@ -1,0 +1,67 @@
+//! The command `export`.
+ghost use Rattle.std.specs.Prelude.{◌≡◌, ◌≢◌, Err, IsTrue};
+ghost use Rattle.board_commands.specs.Halts.{told};
+ghost use Rattle.board_commands.specs.Kept.{AreSure, IsKept, unread};
+ghost use Rattle.board_commands.specs.State.{State, Stores};
+ghost use Rattle.door_export.specs.declared.exporting.ExportError.TheVariants.{Doubt};
+ghost use Rattle.door_outside.specs.Name.{HasParts};
+ghost use Rattle.entry_runs.specs.Door.{World};
+ghost use Rattle.entry_runs.specs.Entry.{IsAt, Works};
+ghost use Rattle.entry_runs.specs.Promise.{counts, ended, HasCauses};
+ghost use Rattle.exchange_commands.specs.Export.{exports, packet_line};
+ghost use Rattle.exchange_commands.specs.Exporting.{halted};
+
+use board_commands::{BoardHalt, find, keep_board, take_board};
+use door_export::{ExportError, Exported};
+use door_outside::{Host, Shelf, ShelfName};
+use mail_board::Loaded;
+use shelf_files::Refusal;
+use std::alloc::Global;
+
+/// What an export of a board in no doubt answers, or why the command isn't carried out.
+fn answered(exported: Result<Exported, ExportError>) -> Result<Exported, BoardHalt>
+    requires { exported ≢ Err Doubt }
+    ensures { result ≡ halted exported }
+{
+    match exported {
+        Ok(packet) => Ok(packet),
+        Err(ExportError::NoUser) => Err(BoardHalt::Refused(Refusal::NoUser)),
+        Err(ExportError::Limit) => Err(BoardHalt::Refused(Refusal::Limit)),
+        Err(ExportError::Packets) => Err(BoardHalt::Refused(Refusal::Packets)),
+        Err(ExportError::DiskFault) => Err(BoardHalt::DiskFault),
+        Err(ExportError::Doubt) => unreachable!(),
+        Err(ExportError::ShelfFault) => Err(BoardHalt::ShelfFault),
+        Err(ExportError::OutOfMemory) => Err(BoardHalt::OutOfMemory),
+    }
+}
+
+/// Hands out to the user of a name, ignoring ASCII case, the messages that are offered to him, at most as many as the
+/// limit, as CONTROL.DAT and MESSAGES.DAT of a folder. `now` is in Unix seconds.
+///
+/// It is refused where there is no board, then where no user has the name, then where the limit isn't 1 to 2,000,
+/// then where his last packet has the number 4,294,967,295. Where the shelf fails, the offer is kept, and the next
+/// export offers the same messages.
+pub fn export<H: Host, S: Shelf>(
+    alloc: Global,
+    host: &mut H,
+    shelf: &mut S,
+    kept: &mut Option<Loaded>,
+    user: &[u8],
+    limit: u32,
+    folder: &ShelfName,
+    now: u32,
+) -> Result<Exported, BoardHalt>
+    requires folder { HasParts 3 folder.now }
+    requires sure { AreSure kept.old }
+    requires kept { IsTrue H.tells → IsKept kept.old (H.disk host.old) }
+    ensures works { IsTrue H.tells → IsTrue S.tells → (world : World State) → IsAt Stores unread world (H.disk host.old) (S.files shelf.old) → Works Stores (exports user.now limit folder.now now) unread world (H.disk host.old) (H.disk host.new) (S.files shelf.new) (told packet_line result) }
+    ensures kept { IsTrue H.tells → IsKept kept.new (H.disk host.new) }
+    ensures sure { AreSure kept.new }
+    ensures causes { HasCauses (counts (H.disk_faults host.old) (H.voice_faults host.old) (S.faults shelf.old)) (counts (H.disk_faults host.new) (H.voice_faults host.new) (S.faults shelf.new)) (ended (told packet_line result)) }
+{
+    find(alloc, host, kept)?;
+    let mut board = take_board(kept)?;
+    let exported = door_export::export(alloc, &mut board, host, shelf, user, limit, folder, now);
+    keep_board(kept, board);
+    answered(exported)
+}

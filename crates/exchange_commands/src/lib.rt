@@ -1,0 +1,15 @@
+//! The commands by which a caller's mail is exchanged: a packet is exported and acknowledged, and the messages of a
+//! reply packet are posted.
+#![tactic(auto)]
+
+mod acknowledging;
+mod exporting;
+mod saying;
+mod uploading;
+
+pub use acknowledging::ack;
+pub use door_export::Exported;
+pub use door_upload::Uploaded;
+pub use exporting::export;
+pub use saying::say_uploaded;
+pub use uploading::upload;

@@ -1,0 +1,84 @@
+//! The command `upload`.
+ghost use Rattle.std.specs.Prelude.{◌≡◌, ◌≢◌, Err, IsSome, IsTrue, MatchResult, None};
+ghost use Rattle.board_commands.specs.Halts.{told};
+ghost use Rattle.board_commands.specs.Kept.{AreSure, IsKept, unread};
+ghost use Rattle.board_commands.specs.State.{State, Stores};
+ghost use Rattle.board_commands.specs.declared.halt.BoardHalt.TheVariants.{Refused};
+ghost use Rattle.door_upload.specs.declared.answer.UploadError.TheVariants.{Doubt};
+ghost use Rattle.entry_runs.specs.Door.{World};
+ghost use Rattle.entry_runs.specs.Entry.{IsAt, Works};
+ghost use Rattle.entry_runs.specs.Promise.{counts, ended, HasCauses};
+ghost use Rattle.mail_board.specs.Readers.{user_id};
+ghost use Rattle.shelf_files.specs.declared.refusal.Refusal.TheVariants as refusal;
+ghost use Rattle.exchange_commands.specs.Upload.{uploaded_text, uploads};
+ghost use Rattle.exchange_commands.specs.Uploading.{halted};
+
+use board_commands::{BoardHalt, board_in, find, keep_board, take_board};
+use door_outside::{Host, Shelf, ShelfName};
+use door_upload::{UploadError, Uploaded};
+use mail_board::{Board, Loaded};
+use shelf_files::{Refusal, file_in};
+use std::alloc::Global;
+
+/// The most bytes of a reply packet.
+const REP_LIMIT: u32 = 1_048_576;
+
+/// Looks for the user of a name, ignoring ASCII case, refused where no user has it.
+fn look_for(board: &Board, name: &[u8]) -> Result<(), BoardHalt>
+    ensures { MatchResult result (λ _. IsSome (user_id name.now board.now.board)) (λ e. (e ≡ Refused refusal.NoUser) × (user_id name.now board.now.board ≡ None)) }
+{
+    match board.user_id(name) {
+        Some(_) => Ok(()),
+        None => Err(BoardHalt::Refused(Refusal::NoUser)),
+    }
+}
+
+/// What an upload to a board in no doubt answers, or why the command isn't carried out.
+fn answered(uploaded: Result<Uploaded, UploadError>) -> Result<Uploaded, BoardHalt>
+    requires { uploaded ≢ Err Doubt }
+    ensures { result ≡ halted uploaded }
+{
+    match uploaded {
+        Ok(answer) => Ok(answer),
+        Err(UploadError::NoUser) => Err(BoardHalt::Refused(Refusal::NoUser)),
+        Err(UploadError::Broken(fault)) => Err(BoardHalt::Refused(Refusal::Broken(fault))),
+        Err(UploadError::NoBoardId) => Err(BoardHalt::Refused(Refusal::NoBoardId)),
+        Err(UploadError::OtherBoard) => Err(BoardHalt::Refused(Refusal::OtherBoard)),
+        Err(UploadError::Uploads) => Err(BoardHalt::Refused(Refusal::Uploads)),
+        Err(UploadError::Size(bytes)) => Err(BoardHalt::Refused(Refusal::Size(bytes))),
+        Err(UploadError::DiskFault) => Err(BoardHalt::DiskFault),
+        Err(UploadError::Doubt) => unreachable!(),
+        Err(UploadError::OutOfMemory) => Err(BoardHalt::OutOfMemory),
+    }
+}
+
+/// Takes in the reply packet of a file for the user of a name, ignoring ASCII case, at a moment in Unix seconds: its
+/// accepted messages are posted, and its record is kept, once for each user and SHA-256.
+///
+/// It is refused where there is no board, then where no user has the name, then where the file isn't there or has more
+/// than 1,048,576 bytes, then for the packet's first fault, a missing board id, another board's, and then, where the
+/// user didn't send it before, where there are 100,000 records or the files would be too long with one more.
+pub fn upload<H: Host, S: Shelf>(
+    alloc: Global,
+    host: &mut H,
+    shelf: &mut S,
+    kept: &mut Option<Loaded>,
+    user: &[u8],
+    file: &ShelfName,
+    now: u32,
+) -> Result<Uploaded, BoardHalt>
+    requires sure { AreSure kept.old }
+    requires kept { IsTrue H.tells → IsKept kept.old (H.disk host.old) }
+    ensures works { IsTrue H.tells → IsTrue S.tells → (world : World State) → IsAt Stores unread world (H.disk host.old) (S.files shelf.old) → Works Stores (uploads user.now file.now now) unread world (H.disk host.old) (H.disk host.new) (S.files shelf.new) (told uploaded_text result) }
+    ensures kept { IsTrue H.tells → IsKept kept.new (H.disk host.new) }
+    ensures sure { AreSure kept.new }
+    ensures causes { HasCauses (counts (H.disk_faults host.old) (H.voice_faults host.old) (S.faults shelf.old)) (counts (H.disk_faults host.new) (H.voice_faults host.new) (S.faults shelf.new)) (ended (told uploaded_text result)) }
+{
+    find(alloc, host, kept)?;
+    look_for(board_in(kept)?, user)?;
+    let bytes = file_in(alloc, shelf, file, REP_LIMIT)?;
+    let mut board = take_board(kept)?;
+    let uploaded = door_upload::upload(alloc, &mut board, host, user, bytes.as_slice(), now);
+    keep_board(kept, board);
+    answered(uploaded)
+}

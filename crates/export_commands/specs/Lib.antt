@@ -1,5 +1,0 @@
-pub mod Handing
-pub mod Export
-pub mod Exporting
-pub mod Ack
-pub mod Acknowledging

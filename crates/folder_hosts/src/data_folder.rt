@@ -1,0 +1,319 @@
+//! The data files as they lie in a folder.
+ghost use Rattle.std.specs.Prelude.{◌≡◌, ℕ, ◌<◌, ◌≤◌, ◌^◌, length, IfOk};
+
+use crate::boot::{boot_id, keep_id, kept_id};
+use crate::data_path::data_path;
+use crate::opening::{
+    make_folder, open_found, open_locked, open_or_make, sync_names, sync_own_name,
+};
+use crate::placement::Placement;
+use crate::transfer::{WriterAt, read_full, write_full};
+use crate::trouble::Trouble;
+use door_outside::FileId;
+use std::alloc::AllocError;
+use std::fs::{self, File};
+use std::io::{self, ErrorKind};
+
+/// Whether this run has the folder to itself.
+#[derive(Drop)]
+enum Hold {
+    /// No file was asked for yet.
+    Untried,
+    /// The folder was missing when it was first asked for, so every file is empty until this run writes.
+    Missing,
+    /// This run holds the lock until its end.
+    Locked(File),
+}
+
+#[derive(Drop)]
+enum Handle {
+    Closed,
+    Reading(File),
+    Writing(File),
+}
+
+#[derive(Drop)]
+struct DataFile {
+    path: String,
+    handle: Handle,
+}
+
+/// The 258 files of a board. A file stays open from its first use on, so that a sync goes by the handle that
+/// wrote, and every path is made at the start, so that no later call takes memory for one.
+#[derive(Drop)]
+pub struct DataFolder {
+    rt: HostRuntime,
+    folder: String,
+    parent: String,
+    lock_path: String,
+    /// How it lies to the shelf's folder.
+    placement: Placement,
+    hold: Hold,
+    files: Vec<DataFile>,
+    /// Whether the names in the folder, and its own, were put on the disk since the last was made.
+    names_synced: bool,
+    ghost all: { length files.items ≡ 258 },
+}
+
+/// The length of a file below 2^31 bytes.
+fn short_length(file: &File) -> io::Result<u32>
+    ensures { IfOk result (λ len. len < 2 ^ 31) }
+{
+    let len = file.metadata()?.len();
+    if len < 0x8000_0000 {
+        Ok(len as u32)
+    } else {
+        Err(ErrorKind::FileTooLarge.into())
+    }
+}
+
+/// What it means that the lock can't be taken.
+fn of_lock(error: io::Error) -> Trouble {
+    match error.kind() {
+        ErrorKind::WouldBlock => Trouble::Held,
+        _ => Trouble::Lock(error),
+    }
+}
+
+impl DataFolder {
+    /// The files under a folder, which needn't be there, beside the folder of a shelf. Nothing is opened yet.
+    pub fn new(rt: HostRuntime, folder: &str, shelf: &str) -> Result<DataFolder, AllocError> {
+        let alloc = rt.alloc();
+        let placement = Placement::of(&rt, folder, shelf)?;
+        let mut files = Vec::new(alloc);
+        for number in 0..258u16 {
+            let path = data_path(alloc, folder, number)?;
+            files.push(DataFile {
+                path,
+                handle: Handle::Closed,
+            })?;
+        }
+        let parent = format!(in alloc; "{folder}/..")?;
+        let lock_path = format!(in alloc; "{folder}/LOCK")?;
+        let folder = String::from_str(alloc, folder)?;
+        Ok(DataFolder {
+            rt,
+            folder,
+            parent,
+            lock_path,
+            placement,
+            hold: Hold::Untried,
+            files,
+            names_synced: false,
+        })
+    }
+
+    /// The file's length in bytes. A length of 2^31 or more is an error.
+    pub fn length(&mut self, file: FileId) -> Result<u32, Trouble>
+        ensures { IfOk result (λ len. len < 2 ^ 31) }
+    {
+        self.open_to_read(file)?;
+        match self.opened(file) {
+            None => Ok(0),
+            Some(open) => Ok(short_length(open)?),
+        }
+    }
+
+    /// Fills the buffer from a place on, up to the file's end.
+    pub fn read_at(&mut self, file: FileId, at: u32, buf: &mut [u8]) -> Result<usize, Trouble>
+        ensures { IfOk result (λ count. count ≤ length buf.old) }
+    {
+        self.open_to_read(file)?;
+        match self.opened(file) {
+            None => Ok(0),
+            Some(open) => Ok(read_full(open, u64::from(at), buf)?),
+        }
+    }
+
+    /// Puts the bytes at a place. A gap before them reads as zeros.
+    pub fn write_at(&mut self, file: FileId, at: u32, bytes: &[u8]) -> Result<(), Trouble> {
+        if bytes.is_empty() {
+            return self.lengthen(file, at);
+        }
+        self.open_to_write(file)?;
+        match self.opened(file) {
+            None => Err(Trouble::System(ErrorKind::NotFound.into())),
+            Some(open) => Ok(write_full(&mut WriterAt::new(open, u64::from(at)), bytes)?),
+        }
+    }
+
+    /// A write of no bytes still fills the gap before its place, which the system's write doesn't.
+    fn lengthen(&mut self, file: FileId, at: u32) -> Result<(), Trouble> {
+        if self.length(file)? >= at {
+            return Ok(());
+        }
+        self.set_len(file, at)
+    }
+
+    /// Shortens a file that is longer.
+    pub fn cut(&mut self, file: FileId, len: u32) -> Result<(), Trouble> {
+        if self.length(file)? <= len {
+            return Ok(());
+        }
+        self.set_len(file, len)
+    }
+
+    fn set_len(&mut self, file: FileId, len: u32) -> Result<(), Trouble> {
+        self.open_to_write(file)?;
+        match self.opened(file) {
+            None => Err(Trouble::System(ErrorKind::NotFound.into())),
+            Some(open) => Ok(open.set_len(u64::from(len))?),
+        }
+    }
+
+    /// Puts the file's bytes, its length and its name on the disk. Where that fails, no run goes on until the
+    /// machine is started anew.
+    pub fn sync(&mut self, file: FileId) -> Result<(), Trouble> {
+        if !self.is_there()? {
+            return Ok(());
+        }
+        self.open_to_read(file)?;
+        match self.sync_opened(file) {
+            Ok(()) => Ok(()),
+            Err(error) => {
+                self.keep_failure();
+                Err(Trouble::Sync(error))
+            }
+        }
+    }
+
+    /// Keeps in the lock's file that a sync failed since the machine's last start. Where that can't be told or
+    /// kept, what is said on standard error has to do.
+    fn keep_failure(&self) {
+        if let (Hold::Locked(lock), Some(id)) = (&self.hold, boot_id(&self.rt)) {
+            let _ = keep_id(lock, &id);
+        }
+    }
+
+    /// Puts an open file's bytes and length on the disk, and the names in the folder.
+    fn sync_opened(&mut self, file: FileId) -> io::Result<()> {
+        if let Some(open) = self.opened(file) {
+            open.sync_all()?;
+        }
+        if !self.names_synced {
+            sync_names(&self.rt, self.folder.as_str())?;
+            sync_own_name(&self.rt, self.parent.as_str())?;
+            self.names_synced = true;
+        }
+        Ok(())
+    }
+
+    /// Locks the folder at the first call of a run, and answers whether it was there then.
+    fn is_there(&mut self) -> Result<bool, Trouble> {
+        match self.hold {
+            Hold::Locked(_) => return Ok(true),
+            Hold::Missing => return Ok(false),
+            Hold::Untried => {}
+        }
+        match self.placement {
+            Placement::Apart => self.take_hold(),
+            Placement::Shared => Err(Trouble::Shared),
+            Placement::Unknown(kind) => Err(Trouble::Unplaced(kind)),
+        }
+    }
+
+    /// Locks the folder if it is there, and answers whether it is.
+    fn take_hold(&mut self) -> Result<bool, Trouble> {
+        match open_locked(&self.rt, self.lock_path.as_str()) {
+            Ok(lock) => {
+                let kept = kept_id(&lock);
+                if kept.is_some() && kept == boot_id(&self.rt) {
+                    return Err(Trouble::Unsynced);
+                }
+                self.hold = Hold::Locked(lock);
+                Ok(true)
+            }
+            Err(error) if error.kind() == ErrorKind::NotFound => {
+                self.hold = Hold::Missing;
+                Ok(false)
+            }
+            Err(error) => Err(of_lock(error)),
+        }
+    }
+
+    /// Makes the folder where it was missing, and locks it.
+    fn make_there(&mut self) -> Result<(), Trouble> {
+        if self.is_there()? {
+            return Ok(());
+        }
+        make_folder(&self.rt, self.folder.as_str())?;
+        let lock = open_locked(&self.rt, self.lock_path.as_str()).map_err(of_lock)?;
+        if self.has_any()? {
+            // Another run made them since this one found nothing.
+            return Err(Trouble::Held);
+        }
+        self.hold = Hold::Locked(lock);
+        Ok(())
+    }
+
+    /// Says on standard error what kept a call on a file from being done.
+    pub fn tell(&self, file: FileId, trouble: &Trouble) {
+        let path = self.files[usize::from(file.number())].path.as_str();
+        trouble.tell(&self.rt, self.folder.as_str(), path);
+    }
+
+    /// Whether any of the files is there.
+    fn has_any(&self) -> io::Result<bool> {
+        for file in &self.files {
+            if fs::exists(&self.rt, file.path.as_str())? {
+                return Ok(true);
+            }
+        }
+        Ok(false)
+    }
+
+    /// The open file, if it is open.
+    fn opened(&self, file: FileId) -> Option<&File> {
+        match &self.files[usize::from(file.number())].handle {
+            Handle::Closed => None,
+            Handle::Reading(open) | Handle::Writing(open) => Some(open),
+        }
+    }
+
+    /// Opens the file to be read, if it is there and isn't open.
+    fn open_to_read(&mut self, file: FileId) -> Result<(), Trouble> {
+        if !self.is_there()? {
+            return Ok(());
+        }
+        let number = usize::from(file.number());
+        if self.opened(file).is_none() {
+            if let Some(open) = open_found(&self.rt, self.files[number].path.as_str())? {
+                self.files[number].handle = Handle::Reading(open);
+            }
+        }
+        Ok(())
+    }
+
+    /// Opens the file to be written, and with it the other files of its conference, since other tools refuse
+    /// a message base of which one is missing.
+    fn open_to_write(&mut self, file: FileId) -> Result<(), Trouble> {
+        let number = usize::from(file.number());
+        if let Handle::Writing(_) = self.files[number].handle {
+            return Ok(());
+        }
+        self.make_there()?;
+        if number < 2 {
+            return Ok(self.open_one_to_write(number)?);
+        }
+        let place = (number - 2) / 4;
+        for part in 0..4usize {
+            self.open_one_to_write(2 + 4 * place + part)?;
+        }
+        Ok(())
+    }
+
+    /// Opens one file to be written, and makes it where it is missing.
+    fn open_one_to_write(&mut self, number: usize) -> io::Result<()>
+        requires { number < 258 }
+    {
+        if let Handle::Writing(_) = self.files[number].handle {
+            return Ok(());
+        }
+        let (open, is_new) = open_or_make(&self.rt, self.files[number].path.as_str())?;
+        if is_new {
+            self.names_synced = false;
+        }
+        self.files[number].handle = Handle::Writing(open);
+        Ok(())
+    }
+}

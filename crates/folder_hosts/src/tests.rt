@@ -1,0 +1,3 @@
+mod host;
+mod short_calls;
+mod start;

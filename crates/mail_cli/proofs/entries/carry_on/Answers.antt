@@ -1,0 +1,132 @@
+use Rattle.std.proofs.Common.{rules, inl, inr, refl, sym, ◌∙◌, ap, length, arith}
+use Rattle.std.proofs.lemmas.List.{drop_all}
+use Rattle.entry_runs.proofs.Commands.{causes_on, causes_class}
+use Rattle.entry_runs.proofs.Outcomes.{damaged_start}
+use Rattle.entry_runs.proofs.Running.{next_entry, at_next, starts, runs_on, ends_at, stops, ends, survives, survives_on, quiet_on}
+use Rattle.entry_runs.specs.Door.{touches}
+use Rattle.entry_runs.specs.Runs.{with_class}
+use Rattle.entry_runs.specs.declared.class.Class.TheVariants.{Done}
+use Rattle.board_commands.specs.State.{IsSpoiled}
+use Rattle.mail_cli.specs.Step.{door}
+use Rattle.mail_cli.proofs.EntryLaws.{lawful, only_spoiled, still_spoiled}
+use Rattle.mail_cli.proofs.Wrongs.{wrong_head, not_begun, has_wrong, some_from, ends_usage, ends_damaged, quiet_usage, quiet_damaged, stopped_usage, stopped_damaged, unsaid_usage, goes_right}
+use Rattle.mail_cli.proofs.entries.carry_on.Goals as goal
+
+pub loop-entry-init : goal.loop-entry-init
+loop-entry-init g c = record {
+  sure = c.requires.sure;
+  kept = c.requires.kept;
+  running = λ tells shelf_tells state stores. starts (door c.args.now) c.args.entries.now (record {
+    board = record { ready = record { settled = c.requires.settled tells; calm = λ read. absurd (cc read) }; stores = stores; fits = tt };
+    shelf_is = refl;
+  });
+  causes = search rules;
+  quiet = inl refl;
+  first = λ below. absurd (omega (arith, below));
+}
+
+pub returns-in-Err-clause-leaves : goal.returns-in-Err-clause-leaves
+returns-in-Err-clause-leaves g c tells shelf_tells state stores =
+    let more = next_entry c.args.entries.now c.loop-entry.entry-index c.entry-item.result (omega arith) c.entry-item.is in
+    let running = at_next (door c.args.now) more (c.loop-entry.invariant.running tells shelf_tells state stores) in
+    rw c.status.ensures (inr (stops (door c.args.now) (lawful c.args.now) running (c.in-Err.ensures.performs tells shelf_tells running.outcome.world running.at)))
+
+pub returns-in-Err-clause-survives : goal.returns-in-Err-clause-survives
+returns-in-Err-clause-survives g c tells shelf_tells state stores =
+    let more = next_entry c.args.entries.now c.loop-entry.entry-index c.entry-item.result (omega arith) c.entry-item.is in
+    let running = at_next (door c.args.now) more (c.loop-entry.invariant.running tells shelf_tells state stores) in
+    survives_on (door c.args.now) (lawful c.args.now) running (c.perform.ensures.performs tells shelf_tells running.outcome.world running.at) stores
+
+pub returns-in-Err-clause-damaged : goal.returns-in-Err-clause-damaged
+returns-in-Err-clause-damaged g c tells shelf_tells state stores is = stopped_damaged c.in-Err.stop (sym c.status.ensures ∙ is)
+
+pub returns-in-Err-clause-touched : goal.returns-in-Err-clause-touched
+returns-in-Err-clause-touched g c is = stopped_damaged c.in-Err.stop (sym c.status.ensures ∙ is)
+
+pub returns-in-Err-clause-causes : goal.returns-in-Err-clause-causes
+returns-in-Err-clause-causes g c = rw c.status.ensures (causes_on c.loop-entry.invariant.causes c.in-Err.ensures.causes)
+
+pub returns-in-Err-clause-usage : goal.returns-in-Err-clause-usage
+returns-in-Err-clause-usage g c is = stopped_usage c.in-Err.stop (sym c.status.ensures ∙ is)
+
+pub returns-in-Err-clause-wrong : goal.returns-in-Err-clause-wrong
+returns-in-Err-clause-wrong g c begins =
+    let more = next_entry c.args.entries.now c.loop-entry.entry-index c.entry-item.result (omega arith) c.entry-item.is in
+    unsaid_usage c.in-Err.stop c.status.result c.status.ensures (c.in-Err.ensures.wrong (wrong_head c.loop-entry.entry-index more c.loop-entry.invariant.first begins))
+
+pub returns-then-is_last-clause-leaves : goal.returns-then-is_last-clause-leaves
+returns-then-is_last-clause-leaves g c tells shelf_tells state stores =
+    let more = next_entry c.args.entries.now c.loop-entry.entry-index c.entry-item.result (omega arith) c.entry-item.is in
+    let running = at_next (door c.args.now) more (c.loop-entry.invariant.running tells shelf_tells state stores) in
+    rw c.after-status.ensures (inl (ends_at (door c.args.now) (lawful c.args.now) running (c.in-Ok.ensures.performs tells shelf_tells running.outcome.world running.at) (sym c.is_last.ensures ∙ c.if-is_last.true)))
+
+pub returns-then-is_last-clause-survives : goal.returns-then-is_last-clause-survives
+returns-then-is_last-clause-survives g c tells shelf_tells state stores =
+    let more = next_entry c.args.entries.now c.loop-entry.entry-index c.entry-item.result (omega arith) c.entry-item.is in
+    let running = at_next (door c.args.now) more (c.loop-entry.invariant.running tells shelf_tells state stores) in
+    survives_on (door c.args.now) (lawful c.args.now) running (c.perform.ensures.performs tells shelf_tells running.outcome.world running.at) stores
+
+pub returns-then-is_last-clause-damaged : goal.returns-then-is_last-clause-damaged
+returns-then-is_last-clause-damaged g c tells shelf_tells state stores =
+    let more = next_entry c.args.entries.now c.loop-entry.entry-index c.entry-item.result (omega arith) c.entry-item.is in
+    let running = at_next (door c.args.now) more (c.loop-entry.invariant.running tells shelf_tells state stores) in
+    damaged_start (door c.args.now) IsSpoiled (only_spoiled c.args.now) (still_spoiled c.args.now) c.after-status.ensures
+    (inl (ends_at (door c.args.now) (lawful c.args.now) running (c.in-Ok.ensures.performs tells shelf_tells running.outcome.world running.at) (sym c.is_last.ensures ∙ c.if-is_last.true)))
+
+pub returns-then-is_last-clause-touched : goal.returns-then-is_last-clause-touched
+returns-then-is_last-clause-touched g c is =
+    let more = next_entry c.args.entries.now c.loop-entry.entry-index c.entry-item.result (omega arith) c.entry-item.is in
+    some_from (touches (door c.args.now)) c.args.entries.now _ c.entry-item.result c.loop-entry.entry-index more
+    (c.in-Ok.ensures.damaged (ends_damaged c.loop-entry.status c.in-Ok.class c.loop-entry.invariant.quiet (sym c.after-status.ensures ∙ is)))
+
+pub returns-then-is_last-clause-causes : goal.returns-then-is_last-clause-causes
+returns-then-is_last-clause-causes g c = rw c.after-status.ensures (causes_class c.loop-entry.status c.in-Ok.class c.loop-entry.invariant.quiet (causes_on c.loop-entry.invariant.causes c.in-Ok.ensures.causes))
+
+pub returns-then-is_last-clause-usage : goal.returns-then-is_last-clause-usage
+returns-then-is_last-clause-usage g c is =
+    let more = next_entry c.args.entries.now c.loop-entry.entry-index c.entry-item.result (omega arith) c.entry-item.is in
+    has_wrong c.loop-entry.entry-index more (c.in-Ok.ensures.usage.0 (ends_usage c.loop-entry.status c.in-Ok.class c.loop-entry.invariant.quiet (sym c.after-status.ensures ∙ is)))
+
+pub returns-then-is_last-clause-wrong : goal.returns-then-is_last-clause-wrong
+returns-then-is_last-clause-wrong g c begins =
+    let more = next_entry c.args.entries.now c.loop-entry.entry-index c.entry-item.result (omega arith) c.entry-item.is in
+    inl (c.after-status.ensures ∙ ap (with_class c.loop-entry.status) (c.in-Ok.ensures.usage.1 (wrong_head c.loop-entry.entry-index more c.loop-entry.invariant.first begins)))
+
+pub returns-clause-leaves : goal.returns-clause-leaves
+returns-clause-leaves g c tells shelf_tells state stores =
+    inl (ends (door c.args.now) (lawful c.args.now) (drop_all c.loop-entry.entry-index c.args.entries.now (omega arith)) (c.loop-entry.invariant.running tells shelf_tells state stores))
+
+pub returns-clause-survives : goal.returns-clause-survives
+returns-clause-survives g c tells shelf_tells state stores =
+    survives (door c.args.now) (lawful c.args.now) stores (c.loop-entry.invariant.running tells shelf_tells state stores)
+
+pub returns-clause-damaged : goal.returns-clause-damaged
+returns-clause-damaged g c tells shelf_tells state stores is = quiet_damaged c.loop-entry.invariant.quiet is
+
+pub returns-clause-touched : goal.returns-clause-touched
+returns-clause-touched g c is = quiet_damaged c.loop-entry.invariant.quiet is
+
+pub returns-clause-causes : goal.returns-clause-causes
+returns-clause-causes g c = causes_class c.loop-entry.status Done c.loop-entry.invariant.quiet c.loop-entry.invariant.causes
+
+pub returns-clause-usage : goal.returns-clause-usage
+returns-clause-usage g c is = quiet_usage c.loop-entry.invariant.quiet is
+
+pub returns-clause-wrong : goal.returns-clause-wrong
+returns-clause-wrong g c begins = absurd (c.loop-entry.invariant.first (omega (arith, ap length begins.3)) begins)
+
+pub loop-entry-preserved : goal.loop-entry-preserved
+loop-entry-preserved g c = record {
+  sure = c.perform.ensures.sure;
+  kept = c.perform.ensures.kept;
+  running = λ tells shelf_tells state stores.
+      let more = next_entry c.args.entries.now c.loop-entry.entry-index c.entry-item.result (omega arith) c.entry-item.is in
+      let running = at_next (door c.args.now) more (c.loop-entry.invariant.running tells shelf_tells state stores) in
+      rw c.after-status.ensures (runs_on (door c.args.now) (lawful c.args.now) running (c.in-Ok.ensures.performs tells shelf_tells running.outcome.world running.at) (sym c.is_last.ensures ∙ c.if-is_last.false));
+  causes = causes_on c.loop-entry.invariant.causes c.in-Ok.ensures.causes;
+  quiet = rw c.after-status.ensures (quiet_on c.loop-entry.status c.in-Ok.class c.loop-entry.invariant.quiet (sym c.is_last.ensures ∙ c.if-is_last.false));
+  first =
+      let more = next_entry c.args.entries.now c.loop-entry.entry-index c.entry-item.result (omega arith) c.entry-item.is in
+      not_begun c.loop-entry.entry-index more c.loop-entry.invariant.first
+      (goes_right c.in-Ok.class c.entry-item.result c.in-Ok.ensures.usage.1 (sym c.is_last.ensures ∙ c.if-is_last.false));
+}

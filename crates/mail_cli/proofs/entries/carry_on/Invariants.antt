@@ -1,0 +1,23 @@
+use Rattle.std.proofs.Common.{◌≡◌, ◌⊎◌, ◌<◌, drop, IsTrue}
+use Rattle.entry_runs.proofs.Running.{Running}
+use Rattle.entry_runs.specs.Door.{here}
+use Rattle.entry_runs.specs.Promise.{counts, HasCauses}
+use Rattle.entry_runs.specs.declared.status.Status.TheVariants as status
+use Rattle.intent_journal.specs.Recovered.{recovered}
+use Rattle.board_commands.specs.Kept.{AreSure, IsKept, unread}
+use Rattle.board_commands.specs.State.{State, Stores}
+use Rattle.door_commands.specs.Entries.{BeginsWrong}
+use Rattle.mail_cli.specs.Step.{door}
+use Rattle.mail_cli.proofs.entries.carry_on.Given as goal
+
+abbrev pub invariant-loop-entry : goal.invariant-loop-entry
+invariant-loop-entry g l = record {
+  sure : AreSure l.kept;
+  kept : IsTrue g.H.Host.tells → IsKept l.kept (g.H.Host.disk l.host);
+  running : IsTrue g.H.Host.tells → IsTrue g.S.Shelf.tells → (state : State) → Stores state (recovered (g.H.Host.disk l.fn.host).files)
+      → Running (door l.now) unread (here state (g.S.Shelf.files l.fn.shelf)) l.entries (drop l.entry-index l.entries) (g.H.Host.disk l.fn.host) (g.H.Host.disk l.host) (g.S.Shelf.files l.shelf) l.status;
+  causes : HasCauses (counts (g.H.Host.disk_faults l.fn.host) (g.H.Host.voice_faults l.fn.host) (g.S.Shelf.faults l.fn.shelf))
+      (counts (g.H.Host.disk_faults l.host) (g.H.Host.voice_faults l.host) (g.S.Shelf.faults l.shelf)) status.Done;
+  quiet : (l.status ≡ status.Done) ⊎ (l.status ≡ status.Refused);
+  first : 0 < l.entry-index → ¬ BeginsWrong l.entries;
+}

@@ -1,0 +1,7 @@
+mod Choosing
+pub mod Left
+mod Maps
+mod Passing
+mod Replaying
+mod Short
+mod Tearing

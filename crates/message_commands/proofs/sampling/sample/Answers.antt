@@ -1,0 +1,75 @@
+use Rattle.std.proofs.Common.{rules, ◌≡◌, ℕ, Some, None, Err, refl, sym, ◌∙◌, ap, subst}
+use Rattle.std.specs.Prelude.{Result}
+use Rattle.board_commands.proofs.Exits.{unfound}
+use Rattle.board_commands.proofs.FindLaws.{same_host}
+use Rattle.board_commands.specs.Halts.{told, of_read, of_journal}
+use Rattle.board_commands.specs.Kept.{kept_board, unread}
+use Rattle.board_commands.specs.State.{Stores}
+use Rattle.board_commands.specs.declared.halt.BoardHalt.{BoardHalt}
+use Rattle.board_layout.specs.Board.{Board}
+use Rattle.door_outside.specs.Disk.{Unchanged}
+use Rattle.entry_runs.specs.Entry.{Works}
+use Rattle.entry_runs.specs.Promise.{Counts, HasCauses, counts, ended}
+use Rattle.entry_runs.specs.declared.status.Status.TheVariants as status
+use Rattle.mail_board.specs.Changes.{Fits}
+use Rattle.message_commands.proofs.Exits.{refused_by}
+use Rattle.message_commands.proofs.SampleExits.{Turns, appended, no_fault, unappended, unprepared}
+use Rattle.message_commands.specs.Sample.{sampled_line, samples}
+use Rattle.shelf_files.specs.declared.refusal.Refusal.TheVariants.{NotMade}
+use Rattle.message_commands.proofs.sampling.sample.Goals as goal
+
+pub returns-in_err-find-clause-works : goal.returns-in_err-find-clause-works
+returns-in_err-find-clause-works g c tells world shelf at =
+    let is : c.from_residual.result ≡ Err (of_read c.in_err-find.field-0.0) = search rules in
+    subst (λ (r : Result ℕ BoardHalt). Works Stores (samples c.args.seed c.args.count c.args.now) unread world (g.H.Host.disk c.args.host.now) (g.H.Host.disk c.find.new.host) shelf (told sampled_line r)) (sym is)
+    (unfound (Turns c.args.seed c.args.count c.args.now) at sampled_line c.find.new.kept c.in_err-find.field-0.0 (c.in_err-find.ensures.finds tells world.state at.board.stores) (c.in_err-find.ensures.state tells world.state at.board.stores))
+
+pub returns-in_err-board-clause-works : goal.returns-in_err-board-clause-works
+returns-in_err-board-clause-works g c tells world shelf at =
+    let e : BoardHalt = c.in_err-board.field-0.0 in
+    let is : c.from_residual-in_err-board.result ≡ Err e = search rules in
+    subst (λ (r : Result ℕ BoardHalt). Works Stores (samples c.args.seed c.args.count c.args.now) unread world (g.H.Host.disk c.args.host.now) (g.H.Host.disk c.find.new.host) shelf (told sampled_line r)) (sym is)
+    (refused_by (Turns c.args.seed c.args.count c.args.now) at (kept_board c.find.new.kept) (c.in_ok-find.ensures.finds tells world.state at.board.stores) (c.in_ok-find.ensures.state tells world.state at.board.stores)
+    sampled_line None NotMade e c.in_err-board.ensures.board.1 c.in_err-board.ensures.board.0 refl)
+
+pub returns-in_err-change-clause-works : goal.returns-in_err-change-clause-works
+returns-in_err-change-clause-works g c tells world shelf at =
+    let e : BoardHalt = c.in_err-change.field-0.0 in
+    let b : Board = c.in_ok-board.board.now.board in
+    let is : c.from_residual-in_err-change.result ≡ Err e = search rules in
+    subst (λ (r : Result ℕ BoardHalt). Works Stores (samples c.args.seed c.args.count c.args.now) unread world (g.H.Host.disk c.args.host.now) (g.H.Host.disk c.find.new.host) shelf (told sampled_line r)) (sym is)
+    (unprepared c.args.seed c.args.count c.args.now at (kept_board c.find.new.kept) (c.in_ok-find.ensures.finds tells world.state at.board.stores) (c.in_ok-find.ensures.state tells world.state at.board.stores)
+    b c.in_ok-board.ensures.board e c.in_err-change.ensures)
+
+pub returns-in_err-make_change-clause-works : goal.returns-in_err-make_change-clause-works
+returns-in_err-make_change-clause-works g c tells world shelf at =
+    let error = c.in_err-make_change.field-0.0 in
+    let b : Board = c.in_ok-board.board.now.board in
+    let is : c.from_residual-in_err-make_change.result ≡ Err (of_journal error) = search rules in
+    subst (λ (r : Result ℕ BoardHalt). Works Stores (samples c.args.seed c.args.count c.args.now) unread world (g.H.Host.disk c.args.host.now) (g.H.Host.disk c.make_change.new.host) shelf (told sampled_line r)) (sym is)
+    (unappended c.args.seed c.args.count c.args.now at (kept_board c.find.new.kept) (c.in_ok-find.ensures.finds tells world.state at.board.stores) (c.in_ok-find.ensures.state tells world.state at.board.stores)
+    b c.in_ok-board.ensures.board c.in_ok-change.change c.in_ok-change.ensures error (c.in_err-make_change.ensures.changes tells b c.in_ok-board.ensures.board)
+    (λ starved. subst (λ host. Unchanged (g.H.Host.disk c.find.new.host) (g.H.Host.disk host)) (sym (c.in_err-make_change.ensures.unchanged (ap Err starved))) (same_host (g.H.Host.disk c.find.new.host))))
+
+pub returns-clause-works : goal.returns-clause-works
+returns-clause-works g c tells world shelf at =
+    let b : Board = c.in_ok-board.board.now.board in
+    appended c.args.seed c.args.count c.args.now at (kept_board c.find.new.kept) (c.in_ok-find.ensures.finds tells world.state at.board.stores) (c.in_ok-find.ensures.state tells world.state at.board.stores)
+    b c.in_ok-board.ensures.board c.in_ok-change.change c.in_ok-change.ensures (c.in_ok-make_change.ensures.changes tells b c.in_ok-board.ensures.board)
+
+pub make_change-requires-clause-fits : goal.make_change-requires-clause-fits
+make_change-requires-clause-fits g c b is =
+    let here : Some c.in_ok-board.board.now.board ≡ Some b = sym c.in_ok-board.ensures.board ∙ is in
+    let same : c.in_ok-board.board.now.board ≡ b = cc in
+    subst (Fits c.in_ok-change.change) same c.in_ok-change.ensures.0
+
+pub returns-in_err-change-clause-causes : goal.returns-in_err-change-clause-causes
+returns-in_err-change-clause-causes g c shelf =
+    let e : BoardHalt = c.in_err-change.field-0.0 in
+    let is : c.from_residual-in_err-change.result ≡ Err e = search rules in
+    let old : Counts = counts (g.H.Host.disk_faults c.args.host.now) (g.H.Host.voice_faults c.args.host.now) shelf in
+    let new : Counts = counts (g.H.Host.disk_faults c.find.new.host) (g.H.Host.voice_faults c.find.new.host) shelf in
+    let done : HasCauses old new status.Done = search rules in
+    let starved : HasCauses old new status.OutOfMemory = search rules in
+    subst (λ (r : Result ℕ BoardHalt). HasCauses old new (ended (told sampled_line r))) (sym is)
+    (no_fault c.args.seed c.args.count c.args.now c.in_ok-board.board.now.board e c.in_err-change.ensures done starved)

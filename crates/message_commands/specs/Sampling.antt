@@ -1,0 +1,38 @@
+-- What is known between two messages of a sample, and what is found before it is appended.
+use Rattle.std.specs.Prelude.{◌≡◌, ℕ, ◌<◌, ◌*◌, length, slice_index, All, Some, Result, Ok, Err}
+use Rattle.board_commands.specs.Turns.{refuses}
+use Rattle.board_commands.specs.declared.halt.BoardHalt.{BoardHalt}
+use Rattle.board_commands.specs.declared.halt.BoardHalt.TheVariants.{Refused, Damaged, DiskFault, ShelfFault, OutOfMemory}
+use Rattle.board_layout.specs.Board.{Board}
+use Rattle.jam_records.specs.declared.message.Message.{Message}
+use Rattle.mail_board.specs.Changes.{changed, Fits}
+use Rattle.mail_board.specs.declared.change.Change.{Change}
+use Rattle.post_changes.specs.Posted.{posts_in}
+use Rattle.message_commands.specs.Draws.{number_of}
+use Rattle.message_commands.specs.Sample.{sample_turn, sampled_line, sampled_posts}
+use Rattle.message_commands.specs.declared.posts.Sampling.{Sampling}
+use Rattle.shelf_files.specs.Halts.{done}
+use Rattle.slot_changes.specs.Values.{IsTyped}
+
+-- the bytes and moments of the message of a post are of their types
+abbrev pub IsTypedPost : ℕ × Message → Type 0
+IsTypedPost p = IsTyped p.1
+
+-- the posts are the first ones of the sample, the last number is that of the last of them, and the posts of each place
+-- are counted
+pub record IsSampling (b : Board) (s : Sampling) : Type 0 where
+  pub number : s.numbers.last ≡ number_of s.seed (4 * length s.posts)
+  pub posts : s.posts ≡ sampled_posts s.seed s.moment b (length s.posts)
+  pub places : length s.posted.items ≡ 64
+  pub counts : (place : ℕ) → place < 64 → slice_index s.posted.items place ≡ length (posts_in place s.posts)
+  pub typed : All IsTypedPost s.posts
+
+-- a change that fits and takes the turn, or the refusal, or memory ran out
+abbrev pub MaySample : ℕ → ℕ → ℕ → Board → Result Change BoardHalt → Type 0
+MaySample seed count now b (Ok change) =
+    Fits change b × (sample_turn seed count now (Some b) ≡ record { board = Some (changed change b); reply = done (sampled_line count) })
+MaySample seed count now b (Err (Refused why)) = sample_turn seed count now (Some b) ≡ refuses why (Some b)
+MaySample seed count now b (Err OutOfMemory) = Unit {0}
+MaySample seed count now b (Err (Damaged d)) = ⊥
+MaySample seed count now b (Err DiskFault) = ⊥
+MaySample seed count now b (Err ShelfFault) = ⊥

@@ -1,0 +1,98 @@
+//! The command `sample`.
+ghost use Rattle.std.specs.Prelude.{◌≡◌, ◌≤◌, ◌<◌, length, map, IsTrue};
+ghost use Rattle.board_commands.specs.Enroll.{first_refusal};
+ghost use Rattle.board_commands.specs.Halts.{told};
+ghost use Rattle.board_commands.specs.Kept.{AreSure, IsKept, unread};
+ghost use Rattle.board_commands.specs.State.{State, Stores};
+ghost use Rattle.board_layout.specs.Valid.{IsBoard};
+ghost use Rattle.door_outside.specs.Shelf.{Files};
+ghost use Rattle.entry_runs.specs.Door.{World};
+ghost use Rattle.entry_runs.specs.Entry.{IsAt, Works};
+ghost use Rattle.entry_runs.specs.Promise.{counts, ended, HasCauses};
+ghost use Rattle.post_changes.specs.Posted.{spread};
+ghost use Rattle.message_commands.specs.Sample.{sampled_line, samples, slot_counts, slots_case};
+ghost use Rattle.message_commands.specs.Sampling.{IsSampling, MaySample};
+
+use crate::posts::{Sampling, sampling_of};
+use board_commands::{BoardHalt, board_in, find, make_change, size_refusal};
+use board_layout::StoredBoard;
+use door_outside::Host;
+use mail_board::{Board, Change, Loaded};
+use shelf_files::Refusal;
+use std::alloc::Global;
+
+/// How many messages a sample may have.
+const COUNT_LIMIT: u32 = 5_000;
+
+/// How many slots a conference may have.
+const SLOT_LIMIT: u32 = 9_999;
+
+/// Why a conference, the first by place, would have too many slots with the messages of a sample, where one would.
+fn slots_refusal(board: &StoredBoard, sampling: &Sampling) -> Option<Refusal>
+    requires sampling { IsSampling board.now sampling.now }
+    requires few { length sampling.now.posts ≤ 5000 }
+    ensures { result ≡ first_refusal (map slots_case (slot_counts (spread sampling.now.posts board.now))) }
+{
+    for (place, base) in board.bases().iter().enumerate() {
+        let slots = base.slot_count() + sampling.posted[place];
+        if slots > SLOT_LIMIT {
+            return Some(Refusal::Slots(u64::from(slots)));
+        }
+    }
+    None
+}
+
+/// The change that appends a sample, or why it is refused: the first that applies of a count out of range, too many
+/// slots, and files that would be too long. The count is judged before memory is taken.
+fn prepared(
+    alloc: Global,
+    board: &Board,
+    seed: u32,
+    count: u32,
+    now: u32,
+) -> Result<Change, BoardHalt>
+    requires { IsBoard board.now.board }
+    ensures { MaySample seed count now board.now.board result }
+{
+    if count == 0 || count > COUNT_LIMIT {
+        return Err(BoardHalt::Refused(Refusal::Count));
+    }
+    let sampling = sampling_of(alloc, board.stored(), seed, count, now)?;
+    if let Some(refusal) = slots_refusal(board.stored(), &sampling) {
+        return Err(BoardHalt::Refused(refusal));
+    }
+    let change = Change::Spread {
+        posts: sampling.posts,
+    };
+    if let Some(refusal) = size_refusal(board, &change) {
+        return Err(BoardHalt::Refused(refusal));
+    }
+    Ok(change)
+}
+
+/// Appends so many made-up messages, which a seed determines, in one change, and answers how many they are. `now` is
+/// the moment in Unix seconds at which they come into the base.
+///
+/// It is refused where there is no board, then as the first of these applies: the count is 0 or above 5,000; a
+/// conference would have more than 9,999 slots, of which the first by place is told; the files would be too long.
+pub fn sample<H: Host>(
+    alloc: Global,
+    host: &mut H,
+    kept: &mut Option<Loaded>,
+    seed: u32,
+    count: u32,
+    now: u32,
+) -> Result<u32, BoardHalt>
+    requires sure { AreSure kept.old }
+    requires kept { IsTrue H.tells → IsKept kept.old (H.disk host.old) }
+    ensures works { IsTrue H.tells → (world : World State) (shelf : Files) → IsAt Stores unread world (H.disk host.old) shelf → Works Stores (samples seed count now) unread world (H.disk host.old) (H.disk host.new) shelf (told sampled_line result) }
+    ensures kept { IsTrue H.tells → IsKept kept.new (H.disk host.new) }
+    ensures sure { AreSure kept.new }
+    ensures causes { (shelf : _) → HasCauses (counts (H.disk_faults host.old) (H.voice_faults host.old) shelf) (counts (H.disk_faults host.new) (H.voice_faults host.new) shelf) (ended (told sampled_line result)) }
+{
+    find(alloc, host, kept)?;
+    let board = board_in(kept)?;
+    let change = prepared(alloc, board, seed, count, now)?;
+    make_change(alloc, host, kept, &change)?;
+    Ok(count)
+}

@@ -1,7 +1,0 @@
-use Rattle.std.proofs.Common.{◌≡◌}
-use Rattle.sample_commands.specs.Sample.{line_of, repeated}
-use Rattle.sample_commands.proofs.texts.body_of.Given as goal
-
--- so many lines so far
-abbrev pub invariant-loop : goal.invariant-loop
-invariant-loop l = l.body ≡ repeated (line_of l.seed l.number) l.counter

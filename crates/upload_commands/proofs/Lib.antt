@@ -1,3 +1,0 @@
-pub mod UploadActs
-pub mod UploadExits
-pub mod OutcomeLines

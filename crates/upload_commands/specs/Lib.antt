@@ -1,2 +1,0 @@
-pub mod Upload
-pub mod Uploading
