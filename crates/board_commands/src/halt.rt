@@ -5,7 +5,7 @@ use shelf_files::{Halt, Refusal};
 use std::alloc::AllocError;
 
 /// Why a command that touches the board isn't carried out.
-#[derive(Debug, Drop)]
+#[derive(Drop)]
 pub enum BoardHalt {
     /// It is refused.
     Refused(Refusal),

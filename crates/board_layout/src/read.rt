@@ -1,16 +1,18 @@
 // Reading a board.
-ghost use Rattle.std.specs.Prelude.{◌≡◌, ◌≤◌, IfOk, IsTrue};
+ghost use Rattle.std.specs.Prelude.{◌≡◌, ◌≤◌, Ok, All, IfOk, IsTrue};
 ghost use Rattle.board_ledger.specs.Ledger.{ledger_text, ledger_of};
 ghost use Rattle.board_ledger.specs.Valid.{IsLedger};
+ghost use Rattle.board_layout.specs.Board.{board_with, conferences_in, shapes_in, shapes_of};
 ghost use Rattle.board_layout.specs.Damage.{board_in, parts_of};
 ghost use Rattle.board_layout.specs.Layout.{IsLayout, data_size as size_of_data};
 ghost use Rattle.board_layout.specs.Rules.{Gives, HasReadCause, IsLaidOut};
-ghost use Rattle.board_layout.specs.Valid.{board_limit};
+ghost use Rattle.board_layout.specs.Valid.{board_limit, highs_fit};
 ghost use Rattle.door_outside.specs.Disk.{Unchanged};
 ghost use Rattle.door_outside.specs.File.{ledger_file};
+ghost use Rattle.jam_layout.specs.Valid.{IsConference};
 
 use crate::bases::read_bases;
-use crate::board::{BOARD_LIMIT, StoredBoard};
+use crate::board::{BOARD_LIMIT, Bases, StoredBoard};
 use crate::damaged::damage;
 use crate::error::ReadError;
 use crate::files::read_file;
@@ -43,6 +45,35 @@ fn read_ledger<H: Host>(alloc: Global, host: &mut H) -> Result<Ledger, ReadError
     Ok(Ledger::read(alloc, bytes.as_slice())?)
 }
 
+/// The conferences of the ledger that was read, or the first rule that the files behind it break.
+fn read_conferences<H: Host>(
+    alloc: Global,
+    host: &mut H,
+    ledger: &Ledger,
+) -> Result<Bases, ReadError>
+    requires ledger { IsLedger ledger.now }
+    requires read { IsTrue H.tells → ledger_of ((H.disk host.old).files ledger_file) ≡ Ok ledger.now }
+    requires text { IsTrue H.tells → (H.disk host.old).files ledger_file ≡ ledger_text ledger.now }
+    ensures shapes { IfOk result (λ bases. shapes_in bases ≡ shapes_of ledger.now) }
+    ensures conferences { IfOk result (All (λ base. IsConference base.shape base.conference)) }
+    ensures highs { IfOk result (λ bases. All (λ u. IsTrue (highs_fit (conferences_in bases) u.highs)) ledger.now.users) }
+    ensures unchanged { IsTrue H.tells → Unchanged (H.disk host.old) (H.disk host.new) }
+    ensures gives { IsTrue H.tells → Gives (λ bases. board_with ledger.now bases) result (parts_of (H.disk host.old).files) }
+    ensures layout { IsTrue H.tells → IfOk result (λ bases. IsLayout (board_with ledger.now bases) (H.disk host.old).files) }
+    ensures cause { HasReadCause (H.disk_faults host.old) (H.disk_faults host.new) result }
+    ensures voice { H.voice_faults host.new ≡ H.voice_faults host.old }
+{
+    let bases = read_bases(alloc, host, ledger)?;
+    let places = ledger.setup.conference_count();
+    check_rests(host, places)?;
+    check_highs(
+        bases.as_slice(),
+        1 + u32::from(places),
+        ledger.users.as_slice(),
+    )?;
+    Ok(bases)
+}
+
 /// The board of files that aren't too long together, or the first rule that they break.
 fn read_parts<H: Host>(alloc: Global, host: &mut H) -> Result<StoredBoard, ReadError>
     requires { IsTrue H.tells → size_of_data (H.disk host.old).files ≤ board_limit }
@@ -53,14 +84,7 @@ fn read_parts<H: Host>(alloc: Global, host: &mut H) -> Result<StoredBoard, ReadE
     ensures voice { H.voice_faults host.new ≡ H.voice_faults host.old }
 {
     let ledger = read_ledger(alloc, host)?;
-    let bases = read_bases(alloc, host, &ledger)?;
-    let places = ledger.setup.conference_count();
-    check_rests(host, places)?;
-    check_highs(
-        bases.as_slice(),
-        1 + u32::from(places),
-        ledger.users.as_slice(),
-    )?;
+    let bases = read_conferences(alloc, host, &ledger)?;
     // Files that changed between the two looks at their length may be too long only now.
     match board_of_parts(ledger, bases) {
         Some(board) => Ok(board),

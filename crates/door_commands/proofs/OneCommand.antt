@@ -1,6 +1,6 @@
 -- Words are one command at most, since no two first words are alike.
-use Rattle.std.proofs.Common.{◌≡◌, inl, inr, ℕ, List, [], ◌∷◌, Option, Some, refl, sym, ◌∙◌, ap, subst}
-use Rattle.std.specs.List.{find}
+use Rattle.std.proofs.Common.{◌≡◌, inl, inr, ℕ, List, [], ◌∷◌, Option, Some, refl, sym, ◌∙◌, ap, subst, arith}
+use Rattle.std.specs.List.{All, find}
 use Rattle.std.specs.Str.{bytes_eq}
 use Rattle.std.specs.Str.Parse.{digits_value}
 use Rattle.command_words.specs.NumberWord.{NumberWord}
@@ -11,7 +11,7 @@ use Rattle.door_commands.specs.declared.verb.Verb.TheVariants.{AckPacket, BatchF
 use Rattle.door_commands.specs.Words.{first_word, ReadsBehind, CommandReads, WritingReads}
 
 -- all verbs in order
-verbs : List Verb
+abbrev pub verbs : List Verb
 verbs = AckPacket ∷ BatchFile ∷ CheckBoard ∷ ComposeSheet ∷ EnrollUser ∷ ExportPacket ∷ ImportSheet ∷ InitBoard ∷ KillMessage ∷ ListFile ∷ ReadFolder ∷ ReplyTo ∷ SampleMessages ∷ ScanFile ∷ UploadPacket ∷ []
 
 -- the verb of a first word
@@ -20,7 +20,7 @@ verb_of word = find (λ verb. bytes_eq (first_word verb) word) verbs
 
 -- a line for each: its first word is that of no verb before it
 verb_back : (verb : Verb) → verb_of (first_word verb) ≡ Some verb
-unfolding verb_of verbs
+unfolding verb_of
 verb_back AckPacket = refl
 verb_back BatchFile = refl
 verb_back CheckBoard = refl
@@ -36,6 +36,24 @@ verb_back ReplyTo = refl
 verb_back SampleMessages = refl
 verb_back ScanFile = refl
 verb_back UploadPacket = refl
+
+-- a word that none of them begins with is that of no verb
+pub no_verb : (word : List ℕ) → All (λ verb. ¬ (word ≡ first_word verb)) verbs → (verb : Verb) → ¬ (word ≡ first_word verb)
+no_verb word none AckPacket = none 0 AckPacket (omega arith)
+no_verb word none BatchFile = none 1 AckPacket (omega arith)
+no_verb word none CheckBoard = none 2 AckPacket (omega arith)
+no_verb word none ComposeSheet = none 3 AckPacket (omega arith)
+no_verb word none EnrollUser = none 4 AckPacket (omega arith)
+no_verb word none ExportPacket = none 5 AckPacket (omega arith)
+no_verb word none ImportSheet = none 6 AckPacket (omega arith)
+no_verb word none InitBoard = none 7 AckPacket (omega arith)
+no_verb word none KillMessage = none 8 AckPacket (omega arith)
+no_verb word none ListFile = none 9 AckPacket (omega arith)
+no_verb word none ReadFolder = none 10 AckPacket (omega arith)
+no_verb word none ReplyTo = none 11 AckPacket (omega arith)
+no_verb word none SampleMessages = none 12 AckPacket (omega arith)
+no_verb word none ScanFile = none 13 AckPacket (omega arith)
+no_verb word none UploadPacket = none 14 AckPacket (omega arith)
 
 one_verb : (a b : Verb) → first_word a ≡ first_word b → a ≡ b
 one_verb a b same = let e : Some a ≡ Some b = sym (verb_back a) ∙ ap verb_of same ∙ verb_back b in cc

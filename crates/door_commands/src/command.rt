@@ -12,7 +12,7 @@ use door_outside::ShelfName;
 use std::alloc::{AllocError, Global};
 
 /// A command of the door.
-#[derive(Debug, Drop)]
+#[derive(Drop)]
 pub enum Command {
     /// `ack USER PACKET`: acknowledges a packet for the user of a name.
     Ack {

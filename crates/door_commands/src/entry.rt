@@ -6,7 +6,7 @@ use itoa::Buffer;
 use shelf_files::Refusal;
 
 /// Words that are no command.
-#[derive(Clone, Copy, Debug, PartialEq, Eq)]
+#[derive(Clone, Copy, PartialEq, Eq)]
 pub enum Usage {
     /// The words of the program.
     Words,
@@ -15,7 +15,7 @@ pub enum Usage {
 }
 
 /// An entry of a run.
-#[derive(Debug, Drop)]
+#[derive(Drop)]
 pub enum Entry {
     /// A command to carry out.
     Run(Command),

@@ -1,5 +1,5 @@
 /// What a command begins with.
-#[derive(Clone, Copy, Debug, PartialEq, Eq)]
+#[derive(Clone, Copy)]
 pub enum Verb {
     /// `ack`
     AckPacket,
@@ -33,32 +33,61 @@ pub enum Verb {
     UploadPacket,
 }
 
+const VERBS: [Verb; 15] = [
+    Verb::AckPacket,
+    Verb::BatchFile,
+    Verb::CheckBoard,
+    Verb::ComposeSheet,
+    Verb::EnrollUser,
+    Verb::ExportPacket,
+    Verb::ImportSheet,
+    Verb::InitBoard,
+    Verb::KillMessage,
+    Verb::ListFile,
+    Verb::ReadFolder,
+    Verb::ReplyTo,
+    Verb::SampleMessages,
+    Verb::ScanFile,
+    Verb::UploadPacket,
+];
+
 impl Verb {
     ghost use Rattle.std.specs.Prelude.{◌≡◌, ◌≢◌, MatchOption};
     ghost use Rattle.door_commands.specs.Words.{first_word};
     ghost use Rattle.door_commands.specs.declared.verb.Verb.{Verb};
 
+    /// The verb's first word.
+    fn word(self) -> &'static [u8]
+        ensures { result.now ≡ first_word self }
+    {
+        match self {
+            Verb::AckPacket => b"ack",
+            Verb::BatchFile => b"batch",
+            Verb::CheckBoard => b"check",
+            Verb::ComposeSheet => b"compose",
+            Verb::EnrollUser => b"enroll",
+            Verb::ExportPacket => b"export",
+            Verb::ImportSheet => b"import",
+            Verb::InitBoard => b"init",
+            Verb::KillMessage => b"kill",
+            Verb::ListFile => b"list",
+            Verb::ReadFolder => b"read",
+            Verb::ReplyTo => b"reply",
+            Verb::SampleMessages => b"sample",
+            Verb::ScanFile => b"scan",
+            Verb::UploadPacket => b"upload",
+        }
+    }
+
     /// The verb whose first word this is, or None exactly where it is that of no verb.
     pub fn of(word: &[u8]) -> Option<Verb>
         ensures { MatchOption result ((verb : Verb) → word.now ≢ first_word verb) (λ verb. word.now ≡ first_word verb) }
     {
-        match word {
-            b"ack" => Some(Verb::AckPacket),
-            b"batch" => Some(Verb::BatchFile),
-            b"check" => Some(Verb::CheckBoard),
-            b"compose" => Some(Verb::ComposeSheet),
-            b"enroll" => Some(Verb::EnrollUser),
-            b"export" => Some(Verb::ExportPacket),
-            b"import" => Some(Verb::ImportSheet),
-            b"init" => Some(Verb::InitBoard),
-            b"kill" => Some(Verb::KillMessage),
-            b"list" => Some(Verb::ListFile),
-            b"read" => Some(Verb::ReadFolder),
-            b"reply" => Some(Verb::ReplyTo),
-            b"sample" => Some(Verb::SampleMessages),
-            b"scan" => Some(Verb::ScanFile),
-            b"upload" => Some(Verb::UploadPacket),
-            _ => None,
+        for verb in VERBS {
+            if word == verb.word() {
+                return Some(verb);
+            }
         }
+        None
     }
 }

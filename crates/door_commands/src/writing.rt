@@ -9,7 +9,7 @@ use door_outside::ShelfName;
 use std::alloc::{AllocError, Global};
 
 /// A folder, a number, a file and a reply packet.
-#[derive(Debug, Drop)]
+#[derive(Drop)]
 pub(crate) struct Writing {
     pub folder: ShelfName,
     pub number: u32,

@@ -1,12 +1,13 @@
-ghost use Rattle.std.specs.Prelude.{◌≡◌, ◌≤◌, ◌<◌, ◌+◌, ◌/◌, ◌%◌, length, option_map, Some, IfOk, IsSome};
+ghost use Rattle.std.specs.Prelude.{◌≡◌, ◌≤◌, ◌<◌, ◌+◌, ◌/◌, ◌%◌, length, codes, option_map, Some, IfOk, IsSome};
 ghost use Rattle.std.specs.Str.{str_to_ascii_uppercase};
 ghost use Rattle.qwk_control.specs.Written.{Writable};
+ghost use Rattle.qwk_moments.specs.Moments.{stamp_text};
 ghost use Rattle.offered_packets.specs.Control.{five_digits as five_digits_of, listed as listed_of, control};
 ghost use Rattle.board_layout.specs.Lookups.{user_of};
 
 use crate::lookups::user_at;
 use board_layout::StoredBoard;
-use board_ledger::{Conference, User};
+use board_ledger::{Conference, Setup, User};
 use byte_lists::Bytes;
 use qwk_control::{Control, Listed};
 use qwk_moments::laws::written_bytes;
@@ -57,6 +58,54 @@ fn listed(alloc: Global, conferences: &[Conference], user: &User) -> Result<List
     Ok(listed)
 }
 
+/// What a control has of the board.
+#[derive(Drop)]
+struct BoardTexts {
+    name: Bytes,
+    city: Bytes,
+    phone: Bytes,
+    sysop: Bytes,
+    serial: Bytes,
+    bbsid: Bytes,
+}
+
+/// What a control has of the packet, its user and its files.
+#[derive(Drop)]
+struct PacketTexts {
+    stamp: Bytes,
+    user: Bytes,
+    welcome: Bytes,
+    news: Bytes,
+    goodbye: Bytes,
+}
+
+/// What a control has of the board of a setup.
+fn board_texts(alloc: Global, setup: &Setup) -> Result<BoardTexts, AllocError>
+    ensures { IfOk result (λ texts. (texts.name ≡ setup.now.board) × (texts.city ≡ setup.now.city) × (texts.phone ≡ setup.now.phone) × (texts.sysop ≡ setup.now.sysop) × (texts.serial ≡ five_digits_of setup.now.serial) × (texts.bbsid ≡ setup.now.bbsid)) }
+{
+    Ok(BoardTexts {
+        name: setup.board.copy(alloc)?,
+        city: setup.city.copy(alloc)?,
+        phone: setup.phone.copy(alloc)?,
+        sysop: setup.sysop.copy(alloc)?,
+        serial: Bytes::from_slice(alloc, &five_digits(setup.serial))?,
+        bbsid: setup.bbsid.copy(alloc)?,
+    })
+}
+
+/// What a control has of a packet that is made for a user at a moment.
+fn packet_texts(alloc: Global, user: &User, now: u32) -> Result<PacketTexts, AllocError>
+    ensures { IfOk result (λ texts. (texts.stamp ≡ stamp_text now) × (texts.user ≡ str_to_ascii_uppercase user.now.name) × (texts.welcome ≡ codes "WELCOME") × (texts.news ≡ codes "NEWS") × (texts.goodbye ≡ codes "GOODBYE")) }
+{
+    Ok(PacketTexts {
+        stamp: Bytes::from_slice(alloc, &stamp(now))?,
+        user: in_capitals(alloc, user.name.as_slice())?,
+        welcome: Bytes::from_slice(alloc, b"WELCOME")?,
+        news: Bytes::from_slice(alloc, b"NEWS")?,
+        goodbye: Bytes::from_slice(alloc, b"GOODBYE")?,
+    })
+}
+
 /// The control of a user's packet of so many messages, made at a moment.
 #[tactic(auto, unfolding(crate::specs::Control::control))]
 fn control_for(
@@ -69,21 +118,24 @@ fn control_for(
     ensures { IfOk result (λ made. made ≡ control board.now user.now count now) }
 {
     let setup = &board.ledger().setup;
+    let about = board_texts(alloc, setup)?;
+    let made = packet_texts(alloc, user, now)?;
+    let conferences = listed(alloc, setup.conferences.as_slice(), user)?;
     Ok(Control {
-        board: setup.board.copy(alloc)?,
-        city: setup.city.copy(alloc)?,
-        phone: setup.phone.copy(alloc)?,
-        sysop: setup.sysop.copy(alloc)?,
-        serial: Bytes::from_slice(alloc, &five_digits(setup.serial))?,
-        bbsid: setup.bbsid.copy(alloc)?,
-        stamp: Bytes::from_slice(alloc, &stamp(now))?,
-        user: in_capitals(alloc, user.name.as_slice())?,
+        board: about.name,
+        city: about.city,
+        phone: about.phone,
+        sysop: about.sysop,
+        serial: about.serial,
+        bbsid: about.bbsid,
+        stamp: made.stamp,
+        user: made.user,
         menu: Bytes::new(alloc),
         count,
-        conferences: listed(alloc, setup.conferences.as_slice(), user)?,
-        welcome: Bytes::from_slice(alloc, b"WELCOME")?,
-        news: Bytes::from_slice(alloc, b"NEWS")?,
-        goodbye: Bytes::from_slice(alloc, b"GOODBYE")?,
+        conferences,
+        welcome: made.welcome,
+        news: made.news,
+        goodbye: made.goodbye,
     })
 }
 

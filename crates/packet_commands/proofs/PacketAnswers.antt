@@ -18,6 +18,9 @@ use Rattle.qwk_control.specs.declared.fault.ControlError.TheVariants.{TooFewLine
 use Rattle.shelf_files.proofs.Replies.{refused_by}
 use Rattle.shelf_files.specs.Halts.{Comes, done}
 use Rattle.shelf_files.specs.ShelfFile.{ReadAs, packet_limit, within}
+use Rattle.shelf_files.specs.declared.halt.Halt.{Halt}
+use Rattle.shelf_files.specs.declared.halt.Halt.TheVariants.{Refused, ShelfFault}
+use Rattle.shelf_files.specs.declared.halt.Halt.TheVariants as halt
 use Rattle.shelf_files.specs.declared.refusal.Refusal.{Refusal}
 use Rattle.shelf_files.specs.declared.refusal.Refusal.TheVariants.{NoFile, TooLarge, Broken}
 use Rattle.packet_commands.specs.Packets.{control_halt, control_refusal}
@@ -30,6 +33,14 @@ control_comes file bytes (TooFewLines line) is (inr fault) = refused_by ControlR
 control_comes file bytes (BadNumber line) is (inr fault) = refused_by ControlReads ControlFault control_refusal file bytes (BadNumber line) is fault
 control_comes file bytes BadBoardId is (inr fault) = refused_by ControlReads ControlFault control_refusal file bytes BadBoardId is fault
 control_comes file bytes OutOfMemory is (inr fault) = tt
+
+-- what follows for whatever was made, or for its refusal, follows for what comes
+pub comes_on : {Value : Type 0} (P Q : Result Value Refusal → Type 0) → ((read : Result Value Refusal) → P read → Q read)
+    → (result : Result Value Halt) → Comes result P → Comes result Q
+comes_on P Q on (Ok value) comes = on (Ok value) comes
+comes_on P Q on (Err (Refused why)) comes = on (Err why) comes
+comes_on P Q on (Err ShelfFault) comes = tt
+comes_on P Q on (Err halt.OutOfMemory) comes = tt
 
 pub shown_text : (found : Option QwkMessage) (text : List ℕ) → option_map letter found ≡ Some text → done text ≡ shown found
 shown_text None text is = cc

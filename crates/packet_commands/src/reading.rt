@@ -1,16 +1,39 @@
 //! The two forms of the command `read`.
-ghost use Rattle.std.specs.Prelude.{IsTrue};
+ghost use Rattle.std.specs.Prelude.{◌≡◌, IsTrue, IsErrOf};
 ghost use Rattle.door_outside.specs.Name.{HasParts};
 ghost use Rattle.entry_runs.specs.Entry.{Serves};
-ghost use Rattle.shelf_files.specs.Halts.{ShelfCauses, served};
-ghost use Rattle.packet_commands.specs.Read.{reads, shows};
+ghost use Rattle.offline_reader.specs.Letter.{message_in};
+ghost use Rattle.offline_reader.specs.Listing.{folder_listing};
+ghost use Rattle.shelf_files.specs.Halts.{Comes, ShelfCauses, done, replied, served};
+ghost use Rattle.packet_commands.specs.Read.{reads, shows, shown};
 
-use crate::folder::folder_in;
+use crate::folder::{Packet, folder_in};
 use byte_lists::Bytes;
 use door_outside::{Shelf, ShelfName};
 use offline_reader::{ShowError, list_folder, show_message};
+use qwk_blocks::QwkMessages;
 use shelf_files::{Halt, Refusal};
 use std::alloc::Global;
+
+/// The listing of a packet, or want of memory.
+fn listed(alloc: Global, packet: &Packet) -> Result<Bytes, Halt>
+    ensures text { Comes result (λ read. replied (λ text. text) read ≡ done (folder_listing packet.now.control packet.now.messages)) }
+    ensures no_fault { ¬ IsErrOf result Halt.ShelfFault }
+{
+    Ok(list_folder(alloc, &packet.control, &packet.messages)?)
+}
+
+/// The message in a place of a packet, from 1, refused where there is none.
+fn message_shown(alloc: Global, messages: &QwkMessages, place: u32) -> Result<Bytes, Halt>
+    ensures text { Comes result (λ read. replied (λ text. text) read ≡ shown (message_in messages.now place)) }
+    ensures no_fault { ¬ IsErrOf result Halt.ShelfFault }
+{
+    match show_message(alloc, messages, place) {
+        Ok(text) => Ok(text),
+        Err(ShowError::NoMessage) => Err(Halt::Refused(Refusal::NoMessage)),
+        Err(ShowError::OutOfMemory) => Err(Halt::OutOfMemory),
+    }
+}
 
 /// The listing of a packet's folder.
 pub fn read<S: Shelf>(alloc: Global, shelf: &mut S, folder: &ShelfName) -> Result<Bytes, Halt>
@@ -19,7 +42,7 @@ pub fn read<S: Shelf>(alloc: Global, shelf: &mut S, folder: &ShelfName) -> Resul
     ensures causes { ShelfCauses (S.faults shelf.old) (S.faults shelf.new) result }
 {
     let packet = folder_in(alloc, shelf, folder)?;
-    Ok(list_folder(alloc, &packet.control, &packet.messages)?)
+    listed(alloc, &packet)
 }
 
 /// The message in a place of a packet's folder, from 1.
@@ -34,9 +57,5 @@ pub fn show<S: Shelf>(
     ensures causes { ShelfCauses (S.faults shelf.old) (S.faults shelf.new) result }
 {
     let packet = folder_in(alloc, shelf, folder)?;
-    match show_message(alloc, &packet.messages, place) {
-        Ok(text) => Ok(text),
-        Err(ShowError::NoMessage) => Err(Halt::Refused(Refusal::NoMessage)),
-        Err(ShowError::OutOfMemory) => Err(Halt::OutOfMemory),
-    }
+    message_shown(alloc, &packet.messages, place)
 }

@@ -15,6 +15,72 @@ use crate::lines::line_or_empty;
 use byte_lists::Bytes;
 use std::alloc::{AllocError, Global};
 
+/// The texts of a board's lines.
+#[derive(Drop)]
+struct BoardTexts {
+    name: Bytes,
+    city: Bytes,
+    phone: Bytes,
+    sysop: Bytes,
+    serial: Bytes,
+    bbsid: Bytes,
+}
+
+/// The texts of a packet's lines.
+#[derive(Drop)]
+struct PacketTexts {
+    stamp: Bytes,
+    user: Bytes,
+    menu: Bytes,
+}
+
+/// The names of the three files.
+#[derive(Drop)]
+struct FileNames {
+    welcome: Bytes,
+    news: Bytes,
+    goodbye: Bytes,
+}
+
+/// Copies of a board's lines.
+fn board_texts(alloc: Global, board: &BoardLines<'_>) -> Result<BoardTexts, AllocError>
+    ensures { IfOk result (λ texts. (texts.name ≡ board.now.name.now) × (texts.city ≡ board.now.city.now) × (texts.phone ≡ board.now.phone.now) × (texts.sysop ≡ board.now.sysop.now) × (texts.serial ≡ board.now.serial.now) × (texts.bbsid ≡ board.now.bbsid.now)) }
+{
+    Ok(BoardTexts {
+        name: Bytes::from_slice(alloc, board.name)?,
+        city: Bytes::from_slice(alloc, board.city)?,
+        phone: Bytes::from_slice(alloc, board.phone)?,
+        sysop: Bytes::from_slice(alloc, board.sysop)?,
+        serial: Bytes::from_slice(alloc, board.serial)?,
+        bbsid: Bytes::from_slice(alloc, board.bbsid)?,
+    })
+}
+
+/// Copies of a packet's lines.
+fn packet_texts(alloc: Global, packet: &PacketLines<'_>) -> Result<PacketTexts, AllocError>
+    ensures { IfOk result (λ texts. (texts.stamp ≡ packet.now.stamp.now) × (texts.user ≡ packet.now.user.now) × (texts.menu ≡ packet.now.menu.now)) }
+{
+    Ok(PacketTexts {
+        stamp: Bytes::from_slice(alloc, packet.stamp)?,
+        user: Bytes::from_slice(alloc, packet.user)?,
+        menu: Bytes::from_slice(alloc, packet.menu)?,
+    })
+}
+
+/// The names of the three files, at the start of a text.
+fn file_names(alloc: Global, text: &[u8]) -> Result<FileNames, AllocError>
+    ensures { IfOk result (λ names. (names.welcome ≡ or_empty (lines text.now) 1) × (names.news ≡ or_empty (lines text.now) 2) × (names.goodbye ≡ or_empty (lines text.now) 3)) }
+{
+    let (welcome, rest) = line_or_empty(text);
+    let (news, last) = line_or_empty(rest);
+    let (goodbye, _) = line_or_empty(last);
+    Ok(FileNames {
+        welcome: Bytes::from_slice(alloc, welcome)?,
+        news: Bytes::from_slice(alloc, news)?,
+        goodbye: Bytes::from_slice(alloc, goodbye)?,
+    })
+}
+
 /// The value of lines that keep their rules. The text is what stands behind those of the conferences.
 fn control_of(
     alloc: Global,
@@ -28,24 +94,24 @@ fn control_of(
     ensures conferences { IfOk result (λ control. control.conferences ≡ conferences) }
     ensures files { IfOk result (λ control. (control.welcome ≡ or_empty (lines text.now) 1) × (control.news ≡ or_empty (lines text.now) 2) × (control.goodbye ≡ or_empty (lines text.now) 3)) }
 {
-    let (welcome, rest) = line_or_empty(text);
-    let (news, last) = line_or_empty(rest);
-    let (goodbye, _) = line_or_empty(last);
+    let about = board_texts(alloc, board)?;
+    let made = packet_texts(alloc, packet)?;
+    let files = file_names(alloc, text)?;
     Ok(Control {
-        board: Bytes::from_slice(alloc, board.name)?,
-        city: Bytes::from_slice(alloc, board.city)?,
-        phone: Bytes::from_slice(alloc, board.phone)?,
-        sysop: Bytes::from_slice(alloc, board.sysop)?,
-        serial: Bytes::from_slice(alloc, board.serial)?,
-        bbsid: Bytes::from_slice(alloc, board.bbsid)?,
-        stamp: Bytes::from_slice(alloc, packet.stamp)?,
-        user: Bytes::from_slice(alloc, packet.user)?,
-        menu: Bytes::from_slice(alloc, packet.menu)?,
+        board: about.name,
+        city: about.city,
+        phone: about.phone,
+        sysop: about.sysop,
+        serial: about.serial,
+        bbsid: about.bbsid,
+        stamp: made.stamp,
+        user: made.user,
+        menu: made.menu,
         count: packet.count,
         conferences,
-        welcome: Bytes::from_slice(alloc, welcome)?,
-        news: Bytes::from_slice(alloc, news)?,
-        goodbye: Bytes::from_slice(alloc, goodbye)?,
+        welcome: files.welcome,
+        news: files.news,
+        goodbye: files.goodbye,
     })
 }
 

@@ -14,7 +14,7 @@ use shelf_files::{Halt, Refusal};
 use std::alloc::Global;
 
 /// A reply packet with drafts at its end.
-#[derive(Debug, Drop)]
+#[derive(Drop)]
 pub struct Enlarged {
     /// How many drafts were added.
     pub added: u64,

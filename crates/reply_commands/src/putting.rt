@@ -11,7 +11,7 @@ use shelf_files::{Halt, write_file};
 use std::alloc::Global;
 
 /// How many messages a command added to a reply packet, and how many it has then.
-#[derive(Clone, Copy, Debug, PartialEq, Eq)]
+#[derive(Clone, Copy, PartialEq, Eq)]
 pub struct Added {
     /// How many were added.
     pub messages: u64,

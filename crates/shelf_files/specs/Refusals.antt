@@ -7,6 +7,8 @@ use Rattle.setup_file.specs.declared.error.SetupRule.TheVariants as setup
 use Rattle.shelf_files.specs.declared.refusal.Refusal.{Refusal}
 use Rattle.shelf_files.specs.declared.refusal.Refusal.TheVariants.{NoFile, TooLarge, Broken, ControlShort, ControlNumber, ControlId, NoMessage, NoBoardId, OtherBoard, NoConference}
 use Rattle.shelf_files.specs.declared.refusal.Refusal.TheVariants.{Sheet, Text, NotMade, Exists, Name, DupUser, Users, NoUser, Limit, Packets, NoPacket, Uploads, Count, Setup, Slots, Size}
+use Rattle.shelf_files.specs.declared.said.Said.{Said}
+use Rattle.shelf_files.specs.declared.said.Said.TheVariants as said
 
 -- the line of a refusal, of its words and what stands behind them
 abbrev pub line_of : List ℕ → List ℕ → List ℕ
@@ -15,6 +17,13 @@ line_of words behind = codes "refused " ++ (words ++ (behind ++ codes "\n"))
 -- the same with the number of a line and the word of the rule that it breaks
 abbrev pub ruled_line : List ℕ → ℕ → List ℕ → List ℕ
 ruled_line words line rule = codes "refused " ++ (words ++ (decimal line ++ (codes " " ++ (rule ++ codes "\n"))))
+
+-- the line of what is said
+abbrev pub said_line : Said → List ℕ
+said_line (said.Words words) = line_of words.now []
+said_line (said.Name words name) = line_of words.now name.now
+said_line (said.Number words number) = line_of words.now (decimal number)
+said_line (said.Rule words line rule) = ruled_line words.now line rule.now
 
 -- the words of the rules of setup files
 abbrev pub setup_word : SetupRule → List ℕ

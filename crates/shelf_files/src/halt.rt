@@ -2,7 +2,7 @@ use crate::refusal::Refusal;
 use std::alloc::AllocError;
 
 /// Why a command over the shelf isn't carried out.
-#[derive(Debug, Drop)]
+#[derive(Drop)]
 pub enum Halt {
     /// It is refused.
     Refused(Refusal),

@@ -3,6 +3,7 @@
 
 mod halt;
 mod refusal;
+mod said;
 mod sheet_file;
 mod shelf_file;
 mod writing;

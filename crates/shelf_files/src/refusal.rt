@@ -1,17 +1,14 @@
-ghost use Rattle.std.specs.Prelude.{◌≡◌, IsTrue, decimal};
-ghost use Rattle.door_outside.specs.Cause.{HasCause};
-ghost use Rattle.entry_runs.specs.Saying.{Voiced};
-ghost use Rattle.shelf_files.specs.Refusals.{line_of, packet_line, ruled_line, setup_word as setup_word_of};
+ghost use Rattle.std.specs.Prelude.{◌≡◌};
+ghost use Rattle.shelf_files.specs.Refusals.{packet_line, said_line, setup_word as setup_word_of};
 
+use crate::said::Said;
 use door_outside::{Host, ShelfName, VoiceFault};
-use entry_runs::say_all;
 use import_sheet::SheetRule;
-use itoa::Buffer;
 use qwk_blocks::QwkFault;
 use setup_file::SetupRule;
 
 /// Why a command is refused.
-#[derive(Debug, Drop)]
+#[derive(Drop)]
 pub enum Refusal {
     /// The shelf has no file of that name.
     NoFile(ShelfName),
@@ -86,45 +83,13 @@ fn setup_word(rule: SetupRule) -> &'static [u8]
     }
 }
 
-/// Says the line of a refusal: its words, and what stands behind them.
-fn say_line<H: Host>(host: &mut H, words: &[u8], behind: &[u8]) -> Result<(), VoiceFault>
-    ensures voiced { IsTrue H.tells → Voiced (line_of words.now behind.now) (H.disk host.old) (H.disk host.new) result }
-    ensures cause { HasCause (H.voice_faults host.old) (H.voice_faults host.new) result }
-    ensures disk { H.disk_faults host.new ≡ H.disk_faults host.old }
-{
-    say_all(host, &[b"refused ", words, behind, b"\n"])
-}
-
-/// Says the line of a refusal that ends with a number.
-fn say_number<H: Host>(host: &mut H, words: &[u8], number: u64) -> Result<(), VoiceFault>
-    ensures voiced { IsTrue H.tells → Voiced (line_of words.now (decimal number)) (H.disk host.old) (H.disk host.new) result }
-    ensures cause { HasCause (H.voice_faults host.old) (H.voice_faults host.new) result }
-    ensures disk { H.disk_faults host.new ≡ H.disk_faults host.old }
-{
-    let mut buffer = Buffer::new();
-    say_line(host, words, buffer.format(number).as_bytes())
-}
-
-/// Says the line of a refusal that ends with a line's number and the word of a rule.
-fn say_rule<H: Host>(host: &mut H, words: &[u8], line: u32, rule: &[u8]) -> Result<(), VoiceFault>
-    ensures voiced { IsTrue H.tells → Voiced (ruled_line words.now line rule.now) (H.disk host.old) (H.disk host.new) result }
-    ensures cause { HasCause (H.voice_faults host.old) (H.voice_faults host.new) result }
-    ensures disk { H.disk_faults host.new ≡ H.disk_faults host.old }
-{
-    let mut buffer = Buffer::new();
-    let digits = buffer.format(line).as_bytes();
-    say_all(host, &[b"refused ", words, digits, b" ", rule, b"\n"])
-}
-
-/// Says the line of the packet that is offered, or that none is.
-fn say_packet<H: Host>(host: &mut H, packet: Option<u32>) -> Result<(), VoiceFault>
-    ensures voiced { IsTrue H.tells → Voiced (packet_line packet) (H.disk host.old) (H.disk host.new) result }
-    ensures cause { HasCause (H.voice_faults host.old) (H.voice_faults host.new) result }
-    ensures disk { H.disk_faults host.new ≡ H.disk_faults host.old }
+/// What is said of the packet that is offered, or that none is.
+fn packet_said(packet: Option<u32>) -> Said<'static>
+    ensures { said_line result ≡ packet_line packet }
 {
     match packet {
-        None => say_line(host, b"nopacket ", b"none"),
-        Some(number) => say_number(host, b"nopacket ", u64::from(number)),
+        None => Said::Name(b"nopacket ", b"none"),
+        Some(number) => Said::Number(b"nopacket ", u64::from(number)),
     }
 }
 
@@ -132,7 +97,46 @@ impl Refusal {
     ghost use Rattle.std.specs.Prelude.{◌≡◌, IsTrue};
     ghost use Rattle.door_outside.specs.Cause.{HasCause};
     ghost use Rattle.entry_runs.specs.Saying.{Voiced};
-    ghost use Rattle.shelf_files.specs.Refusals.{refusal_line};
+    ghost use Rattle.shelf_files.specs.Refusals.{refusal_line, said_line};
+
+    /// What the line of the refusal says.
+    fn said(&self) -> Said<'_>
+        ensures { said_line result ≡ refusal_line self.now }
+    {
+        match self {
+            Refusal::NoFile(name) => Said::Name(b"nofile ", name.as_slice()),
+            Refusal::TooLarge(name) => Said::Name(b"toolarge ", name.as_slice()),
+            Refusal::Broken(QwkFault::Truncated { at }) => {
+                Said::Number(b"broken truncated ", u64::from(*at))
+            }
+            Refusal::Broken(QwkFault::BadBlocks { at }) => {
+                Said::Number(b"broken blocks ", u64::from(*at))
+            }
+            Refusal::ControlShort(line) => Said::Number(b"control short ", u64::from(*line)),
+            Refusal::ControlNumber(line) => Said::Number(b"control number ", u64::from(*line)),
+            Refusal::ControlId => Said::Words(b"control id 5"),
+            Refusal::NoMessage => Said::Words(b"nomessage"),
+            Refusal::NoBoardId => Said::Words(b"noboardid"),
+            Refusal::OtherBoard => Said::Words(b"board"),
+            Refusal::NoConference => Said::Words(b"noconference"),
+            Refusal::Sheet { line, rule } => Said::Rule(b"sheet ", *line, rule.word()),
+            Refusal::Text(number) => Said::Number(b"text ", u64::from(*number)),
+            Refusal::NotMade => Said::Words(b"notmade"),
+            Refusal::Exists => Said::Words(b"exists"),
+            Refusal::Name => Said::Words(b"name"),
+            Refusal::DupUser => Said::Words(b"dupuser"),
+            Refusal::Users => Said::Words(b"users"),
+            Refusal::NoUser => Said::Words(b"nouser"),
+            Refusal::Limit => Said::Words(b"limit"),
+            Refusal::Packets => Said::Words(b"packets"),
+            Refusal::NoPacket(packet) => packet_said(*packet),
+            Refusal::Uploads => Said::Words(b"uploads 100000"),
+            Refusal::Count => Said::Words(b"count"),
+            Refusal::Setup { line, rule } => Said::Rule(b"setup ", *line, setup_word(*rule)),
+            Refusal::Slots(count) => Said::Number(b"slots ", *count),
+            Refusal::Size(bytes) => Said::Number(b"size ", *bytes),
+        }
+    }
 
     /// Says the line of the refusal. It takes no memory.
     pub fn say<H: Host>(&self, host: &mut H) -> Result<(), VoiceFault>
@@ -140,42 +144,6 @@ impl Refusal {
         ensures cause { HasCause (H.voice_faults host.old) (H.voice_faults host.new) result }
         ensures disk { H.disk_faults host.new ≡ H.disk_faults host.old }
     {
-        match self {
-            Refusal::NoFile(name) => say_line(host, b"nofile ", name.as_slice()),
-            Refusal::TooLarge(name) => say_line(host, b"toolarge ", name.as_slice()),
-            Refusal::Broken(QwkFault::Truncated { at }) => say_number(
-                host,
-                b"broken truncated ",
-                u64::from(*at),
-            ),
-            Refusal::Broken(QwkFault::BadBlocks { at }) => say_number(
-                host,
-                b"broken blocks ",
-                u64::from(*at),
-            ),
-            Refusal::ControlShort(line) => say_number(host, b"control short ", u64::from(*line)),
-            Refusal::ControlNumber(line) => say_number(host, b"control number ", u64::from(*line)),
-            Refusal::ControlId => say_line(host, b"control id 5", b""),
-            Refusal::NoMessage => say_line(host, b"nomessage", b""),
-            Refusal::NoBoardId => say_line(host, b"noboardid", b""),
-            Refusal::OtherBoard => say_line(host, b"board", b""),
-            Refusal::NoConference => say_line(host, b"noconference", b""),
-            Refusal::Sheet { line, rule } => say_rule(host, b"sheet ", *line, rule.word()),
-            Refusal::Text(number) => say_number(host, b"text ", u64::from(*number)),
-            Refusal::NotMade => say_line(host, b"notmade", b""),
-            Refusal::Exists => say_line(host, b"exists", b""),
-            Refusal::Name => say_line(host, b"name", b""),
-            Refusal::DupUser => say_line(host, b"dupuser", b""),
-            Refusal::Users => say_line(host, b"users", b""),
-            Refusal::NoUser => say_line(host, b"nouser", b""),
-            Refusal::Limit => say_line(host, b"limit", b""),
-            Refusal::Packets => say_line(host, b"packets", b""),
-            Refusal::NoPacket(packet) => say_packet(host, *packet),
-            Refusal::Uploads => say_line(host, b"uploads 100000", b""),
-            Refusal::Count => say_line(host, b"count", b""),
-            Refusal::Setup { line, rule } => say_rule(host, b"setup ", *line, setup_word(*rule)),
-            Refusal::Slots(count) => say_number(host, b"slots ", *count),
-            Refusal::Size(bytes) => say_number(host, b"size ", *bytes),
-        }
+        self.said().say(host)
     }
 }

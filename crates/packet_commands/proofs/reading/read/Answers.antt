@@ -1,15 +1,20 @@
-use Rattle.std.proofs.Common.{List, ℕ, Ok, Err, refl, ap}
+use Rattle.std.proofs.Common.{◌≡◌, List, ℕ, Ok, Err, refl}
 use Rattle.std.proofs.lemmas.Result.{err_from_is_err_and}
+use Rattle.offline_reader.specs.Listing.{folder_listing}
 use Rattle.shelf_files.proofs.Replies.{refused_on, serves_look}
 use Rattle.shelf_files.specs.Halts.{done, replied}
 use Rattle.packet_commands.specs.Packets.{FolderOf}
 use Rattle.packet_commands.specs.Read.{ReadAnswers}
+use Rattle.packet_commands.proofs.PacketAnswers.{comes_on}
 use Rattle.packet_commands.proofs.reading.read.Goals as goal
 
 pub returns-clause-serves : goal.returns-clause-serves
 returns-clause-serves g c tells =
-    serves_look (ReadAnswers c.args.folder.now) (λ (text : List ℕ). text) (g.S.Shelf.files c.args.shelf.now) _ (c.in_ok-packet.ensures.unchanged tells) (Ok c.in_ok-list_folder.field-0)
-    (Ok c.in_ok-packet.packet, c.in_ok-packet.ensures.packet tells, ap done c.in_ok-list_folder.ensures)
+    let shelf = g.S.Shelf.files c.args.shelf.now in
+    let packet = c.in_ok-packet.packet in
+    serves_look (ReadAnswers c.args.folder.now) (λ (text : List ℕ). text) shelf _ (c.in_ok-packet.ensures.unchanged tells) c.listed.result
+    (comes_on (λ read. replied (λ (text : List ℕ). text) read ≡ done (folder_listing packet.control packet.messages)) (λ read. ReadAnswers c.args.folder.now shelf (replied (λ (text : List ℕ). text) read))
+    (λ read is. (Ok packet, c.in_ok-packet.ensures.packet tells, is)) c.listed.result c.listed.ensures.text)
 
 pub returns-in_err-packet-clause-serves : goal.returns-in_err-packet-clause-serves
 returns-in_err-packet-clause-serves g c tells =
