@@ -1,5 +1,10 @@
+mod examples;
+mod folder_host;
+mod folder_shelf;
 mod journal;
-mod memory;
+mod memory_host;
+mod memory_shelf;
 mod names;
+mod small_host;
 mod statuses;
 mod stops;

@@ -1,6 +1,7 @@
 mod addresses;
 mod blocks;
 mod control;
+mod files;
 mod messages;
 mod moments;
 mod replies;

@@ -1,252 +1,211 @@
-ghost use Rattle.std.specs.Prelude.{◌≡◌, ℕ, ◌≤◌, ◌<◌, false, IfOk};
-ghost use Rattle.door_outside.specs.Cause.{HasCause, Rose};
-ghost use Rattle.door_outside.specs.Disk.{silent};
-
+//! What a commit puts into the journal, and what a recovery makes of it.
+use super::examples::{Example, Miss, answered, ends, is_number, numbered, parted, play, says};
+use super::small_host::SmallHost;
 use byte_lists::Bytes;
-use door_outside::{DiskFault, FileId, Host, VoiceFault};
+use door_outside::{FileId, Host};
 use intent_journal::{Intent, Patch, commit, recover};
 use std::alloc::Global;
-use std::test::Fail;
 
-/// How many bytes a file of a small host has room for.
-const ROOM: usize = 64;
+/// The intent of 01 00 00 00 as all bytes of file 2, the .JHR of place 0, and its journal while it is open.
+const WHOLE: &str = "\
+add whole 2 \x01\0\0\0
+size = 28
+commit
+open = OQDJ1\x01\0\0\0\x0F\0\0\0\0\x02\0\0\0\0\0\x04\0\0\0\x01\0\0\0
+shut = yes
+file 2 = \x01\0\0\0
+";
 
-/// How many files it has.
-const FILES: usize = 4;
+/// The intent of the same bytes at 8 in that file, and its journal while it is open.
+const PUT: &str = "\
+add put 2 8 \x01\0\0\0
+size = 28
+write 2 \x07\x07\x07\x07\x07\x07\x07\x07\x07\x07
+commit
+open = OQDJ1\x01\0\0\0\x0F\0\0\0\x01\x02\0\x08\0\0\0\x04\0\0\0\x01\0\0\0
+file 2 = \x07\x07\x07\x07\x07\x07\x07\x07\x01\0\0\0
+";
 
-/// A host of four short files that tells nothing of them. After so many calls every call fails.
+/// Puts are taken beside puts, up to the longest file.
+const BESIDE_PUT: &str = "\
+add put 2 8 \x01\0\0\0
+takes put 2 2147483646 \x01 = yes
+takes put 2 2147483647 \x01 = no
+takes whole 2 = no
+";
+
+/// A whole file is taken once, and the journal never.
+const BESIDE_WHOLE: &str = "\
+add whole 2 \x01\0\0\0
+takes put 2 2147483646 \x01 = no
+takes whole 0 = yes
+takes whole 1 = no
+takes whole 2 = no
+takes whole 257 = yes
+";
+
+/// A byte of the open journal of `WHOLE`, what it becomes and how many bytes there are, and then the first byte of file
+/// 2 after a recovery, which was 7.
+const RECOVERED: &str = "\
+recover 0 79 28 = 1
+recover 0 79 27 = 7
+recover 0 67 28 = 7
+recover 1 82 28 = 7
+recover 5 2 28 = 7
+recover 9 14 28 = 7
+recover 13 1 28 = 1
+recover 13 2 28 = 7
+recover 14 1 28 = 7
+";
+
+/// The open journal of `WHOLE`.
+const OPEN: [u8; 28] = *b"OQDJ1\x01\0\0\0\x0F\0\0\0\0\x02\0\0\0\0\0\x04\0\0\0\x01\0\0\0";
+
+/// A host, and an intent that is made for it.
 #[derive(Drop)]
-struct SmallHost {
-    files: [[u8; ROOM]; FILES],
-    lens: [u8; FILES],
-    left: u32,
-    disk_faults: u64,
-    /// The journal as it was at the last sync with an open gate.
-    open: [u8; ROOM],
+struct Journal {
+    alloc: Global,
+    host: SmallHost,
+    intent: Intent,
 }
 
-impl SmallHost {
-    fn new() -> SmallHost {
-        SmallHost {
-            files: [[0; ROOM]; FILES],
-            lens: [0; FILES],
-            left: 1000,
-            disk_faults: 0,
-            open: [0; ROOM],
-        }
-    }
+/// The patch of all bytes of a file.
+fn whole(alloc: Global, file: FileId, text: &str) -> Option<Patch> {
+    let bytes = Bytes::from_slice(alloc, text.as_bytes()).ok()?;
+    Some(Patch::Whole { file, bytes })
+}
 
-    /// Counts a fault.
-    fn fail(&mut self) -> DiskFault
-        ensures rose { Rose self.old.disk_faults self.new.disk_faults }
-        ensures later { self.old.disk_faults ≤ self.new.disk_faults }
-    {
-        self.disk_faults = self.disk_faults.saturating_add(1);
-        DiskFault
-    }
+/// The patch of bytes at a place of a file.
+fn put(alloc: Global, file: FileId, words: &str) -> Option<Patch> {
+    let (at, text) = numbered(words)?;
+    let bytes = Bytes::from_slice(alloc, text.as_bytes()).ok()?;
+    Some(Patch::Put { file, at, bytes })
+}
 
-    /// The place of a call's file, where the call doesn't fail.
-    fn place(&mut self, file: FileId) -> Result<usize, DiskFault>
-        ensures known { IfOk result (λ place. place < FILES) }
-        ensures cause { HasCause self.old.disk_faults self.new.disk_faults result }
-    {
-        let place = file.number() as usize;
-        if place >= FILES || self.left == 0 {
-            return Err(self.fail());
-        }
-        self.left -= 1;
-        Ok(place)
+/// The file of a number.
+fn file_of(number: u32) -> Option<FileId> {
+    FileId::new(u16::try_from(number).ok()?)
+}
+
+/// The patch that words name.
+fn patch_of(alloc: Global, words: &str) -> Option<Patch> {
+    let (kind, words) = parted(words);
+    let (number, words) = numbered(words)?;
+    let file = file_of(number)?;
+    match kind {
+        "whole" => whole(alloc, file, words),
+        "put" => put(alloc, file, words),
+        _ => None,
     }
 }
 
-impl Host for SmallHost {
-    ghost tells = { false };
-
-    ghost disk = { λ _. silent };
-
-    ghost disk_faults = { λ s. s.disk_faults };
-
-    ghost voice_faults = { λ _. 0 };
-
-    fn length(&mut self, file: FileId) -> Result<u32, DiskFault> {
-        let place = self.place(file)?;
-        Ok(self.lens[place] as u32)
-    }
-
-    fn read_at(&mut self, file: FileId, at: u32, buf: &mut [u8]) -> Result<usize, DiskFault> {
-        let place = self.place(file)?;
-        let end = ROOM.min(self.lens[place] as usize);
-        let from = end.min(at as usize);
-        let count = buf.len().min(end - from);
-        buf[..count].copy_from_slice(&self.files[place][from..from + count]);
-        Ok(count)
-    }
-
-    fn write_at(&mut self, file: FileId, at: u32, bytes: &[u8]) -> Result<(), DiskFault> {
-        let place = self.place(file)?;
-        let from = at as usize;
-        if from + bytes.len() > ROOM {
-            return Err(self.fail());
-        }
-        let end = from + bytes.len();
-        self.files[place][from..end].copy_from_slice(bytes);
-        self.lens[place] = self.lens[place].max(end as u8);
-        Ok(())
-    }
-
-    fn cut(&mut self, file: FileId, len: u32) -> Result<(), DiskFault> {
-        let place = self.place(file)?;
-        if len < self.lens[place] as u32 {
-            self.lens[place] = len as u8;
-        }
-        Ok(())
-    }
-
-    fn sync(&mut self, file: FileId) -> Result<(), DiskFault> {
-        let place = self.place(file)?;
-        if place == 1 && self.files[1][0] == b'O' {
-            self.open = self.files[1];
-        }
-        Ok(())
-    }
-
-    fn say(&mut self, _bytes: &[u8]) -> Result<(), VoiceFault> {
-        Ok(())
-    }
+/// Adds a patch to an intent that takes it.
+fn add(intent: &mut Intent, patch: Patch) -> bool {
+    intent.takes(&patch) && intent.add(patch).is_ok()
 }
 
-/// The journal of the intent of 01 00 00 00 as all bytes of file 2, while it is open.
-const WHOLE: [u8; 28] = [
-    0x4F, 0x51, 0x44, 0x4A, 0x31, 1, 0, 0, 0, 0x0F, 0, 0, 0, 0, 2, 0, 0, 0, 0, 0, 4, 0, 0, 0, 1, 0,
-    0, 0,
-];
-
-/// The journal of the intent of 01 00 00 00 at 8 in file 2, while it is open.
-const PUT: [u8; 28] = [
-    0x4F, 0x51, 0x44, 0x4A, 0x31, 1, 0, 0, 0, 0x0F, 0, 0, 0, 1, 2, 0, 8, 0, 0, 0, 4, 0, 0, 0, 1, 0,
-    0, 0,
-];
-
-/// The intent of one patch.
-fn intent_of(alloc: Global, patch: Patch) -> Result<Intent, Fail> {
-    let mut intent = Intent::new(alloc);
-    if !intent.takes(&patch) {
-        return Err(Fail::from("not taken"));
+fn write(host: &mut SmallHost, words: &str) -> Option<bool> {
+    let (number, text) = numbered(words)?;
+    let file = file_of(number)?;
+    let bytes = text.as_bytes();
+    if bytes.len() > 64 {
+        return None;
     }
-    intent.add(patch)?;
-    Ok(intent)
+    Some(host.write_at(file, 0, bytes).is_ok())
 }
 
-/// The intent of `PUT`. File 2 is the .JHR of place 0.
-fn put_intent(alloc: Global) -> Result<Intent, Fail> {
-    let file = FileId::jhr(0);
-    let bytes = Bytes::from_slice(alloc, &[1, 0, 0, 0])?;
-    intent_of(alloc, Patch::Put { file, at: 8, bytes })
+/// The open journal with one byte changed, as words say it, and what is to be left of it.
+fn damaged(words: &str) -> Option<([u8; 28], usize)> {
+    let (place, words) = numbered(words)?;
+    let (byte, len) = numbered(words)?;
+    let mut bytes = OPEN;
+    if let Some(old) = bytes.get_mut(place as usize) {
+        *old = u8::try_from(byte).ok()?;
+    }
+    Some((bytes, len.parse::<usize>().ok()?))
 }
 
-/// The intent of `WHOLE`.
-fn whole_intent(alloc: Global) -> Result<Intent, Fail> {
-    let file = FileId::jhr(0);
-    let bytes = Bytes::from_slice(alloc, &[1, 0, 0, 0])?;
-    intent_of(alloc, Patch::Whole { file, bytes })
-}
-
-#[test]
-fn an_open_journal_has_these_bytes(rt: HostRuntime) -> Result<(), Fail> {
+/// Whether a recovery over such a journal is done, shuts the gate, and leaves this as the first byte of file 2.
+fn recovers(alloc: Global, words: &str, answer: &str) -> Option<bool> {
+    let (bytes, len) = damaged(words)?;
     let mut host = SmallHost::new();
-    let intent = whole_intent(rt.alloc())?;
-    assert_eq!(rt; intent.size(), 28);
-    commit(&mut host, &intent)?;
-    assert_eq!(rt; &host.open[..28], WHOLE.as_slice());
-    assert_eq!(rt; host.files[1][0], 0x43);
-    assert_eq!(rt; &host.files[2][..4], [1u8, 0, 0, 0].as_slice());
-    assert_eq!(rt; host.lens[2], 4);
-    Ok(())
+    let journal = &bytes[..bytes.len().min(len)];
+    host.write_at(FileId::journal(), 0, journal).ok()?;
+    host.write_at(FileId::jhr(0), 0, &[7; 6]).ok()?;
+    recover(alloc, &mut host).ok()?;
+    let first = u64::from(*host.content(FileId::jhr(0))?.first()?);
+    Some(is_number(first, answer) && is_shut(&host))
 }
 
-#[test]
-fn an_open_journal_of_a_put_has_these_bytes(rt: HostRuntime) -> Result<(), Fail> {
-    let mut host = SmallHost::new();
-    let intent = put_intent(rt.alloc())?;
-    assert_eq!(rt; intent.size(), 28);
-    host.write_at(FileId::jhr(0), 0, &[7; 10])?;
-    commit(&mut host, &intent)?;
-    assert_eq!(rt; &host.open[..28], PUT.as_slice());
-    assert_eq!(rt;
-        &host.files[2][..12],
-        [7u8, 7, 7, 7, 7, 7, 7, 7, 1, 0, 0, 0].as_slice()
-    );
-    assert_eq!(rt; host.lens[2], 12);
-    Ok(())
-}
-
-#[test]
-fn a_put_is_taken_beside_puts(rt: HostRuntime) -> Result<(), Fail> {
-    let puts = put_intent(rt.alloc())?;
-    let whole = whole_intent(rt.alloc())?;
-    let file = FileId::jhr(0);
-    let bytes = Bytes::from_slice(rt.alloc(), &[1])?;
-    let last = Patch::Put {
-        file,
-        at: 0x7FFF_FFFE,
-        bytes,
-    };
-    assert!(rt; puts.takes(&last));
-    assert!(rt; !whole.takes(&last));
-    let bytes = Bytes::from_slice(rt.alloc(), &[1])?;
-    let past = Patch::Put {
-        file,
-        at: 0x7FFF_FFFF,
-        bytes,
-    };
-    assert!(rt; !puts.takes(&past));
-    let bytes = Bytes::new(rt.alloc());
-    assert!(rt; !puts.takes(&Patch::Whole { file, bytes }));
-    Ok(())
-}
-
-#[test]
-fn a_patch_is_taken_under_its_conditions(rt: HostRuntime) -> Result<(), Fail> {
-    let intent = whole_intent(rt.alloc())?;
-    for (number, taken) in [(0, true), (1, false), (2, false), (257, true)] {
-        let file = FileId::new(number).ok_or("no file")?;
-        let bytes = Bytes::new(rt.alloc());
-        assert_eq!(rt;
-            intent.takes(&Patch::Whole { file, bytes }),
-            taken,
-            "file {number}"
-        );
+/// Whether the gate of a host is shut.
+fn is_shut(host: &SmallHost) -> bool {
+    match host.content(FileId::journal()) {
+        Some(journal) => journal.starts_with(b"C"),
+        None => false,
     }
-    Ok(())
 }
 
-#[test]
-fn only_an_open_intent_is_carried_out(rt: HostRuntime) -> Result<(), Fail> {
-    let journal = FileId::journal();
-    let data = FileId::jhr(0);
-    // One byte of the journal, its length, and the first byte of file 2 after a recovery.
-    let cases = [
-        (0, b'O', 28, 1),
-        (0, b'O', 27, 7),
-        (0, b'C', 28, 7),
-        (1, b'R', 28, 7),
-        (5, 2, 28, 7),
-        (9, 14, 28, 7),
-        (13, 1, 28, 1),
-        (13, 2, 28, 7),
-        (14, 1, 28, 7),
-    ];
-    for (place, byte, len, first) in cases {
-        let mut bytes = WHOLE;
-        if let Some(old) = bytes.get_mut(place) {
-            *old = byte;
+/// Whether the file of a number has these bytes.
+fn has(host: &SmallHost, number: &str, answer: &str) -> Option<bool> {
+    let file = FileId::new(number.parse::<u16>().ok()?)?;
+    Some(host.content(file)? == answer.as_bytes())
+}
+
+/// Whether a line on the host is so.
+fn host_is_so(journal: &mut Journal, verb: &str, words: &str, answer: &str) -> Option<bool> {
+    let host = &mut journal.host;
+    match verb {
+        "write" => write(host, words),
+        "commit" => Some(ends(commit(host, &journal.intent).is_ok(), answer)),
+        "open" => Some(host.open_journal().starts_with(answer.as_bytes())),
+        "shut" => Some(says(is_shut(host), answer)),
+        "file" => has(host, words, answer),
+        "recover" => recovers(journal.alloc, words, answer),
+        _ => None,
+    }
+}
+
+impl Example for Journal {
+    fn is_so(&mut self, line: &str) -> Option<bool> {
+        let (call, answer) = answered(line);
+        let (verb, words) = parted(call);
+        match verb {
+            "add" => Some(add(&mut self.intent, patch_of(self.alloc, words)?)),
+            "takes" => Some(says(self.intent.takes(&patch_of(self.alloc, words)?), answer)),
+            "size" => Some(is_number(self.intent.size(), answer)),
+            _ => host_is_so(self, verb, words, answer),
         }
-        let mut host = SmallHost::new();
-        host.write_at(journal, 0, &bytes[..bytes.len().min(len)])?;
-        host.write_at(data, 0, &[7; 6])?;
-        recover(rt.alloc(), &mut host)?;
-        assert_eq!(rt; host.files[2][0], first, "{place} {byte} {len}");
-        assert_eq!(rt; host.files[1][0], b'C', "{place} {byte} {len}");
     }
-    Ok(())
+}
+
+/// Plays an example on an empty host, with an intent of no patches.
+fn play_on(alloc: Global, text: &'static str) -> Result<(), Miss> {
+    let host = SmallHost::new();
+    let intent = Intent::new(alloc);
+    play(
+        &mut Journal {
+            alloc,
+            host,
+            intent,
+        },
+        text,
+        0,
+    )
+}
+
+#[test]
+fn an_open_journal_has_these_bytes(rt: HostRuntime) -> Result<(), Miss> {
+    play_on(rt.alloc(), WHOLE)?;
+    play_on(rt.alloc(), PUT)
+}
+
+#[test]
+fn a_patch_is_taken_under_its_conditions(rt: HostRuntime) -> Result<(), Miss> {
+    play_on(rt.alloc(), BESIDE_PUT)?;
+    play_on(rt.alloc(), BESIDE_WHOLE)
+}
+
+#[test]
+fn only_an_open_intent_is_carried_out(rt: HostRuntime) -> Result<(), Miss> {
+    play_on(rt.alloc(), RECOVERED)
 }

@@ -1,56 +1,133 @@
+//! The names of a shelf's files, and the numbers of a host's.
+use super::examples::{Example, Miss, answered, is_number, parted, play, says};
 use door_outside::{FileId, ShelfName};
-use std::test::Fail;
+use std::alloc::Global;
 
-#[test]
-fn shelf_names_follow_their_grammar(rt: HostRuntime) -> Result<(), Fail> {
-    let cases = [
-        ("out", true),
-        ("a/b/c/MESSAGES.DAT", true),
-        ("12345678901234567890123456789012", true),
-        ("a-b_c.d", true),
-        ("", false),
-        ("a/b/c/d/e", false),
-        ("123456789012345678901234567890123", false),
-        (".hidden", false),
-        ("a//b", false),
-        ("a/", false),
-        ("/a", false),
-        ("a/.b", false),
-        ("a b", false),
-    ];
-    for (text, is_name) in cases {
-        let name = ShelfName::parse(rt.alloc(), text.as_bytes())?;
-        assert_eq!(rt; name.is_some(), is_name, "{text}");
+/// Texts, and the names that they are.
+const PARSED: &str = "\
+parse out = out
+parse a/b/c/MESSAGES.DAT = a/b/c/MESSAGES.DAT
+parse 12345678901234567890123456789012 = 12345678901234567890123456789012
+parse a-b_c.d = a-b_c.d
+parse = none
+parse a/b/c/d/e = none
+parse 123456789012345678901234567890123 = none
+parse .hidden = none
+parse a//b = none
+parse a/ = none
+parse /a = none
+parse a/.b = none
+parse a b = none
+";
+
+/// Folders, and files in them.
+const JOINED: &str = "\
+folder a/b/c = yes
+join a/b/c CONTROL.DAT = a/b/c/CONTROL.DAT
+folder a/b/c/CONTROL.DAT = no
+join a/b/c/CONTROL.DAT x = none
+join a/b/c .x = none
+";
+
+/// Files, and their numbers.
+const NUMBERS: &str = "\
+number 257 = 257
+number 258 = none
+ledger = 0
+journal = 1
+jhr 0 = 2
+jdt 63 = 255
+jdx 63 = 256
+jlr 63 = 257
+";
+
+#[derive(Drop)]
+struct Names {
+    alloc: Global,
+}
+
+#[derive(Drop)]
+struct Numbers;
+
+/// Whether an answer is the name that was found.
+fn is_name(found: &Option<ShelfName>, answer: &str) -> bool {
+    match found {
+        Some(name) => name.as_slice() == answer.as_bytes(),
+        None => answer == "none",
     }
-    Ok(())
+}
+
+fn parse(alloc: Global, text: &str) -> Option<Option<ShelfName>> {
+    ShelfName::parse(alloc, text.as_bytes()).ok()
+}
+
+/// Joins a folder's name and a part.
+fn join(alloc: Global, words: &str) -> Option<Option<ShelfName>> {
+    let (folder, part) = parted(words);
+    let folder = parse(alloc, folder)??;
+    folder.join(alloc, part.as_bytes()).ok()
+}
+
+impl Example for Names {
+    fn is_so(&mut self, line: &str) -> Option<bool> {
+        let (call, answer) = answered(line);
+        let (verb, words) = parted(call);
+        match verb {
+            "parse" => Some(is_name(&parse(self.alloc, words)?, answer)),
+            "join" => Some(is_name(&join(self.alloc, words)?, answer)),
+            "folder" => Some(says(parse(self.alloc, words)??.is_folder(), answer)),
+            _ => None,
+        }
+    }
+}
+
+/// The file of a conference in a place.
+fn file_of_place(kind: &str, place: &str) -> Option<FileId> {
+    let place = place.parse::<u8>().ok()?;
+    if place >= 64 {
+        return None;
+    }
+    match kind {
+        "jhr" => Some(FileId::jhr(place)),
+        "jdt" => Some(FileId::jdt(place)),
+        "jdx" => Some(FileId::jdx(place)),
+        "jlr" => Some(FileId::jlr(place)),
+        _ => None,
+    }
+}
+
+/// The file of some words.
+fn file_of(words: &str) -> Option<FileId> {
+    let (kind, number) = parted(words);
+    match kind {
+        "ledger" => Some(FileId::ledger()),
+        "journal" => Some(FileId::journal()),
+        "number" => FileId::new(number.parse::<u16>().ok()?),
+        _ => file_of_place(kind, number),
+    }
+}
+
+impl Example for Numbers {
+    fn is_so(&mut self, line: &str) -> Option<bool> {
+        let (call, answer) = answered(line);
+        match file_of(call) {
+            Some(file) => Some(is_number(u64::from(file.number()), answer)),
+            None => Some(answer == "none"),
+        }
+    }
 }
 
 #[test]
-fn a_name_is_joined_to_its_folder(rt: HostRuntime) -> Result<(), Fail> {
-    let folder = ShelfName::parse(rt.alloc(), b"a/b/c")?.ok_or("no name")?;
-    assert!(rt; folder.is_folder());
-    let file = folder.join(rt.alloc(), b"CONTROL.DAT")?.ok_or("no name")?;
-    assert_eq!(rt; file.as_slice(), b"a/b/c/CONTROL.DAT".as_slice());
-    assert!(rt; !file.is_folder());
-    assert!(rt; file.join(rt.alloc(), b"x")?.is_none());
-    assert!(rt; folder.join(rt.alloc(), b".x")?.is_none());
-    Ok(())
+fn shelf_names_follow_their_grammar(rt: HostRuntime) -> Result<(), Miss> {
+    play(&mut Names { alloc: rt.alloc() }, PARSED, 0)
 }
 
 #[test]
-fn there_are_258_files(rt: HostRuntime) {
-    assert_eq!(rt; FileId::new(257).map(|file| file.number()), Some(257));
-    assert!(rt; FileId::new(258).is_none());
-    assert_eq!(rt;
-        (FileId::ledger().number(), FileId::journal().number()),
-        (0, 1)
-    );
-    assert_eq!(rt;
-        (FileId::jhr(0).number(), FileId::jdt(63).number()),
-        (2, 255)
-    );
-    assert_eq!(rt;
-        (FileId::jdx(63).number(), FileId::jlr(63).number()),
-        (256, 257)
-    );
+fn a_name_is_joined_to_its_folder(rt: HostRuntime) -> Result<(), Miss> {
+    play(&mut Names { alloc: rt.alloc() }, JOINED, 0)
+}
+
+#[test]
+fn there_are_258_files(_rt: HostRuntime) -> Result<(), Miss> {
+    play(&mut Numbers, NUMBERS, 0)
 }

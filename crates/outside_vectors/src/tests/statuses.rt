@@ -1,19 +1,26 @@
+//! The numbers of statuses, and how a run's status grows.
 use entry_runs::{Class, Status};
 
+/// All statuses, from number 0 on.
+const STATUSES: [Status; 8] = [
+    Status::Done,
+    Status::Refused,
+    Status::Usage,
+    Status::Damaged,
+    Status::DiskFault,
+    Status::ShelfFault,
+    Status::VoiceFault,
+    Status::OutOfMemory,
+];
+
 #[test]
-fn statuses_have_their_numbers(rt: HostRuntime) {
-    for (status, number) in [
-        (Status::Done, 0),
-        (Status::Refused, 1),
-        (Status::Usage, 2),
-        (Status::Damaged, 3),
-        (Status::DiskFault, 4),
-        (Status::ShelfFault, 5),
-        (Status::VoiceFault, 6),
-        (Status::OutOfMemory, 7),
-    ] {
-        assert_eq!(rt; status.code(), number);
+fn statuses_have_their_numbers(_rt: HostRuntime) -> Result<(), Status> {
+    for (number, status) in STATUSES.iter().enumerate() {
+        if usize::from(status.code()) != number {
+            return Err(*status);
+        }
     }
+    Ok(())
 }
 
 #[test]

@@ -1,13 +1,16 @@
+//! Commits and recoveries that are stopped at each of their calls.
 ghost use Rattle.std.specs.Prelude.{◌≡◌, ◌<◌, ◌^◌, ◌∷◌, ◌++◌, [], length, IfOk, OnOk, IsTrue};
-ghost use Rattle.door_outside.specs.MemoryHost.{disk_of};
+ghost use Rattle.memory_outside.specs.MemoryHost.{disk_of};
 ghost use Rattle.intent_journal.specs.Hosts.{IsSettled};
 ghost use Rattle.intent_journal.specs.Patches.{Files, are_within};
 
-use byte_lists::{Bytes, List};
-use door_outside::{FaultPlan, FileId, ImageChoice, MemoryHost};
+use super::examples::{Miss, expect};
+use super::memory_host::empty;
+use byte_lists::Bytes;
+use door_outside::FileId;
 use intent_journal::{Intent, Patch, commit, recover};
+use memory_outside::{CallNumbers, FaultPlan, ImageChoice, MemoryHost};
 use std::alloc::{AllocError, Global};
-use std::test::Fail;
 
 /// A host on what a crash left of another, whose calls fail from one on.
 #[tactic(auto, using(intent_journal::proofs::Hosts::at_rest_is_settled))]
@@ -19,7 +22,7 @@ fn crashed(
 ) -> Result<MemoryHost, AllocError>
     ensures { IfOk result (λ host. IsSettled (disk_of host)) }
 {
-    let fails = List::new(alloc);
+    let fails = CallNumbers::new(alloc);
     host.after_crash(alloc, choice, FaultPlan { fails, stop })
 }
 
@@ -34,6 +37,18 @@ fn recover_and_commit(alloc: Global, host: &mut MemoryHost, intent: &Intent) -> 
     }
 }
 
+/// Recovers what a crash left, by calls that fail from one on.
+fn recovered(
+    alloc: Global,
+    host: &MemoryHost,
+    choice: ImageChoice,
+    stop: Option<u32>,
+) -> Result<MemoryHost, AllocError> {
+    let mut last = crashed(alloc, host, choice, stop)?;
+    let _ = recover(alloc, &mut last);
+    Ok(last)
+}
+
 /// Recovers what a crash left, by a recovery that is stopped and one that isn't.
 fn recovered_twice(
     alloc: Global,
@@ -41,25 +56,8 @@ fn recovered_twice(
     choice: ImageChoice,
     stop: u32,
 ) -> Result<MemoryHost, AllocError> {
-    let mut first = crashed(alloc, host, choice, Some(stop))?;
-    let _ = recover(alloc, &mut first);
-    let mut second = crashed(alloc, &first, choice, None)?;
-    let _ = recover(alloc, &mut second);
-    Ok(second)
-}
-
-/// A host whose recovery and commit were stopped, and whether both were done.
-fn stopped(
-    alloc: Global,
-    start: &MemoryHost,
-    intent: &Intent,
-    stop: u32,
-) -> Result<(MemoryHost, bool), AllocError>
-    requires { (files : Files) → IsTrue (are_within intent.now files) }
-{
-    let mut host = crashed(alloc, start, ImageChoice::Written, Some(stop))?;
-    let done = recover_and_commit(alloc, &mut host, intent);
-    Ok((host, done))
+    let first = recovered(alloc, host, choice, Some(stop))?;
+    recovered(alloc, &first, choice, None)
 }
 
 /// Whether a file has these bytes.
@@ -78,98 +76,175 @@ fn is_whole(host: &MemoryHost, done: bool) -> bool {
 }
 
 /// Adds a patch.
-fn added(intent: &mut Intent, patch: Patch) -> Result<(), Fail>
+fn add(intent: &mut Intent, patch: Patch) -> Result<(), Miss>
     ensures { OnOk result (intent.new ≡ intent.old ++ patch ∷ []) }
 {
     if !intent.takes(&patch) {
-        return Err(Fail::from("not taken"));
+        return Err(Miss {
+            line: "a patch is taken",
+            round: 0,
+        });
     }
     intent.add(patch)?;
     Ok(())
 }
 
 /// Two puts into file 2 that overlap and lengthen it, and all bytes of file 3.
-fn three_patches(alloc: Global) -> Result<Intent, Fail>
-    ensures { IfOk result (λ intent. (files : Files) → IsTrue (are_within intent files)) }
+fn three_patches(alloc: Global, intent: &mut Intent) -> Result<(), Miss>
+    requires { intent.old ≡ [] }
+    ensures { OnOk result ((files : Files) → IsTrue (are_within intent.new files)) }
 {
-    let mut intent = Intent::new(alloc);
     let file = FileId::jhr(0);
     let bytes = Bytes::from_slice(alloc, b"patched")?;
-    added(&mut intent, Patch::Put { file, at: 0, bytes })?;
+    add(intent, Patch::Put { file, at: 0, bytes })?;
     let bytes = Bytes::from_slice(alloc, b"over")?;
-    added(&mut intent, Patch::Put { file, at: 5, bytes })?;
+    add(intent, Patch::Put { file, at: 5, bytes })?;
     let file = FileId::jdt(0);
     let bytes = Bytes::from_slice(alloc, b"new")?;
-    added(&mut intent, Patch::Whole { file, bytes })?;
-    Ok(intent)
+    add(intent, Patch::Whole { file, bytes })
 }
 
-/// Whether each crash of a host is recovered to whole files.
-fn ends_whole(alloc: Global, host: &MemoryHost, done: bool) -> Result<bool, AllocError> {
+/// The image of a seed below 10, of which the first and the last are those without draws.
+fn choice_of(seed: u32) -> ImageChoice {
+    match seed {
+        0 => ImageChoice::Synced,
+        9 => ImageChoice::Written,
+        _ => ImageChoice::Mixed(seed),
+    }
+}
+
+/// Whether an image of a host is recovered to whole files, wherever a first recovery is stopped.
+fn image_ends_whole(
+    alloc: Global,
+    host: &MemoryHost,
+    choice: ImageChoice,
+    done: bool,
+) -> Result<bool, AllocError> {
     let mut whole = true;
-    for seed in 0..10 {
-        let choice = match seed {
-            0 => ImageChoice::Synced,
-            9 => ImageChoice::Written,
-            _ => ImageChoice::Mixed(seed),
-        };
-        for stop in 1..14 {
-            let last = recovered_twice(alloc, host, choice, stop)?;
-            whole = whole && is_whole(&last, done);
-        }
+    for stop in 1..14 {
+        let last = recovered_twice(alloc, host, choice, stop)?;
+        whole = whole && is_whole(&last, done);
     }
     Ok(whole)
 }
 
-#[test]
-fn each_stop_leaves_all_or_nothing(rt: HostRuntime) -> Result<(), Fail> {
-    let intent = three_patches(rt.alloc())?;
-    let fails = List::new(rt.alloc());
-    let mut start = MemoryHost::new(rt.alloc(), FaultPlan { fails, stop: None });
+/// Whether each image of a host is.
+fn ends_whole(alloc: Global, host: &MemoryHost, done: bool) -> Result<bool, AllocError> {
+    let mut whole = true;
+    for seed in 0..10 {
+        whole = image_ends_whole(alloc, host, choice_of(seed), done)? && whole;
+    }
+    Ok(whole)
+}
+
+/// Whether a recovery and a commit that are stopped at a call leave all of the intent or nothing.
+fn stop_is_whole(
+    alloc: Global,
+    start: &MemoryHost,
+    intent: &Intent,
+    stop: u32,
+) -> Result<bool, AllocError>
+    requires { (files : Files) → IsTrue (are_within intent.now files) }
+{
+    let mut host = crashed(alloc, start, ImageChoice::Written, Some(stop))?;
+    let done = recover_and_commit(alloc, &mut host, intent);
+    ends_whole(alloc, &host, done)
+}
+
+/// Stops them at each call.
+fn stop_each(alloc: Global, start: &MemoryHost, intent: &Intent) -> Result<(), Miss>
+    requires { (files : Files) → IsTrue (are_within intent.now files) }
+{
+    for stop in 1..32 {
+        let so = stop_is_whole(alloc, start, intent, stop)?;
+        expect(Some(so), "a stopped commit", stop)?;
+    }
+    Ok(())
+}
+
+/// Puts files 2 and 3, and stops the commit of three patches at each call.
+fn stop_on(alloc: Global, start: &mut MemoryHost, intent: &mut Intent) -> Result<(), Miss>
+    requires { intent.old ≡ [] }
+{
     start.put(FileId::jhr(0), b"old")?;
     start.put(FileId::jdt(0), b"file")?;
-    for stop in 1..32 {
-        let (host, done) = stopped(rt.alloc(), &start, &intent, stop)?;
-        assert!(rt; ends_whole(rt.alloc(), &host, done)?, "{stop}");
-    }
-    Ok(())
+    three_patches(alloc, intent)?;
+    stop_each(alloc, start, intent)
 }
 
-/// A host with an open journal of one put of 01 00 00 00 at a place of file 2, and the bytes of that file.
-fn put_pending(alloc: Global, at: u16, old: &[u8]) -> Result<MemoryHost, Fail>
+#[test]
+fn each_stop_leaves_all_or_nothing(rt: HostRuntime) -> Result<(), Miss> {
+    let mut start = empty(rt.alloc());
+    let mut intent = Intent::new(rt.alloc());
+    stop_on(rt.alloc(), &mut start, &mut intent)
+}
+
+/// Puts an open journal of one put of 01 00 00 00 at a place of file 2, and the bytes of that file.
+fn put_pending(host: &mut MemoryHost, at: u16, old: &[u8]) -> Result<(), AllocError>
     requires { length old.now < 2 ^ 31 }
 {
-    let [low, high] = at.to_le_bytes();
-    let journal = [
-        0x4F, 0x51, 0x44, 0x4A, 0x31, 1, 0, 0, 0, 0x0F, 0, 0, 0, 1, 2, 0, low, high, 0, 0, 4, 0, 0,
-        0, 1, 0, 0, 0,
-    ];
-    let fails = List::new(alloc);
-    let mut host = MemoryHost::new(alloc, FaultPlan { fails, stop: None });
+    let mut journal = *b"OQDJ1\x01\0\0\0\x0F\0\0\0\x01\x02\0\0\0\0\0\x04\0\0\0\x01\0\0\0";
+    journal[16..18].copy_from_slice(&at.to_le_bytes());
     host.put(FileId::journal(), &journal)?;
-    host.put(FileId::jhr(0), old)?;
-    Ok(host)
+    host.put(FileId::jhr(0), old)
+}
+
+/// Whether a recovery is done, shuts the gate and leaves file 2 so.
+fn leaves(alloc: Global, start: &MemoryHost, bytes: &[u8]) -> Result<bool, AllocError> {
+    let mut host = crashed(alloc, start, ImageChoice::Written, None)?;
+    let done = recover(alloc, &mut host).is_ok();
+    let is_shut = host.file(FileId::journal()).starts_with(b"C");
+    Ok(done && is_shut && has(&host, FileId::jhr(0), bytes))
+}
+
+/// Recovers a put that begins past the end of its file.
+fn recover_past(alloc: Global, start: &mut MemoryHost) -> Result<(), Miss> {
+    put_pending(start, 2000, &[7; 1024])?;
+    let so = leaves(alloc, start, &[7; 1024])?;
+    expect(Some(so), "a put past the end", 0)
 }
 
 #[test]
-fn a_put_past_the_end_is_not_carried_out(rt: HostRuntime) -> Result<(), Fail> {
-    let start = put_pending(rt.alloc(), 2000, &[7; 1024])?;
-    let mut host = crashed(rt.alloc(), &start, ImageChoice::Written, None)?;
-    recover(rt.alloc(), &mut host)?;
-    assert!(rt; has(&host, FileId::jhr(0), &[7; 1024]));
-    assert_eq!(rt; host.file(FileId::journal()).first(), Some(&b'C'));
-    Ok(())
+fn a_put_past_the_end_is_not_carried_out(rt: HostRuntime) -> Result<(), Miss> {
+    recover_past(rt.alloc(), &mut empty(rt.alloc()))
 }
 
-#[test]
-fn a_stopped_recovery_of_a_put_ends_the_same(rt: HostRuntime) -> Result<(), Fail> {
-    let start = put_pending(rt.alloc(), 8, &[7; 10])?;
-    let patched = [7, 7, 7, 7, 7, 7, 7, 7, 1, 0, 0, 0];
-    for seed in 1..9 {
-        for stop in 1..12 {
-            let last = recovered_twice(rt.alloc(), &start, ImageChoice::Mixed(seed), stop)?;
-            assert!(rt; has(&last, FileId::jhr(0), &patched), "{seed} {stop}");
-        }
+/// Whether a recovery of an image, stopped at a call, and one more leave the put carried out.
+fn ends_patched(
+    alloc: Global,
+    start: &MemoryHost,
+    seed: u32,
+    stop: u32,
+) -> Result<bool, AllocError> {
+    let last = recovered_twice(alloc, start, ImageChoice::Mixed(seed), stop)?;
+    Ok(has(
+        &last,
+        FileId::jhr(0),
+        b"\x07\x07\x07\x07\x07\x07\x07\x07\x01\0\0\0",
+    ))
+}
+
+/// Stops the recovery of an image at each call. The round of a miss is a hundred times the seed, and the stop.
+fn stop_recovery(alloc: Global, start: &MemoryHost, seed: u32) -> Result<(), Miss>
+    requires { seed < 9 }
+{
+    for stop in 1..12 {
+        let so = ends_patched(alloc, start, seed, stop)?;
+        expect(Some(so), "a stopped recovery", seed * 100 + stop)?;
     }
     Ok(())
+}
+
+/// Stops it so on each image.
+fn stop_recoveries(alloc: Global, start: &mut MemoryHost) -> Result<(), Miss> {
+    put_pending(start, 8, &[7; 10])?;
+    for seed in 1..9 {
+        stop_recovery(alloc, start, seed)?;
+    }
+    Ok(())
+}
+
+#[test]
+fn a_stopped_recovery_of_a_put_ends_the_same(rt: HostRuntime) -> Result<(), Miss> {
+    stop_recoveries(rt.alloc(), &mut empty(rt.alloc()))
 }

@@ -1,104 +1,101 @@
-//! Files from worked examples.
+//! Files from worked examples. A case is a file, and what is found its texts, its count, its conferences, and whether it
+//! is written as it was read; or its first fault.
 use byte_lists::Bytes;
-use qwk_control::{Control, ControlError, read_control, write_control};
-use std::process::Abort;
-use std::test::Fail;
+use case_texts::{Miss, expect_cases, quoted};
+use qwk_control::{Control, Listed, read_control, write_control};
+use std::alloc::{AllocError, Global};
 
-const EXAMPLE: &[u8] =
-    b"Test Board\r\nSpringfield\r\n555-0100\r\nSam Sysop\r\n12345,TESTBBS\r\n09-09-2001,01:46:40\r\nANN LEE\r\n\r\n0\r\n1\r\n2\r\n0\r\nGENERAL\r\n1\r\nNETMAIL\r\n7\r\nNEWS\r\nWELCOME\r\nNEWS\r\nGOODBYE\r\n";
-
-fn assert_example(rt: &impl Abort, control: &Control) -> Result<(), Fail> {
-    for (text, wanted) in [
-        (&control.board, b"Test Board".as_slice()),
-        (&control.city, b"Springfield"),
-        (&control.phone, b"555-0100"),
-        (&control.sysop, b"Sam Sysop"),
-        (&control.serial, b"12345"),
-        (&control.bbsid, b"TESTBBS"),
-        (&control.stamp, b"09-09-2001,01:46:40"),
-        (&control.user, b"ANN LEE"),
-        (&control.menu, b""),
-        (&control.welcome, b"WELCOME"),
-        (&control.news, b"NEWS"),
-        (&control.goodbye, b"GOODBYE"),
+/// The texts, in the order of the file.
+fn texts_of(alloc: Global, control: &Control) -> Result<String, AllocError> {
+    let mut found = String::new(alloc);
+    for text in [
+        &control.board,
+        &control.city,
+        &control.phone,
+        &control.sysop,
+        &control.serial,
+        &control.bbsid,
+        &control.stamp,
+        &control.user,
+        &control.menu,
+        &control.welcome,
+        &control.news,
+        &control.goodbye,
     ] {
-        assert_eq!(rt; text.as_slice(), wanted);
+        found.push_str(quoted(alloc, text.as_slice())?.as_str())?;
+        found.push_str(" ")?;
     }
-    assert_eq!(rt; control.count, 1);
-    assert_eq!(rt; control.conferences.len(), 3);
-    for (place, number, name) in [
-        (0, 0, b"GENERAL".as_slice()),
-        (1, 1, b"NETMAIL"),
-        (2, 7, b"NEWS"),
-    ] {
-        let conference = control.conferences.get(place).ok_or("no conference")?;
-        assert_eq!(rt; conference.0, number);
-        assert_eq!(rt; conference.1.as_slice(), name);
-    }
-    Ok(())
+    Ok(found)
 }
 
-#[test]
-fn reads_and_writes_the_example(rt: HostRuntime) -> Result<(), Fail> {
-    let control = read_control(rt.alloc(), EXAMPLE)?;
-    assert_example(&rt, &control)?;
-    let copy = control.conferences.copy(rt.alloc())?;
-    assert_eq!(&rt; copy.len(), 3);
-    assert!(&rt; control.writable());
-    let text = write_control(rt.alloc(), &control)?;
-    assert_eq!(&rt; text.as_slice(), EXAMPLE);
-    Ok(())
-}
-
-#[test]
-fn reads_loose_lines(rt: HostRuntime) -> Result<(), Fail> {
-    let text = b"B\nC\nP\nS\n1, ID ,\nT\nU\nM\n0\nmany\n 0 \n 007\nMAIN\nHELLO\r".as_slice();
-    let fault = read_control(rt.alloc(), text).err();
-    assert_eq!(&rt; fault, Some(ControlError::BadBoardId));
-    let text = b"B\nC\nP\nS\n1, I,D \nT\nU\nM\n0\nmany\n 0 \n 007\nMAIN\nHELLO\r".as_slice();
-    let control = read_control(rt.alloc(), text)?;
-    assert_eq!(&rt; control.bbsid.as_slice(), b"I,D".as_slice());
-    assert_eq!(&rt; control.count, 0);
-    assert_eq!(&rt; control.conferences.get(0).ok_or("no conference")?.0, 7);
-    assert_eq!(&rt; control.welcome.as_slice(), b"HELLO\r".as_slice());
-    assert_eq!(&rt; control.news.as_slice().len(), 0);
-    assert!(&rt; !control.writable());
-    Ok(())
-}
-
-#[test]
-fn looks_at_no_line_behind_the_last(rt: HostRuntime) -> Result<(), Fail> {
-    let mut text = Bytes::from_slice(rt.alloc(), EXAMPLE)?;
-    for _ in 0..1_000 {
-        text.add(&[b'\n'; 4_096])?;
+/// The conferences, each number with its name.
+fn conferences_of(alloc: Global, conferences: &Listed) -> Result<String, AllocError> {
+    let mut found = String::new(alloc);
+    for (number, name) in conferences.as_slice() {
+        let name = name.as_slice().escape_ascii();
+        let conference = format!(in alloc; " {number} \"{name}\"")?;
+        found.push_str(conference.as_str())?;
     }
-    let control = read_control(rt.alloc(), text.as_slice())?;
-    assert_example(&rt, &control)
+    Ok(found)
 }
 
-#[test]
-fn names_the_first_fault(rt: HostRuntime) -> Result<(), Fail> {
-    for (text, wanted) in [
-        (
-            b"Test Board\nSpringfield\n555-0100\nSam Sysop\n".as_slice(),
-            ControlError::TooFewLines { line: 5 },
-        ),
-        (b"B\nC\nP\nS\n1,ABCDEFGHI\n", ControlError::BadBoardId),
-        (b"B\nC\nP\nS\n12345\n", ControlError::BadBoardId),
-        (
-            b"B\nC\nP\nS\n1,ID\nT\nU\nM\n0\n1\n70000\n",
-            ControlError::BadNumber { line: 11 },
-        ),
-        (
-            b"B\nC\nP\nS\n1,ID\nT\nU\nM\n0\n1\n1\n0\nMAIN\nx\nNEWS\n",
-            ControlError::BadNumber { line: 14 },
-        ),
-        (
-            b"B\nC\nP\nS\n1,ID\nT\nU\nM\n0\n1\n1\n0\nMAIN\n1\n",
-            ControlError::TooFewLines { line: 15 },
-        ),
-    ] {
-        assert_eq!(&rt; read_control(rt.alloc(), text).err(), Some(wanted));
+/// How the file is written that was read.
+fn writing_of(alloc: Global, control: &Control, file: &[u8]) -> Result<&'static str, AllocError> {
+    if !control.writable() {
+        return Ok("not writable");
     }
-    Ok(())
+    let text = write_control(alloc, control)?;
+    if text.as_slice() == file {
+        Ok("written so")
+    } else {
+        Ok("written otherwise")
+    }
+}
+
+fn described(alloc: Global, control: &Control, file: &[u8]) -> Result<String, AllocError> {
+    let texts = texts_of(alloc, control)?;
+    let copy = control.conferences.copy(alloc)?;
+    let conferences = conferences_of(alloc, &copy)?;
+    let writing = writing_of(alloc, control, file)?;
+    format!(in alloc; "{texts}{}{conferences}, {writing}", control.count)
+}
+
+fn read(alloc: Global, words: &[Bytes]) -> Result<String, Miss> {
+    let [file] = words else {
+        return Err(Miss::Words);
+    };
+    match read_control(alloc, file.as_slice()) {
+        Ok(control) => Ok(described(alloc, &control, file.as_slice())?),
+        Err(fault) => Ok(format!(in alloc; "{fault:?}")?),
+    }
+}
+
+/// The example, also with lines behind the last that are not looked at, and loose lines.
+const FILES: &str = r#"
+"Test Board\r\nSpringfield\r\n555-0100\r\nSam Sysop\r\n12345,TESTBBS\r\n09-09-2001,01:46:40\r\nANN LEE\r\n\r\n0\r\n1\r\n2\r\n0\r\nGENERAL\r\n1\r\nNETMAIL\r\n7\r\nNEWS\r\nWELCOME\r\nNEWS\r\nGOODBYE\r\n"
+=> "Test Board" "Springfield" "555-0100" "Sam Sysop" "12345" "TESTBBS" "09-09-2001,01:46:40" "ANN LEE" "" "WELCOME" "NEWS" "GOODBYE" 1 0 "GENERAL" 1 "NETMAIL" 7 "NEWS", written so
+"Test Board\r\nSpringfield\r\n555-0100\r\nSam Sysop\r\n12345,TESTBBS\r\n09-09-2001,01:46:40\r\nANN LEE\r\n\r\n0\r\n1\r\n2\r\n0\r\nGENERAL\r\n1\r\nNETMAIL\r\n7\r\nNEWS\r\nWELCOME\r\nNEWS\r\nGOODBYE\r\n\n\{4096000}"
+=> "Test Board" "Springfield" "555-0100" "Sam Sysop" "12345" "TESTBBS" "09-09-2001,01:46:40" "ANN LEE" "" "WELCOME" "NEWS" "GOODBYE" 1 0 "GENERAL" 1 "NETMAIL" 7 "NEWS", written otherwise
+"B\nC\nP\nS\n1, ID ,\nT\nU\nM\n0\nmany\n 0 \n 007\nMAIN\nHELLO\r" => BadBoardId
+"B\nC\nP\nS\n1, I,D \nT\nU\nM\n0\nmany\n 0 \n 007\nMAIN\nHELLO\r"
+=> "B" "C" "P" "S" "1" "I,D" "T" "U" "M" "HELLO\r" "" "" 0 7 "MAIN", not writable
+"#;
+
+#[test]
+fn reads_and_writes_files(rt: HostRuntime) -> Result<(), Miss> {
+    expect_cases(rt.alloc(), FILES, read)
+}
+
+const FAULTS: &str = r#"
+"Test Board\nSpringfield\n555-0100\nSam Sysop\n" => TooFewLines { line: 5 }
+"B\nC\nP\nS\n1,ABCDEFGHI\n" => BadBoardId
+"B\nC\nP\nS\n12345\n" => BadBoardId
+"B\nC\nP\nS\n1,ID\nT\nU\nM\n0\n1\n70000\n" => BadNumber { line: 11 }
+"B\nC\nP\nS\n1,ID\nT\nU\nM\n0\n1\n1\n0\nMAIN\nx\nNEWS\n" => BadNumber { line: 14 }
+"B\nC\nP\nS\n1,ID\nT\nU\nM\n0\n1\n1\n0\nMAIN\n1\n" => TooFewLines { line: 15 }
+"#;
+
+#[test]
+fn names_the_first_fault(rt: HostRuntime) -> Result<(), Miss> {
+    expect_cases(rt.alloc(), FAULTS, read)
 }

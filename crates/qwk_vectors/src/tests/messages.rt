@@ -1,39 +1,49 @@
-//! The message that the examples share, of which each changes what it is about.
-use byte_lists::{Bytes, Lines};
+//! Messages in words: how many there are, and what each has. Its status, activity and tag stand together; then come its
+//! date, time, To, From, subject and password, its number and reference, its conference and logical number, and its lines.
+use case_texts::quoted;
 use qwk_blocks::{Header, QwkMessage};
 use std::alloc::{AllocError, Global};
 
-/// Message 1 of conference 0, from one name to another, with these lines.
-pub fn hello(
-    alloc: Global,
-    from: &[u8],
-    to: &[u8],
-    lines: &[&[u8]],
-) -> Result<QwkMessage, AllocError> {
-    let mut text = Lines::new(alloc);
-    for line in lines {
-        text.add(Bytes::from_slice(alloc, *line)?)?;
+/// Adds the texts of a header.
+fn add_texts(alloc: Global, found: &mut String, header: &Header) -> Result<(), AllocError> {
+    let marks = [header.status, header.activity, header.tag];
+    for text in [
+        marks.as_slice(),
+        header.date.as_slice(),
+        header.time.as_slice(),
+        header.to.as_slice(),
+        header.from.as_slice(),
+        header.subject.as_slice(),
+        header.password.as_slice(),
+    ] {
+        found.push_str(quoted(alloc, text)?.as_str())?;
+        found.push_str(" ")?;
     }
-    Ok(QwkMessage {
-        header: header(alloc, from, to)?,
-        lines: text,
-    })
+    Ok(())
 }
 
-fn header(alloc: Global, from: &[u8], to: &[u8]) -> Result<Header, AllocError> {
-    Ok(Header {
-        status: b' ',
-        number: Some(1),
-        date: *b"09-09-01",
-        time: *b"01:46",
-        to: Bytes::from_slice(alloc, to)?,
-        from: Bytes::from_slice(alloc, from)?,
-        subject: Bytes::from_slice(alloc, b"Hello")?,
-        password: Bytes::new(alloc),
-        reference: None,
-        activity: 0xE1,
-        conference: 0,
-        logical: 1,
-        tag: b' ',
-    })
+/// Adds what a message has.
+fn add_message(alloc: Global, found: &mut String, message: &QwkMessage) -> Result<(), AllocError> {
+    let header = &message.header;
+    add_texts(alloc, found, header)?;
+    let numbers = format!(in alloc;
+        "{:?} {:?} {} {}:",
+        header.number, header.reference, header.conference, header.logical
+    )?;
+    found.push_str(numbers.as_str())?;
+    for line in message.lines.as_slice() {
+        found.push_str(" ")?;
+        found.push_str(quoted(alloc, line.as_slice())?.as_str())?;
+    }
+    Ok(())
+}
+
+/// Messages in words.
+pub fn described(alloc: Global, messages: &[QwkMessage]) -> Result<String, AllocError> {
+    let mut found = format!(in alloc; "{} messages", messages.len())?;
+    for message in messages {
+        found.push_str("; ")?;
+        add_message(alloc, &mut found, message)?;
+    }
+    Ok(found)
 }

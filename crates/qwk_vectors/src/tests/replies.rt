@@ -1,48 +1,58 @@
-//! Files from worked examples.
+//! Files from worked examples. A case is how many bytes a file has, and its blocks.
 ghost use Rattle.std.specs.Prelude.{◌↔◌, IsTrue};
 ghost use Rattle.text_fields.specs.Trim.{EndsWithNone};
 ghost use Rattle.qwk_blocks.specs.Header.{IsPad};
 
-use super::messages::hello;
-use byte_lists::Bytes;
-use qwk_blocks::{QwkFault, QwkMessage, QwkMessages};
+use super::files::file_of;
+use super::messages::described;
+use byte_lists::{Bytes, Duplicate};
+use case_texts::{Miss, expect_cases, quoted};
+use qwk_blocks::{QwkMessage, QwkMessages};
 use rep_packet::{Rep, RepError, add_reply, read_rep, write_rep};
 use std::alloc::{AllocError, Global};
-use std::process::Abort;
-use std::test::Fail;
 use text_fields::Blank;
 
-/// The blocks of a packet of two replies.
-const BLOCKS: [&[u8]; 5] = [
-    b"TESTBBS                                                                                                                         ",
-    b" 0      09-09-0101:46BOB RAY                  ANN LEE                  Hello                                1       2     \xE1\x00\x00\x01\x00 ",
-    b"Thanks\xE3                                                                                                                         ",
-    b" 263    09-09-0101:46BOB RAY                  ANN LEE                  Hello                                1       2     \xE1\x07\x01\x02\x00 ",
-    b"Thanks\xE3                                                                                                                         ",
-];
-
-/// A block of spaces.
-const SPACES: &[u8] =
-    b"                                                                                                                                ";
-
-/// The first so many blocks.
-fn blocks(alloc: Global, count: usize) -> Result<Bytes, AllocError> {
-    let mut file = Bytes::new(alloc);
-    for block in BLOCKS.iter().take(count) {
-        file.add(block)?;
+/// The reply packet of a short file.
+fn rep_of(alloc: Global, bytes: &[u8]) -> Result<Rep, RepError> {
+    if bytes.len() > 1000 {
+        return Err(RepError::OutOfMemory);
     }
-    Ok(file)
+    read_rep(alloc, bytes)
 }
 
-/// The reply in a place of the packet, to a conference.
-fn reply(alloc: Global, logical: u16, conference: u16) -> Result<QwkMessage, AllocError> {
-    let mut message = hello(alloc, b"ANN LEE", b"BOB RAY", &[b"Thanks"])?;
-    let header = &mut message.header;
-    header.number = Some(u32::from(conference));
-    header.reference = Some(1);
-    header.conference = conference;
-    header.logical = logical;
-    Ok(message)
+/// The board id and the messages of a packet.
+fn contents(alloc: Global, rep: &Rep) -> Result<String, AllocError> {
+    let id = quoted(alloc, rep.bbsid.as_slice())?;
+    let messages = described(alloc, rep.messages.as_slice())?;
+    format!(in alloc; "{id} {messages}")
+}
+
+fn read(alloc: Global, words: &[Bytes]) -> Result<String, Miss> {
+    match rep_of(alloc, file_of(alloc, words)?.as_slice()) {
+        Ok(rep) => Ok(contents(alloc, &rep)?),
+        Err(fault) => Ok(format!(in alloc; "{fault:?}")?),
+    }
+}
+
+const FILES: &str = r#"
+128 "A       x\{120}" => "A" 0 messages
+128 "TESTBBS8x\{120}" => "TESTBBS8" 0 messages
+128 "AB\0 \0   x\{120}" => "AB" 0 messages
+128 " A\0B\0\0\0\0x\{120}" => " A\x00B" 0 messages
+128 "        x\{120}" => NoBoardId
+128 "\0\0\0\0\0\0\0\0x\{120}" => NoBoardId
+256 "        x\{120}" "" => NoBoardId
+256 "A       x\{120}" "" => Fault(BadBlocks { at: 128 })
+256 "A       x\{120}"
+" 0      09-09-0101:46BOB RAY                  ANN LEE                  Hello                                1       2     \xE1\x00\x00\x01\x00 "
+=> Fault(Truncated { at: 128 })
+127 "" => Fault(Truncated { at: 0 })
+127 "TESTBBS" => Fault(Truncated { at: 0 })
+"#;
+
+#[test]
+fn reads_files(rt: HostRuntime) -> Result<(), Miss> {
+    expect_cases(rt.alloc(), FILES, read)
 }
 
 /// Whether a board id has no blank at its end.
@@ -55,103 +65,66 @@ fn ends_with_none(id: &[u8]) -> bool
     }
 }
 
-/// The reply packet of a short file.
-fn read(rt: &impl Abort, alloc: Global, bytes: &[u8]) -> Result<Rep, RepError> {
-    assert!(rt; bytes.len() < 1000);
-    read_rep(alloc, bytes)
-}
-
 /// The written form of a reply packet.
-fn write(rt: &impl Abort, alloc: Global, rep: &Rep) -> Result<Bytes, AllocError> {
+fn write(alloc: Global, rep: &Rep) -> Result<Bytes, Miss> {
     let id = rep.bbsid.as_slice();
-    assert!(rt; id.len() >= 1);
-    assert!(rt; id.len() <= 8);
-    assert!(rt; ends_with_none(id));
-    let writable = rep
-        .messages
-        .as_slice()
-        .iter()
-        .all(|message| message.writable());
-    assert!(rt; writable);
-    assert!(rt; rep.size() < 1_000_000);
-    write_rep(alloc, rep)
+    if id.len() < 1 || id.len() > 8 || !ends_with_none(id) {
+        return Err(Miss::Unreached);
+    }
+    let messages = rep.messages.as_slice();
+    let writable = messages.iter().all(|message| message.writable());
+    if !writable || rep.size() >= 1_000_000 {
+        return Err(Miss::Unreached);
+    }
+    Ok(write_rep(alloc, rep)?)
 }
 
-#[test]
-fn replies_are_added_and_read_back(rt: HostRuntime) -> Result<(), Fail> {
+/// Adds a reply, and writes the packet, which is to be the front of a file, and reads it back.
+fn add_and_read(
+    alloc: Global,
+    rep: &mut Rep,
+    message: &QwkMessage,
+    file: &[u8],
+) -> Result<String, Miss> {
+    add_reply(rep, message.duplicate(alloc)?)?;
+    let size = rep.size();
+    let written = write(alloc, rep)?;
+    if file.get(..size as usize) != Some(written.as_slice()) {
+        return Ok(format!(in alloc; "written as {}", written.as_slice().escape_ascii())?);
+    }
+    *rep = rep_of(alloc, written.as_slice())
+        .ok()
+        .ok_or(Miss::Unreached)?;
+    Ok(format!(in alloc; "{size} ")?)
+}
+
+/// Adds the replies of a file one by one to a packet without replies. What is found are the sizes of the packet, and what
+/// it has at the end.
+fn add_replies(alloc: Global, words: &[Bytes]) -> Result<String, Miss> {
+    let file = file_of(alloc, words)?;
+    let whole = rep_of(alloc, file.as_slice()).ok().ok_or(Miss::Unreached)?;
     let mut rep = Rep {
-        bbsid: Bytes::from_slice(rt.alloc(), b"TESTBBS")?,
-        messages: QwkMessages::new(rt.alloc()),
+        bbsid: whole.bbsid.copy(alloc)?,
+        messages: QwkMessages::new(alloc),
     };
-    assert_eq!(rt; rep.size(), 128);
-    for (logical, conference, size) in [(1, 0, 384), (2, 263, 640)] {
-        add_reply(&mut rep, reply(rt.alloc(), logical, conference)?)?;
-        assert_eq!(rt; rep.size(), size);
-        let wanted = blocks(rt.alloc(), 1 + 2 * usize::from(logical))?;
-        let file = write(&rt, rt.alloc(), &rep)?;
-        assert_eq!(rt; file.as_slice(), wanted.as_slice());
-        rep = read(&rt, rt.alloc(), file.as_slice())?;
-        assert_eq!(rt; rep.bbsid.as_slice(), b"TESTBBS".as_slice());
-        assert_eq!(rt; rep.messages.len(), usize::from(logical));
+    let mut found = format!(in alloc; "{} ", rep.size())?;
+    for message in whole.messages.as_slice() {
+        found.push_str(add_and_read(alloc, &mut rep, message, file.as_slice())?.as_str())?;
     }
-    let second = rep.messages.get(1).ok_or("no reply")?;
-    assert_eq!(rt; second.header.conference, 263);
-    assert_eq!(rt; second.header.from.as_slice(), b"ANN LEE".as_slice());
-    assert_eq!(rt; second.lines.len(), 1);
-    Ok(())
+    found.push_str(contents(alloc, &rep)?.as_str())?;
+    Ok(found)
 }
 
-/// A file with these bytes at its front, free bytes up to 128, and the others behind them.
-fn file_of(alloc: Global, front: &[u8], behind: &[u8]) -> Result<Bytes, AllocError> {
-    let mut file = Bytes::from_slice(alloc, front)?;
-    for _ in front.len()..128 {
-        file.add(b"x")?;
-    }
-    file.add(behind)?;
-    Ok(file)
-}
+const REPLIES: &str = r#"
+640 "TESTBBS"
+" 0      09-09-0101:46BOB RAY                  ANN LEE                  Hello                                1       2     \xE1\x00\x00\x01\x00 "
+"Thanks\xE3"
+" 263    09-09-0101:46BOB RAY                  ANN LEE                  Hello                                1       2     \xE1\x07\x01\x02\x00 "
+"Thanks\xE3"
+=> 128 384 640 "TESTBBS" 2 messages; " \xe1 " "09-09-01" "01:46" "BOB RAY" "ANN LEE" "Hello" "" Some(0) Some(1) 0 1: "Thanks"; " \xe1 " "09-09-01" "01:46" "BOB RAY" "ANN LEE" "Hello" "" Some(263) Some(1) 263 2: "Thanks"
+"#;
 
 #[test]
-fn reads_board_ids(rt: HostRuntime) -> Result<(), Fail> {
-    for (front, wanted) in [
-        (b"A       ".as_slice(), b"A".as_slice()),
-        (b"TESTBBS8", b"TESTBBS8"),
-        (b"AB\0 \0   ", b"AB"),
-        (b" A\0B\0\0\0\0", b" A\0B"),
-    ] {
-        let file = file_of(rt.alloc(), front, b"")?;
-        let rep = read(&rt, rt.alloc(), file.as_slice())?;
-        assert_eq!(rt; rep.bbsid.as_slice(), wanted);
-        assert_eq!(rt; rep.messages.len(), 0);
-    }
-    Ok(())
-}
-
-#[test]
-fn names_the_fault(rt: HostRuntime) -> Result<(), Fail> {
-    for (front, behind, wanted) in [
-        (b"        ".as_slice(), b"".as_slice(), RepError::NoBoardId),
-        (b"\0\0\0\0\0\0\0\0", b"", RepError::NoBoardId),
-        (b"        ", SPACES, RepError::NoBoardId),
-        (
-            b"A       ",
-            SPACES,
-            RepError::Fault(QwkFault::BadBlocks { at: 128 }),
-        ),
-        (
-            b"A       ",
-            BLOCKS[1],
-            RepError::Fault(QwkFault::Truncated { at: 128 }),
-        ),
-    ] {
-        let file = file_of(rt.alloc(), front, behind)?;
-        let fault = read(&rt, rt.alloc(), file.as_slice()).err();
-        assert_eq!(rt; fault, Some(wanted));
-    }
-    for block in [SPACES, BLOCKS[0]] {
-        let short = block.get(..127).ok_or("no block")?;
-        let fault = read(&rt, rt.alloc(), short).err();
-        assert_eq!(rt; fault, Some(RepError::Fault(QwkFault::Truncated { at: 0 })));
-    }
-    Ok(())
+fn replies_are_added_and_read_back(rt: HostRuntime) -> Result<(), Miss> {
+    expect_cases(rt.alloc(), REPLIES, add_replies)
 }

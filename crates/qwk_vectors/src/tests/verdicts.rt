@@ -1,15 +1,24 @@
-//! Verdicts on uploaded messages, from worked examples and the table of the rules.
-use super::messages::hello;
+//! Verdicts on uploaded messages, from worked examples and the table of the rules. What is found is the rule that refuses
+//! with its word, or what is posted.
 use byte_lists::{Bytes, Lines, List};
+use case_texts::{Miss, expect_cases, number_of, quoted};
 use jam_records::{Kind, Message};
 use netmail_rules::{ConferenceView, Rule, Verdict, View, judge};
-use qwk_blocks::QwkMessage;
+use qwk_blocks::{Header, QwkMessage};
 use std::alloc::{AllocError, Global};
-use std::process::Abort;
-use std::test::Fail;
 
 /// The moment of the examples, 9 September 2001 at 01:46:40.
 const NOW: u32 = 1_000_000_000;
+
+/// The kind of conference that a word names.
+fn kind_of(word: &Bytes) -> Result<Kind, Miss> {
+    match word.as_slice() {
+        b"local" => Ok(Kind::Local),
+        b"echo" => Ok(Kind::Echo),
+        b"net" => Ok(Kind::Net),
+        _ => Err(Miss::Words),
+    }
+}
 
 /// A conference in which nothing is refused.
 fn conference(kind: Kind) -> ConferenceView {
@@ -38,27 +47,75 @@ fn ann(alloc: Global, conference: ConferenceView) -> Result<View, AllocError> {
     })
 }
 
+fn header(alloc: Global) -> Result<Header, AllocError> {
+    Ok(Header {
+        status: b' ',
+        number: Some(1),
+        date: *b"09-09-01",
+        time: *b"01:46",
+        to: Bytes::from_slice(alloc, b"BOB RAY")?,
+        from: Bytes::from_slice(alloc, b"ANN LEE")?,
+        subject: Bytes::from_slice(alloc, b"Hello")?,
+        password: Bytes::new(alloc),
+        reference: None,
+        activity: 0xE1,
+        conference: 1,
+        logical: 1,
+        tag: b' ',
+    })
+}
+
 /// A message of Ann's to Bob Ray in conference 1, with these lines.
-fn letter(alloc: Global, lines: &[&[u8]]) -> Result<QwkMessage, AllocError> {
-    let mut message = hello(alloc, b"ANN LEE", b"BOB RAY", lines)?;
-    message.header.conference = 1;
-    Ok(message)
+fn letter(alloc: Global, lines: &[Bytes]) -> Result<QwkMessage, AllocError> {
+    let mut text = Lines::new(alloc);
+    for line in lines {
+        text.add(line.copy(alloc)?)?;
+    }
+    let header = header(alloc)?;
+    Ok(QwkMessage {
+        header,
+        lines: text,
+    })
 }
 
-/// The rule that refuses, or none.
-fn refusal(alloc: Global, view: &View, message: &QwkMessage) -> Result<Option<Rule>, AllocError> {
+/// The rule that refuses with its word, and else `posted`.
+fn refusal(alloc: Global, view: &View, message: &QwkMessage) -> Result<String, Miss> {
     match judge(alloc, view, message, NOW)? {
-        Verdict::Refused(rule) => Ok(Some(rule)),
-        Verdict::Post(_) => Ok(None),
+        Verdict::Refused(rule) => refused(alloc, rule),
+        Verdict::Post(_) => Ok(String::from_str(alloc, "posted")?),
     }
 }
 
-/// The message that the board keeps.
-fn posted(alloc: Global, view: &View, message: &QwkMessage) -> Result<Message, Fail> {
-    match judge(alloc, view, message, NOW)? {
-        Verdict::Post(draft) => Ok(draft),
-        Verdict::Refused(_) => Err("refused")?,
+fn refused(alloc: Global, rule: Rule) -> Result<String, Miss> {
+    Ok(format!(in alloc; "{rule:?} {}", rule.word().escape_ascii())?)
+}
+
+/// The rules, in order.
+const RULES: [Rule; 14] = [
+    Rule::Killed,
+    Rule::Password,
+    Rule::Conference,
+    Rule::Member,
+    Rule::Readonly,
+    Rule::Sender,
+    Rule::To,
+    Rule::Subject,
+    Rule::Length,
+    Rule::Private,
+    Rule::Netuser,
+    Rule::Address,
+    Rule::Zone,
+    Rule::Full,
+];
+
+/// The rules that words name.
+fn rules_of(alloc: Global, words: &[Bytes]) -> Result<Vec<Rule>, Miss> {
+    let mut rules = Vec::new(alloc);
+    for word in words {
+        let named = RULES.iter().find(|rule| rule.word() == word.as_slice());
+        rules.push(*named.ok_or(Miss::Words)?)?;
     }
+    Ok(rules)
 }
 
 /// Breaks a rule of the conference.
@@ -99,185 +156,189 @@ fn break_message(alloc: Global, rule: Rule, message: &mut QwkMessage) -> Result<
     Ok(())
 }
 
-/// What refuses a message that breaks these rules, in a conference of this kind.
-fn refusal_of(alloc: Global, kind: Kind, rules: &[Rule]) -> Result<Option<Rule>, AllocError> {
+/// Ann's view of a conference of this kind, in which these rules are broken.
+fn broken_view(alloc: Global, kind: Kind, rules: &[Rule]) -> Result<View, AllocError> {
     let mut conference = conference(kind);
     for rule in rules {
         break_conference(*rule, &mut conference);
     }
     let mut view = ann(alloc, conference)?;
-    let mut message = letter(alloc, &[b"Ann@2:5020/400.1", b"Hi"])?;
     for rule in rules {
         break_view(alloc, *rule, &mut view);
+    }
+    Ok(view)
+}
+
+/// A message that breaks these rules.
+fn broken_message(alloc: Global, rules: &[Rule]) -> Result<QwkMessage, AllocError> {
+    let lines = [
+        Bytes::from_slice(alloc, b"Ann@2:5020/400.1")?,
+        Bytes::from_slice(alloc, b"Hi")?,
+    ];
+    let mut message = letter(alloc, &lines)?;
+    for rule in rules {
         break_message(alloc, *rule, &mut message)?;
     }
+    Ok(message)
+}
+
+fn judge_broken(alloc: Global, words: &[Bytes]) -> Result<String, Miss> {
+    let [kind, rules @ ..] = words else {
+        return Err(Miss::Words);
+    };
+    let rules = rules_of(alloc, rules)?;
+    let view = broken_view(alloc, kind_of(kind)?, rules.as_slice())?;
+    let message = broken_message(alloc, rules.as_slice())?;
     refusal(alloc, &view, &message)
 }
 
-#[test]
-fn the_first_rule_refuses(rt: HostRuntime) -> Result<(), Fail> {
-    for (kind, first, second) in [
-        (Kind::Local, Rule::Killed, Rule::Password),
-        (Kind::Local, Rule::Password, Rule::Conference),
-        (Kind::Local, Rule::Conference, Rule::Member),
-        (Kind::Local, Rule::Member, Rule::Readonly),
-        (Kind::Echo, Rule::Readonly, Rule::Sender),
-        (Kind::Local, Rule::Sender, Rule::To),
-        (Kind::Local, Rule::To, Rule::Subject),
-        (Kind::Net, Rule::Subject, Rule::Length),
-        (Kind::Local, Rule::Length, Rule::Private),
-        (Kind::Local, Rule::Private, Rule::Full),
-        (Kind::Net, Rule::Netuser, Rule::Address),
-        (Kind::Net, Rule::Address, Rule::Zone),
-        (Kind::Net, Rule::Zone, Rule::Full),
-        // To isn't judged in net mail.
-        (Kind::Net, Rule::Full, Rule::To),
-    ] {
-        assert_eq!(rt; refusal_of(rt.alloc(), kind, &[first])?, Some(first));
-        assert_eq!(rt;
-            refusal_of(rt.alloc(), kind, &[second, first])?,
-            Some(first)
-        );
-    }
-    Ok(())
-}
+/// A case is the kind of a conference, and the rules that are broken in order. To isn't judged in net mail.
+const BROKEN: &str = r#"
+local => posted
+echo => posted
+net => posted
+local killed => Killed killed
+local password killed => Killed killed
+local password => Password password
+local conference password => Password password
+local conference => Conference conference
+local member conference => Conference conference
+local member => Member member
+local readonly member => Member member
+echo readonly => Readonly readonly
+echo sender readonly => Readonly readonly
+local sender => Sender sender
+local to sender => Sender sender
+local to => To to
+local subject to => To to
+net subject => Subject subject
+net length subject => Subject subject
+local length => Length length
+local private length => Length length
+local private => Private private
+local full private => Private private
+net netuser => Netuser netuser
+net address netuser => Netuser netuser
+net address => Address address
+net zone address => Address address
+net zone => Zone zone
+net full zone => Zone zone
+net full => Full full
+net to full => Full full
+"#;
 
 #[test]
-fn a_message_that_breaks_no_rule_is_posted(rt: HostRuntime) -> Result<(), Fail> {
-    for kind in [Kind::Local, Kind::Echo, Kind::Net] {
-        assert_eq!(rt; refusal_of(rt.alloc(), kind, &[])?, None);
-    }
-    Ok(())
+fn the_first_rule_refuses(rt: HostRuntime) -> Result<(), Miss> {
+    expect_cases(rt.alloc(), BROKEN, judge_broken)
 }
 
-#[test]
-fn net_mail_goes_to_its_address(rt: HostRuntime) -> Result<(), Fail> {
-    let view = ann(rt.alloc(), conference(Kind::Net))?;
-    for (line, to, address) in [
-        (
-            b"Ann@2:5020/400.1".as_slice(),
-            b"Ann".as_slice(),
-            b"2:5020/400.1".as_slice(),
-        ),
-        (b" Bob Ray @01:00002/3.0 ", b"Bob Ray ", b"1:2/3"),
-    ] {
-        let mut message = letter(rt.alloc(), &[line, b"Hi"])?;
-        message.header.status = b'~';
-        let draft = posted(rt.alloc(), &view, &message)?;
-        assert_eq!(rt; draft.to.as_slice(), to);
-        assert_eq!(rt; draft.destination.as_slice(), address);
-        assert_eq!(rt; draft.body.as_slice(), b"Hi\r".as_slice());
-        assert!(rt; draft.private);
-    }
-    Ok(())
-}
-
-#[test]
-fn net_mail_to_no_address_is_refused(rt: HostRuntime) -> Result<(), Fail> {
-    let view = ann(rt.alloc(), conference(Kind::Net))?;
-    for (line, rule) in [
-        (b"Ann@2:5020/40000".as_slice(), Rule::Address),
-        (b"Ann@3:1/1", Rule::Zone),
-    ] {
-        let message = letter(rt.alloc(), &[line, b"Hi"])?;
-        assert_eq!(rt; refusal(rt.alloc(), &view, &message)?, Some(rule));
-    }
-    Ok(())
-}
-
-#[test]
-fn a_status_says_who_may_see(rt: HostRuntime) -> Result<(), Fail> {
-    let view = ann(rt.alloc(), conference(Kind::Echo))?;
-    for (status, to, private) in [
-        (b' ', b"BOB RAY".as_slice(), false),
-        (b'-', b"BOB RAY", false),
-        (b'x', b"BOB RAY", false),
-        (b'+', b"BOB RAY", true),
-        (b'*', b"BOB RAY", true),
-        (b'~', b"Sam Sysop", true),
-        (b'`', b"Sam Sysop", true),
-    ] {
-        let mut message = letter(rt.alloc(), &[b"a\rb", b""])?;
-        message.header.status = status;
-        let draft = posted(rt.alloc(), &view, &message)?;
-        assert_eq!(rt; draft.to.as_slice(), to);
-        assert_eq!(rt; draft.private, private);
-        assert_eq!(rt; draft.body.as_slice(), b"a b\r\r".as_slice());
-        assert_eq!(rt; draft.from.as_slice(), b"Ann Lee".as_slice());
-    }
-    Ok(())
-}
-
-#[test]
-fn a_rule_has_its_word(rt: HostRuntime) -> Result<(), Fail> {
-    for (rule, word) in [
-        (Rule::Killed, b"killed".as_slice()),
-        (Rule::Readonly, b"readonly"),
-        (Rule::Netuser, b"netuser"),
-        (Rule::Full, b"full"),
-    ] {
-        assert_eq!(rt; rule.word(), word);
-    }
-    Ok(())
-}
-
-/// What refuses a message with an address line and one line of so many bytes.
-fn refusal_of_length(alloc: Global, kind: Kind, len: usize) -> Result<Option<Rule>, AllocError> {
-    let view = ann(alloc, conference(kind))?;
-    let mut line = List::new(alloc);
-    line.fill(alloc, &b'x', len)?;
-    let message = letter(alloc, &[b"Ann@1:1/1", line.as_slice()])?;
+fn judge_size(alloc: Global, words: &[Bytes]) -> Result<String, Miss> {
+    let [kind, slots, room, to, lines @ ..] = words else {
+        return Err(Miss::Words);
+    };
+    let mut conference = conference(kind_of(kind)?);
+    conference.slots = number_of(slots.as_slice())?;
+    let room = number_of(room.as_slice())?;
+    let mut message = letter(alloc, lines)?;
+    message.header.to = to.copy(alloc)?;
+    let mut view = ann(alloc, conference)?;
+    view.room = u64::from(room);
     refusal(alloc, &view, &message)
 }
 
+/// A case is the kind of a conference, its slots, the room for its messages, To, and lines. The address line takes no room,
+/// and a header and its subfields take 76 and 58 bytes, the body 11, the index record 8.
+const SIZES: &str = r#"
+net 0 1048576 "BOB RAY" Ann@1:1/1 x\{16383} => posted
+net 0 1048576 "BOB RAY" Ann@1:1/1 x\{16384} => Length length
+local 0 1048576 "BOB RAY" Ann@1:1/1 x\{16373} => posted
+local 0 1048576 "BOB RAY" Ann@1:1/1 x\{16374} => Length length
+local 9998 153 All "First line" => posted
+local 9999 153 All "First line" => Full full
+local 0 152 All "First line" => Full full
+"#;
+
 #[test]
-fn the_address_line_takes_no_room(rt: HostRuntime) -> Result<(), Fail> {
-    for (kind, len, rule) in [
-        (Kind::Net, 16_383, None),
-        (Kind::Net, 16_384, Some(Rule::Length)),
-        (Kind::Local, 16_373, None),
-        (Kind::Local, 16_374, Some(Rule::Length)),
-    ] {
-        assert_eq!(rt; refusal_of_length(rt.alloc(), kind, len)?, rule);
-    }
+fn a_message_needs_a_slot_and_room(rt: HostRuntime) -> Result<(), Miss> {
+    expect_cases(rt.alloc(), SIZES, judge_size)
+}
+
+/// Adds a text of a message that is posted.
+fn add_text(alloc: Global, found: &mut String, name: &str, text: &Bytes) -> Result<(), AllocError> {
+    found.push_str(name)?;
+    found.push_str(quoted(alloc, text.as_slice())?.as_str())
+}
+
+/// The message that the board keeps.
+fn posted(alloc: Global, draft: &Message) -> Result<String, Miss> {
+    let mut found = format!(in alloc;
+        "written {} processed {} private {}",
+        draft.written, draft.processed, draft.private
+    )?;
+    add_text(alloc, &mut found, " from ", &draft.from)?;
+    add_text(alloc, &mut found, " to ", &draft.to)?;
+    add_text(alloc, &mut found, " at ", &draft.destination)?;
+    add_text(alloc, &mut found, " says ", &draft.body)?;
+    Ok(found)
+}
+
+/// Writes a status, a date and a time into a header.
+fn set_fields(header: &mut Header, status: &Bytes, date: &Bytes, time: &Bytes) -> Result<(), Miss> {
+    header.status = *status.as_slice().first().ok_or(Miss::Words)?;
+    header.date = date.as_slice().try_into().ok().ok_or(Miss::Words)?;
+    header.time = time.as_slice().try_into().ok().ok_or(Miss::Words)?;
     Ok(())
 }
 
-#[test]
-fn a_message_needs_a_slot_and_room(rt: HostRuntime) -> Result<(), Fail> {
-    for (slots, room, rule) in [
-        (9998, 153, None),
-        (9999, 153, Some(Rule::Full)),
-        (0, 152, Some(Rule::Full)),
-    ] {
-        let mut conference = conference(Kind::Local);
-        conference.slots = slots;
-        let mut view = ann(rt.alloc(), conference)?;
-        view.room = room;
-        // The header and its subfields have 76 and 58 bytes, the body 11, the index record 8.
-        let mut message = letter(rt.alloc(), &[b"First line"])?;
-        message.header.to = Bytes::from_slice(rt.alloc(), b"All")?;
-        assert_eq!(rt; refusal(rt.alloc(), &view, &message)?, rule);
+fn judge_letter(alloc: Global, words: &[Bytes]) -> Result<String, Miss> {
+    let [kind, status, date, time, lines @ ..] = words else {
+        return Err(Miss::Words);
+    };
+    let view = ann(alloc, conference(kind_of(kind)?))?;
+    let mut message = letter(alloc, lines)?;
+    set_fields(&mut message.header, status, date, time)?;
+    match judge(alloc, &view, &message, NOW)? {
+        Verdict::Post(draft) => posted(alloc, &draft),
+        Verdict::Refused(rule) => refused(alloc, rule),
     }
-    Ok(())
 }
 
+/// A case is the kind of a conference, a status, a date, a time, and lines: net mail that goes to its address or to none, a
+/// status that says who may see a message, and the moment that it keeps.
+const LETTERS: &str = r#"
+net ~ 09-09-01 01:46 Ann@2:5020/400.1 Hi
+=> written 999999960 processed 1000000000 private true from "Ann Lee" to "Ann" at "2:5020/400.1" says "Hi\r"
+net ~ 09-09-01 01:46 " Bob Ray @01:00002/3.0 " Hi
+=> written 999999960 processed 1000000000 private true from "Ann Lee" to "Bob Ray " at "1:2/3" says "Hi\r"
+net " " 09-09-01 01:46 Ann@2:5020/40000 Hi => Address address
+net " " 09-09-01 01:46 Ann@3:1/1 Hi => Zone zone
+echo " " 09-09-01 01:46 a\rb ""
+=> written 999999960 processed 1000000000 private false from "Ann Lee" to "BOB RAY" at "" says "a b\r\r"
+echo - 09-09-01 01:46 a\rb ""
+=> written 999999960 processed 1000000000 private false from "Ann Lee" to "BOB RAY" at "" says "a b\r\r"
+echo x 09-09-01 01:46 a\rb ""
+=> written 999999960 processed 1000000000 private false from "Ann Lee" to "BOB RAY" at "" says "a b\r\r"
+echo + 09-09-01 01:46 a\rb ""
+=> written 999999960 processed 1000000000 private true from "Ann Lee" to "BOB RAY" at "" says "a b\r\r"
+echo * 09-09-01 01:46 a\rb ""
+=> written 999999960 processed 1000000000 private true from "Ann Lee" to "BOB RAY" at "" says "a b\r\r"
+echo ~ 09-09-01 01:46 a\rb ""
+=> written 999999960 processed 1000000000 private true from "Ann Lee" to "Sam Sysop" at "" says "a b\r\r"
+echo ` 09-09-01 01:46 a\rb ""
+=> written 999999960 processed 1000000000 private true from "Ann Lee" to "Sam Sysop" at "" says "a b\r\r"
+local " " 09-09-01 01:46 Hi
+=> written 999999960 processed 1000000000 private false from "Ann Lee" to "BOB RAY" at "" says "Hi\r"
+local " " 09/09/01 01:46 Hi
+=> written 999999960 processed 1000000000 private false from "Ann Lee" to "BOB RAY" at "" says "Hi\r"
+local " " 09-09/01 01:46 Hi
+=> written 1000000000 processed 1000000000 private false from "Ann Lee" to "BOB RAY" at "" says "Hi\r"
+local " " 02-29-01 01:46 Hi
+=> written 1000000000 processed 1000000000 private false from "Ann Lee" to "BOB RAY" at "" says "Hi\r"
+local " " 09-09-01 24:00 Hi
+=> written 1000000000 processed 1000000000 private false from "Ann Lee" to "BOB RAY" at "" says "Hi\r"
+"#;
+
 #[test]
-fn a_message_keeps_its_moment(rt: HostRuntime) -> Result<(), Fail> {
-    let view = ann(rt.alloc(), conference(Kind::Local))?;
-    for (date, time, written) in [
-        (b"09-09-01", b"01:46", 999_999_960),
-        (b"09/09/01", b"01:46", 999_999_960),
-        (b"09-09/01", b"01:46", NOW),
-        (b"02-29-01", b"01:46", NOW),
-        (b"09-09-01", b"24:00", NOW),
-    ] {
-        let mut message = letter(rt.alloc(), &[b"Hi"])?;
-        message.header.date = *date;
-        message.header.time = *time;
-        let draft = posted(rt.alloc(), &view, &message)?;
-        assert_eq!(rt; draft.written, written);
-        assert_eq!(rt; draft.processed, NOW);
-    }
-    Ok(())
+fn letters_are_posted_or_refused(rt: HostRuntime) -> Result<(), Miss> {
+    expect_cases(rt.alloc(), LETTERS, judge_letter)
 }

@@ -1,25 +1,21 @@
 //! Setup files from worked examples.
 use byte_lists::Bytes;
-use jam_records::Kind;
-use setup_file::{Setup, SetupError, SetupRule};
-use std::alloc::Global;
-use std::process::Abort;
-use std::test::Fail;
+use case_texts::{Miss, expect_cases, number_of, quoted};
+use setup_file::{Conference, Setup, SetupError};
+use std::alloc::{AllocError, Global};
 use text_fields::add_decimal;
 
 /// The lines of `setup.txt` of the examples.
-const LINES: [&[u8]; 10] = [
-    b"board: Test Board",
-    b"city: Springfield",
-    b"phone: 555-0100",
-    b"sysop: Sam Sysop",
-    b"bbsid: TESTBBS",
-    b"serial: 12345",
-    b"zones: 1 2",
-    b"conference: 0 local p GENERAL",
-    b"conference: 1 net - NETMAIL",
-    b"conference: 7 local r NEWS",
-];
+const LINES: &str = "board: Test Board
+city: Springfield
+phone: 555-0100
+sysop: Sam Sysop
+bbsid: TESTBBS
+serial: 12345
+zones: 1 2
+conference: 0 local p GENERAL
+conference: 1 net - NETMAIL
+conference: 7 local r NEWS";
 
 fn parse(alloc: Global, bytes: &[u8]) -> Result<Setup, SetupError> {
     if bytes.len() >= 1 << 31 {
@@ -29,234 +25,227 @@ fn parse(alloc: Global, bytes: &[u8]) -> Result<Setup, SetupError> {
 }
 
 /// How many conferences a text has, or its first fault.
-fn outcome(alloc: Global, text: &[u8]) -> Result<u8, SetupError> {
-    Ok(parse(alloc, text)?.conference_count())
+fn outcome(alloc: Global, text: &[u8]) -> Result<String, AllocError> {
+    let count = match parse(alloc, text) {
+        Ok(setup) => Ok(setup.conference_count()),
+        Err(error) => Err(error),
+    };
+    format!(in alloc; "{count:?}")
 }
 
 /// The example with another text in the line of this number, from 1, and this end behind each line.
-fn with_line(alloc: Global, number: u32, text: &[u8], end: &[u8]) -> Result<Bytes, Fail> {
+fn with_line(alloc: Global, number: u32, text: &[u8], end: &[u8]) -> Result<Bytes, AllocError> {
     let mut file = Bytes::new(alloc);
-    for (place, line) in LINES.iter().enumerate() {
+    for (place, line) in LINES.split('\n').enumerate() {
         let is_other = place + 1 == number as usize;
-        file.add(if is_other { text } else { *line })?;
+        file.add(if is_other { text } else { line.as_bytes() })?;
         file.add(end)?;
     }
     Ok(file)
 }
 
+/// What a conference is.
+fn conference_words(alloc: Global, conference: &Conference) -> Result<String, AllocError> {
+    let name = quoted(alloc, conference.name.as_slice())?;
+    format!(in alloc;
+        "{} {:?} {} {} {name}; ",
+        conference.number, conference.kind, conference.readonly, conference.private
+    )
+}
+
+/// The conferences of a setup, and whether there are no more.
+fn conferences_of(alloc: Global, setup: &Setup) -> Result<String, AllocError> {
+    let mut found = String::new(alloc);
+    for place in 0..setup.conference_count() {
+        if let Some(conference) = setup.conference(place) {
+            found.push_str(conference_words(alloc, conference)?.as_str())?;
+        }
+    }
+    let more = setup.conference(setup.conference_count());
+    found.push_str(if more.is_some() { "more" } else { "no more" })?;
+    Ok(found)
+}
+
+/// The texts, the serial number, the zones, whether 2 and 3 are among them, and the conferences.
+fn described(alloc: Global, setup: &Setup) -> Result<String, AllocError> {
+    let mut found = String::new(alloc);
+    for text in [
+        setup.board(),
+        setup.city(),
+        setup.phone(),
+        setup.sysop(),
+        setup.bbsid(),
+    ] {
+        found.push_str(quoted(alloc, text.as_slice())?.as_str())?;
+        found.push_str(" ")?;
+    }
+    let conferences = conferences_of(alloc, setup)?;
+    format!(in alloc;
+        "{found}{} {:?} {} {}: {conferences}",
+        setup.serial(),
+        setup.zones.as_slice(),
+        setup.has_zone(2),
+        setup.has_zone(3)
+    )
+}
+
+/// Reads the example with this end behind each line. What is found is the setup, of which its copy has all.
+fn read_ended(alloc: Global, words: &[Bytes]) -> Result<String, Miss> {
+    let [end] = words else {
+        return Err(Miss::Words);
+    };
+    let file = with_line(alloc, 0, b"", end.as_slice())?;
+    let setup = parse(alloc, file.as_slice()).ok().ok_or(Miss::Unreached)?;
+    let copied = described(alloc, &setup.copy(alloc)?)?;
+    let found = described(alloc, &setup)?;
+    if copied != found {
+        return Ok(format!(in alloc; "copied as {copied}")?);
+    }
+    Ok(found)
+}
+
+/// A case is the end of each line.
+const ENDS: &str = r#"
+\n
+=> "Test Board" "Springfield" "555-0100" "Sam Sysop" "TESTBBS" 12345 [1, 2] true false: 0 Local false true "GENERAL"; 1 Net false false "NETMAIL"; 7 Local true false "NEWS"; no more
+\r\n
+=> "Test Board" "Springfield" "555-0100" "Sam Sysop" "TESTBBS" 12345 [1, 2] true false: 0 Local false true "GENERAL"; 1 Net false false "NETMAIL"; 7 Local true false "NEWS"; no more
+"  \n\n# \n"
+=> "Test Board" "Springfield" "555-0100" "Sam Sysop" "TESTBBS" 12345 [1, 2] true false: 0 Local false true "GENERAL"; 1 Net false false "NETMAIL"; 7 Local true false "NEWS"; no more
+"#;
+
+#[test]
+fn reads_and_copies_the_example(rt: HostRuntime) -> Result<(), Miss> {
+    expect_cases(rt.alloc(), ENDS, read_ended)
+}
+
+fn read_line(alloc: Global, words: &[Bytes]) -> Result<String, Miss> {
+    let [line, text] = words else {
+        return Err(Miss::Words);
+    };
+    let file = with_line(alloc, number_of(line.as_slice())?, text.as_slice(), b"\n")?;
+    Ok(outcome(alloc, file.as_slice())?)
+}
+
+/// A case is the number of a line from 1, and what stands there in place of the example's. Behind lines that break one rule
+/// come those that break several, and those that are on the edge.
+const OTHER_LINES: &str = r#"
+1 "Board: A" => Err(Line { line: 1, rule: Key })
+1 " board: A" => Err(Line { line: 1, rule: Key })
+1 "board : A" => Err(Line { line: 1, rule: Key })
+1 "board: A\x1f" => Err(Line { line: 1, rule: Text })
+2 "phone: A" => Err(Line { line: 2, rule: Key })
+2 "city: A\tB" => Err(Line { line: 2, rule: Text })
+2 "city:1234567890123456789012345678901234567890123456789012345678901" => Err(Line { line: 2, rule: Text })
+3 "phone: \x7f" => Err(Line { line: 3, rule: Text })
+4 "sysop:" => Err(Line { line: 4, rule: Text })
+4 "sysop: Sam \x22Sysop" => Err(Line { line: 4, rule: Text })
+4 "sysop: ABCDEFGHIJKLMNOPQRSTUVWXYZ" => Err(Line { line: 4, rule: Text })
+5 "bbsid: ABCDEFGHI" => Err(Line { line: 5, rule: Id })
+5 "bbsid:" => Err(Line { line: 5, rule: Id })
+5 "bbsid: TEST BBS" => Err(Line { line: 5, rule: Id })
+6 "serial:" => Err(Line { line: 6, rule: Number })
+6 "serial: 123456" => Err(Line { line: 6, rule: Number })
+6 "serial: 1 2" => Err(Line { line: 6, rule: Number })
+7 "zones 1" => Err(Line { line: 7, rule: Key })
+7 "zones: 0" => Err(Line { line: 7, rule: Zones })
+7 "zones: 32768" => Err(Line { line: 7, rule: Zones })
+7 "zones: 000001" => Err(Line { line: 7, rule: Zones })
+7 "zones: 1 2 2" => Err(Line { line: 7, rule: Zones })
+7 "zones: 2 1" => Err(Line { line: 7, rule: Zones })
+7 "zones: 1 x" => Err(Line { line: 7, rule: Zones })
+7 "zones: 1 2 3 4 5 6 7 8 9 10 11 12 13 14 15 16 17" => Err(Line { line: 7, rule: Zones })
+8 "Conference: 0 local p A" => Err(Line { line: 8, rule: Key })
+8 "conference:" => Err(Line { line: 8, rule: Number })
+8 "conference: 65536 local p A" => Err(Line { line: 8, rule: Number })
+8 "conference: 000001 local p A" => Err(Line { line: 8, rule: Number })
+8 "conference: 0" => Err(Line { line: 8, rule: Kind })
+8 "conference: 0 Local p A" => Err(Line { line: 8, rule: Kind })
+8 "conference: 0 local" => Err(Line { line: 8, rule: Rules })
+8 "conference: 0 local pr A" => Err(Line { line: 8, rule: Rules })
+8 "conference: 0 local p " => Err(Line { line: 8, rule: Name })
+8 "conference: 0 local p ABCDEFGHIJKLMN" => Err(Line { line: 8, rule: Name })
+8 "conference: 0 local p A\x1fB" => Err(Line { line: 8, rule: Name })
+9 "conference: 0 net - A" => Err(Line { line: 9, rule: Order })
+10 "conference: 0 net - A" => Err(Line { line: 10, rule: Order })
+9 "conferenc: x any q \x01" => Err(Line { line: 9, rule: Key })
+9 "conference: x any q \x01" => Err(Line { line: 9, rule: Number })
+9 "conference: 0 any q \x01" => Err(Line { line: 9, rule: Kind })
+9 "conference: 0 echo q \x01" => Err(Line { line: 9, rule: Rules })
+9 "conference: 0 echo rp \x01" => Err(Line { line: 9, rule: Name })
+9 "conference: 0 echo rp A" => Err(Line { line: 9, rule: Order })
+1 "board:" => Ok(3)
+2 "city:123456789012345678901234567890123456789012345678901234567890" => Ok(3)
+4 "sysop: ABCDEFGHIJKLMNOPQRSTUVWXY" => Ok(3)
+5 "bbsid: aZ09bY18" => Ok(3)
+6 "serial: 00001 " => Ok(3)
+7 "zones:" => Ok(3)
+7 "zones: 1 2 3 4 5 6 7 8 9 10 11 12 13 14 15 16" => Ok(3)
+7 "zones:00001   32767 " => Ok(3)
+10 "conference:  65535   echo   rp   AB  CDEFGH \x22 " => Ok(3)
+"#;
+
+#[test]
+fn names_the_rule_of_a_failing_line(rt: HostRuntime) -> Result<(), Miss> {
+    expect_cases(rt.alloc(), OTHER_LINES, read_line)
+}
+
+fn read(alloc: Global, words: &[Bytes]) -> Result<String, Miss> {
+    let [text] = words else {
+        return Err(Miss::Words);
+    };
+    Ok(outcome(alloc, text.as_slice())?)
+}
+
+const TEXTS: &str = r##"
+"Board: \x01\nCity: \x01\n" => Err(Line { line: 1, rule: Key })
+"# \x01\n\nboard: \x01\ncity: \x01\n" => Err(Line { line: 3, rule: Text })
+"" => Err(Line { line: 1, rule: Missing })
+"\n#\n" => Err(Line { line: 3, rule: Missing })
+"board: A\ncity: B" => Err(Line { line: 3, rule: Missing })
+" # \n" => Err(Line { line: 1, rule: Key })
+"##;
+
+#[test]
+fn tries_the_rules_in_order(rt: HostRuntime) -> Result<(), Miss> {
+    expect_cases(rt.alloc(), TEXTS, read)
+}
+
 /// The first lines of the example, and conferences of the numbers below this one, in lines 8 and on.
-fn with_conferences(alloc: Global, count: usize) -> Result<Bytes, Fail> {
+fn with_conferences(alloc: Global, count: u32) -> Result<Bytes, AllocError> {
     let mut file = Bytes::new(alloc);
-    for line in &LINES[..7] {
-        file.add(line)?;
+    for line in LINES.split('\n').take(7) {
+        file.add(line.as_bytes())?;
         file.add(b"\n")?;
     }
     for number in 0..count {
         file.add(b"conference: ")?;
-        add_decimal(&mut file, number as u64)?;
+        add_decimal(&mut file, u64::from(number))?;
         file.add(b" echo - A\n")?;
     }
     Ok(file)
 }
 
-fn assert_board(rt: &impl Abort, setup: &Setup) {
-    for (text, wanted) in [
-        (setup.board(), b"Test Board".as_slice()),
-        (setup.city(), b"Springfield"),
-        (setup.phone(), b"555-0100"),
-        (setup.sysop(), b"Sam Sysop"),
-        (setup.bbsid(), b"TESTBBS"),
-    ] {
-        assert_eq!(rt; text.as_slice(), wanted);
-    }
-    assert_eq!(rt; setup.serial(), 12_345);
-    assert_eq!(rt; setup.zones.as_slice(), [1, 2].as_slice());
+fn read_conferences(alloc: Global, words: &[Bytes]) -> Result<String, Miss> {
+    let [count, last] = words else {
+        return Err(Miss::Words);
+    };
+    let mut file = with_conferences(alloc, number_of(count.as_slice())?)?;
+    file.add(last.as_slice())?;
+    Ok(outcome(alloc, file.as_slice())?)
 }
 
-fn assert_conferences(rt: &impl Abort, setup: &Setup) -> Result<(), Fail> {
-    assert_eq!(rt; setup.conference_count(), 3);
-    for (place, number, kind, rights, name) in [
-        (0, 0, Kind::Local, (false, true), b"GENERAL".as_slice()),
-        (1, 1, Kind::Net, (false, false), b"NETMAIL"),
-        (2, 7, Kind::Local, (true, false), b"NEWS"),
-    ] {
-        let conference = setup.conference(place).ok_or("no conference")?;
-        assert_eq!(rt; conference.number, number);
-        assert_eq!(rt; conference.kind, kind);
-        assert_eq!(rt; (conference.readonly, conference.private), rights);
-        assert_eq!(rt; conference.name.as_slice(), name);
-    }
-    Ok(())
-}
+/// A case is how many conferences there are, and the line behind them.
+const LAST_LINES: &str = r#"
+64 "" => Ok(64)
+0 "" => Err(Line { line: 8, rule: Missing })
+65 "" => Err(Line { line: 72, rule: Many })
+64 "conference: x" => Err(Line { line: 72, rule: Many })
+64 "conf: x" => Err(Line { line: 72, rule: Key })
+0 "conference: 0 local p A\r" => Err(Line { line: 8, rule: Name })
+"#;
 
 #[test]
-fn reads_and_copies_the_example(rt: HostRuntime) -> Result<(), Fail> {
-    for end in [b"\n".as_slice(), b"\r\n", b"  \n\n# \n"] {
-        let file = with_line(rt.alloc(), 0, b"", end)?;
-        let setup = parse(rt.alloc(), file.as_slice())?;
-        assert_board(&rt, &setup);
-        assert_conferences(&rt, &setup)?;
-        let copy = setup.copy(rt.alloc())?;
-        assert_board(&rt, &copy);
-        assert_conferences(&rt, &copy)?;
-    }
-    Ok(())
-}
-
-#[test]
-fn has_its_own_zones_and_conferences_alone(rt: HostRuntime) -> Result<(), Fail> {
-    let file = with_line(rt.alloc(), 0, b"", b"\n")?;
-    let setup = parse(rt.alloc(), file.as_slice())?;
-    assert!(&rt; setup.has_zone(2));
-    assert!(&rt; !setup.has_zone(3));
-    assert!(&rt; setup.conference(3).is_none());
-    Ok(())
-}
-
-/// A line number from 1, what stands in that line in place of the example's, and the rule that it breaks.
-type Failing = (u32, &'static [u8], SetupRule);
-
-/// Looks whether each of these lines is named with its rule.
-fn assert_failing(rt: &impl Abort, alloc: Global, lines: &[Failing]) -> Result<(), Fail> {
-    for (line, text, rule) in lines.iter().copied() {
-        let file = with_line(alloc, line, text, b"\n")?;
-        let wanted = SetupError::Line { line, rule };
-        assert_eq!(rt; outcome(alloc, file.as_slice()), Err(wanted));
-    }
-    Ok(())
-}
-
-#[test]
-fn names_the_rule_of_a_failing_line(rt: HostRuntime) -> Result<(), Fail> {
-    let lines: [Failing; 25] = [
-        (1, b"Board: A", SetupRule::Key),
-        (1, b" board: A", SetupRule::Key),
-        (1, b"board : A", SetupRule::Key),
-        (1, b"board: A\x1f", SetupRule::Text),
-        (2, b"phone: A", SetupRule::Key),
-        (2, b"city: A\tB", SetupRule::Text),
-        (
-            2,
-            b"city:1234567890123456789012345678901234567890123456789012345678901",
-            SetupRule::Text,
-        ),
-        (3, b"phone: \x7f", SetupRule::Text),
-        (4, b"sysop:", SetupRule::Text),
-        (4, b"sysop: Sam \"Sysop", SetupRule::Text),
-        (4, b"sysop: ABCDEFGHIJKLMNOPQRSTUVWXYZ", SetupRule::Text),
-        (5, b"bbsid: ABCDEFGHI", SetupRule::Id),
-        (5, b"bbsid:", SetupRule::Id),
-        (5, b"bbsid: TEST BBS", SetupRule::Id),
-        (6, b"serial:", SetupRule::Number),
-        (6, b"serial: 123456", SetupRule::Number),
-        (6, b"serial: 1 2", SetupRule::Number),
-        (7, b"zones 1", SetupRule::Key),
-        (7, b"zones: 0", SetupRule::Zones),
-        (7, b"zones: 32768", SetupRule::Zones),
-        (7, b"zones: 000001", SetupRule::Zones),
-        (7, b"zones: 1 2 2", SetupRule::Zones),
-        (7, b"zones: 2 1", SetupRule::Zones),
-        (7, b"zones: 1 x", SetupRule::Zones),
-        (
-            7,
-            b"zones: 1 2 3 4 5 6 7 8 9 10 11 12 13 14 15 16 17",
-            SetupRule::Zones,
-        ),
-    ];
-    assert_failing(&rt, rt.alloc(), &lines)
-}
-
-#[test]
-fn names_the_rule_of_a_failing_conference(rt: HostRuntime) -> Result<(), Fail> {
-    let lines: [Failing; 13] = [
-        (8, b"Conference: 0 local p A", SetupRule::Key),
-        (8, b"conference:", SetupRule::Number),
-        (8, b"conference: 65536 local p A", SetupRule::Number),
-        (8, b"conference: 000001 local p A", SetupRule::Number),
-        (8, b"conference: 0", SetupRule::Kind),
-        (8, b"conference: 0 Local p A", SetupRule::Kind),
-        (8, b"conference: 0 local", SetupRule::Rules),
-        (8, b"conference: 0 local pr A", SetupRule::Rules),
-        (8, b"conference: 0 local p ", SetupRule::Name),
-        (8, b"conference: 0 local p ABCDEFGHIJKLMN", SetupRule::Name),
-        (8, b"conference: 0 local p A\x1fB", SetupRule::Name),
-        (9, b"conference: 0 net - A", SetupRule::Order),
-        (10, b"conference: 0 net - A", SetupRule::Order),
-    ];
-    assert_failing(&rt, rt.alloc(), &lines)
-}
-
-#[test]
-fn tries_the_rules_in_order(rt: HostRuntime) -> Result<(), Fail> {
-    for (text, line, rule) in [
-        (b"Board: \x01\nCity: \x01\n".as_slice(), 1, SetupRule::Key),
-        (b"# \x01\n\nboard: \x01\ncity: \x01\n", 3, SetupRule::Text),
-        (b"", 1, SetupRule::Missing),
-        (b"\n#\n", 3, SetupRule::Missing),
-        (b"board: A\ncity: B", 3, SetupRule::Missing),
-        (b" # \n", 1, SetupRule::Key),
-    ] {
-        let wanted = SetupError::Line { line, rule };
-        assert_eq!(&rt; outcome(rt.alloc(), text), Err(wanted));
-    }
-    Ok(())
-}
-
-#[test]
-fn tries_the_rules_of_a_conference_in_order(rt: HostRuntime) -> Result<(), Fail> {
-    let lines: [Failing; 6] = [
-        (9, b"conferenc: x any q \x01", SetupRule::Key),
-        (9, b"conference: x any q \x01", SetupRule::Number),
-        (9, b"conference: 0 any q \x01", SetupRule::Kind),
-        (9, b"conference: 0 echo q \x01", SetupRule::Rules),
-        (9, b"conference: 0 echo rp \x01", SetupRule::Name),
-        (9, b"conference: 0 echo rp A", SetupRule::Order),
-    ];
-    assert_failing(&rt, rt.alloc(), &lines)
-}
-
-#[test]
-fn takes_what_is_on_the_edge(rt: HostRuntime) -> Result<(), Fail> {
-    for (line, text) in [
-        (1, b"board:".as_slice()),
-        (
-            2,
-            b"city:123456789012345678901234567890123456789012345678901234567890",
-        ),
-        (4, b"sysop: ABCDEFGHIJKLMNOPQRSTUVWXY"),
-        (5, b"bbsid: aZ09bY18"),
-        (6, b"serial: 00001 "),
-        (7, b"zones:"),
-        (7, b"zones: 1 2 3 4 5 6 7 8 9 10 11 12 13 14 15 16"),
-        (7, b"zones:00001   32767 "),
-        (10, b"conference:  65535   echo   rp   AB  CDEFGH \" "),
-    ] {
-        let file = with_line(rt.alloc(), line, text, b"\n")?;
-        assert_eq!(&rt; outcome(rt.alloc(), file.as_slice()), Ok(3));
-    }
-    Ok(())
-}
-
-#[test]
-fn takes_64_conferences(rt: HostRuntime) -> Result<(), Fail> {
-    let file = with_conferences(rt.alloc(), 64)?;
-    assert_eq!(&rt; outcome(rt.alloc(), file.as_slice()), Ok(64));
-    Ok(())
-}
-
-#[test]
-fn names_the_rule_of_a_last_line(rt: HostRuntime) -> Result<(), Fail> {
-    for (count, text, line, rule) in [
-        (0, b"".as_slice(), 8, SetupRule::Missing),
-        (65, b"", 72, SetupRule::Many),
-        (64, b"conference: x", 72, SetupRule::Many),
-        (64, b"conf: x", 72, SetupRule::Key),
-        (0, b"conference: 0 local p A\r", 8, SetupRule::Name),
-    ] {
-        let mut file = with_conferences(rt.alloc(), count)?;
-        file.add(text)?;
-        let wanted = SetupError::Line { line, rule };
-        assert_eq!(&rt; outcome(rt.alloc(), file.as_slice()), Err(wanted));
-    }
-    Ok(())
+fn names_the_rule_of_a_last_line(rt: HostRuntime) -> Result<(), Miss> {
+    expect_cases(rt.alloc(), LAST_LINES, read_conferences)
 }

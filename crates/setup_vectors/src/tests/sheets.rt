@@ -1,218 +1,153 @@
-//! Sheets from worked examples.
+//! Sheets from worked examples. A case is a sheet.
 use byte_lists::Bytes;
-use import_sheet::{Sheet, SheetError, SheetRule, Sheets, read_sheet};
-use std::alloc::Global;
-use std::process::Abort;
-use std::test::Fail;
+use case_texts::{Miss, expect_cases, quoted};
+use import_sheet::{Sheet, SheetError, Sheets, read_sheet};
+use std::alloc::{AllocError, Global};
 
-/// Sheet H of the examples.
-const HELLO: &[u8] = b"From: Bob Ray\nTo: All\nSubject: Hello\n\nFirst line\n.\n";
-
-/// The first lines of a sheet whose body follows.
-const HEADS: &[u8] = b"From: A\nTo: B\n\n";
-
-fn read(alloc: Global, bytes: &[u8]) -> Result<Sheets, SheetError> {
+fn sheets_of(alloc: Global, bytes: &[u8]) -> Result<Sheets, SheetError> {
     if bytes.len() >= 1 << 31 {
         return Err(SheetError::OutOfMemory);
     }
     read_sheet(alloc, bytes)
 }
 
-fn assert_hello(rt: &impl Abort, sheet: &Sheet) {
-    for (text, wanted) in [
-        (&sheet.from, b"Bob Ray".as_slice()),
-        (&sheet.to, b"All"),
-        (&sheet.subject, b"Hello"),
-        (&sheet.msgid, b""),
-        (&sheet.reply, b""),
-        (&sheet.body, b"First line\r"),
+/// Adds what a message has: its sender, its receiver, its subject, its id, that of the message it replies to, its body,
+/// its date, and whether it is private.
+fn add_sheet(alloc: Global, found: &mut String, sheet: &Sheet) -> Result<(), AllocError> {
+    for text in [
+        &sheet.from,
+        &sheet.to,
+        &sheet.subject,
+        &sheet.msgid,
+        &sheet.reply,
+        &sheet.body,
     ] {
-        assert_eq!(rt; text.as_slice(), wanted);
+        found.push_str(quoted(alloc, text.as_slice())?.as_str())?;
+        found.push_str(" ")?;
     }
-    assert_eq!(rt; sheet.date, None);
-    assert!(rt; !sheet.private);
+    let rest = format!(in alloc; "{:?} {}", sheet.date, sheet.private)?;
+    found.push_str(rest.as_str())
 }
 
-/// How many messages a text has.
-fn count(alloc: Global, text: &[u8]) -> Result<usize, SheetError> {
-    Ok(read(alloc, text)?.len())
+/// How many messages there are, and what each has.
+fn described(alloc: Global, sheets: &Sheets) -> Result<String, AllocError> {
+    let mut found = format!(in alloc; "{} messages", sheets.len())?;
+    for sheet in sheets.as_slice() {
+        found.push_str("; ")?;
+        add_sheet(alloc, &mut found, sheet)?;
+    }
+    Ok(found)
 }
 
-/// The line and the rule of a text's first fault, or none.
-fn fault(alloc: Global, text: &[u8]) -> Option<(u32, SheetRule)> {
-    match read(alloc, text) {
-        Err(SheetError::Line { line, rule }) => Some((line, rule)),
-        _ => None,
+/// Reads a sheet. What is found are its messages, by a copy of them, or its first fault.
+fn read(alloc: Global, words: &[Bytes]) -> Result<String, Miss> {
+    let [text] = words else {
+        return Err(Miss::Words);
+    };
+    match sheets_of(alloc, text.as_slice()) {
+        Ok(sheets) => Ok(described(alloc, &sheets.copy(alloc)?)?),
+        Err(error) => Ok(format!(in alloc; "{error:?}")?),
     }
 }
 
-/// A text of a front, so many times a byte, and a back.
-fn around(alloc: Global, front: &[u8], byte: u8, count: usize, back: &[u8]) -> Result<Bytes, Fail> {
-    let mut text = Bytes::from_slice(alloc, front)?;
-    for _ in 0..count {
-        text.add(&[byte])?;
-    }
-    text.add(back)?;
-    Ok(text)
-}
+/// Sheet H of the examples, the same twice, every header, and sheets of other counts of messages.
+const SHEETS: &str = r#"
+"From: Bob Ray\nTo: All\nSubject: Hello\n\nFirst line\n.\n"
+=> 1 messages; "Bob Ray" "All" "Hello" "" "" "First line\r" None false
+"From: Bob Ray\nTo: All\nSubject: Hello\n\nFirst line\n.\nFrom: Bob Ray\nTo: All\nSubject: Hello\n\nFirst line\n.\n"
+=> 2 messages; "Bob Ray" "All" "Hello" "" "" "First line\r" None false; "Bob Ray" "All" "Hello" "" "" "First line\r" None false
+"Private:yes\r\nReply: 0.1.TESTBBS \r\nMsgid:  0.2.TESTBBS\r\nDate: 4294967295\r\nTo:B\r\nFrom: A B \r\nSubject:\r\n\r\n..x\r\n\r\n...\r\n.\r\n"
+=> 1 messages; "A B" "B" "" "0.2.TESTBBS" "0.1.TESTBBS" ".x\r\r..\r" Some(4294967295) true
+"" => 0 messages
+"\r\n\n\r\n" => 0 messages
+"\n\nFrom: A\nTo: B\n\n.\n\r\n\nTo: A\nFrom: B\n\nx\n.\n\n"
+=> 2 messages; "A" "B" "" "" "" "" None false; "B" "A" "" "" "" "x\r" None false
+"From: A\nTo: B\nPrivate: no\n\n."
+=> 1 messages; "A" "B" "" "" "" "" None false
+"#;
 
 #[test]
-fn reads_the_example(rt: HostRuntime) -> Result<(), Fail> {
-    let sheets = read(rt.alloc(), HELLO)?;
-    assert_eq!(&rt; sheets.len(), 1);
-    assert_hello(&rt, sheets.get(0).ok_or("no sheet")?);
-    Ok(())
+fn reads_and_copies_sheets(rt: HostRuntime) -> Result<(), Miss> {
+    expect_cases(rt.alloc(), SHEETS, read)
 }
 
-#[test]
-fn reads_and_copies_two_messages(rt: HostRuntime) -> Result<(), Fail> {
-    let mut text = Bytes::from_slice(rt.alloc(), HELLO)?;
-    text.add(HELLO)?;
-    let sheets = read(rt.alloc(), text.as_slice())?;
-    assert_eq!(&rt; sheets.len(), 2);
-    let copy = sheets.copy(rt.alloc())?;
-    assert_hello(&rt, copy.get(1).ok_or("no second sheet")?);
-    Ok(())
-}
+/// Sheets whose first failing line breaks a rule, those of which two lines break one, headers of the greatest length and
+/// longer ones, and bodies that are too long.
+const FAULTS: &str = r#"
+"From: A\nSubject: x\n\n" => Line { line: 3, rule: Missing }
+"To: A\n\nTo: B\n\n" => Line { line: 2, rule: Missing }
+"From: A\nFrom: B\n" => Line { line: 2, rule: Twice }
+"From: A\nTo: B\n\na\n" => Line { line: 5, rule: End }
+"From: A" => Line { line: 2, rule: End }
+"From: A\nTo: B\n\n" => Line { line: 4, rule: End }
+" " => Line { line: 1, rule: Header }
+"\r" => Line { line: 1, rule: Header }
+"\n\nfrom: A\nto: B\n" => Line { line: 3, rule: Header }
+"From: A\nTo : B\nFrom: B\n" => Line { line: 2, rule: Header }
+"From:\nTo:\n" => Line { line: 1, rule: From }
+"From: A\x1f\nFrom:\n" => Line { line: 1, rule: From }
+"From: A\nTo:  \nTo:\n" => Line { line: 2, rule: To }
+"To: B\nTo:\nTo: C\n" => Line { line: 2, rule: Twice }
+"Subject: a\tb\nSubject: \x01\n" => Line { line: 1, rule: Subject }
+"Date:\nDate: x\n" => Line { line: 1, rule: Date }
+"Date: 4294967296\n" => Line { line: 1, rule: Date }
+"Date: 00000000001\n" => Line { line: 1, rule: Date }
+"Date: 1\nDate: x\n" => Line { line: 2, rule: Twice }
+"Msgid:\nMsgid:\n" => Line { line: 1, rule: Msgid }
+"Reply: \nReply:\n" => Line { line: 1, rule: Reply }
+"Private: Yes\nPrivate: NO\n" => Line { line: 1, rule: Private }
+"From: A\nTo: B\n\na\rb\nc\rd\n" => Line { line: 4, rule: Byte }
+"From: A\nTo: B\n\n.\r" => Line { line: 4, rule: Byte }
+"From: A\nTo: B\n\n.\n\nTo: A\nfrom: B\n" => Line { line: 7, rule: Header }
+"x\ny\n" => Line { line: 1, rule: Header }
+"From: A\nFrom: B\nFrom: C\n" => Line { line: 2, rule: Twice }
+"From:\nTo: B\n\n.\nFrom:\n" => Line { line: 1, rule: From }
+"From: A\nTo:\nTo:\n" => Line { line: 2, rule: To }
+"Subject: \x01\nSubject: \x02\n" => Line { line: 1, rule: Subject }
+"Date: x\nDate: y\n" => Line { line: 1, rule: Date }
+"Msgid:\nMsgid:\n" => Line { line: 1, rule: Msgid }
+"Reply:\nReply:\n" => Line { line: 1, rule: Reply }
+"Private: x\nPrivate: y\n" => Line { line: 1, rule: Private }
+"From: A\n\nTo: B\n\n" => Line { line: 2, rule: Missing }
+"From: A\nTo: B\n\na\rb\nc\rd\n" => Line { line: 4, rule: Byte }
+"From: x\{36}" => Line { line: 2, rule: End }
+"From: x\{37}" => Line { line: 1, rule: From }
+"To: x\{36}" => Line { line: 2, rule: End }
+"To: x\{37}" => Line { line: 1, rule: To }
+"Subject: x\{72}" => Line { line: 2, rule: End }
+"Subject: x\{73}" => Line { line: 1, rule: Subject }
+"Msgid: x\{80}" => Line { line: 2, rule: End }
+"Msgid: x\{81}" => Line { line: 1, rule: Msgid }
+"Reply: x\{80}" => Line { line: 2, rule: End }
+"Reply: x\{81}" => Line { line: 1, rule: Reply }
+"From: A\nTo: B\n\nx\{16384}\n.\n" => Line { line: 4, rule: Length }
+"From: A\nTo: B\n\n\n\{16385}.\n" => Line { line: 16388, rule: Length }
+"From: A\nTo: B\n\n\n\{16400}" => Line { line: 16388, rule: Length }
+"#;
 
 #[test]
-fn reads_every_header(rt: HostRuntime) -> Result<(), Fail> {
-    let text =
-        b"Private:yes\r\nReply: 0.1.TESTBBS \r\nMsgid:  0.2.TESTBBS\r\nDate: 4294967295\r\nTo:B\r\nFrom: A B \r\nSubject:\r\n\r\n..x\r\n\r\n...\r\n.\r\n";
-    let sheets = read(rt.alloc(), text)?;
-    let sheet = sheets.get(0).ok_or("no sheet")?;
-    for (text, wanted) in [
-        (&sheet.from, b"A B".as_slice()),
-        (&sheet.to, b"B"),
-        (&sheet.subject, b""),
-        (&sheet.msgid, b"0.2.TESTBBS"),
-        (&sheet.reply, b"0.1.TESTBBS"),
-        (&sheet.body, b".x\r\r..\r"),
-    ] {
-        assert_eq!(&rt; text.as_slice(), wanted);
-    }
-    assert_eq!(&rt; sheet.date, Some(4_294_967_295));
-    assert!(&rt; sheet.private);
-    Ok(())
+fn names_the_first_failing_line(rt: HostRuntime) -> Result<(), Miss> {
+    expect_cases(rt.alloc(), FAULTS, read)
 }
 
-#[test]
-fn counts_messages(rt: HostRuntime) -> Result<(), Fail> {
-    for (text, wanted) in [
-        (b"".as_slice(), 0),
-        (b"\r\n\n\r\n", 0),
-        (
-            b"\n\nFrom: A\nTo: B\n\n.\n\r\n\nTo: A\nFrom: B\n\nx\n.\n\n",
-            2,
-        ),
-        (b"From: A\nTo: B\nPrivate: no\n\n.", 1),
-    ] {
-        assert_eq!(&rt; count(rt.alloc(), text), Ok(wanted));
-    }
-    Ok(())
+/// Reads a sheet. What is found is how many bytes the body of its first message has.
+fn measure(alloc: Global, words: &[Bytes]) -> Result<String, Miss> {
+    let [text] = words else {
+        return Err(Miss::Words);
+    };
+    let sheets = sheets_of(alloc, text.as_slice())
+        .ok()
+        .ok_or(Miss::Unreached)?;
+    let sheet = sheets.get(0).ok_or(Miss::Unreached)?;
+    Ok(format!(in alloc; "{}", sheet.body.as_slice().len())?)
 }
 
-#[test]
-fn names_the_first_failing_line(rt: HostRuntime) -> Result<(), Fail> {
-    for (text, wanted) in [
-        (
-            b"From: A\nSubject: x\n\n".as_slice(),
-            (3, SheetRule::Missing),
-        ),
-        (b"To: A\n\nTo: B\n\n", (2, SheetRule::Missing)),
-        (b"From: A\nFrom: B\n", (2, SheetRule::Twice)),
-        (b"From: A\nTo: B\n\na\n", (5, SheetRule::End)),
-        (b"From: A", (2, SheetRule::End)),
-        (b"From: A\nTo: B\n\n", (4, SheetRule::End)),
-        (b" ", (1, SheetRule::Header)),
-        (b"\r", (1, SheetRule::Header)),
-        (b"\n\nfrom: A\nto: B\n", (3, SheetRule::Header)),
-        (b"From: A\nTo : B\nFrom: B\n", (2, SheetRule::Header)),
-        (b"From:\nTo:\n", (1, SheetRule::From)),
-        (b"From: A\x1f\nFrom:\n", (1, SheetRule::From)),
-        (b"From: A\nTo:  \nTo:\n", (2, SheetRule::To)),
-        (b"To: B\nTo:\nTo: C\n", (2, SheetRule::Twice)),
-        (b"Subject: a\tb\nSubject: \x01\n", (1, SheetRule::Subject)),
-        (b"Date:\nDate: x\n", (1, SheetRule::Date)),
-        (b"Date: 4294967296\n", (1, SheetRule::Date)),
-        (b"Date: 00000000001\n", (1, SheetRule::Date)),
-        (b"Date: 1\nDate: x\n", (2, SheetRule::Twice)),
-        (b"Msgid:\nMsgid:\n", (1, SheetRule::Msgid)),
-        (b"Reply: \nReply:\n", (1, SheetRule::Reply)),
-        (b"Private: Yes\nPrivate: NO\n", (1, SheetRule::Private)),
-        (b"From: A\nTo: B\n\na\rb\nc\rd\n", (4, SheetRule::Byte)),
-        (b"From: A\nTo: B\n\n.\r", (4, SheetRule::Byte)),
-        (
-            b"From: A\nTo: B\n\n.\n\nTo: A\nfrom: B\n",
-            (7, SheetRule::Header),
-        ),
-    ] {
-        assert_eq!(&rt; fault(rt.alloc(), text), Some(wanted));
-    }
-    Ok(())
-}
+const BODIES: &str = r#"
+"From: A\nTo: B\n\nx\{16383}\n.\n" => 16384
+"From: A\nTo: B\n\n\n\{16384}.\n" => 16384
+"#;
 
 #[test]
-fn names_the_first_of_two_lines_that_break_a_rule(rt: HostRuntime) -> Result<(), Fail> {
-    for (text, wanted) in [
-        (b"x\ny\n".as_slice(), (1, SheetRule::Header)),
-        (b"From: A\nFrom: B\nFrom: C\n", (2, SheetRule::Twice)),
-        (b"From:\nTo: B\n\n.\nFrom:\n", (1, SheetRule::From)),
-        (b"From: A\nTo:\nTo:\n", (2, SheetRule::To)),
-        (b"Subject: \x01\nSubject: \x02\n", (1, SheetRule::Subject)),
-        (b"Date: x\nDate: y\n", (1, SheetRule::Date)),
-        (b"Msgid:\nMsgid:\n", (1, SheetRule::Msgid)),
-        (b"Reply:\nReply:\n", (1, SheetRule::Reply)),
-        (b"Private: x\nPrivate: y\n", (1, SheetRule::Private)),
-        (b"From: A\n\nTo: B\n\n", (2, SheetRule::Missing)),
-        (b"From: A\nTo: B\n\na\rb\nc\rd\n", (4, SheetRule::Byte)),
-    ] {
-        assert_eq!(&rt; fault(rt.alloc(), text), Some(wanted));
-    }
-    Ok(())
-}
-
-#[test]
-fn keeps_the_limits_of_headers(rt: HostRuntime) -> Result<(), Fail> {
-    for (front, most, rule) in [
-        (b"From: ".as_slice(), 36, SheetRule::From),
-        (b"To: ", 36, SheetRule::To),
-        (b"Subject: ", 72, SheetRule::Subject),
-        (b"Msgid: ", 80, SheetRule::Msgid),
-        (b"Reply: ", 80, SheetRule::Reply),
-    ] {
-        let text = around(rt.alloc(), front, b'x', most, b"")?;
-        assert_eq!(&rt;
-            fault(rt.alloc(), text.as_slice()),
-            Some((2, SheetRule::End))
-        );
-        let text = around(rt.alloc(), front, b'x', most + 1, b"")?;
-        assert_eq!(&rt; fault(rt.alloc(), text.as_slice()), Some((1, rule)));
-    }
-    Ok(())
-}
-
-#[test]
-fn takes_a_body_of_16384_bytes(rt: HostRuntime) -> Result<(), Fail> {
-    for (byte, count, back) in [(b'x', 16_383, b"\n.\n".as_slice()), (b'\n', 16_384, b".\n")] {
-        let text = around(rt.alloc(), HEADS, byte, count, back)?;
-        let sheets = read(rt.alloc(), text.as_slice())?;
-        let sheet = sheets.get(0).ok_or("no sheet")?;
-        assert_eq!(&rt; sheet.body.as_slice().len(), 16_384);
-    }
-    Ok(())
-}
-
-#[test]
-fn refuses_a_longer_body(rt: HostRuntime) -> Result<(), Fail> {
-    for (byte, count, back, line) in [
-        (b'x', 16_384, b"\n.\n".as_slice(), 4),
-        (b'\n', 16_385, b".\n", 16_388),
-        (b'\n', 16_400, b"", 16_388),
-    ] {
-        let text = around(rt.alloc(), HEADS, byte, count, back)?;
-        let named = fault(rt.alloc(), text.as_slice());
-        assert_eq!(&rt; named, Some((line, SheetRule::Length)));
-    }
-    Ok(())
+fn takes_a_body_of_16384_bytes(rt: HostRuntime) -> Result<(), Miss> {
+    expect_cases(rt.alloc(), BODIES, measure)
 }

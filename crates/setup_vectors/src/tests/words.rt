@@ -1,24 +1,35 @@
-//! Words, and what they mean on a board of three conferences.
+//! Words, and what they mean on a board of three conferences. A case is a word.
 use byte_lists::Bytes;
+use case_texts::{Miss, expect_cases};
 use command_words::{Choice, number_of};
 use jam_records::Kind;
 use setup_file::Conference;
-use std::alloc::Global;
-use std::test::Fail;
+use std::alloc::{AllocError, Global};
+
+fn read_number(alloc: Global, words: &[Bytes]) -> Result<String, Miss> {
+    let [word] = words else {
+        return Err(Miss::Words);
+    };
+    Ok(format!(in alloc; "{:?}", number_of(word.as_slice()))?)
+}
+
+const NUMBERS: &str = r#"
+0 => Some(0)
+0000000007 => Some(7)
+4294967295 => Some(4294967295)
+4294967296 => None
+00000000007 => None
++7 => None
+"" => None
+"#;
 
 #[test]
-fn numbers_have_one_to_ten_digits(rt: HostRuntime) {
-    assert_eq!(rt; number_of(b"0"), Some(0));
-    assert_eq!(rt; number_of(b"0000000007"), Some(7));
-    assert_eq!(rt; number_of(b"4294967295"), Some(4_294_967_295));
-    assert_eq!(rt; number_of(b"4294967296"), None);
-    assert_eq!(rt; number_of(b"00000000007"), None);
-    assert_eq!(rt; number_of(b"+7"), None);
-    assert_eq!(rt; number_of(b""), None);
+fn numbers_have_one_to_ten_digits(rt: HostRuntime) -> Result<(), Miss> {
+    expect_cases(rt.alloc(), NUMBERS, read_number)
 }
 
 /// A conference of this number.
-fn conference(alloc: Global, number: u16) -> Result<Conference, Fail> {
+fn conference(alloc: Global, number: u16) -> Result<Conference, AllocError> {
     Ok(Conference {
         number,
         kind: Kind::Local,
@@ -28,39 +39,44 @@ fn conference(alloc: Global, number: u16) -> Result<Conference, Fail> {
     })
 }
 
-/// Words, whether they name a conference that isn't 0, 1 or 7, and the places that they name of these.
-const CHOICES: [(&[u8], bool, u64); 6] = [
-    (b"all", false, 0b111),
-    (b"0", false, 0b001),
-    (b"7,0,7", false, 0b101),
-    (b"1,0007", false, 0b110),
-    (b"2,1", true, 0b010),
-    (b"65536", true, 0b000),
-];
-
-#[test]
-fn conferences_are_chosen(rt: HostRuntime) -> Result<(), Fail> {
-    let alloc = rt.alloc();
+/// What is found is whether a word names a conference that isn't 0, 1 or 7, and the places that it names of these, the last
+/// in front; or nothing where it chooses none.
+fn choose(alloc: Global, words: &[Bytes]) -> Result<String, Miss> {
+    let [word] = words else {
+        return Err(Miss::Words);
+    };
+    let Some(choice) = Choice::parse(alloc, word.as_slice())? else {
+        return Ok(String::from_str(alloc, "no choice")?);
+    };
     let conferences = [
         conference(alloc, 0)?,
         conference(alloc, 1)?,
         conference(alloc, 7)?,
     ];
-    for (word, unknown, places) in CHOICES {
-        let choice = Choice::parse(alloc, word)?.ok_or("no choice")?;
-        assert_eq!(rt; choice.has_unknown(&conferences), unknown);
-        assert_eq!(rt; choice.places(&conferences), places);
-    }
-    Ok(())
+    let is_known = !choice.has_unknown(&conferences);
+    let places = choice.places(&conferences);
+    Ok(format!(in alloc;
+        "{} {places:03b}",
+        if is_known { "known" } else { "unknown" }
+    )?)
 }
 
-/// Words that choose nothing.
-const OTHERS: [&[u8]; 6] = [b"", b"all,0", b"0,", b",0", b"0,,1", b"-1"];
+const CHOICES: &str = r#"
+all => known 111
+0 => known 001
+7,0,7 => known 101
+1,0007 => known 110
+2,1 => unknown 010
+65536 => unknown 000
+"" => no choice
+all,0 => no choice
+0, => no choice
+,0 => no choice
+0,,1 => no choice
+-1 => no choice
+"#;
 
 #[test]
-fn other_words_choose_nothing(rt: HostRuntime) -> Result<(), Fail> {
-    for word in OTHERS {
-        assert!(rt; Choice::parse(rt.alloc(), word)?.is_none());
-    }
-    Ok(())
+fn conferences_are_chosen(rt: HostRuntime) -> Result<(), Miss> {
+    expect_cases(rt.alloc(), CHOICES, choose)
 }

@@ -1,121 +1,153 @@
-//! Files that are fed in pieces.
-ghost use Rattle.std.specs.Prelude.{◌≡◌, ◌≤◌, length, IfOk};
+//! Files that are fed in pieces. A case is how many bytes of a file are fed, a cut, how many bytes are fed at most at
+//! once before it and behind it, and the blocks. What is found are the events with the places behind them, the end, and
+//! the last full block.
+use super::{TWO, front_of};
+use byte_lists::Bytes;
+use case_texts::{Miss, expect_cases, number_of, words_in};
+use qwk_blocks::{BlockReader, Event};
+use std::alloc::{AllocError, Global};
 
-use super::{example, two_messages};
-use qwk_blocks::{BlockReader, BlocksFault, Event, QwkFault};
-use std::alloc::Global;
-use std::process::Abort;
-use std::test::Fail;
-
-/// Feeds a file up to a cut and then from the cut on, so many bytes at most at once. The events come with
-/// the places behind them.
-fn feed(
-    rt: &impl Abort,
-    alloc: Global,
-    bytes: &[u8],
+/// How a file is fed: up to a cut so many bytes at most at once, and then so many.
+#[derive(Clone, Copy)]
+struct Feeding {
     cut: usize,
-    most: usize,
-) -> Result<(BlockReader, Vec<(usize, Event)>), Fail>
-    ensures { IfOk result (λ fed. fed.0.taken ≤ 1000) }
-{
-    assert!(rt; bytes.len() <= 1000);
-    let mut reader = BlockReader::new();
-    let mut events = Vec::new(alloc);
-    let mut at = 0usize;
-    for _ in 0..1000 {
-        let end = at.saturating_add(most);
-        let end = end.min(if at < cut { cut } else { bytes.len() });
-        assert!(rt; at <= end);
-        assert!(rt; end <= bytes.len());
-        let fed = reader.feed(&bytes[at..end])?;
-        at += fed.used;
-        if let Some(event) = fed.event {
-            events.push((at, event))?;
+    before: usize,
+    behind: usize,
+}
+
+impl Feeding {
+    /// Where the piece ends that begins here.
+    fn end(self, at: usize, length: usize) -> usize {
+        if at < self.cut {
+            self.cut.min(at.saturating_add(self.before))
+        } else {
+            length.min(at.saturating_add(self.behind))
         }
     }
-    assert_eq!(rt; at, bytes.len());
-    Ok((reader, events))
 }
 
-#[test]
-fn feeds_one_message_byte_by_byte(rt: HostRuntime) -> Result<(), Fail> {
-    let file = example(rt.alloc(), b"2", b' ')?;
-    let bytes = file.as_slice();
-    assert_eq!(rt; bytes.len(), 384);
-    let (reader, events) = feed(&rt, rt.alloc(), bytes, 0, 1)?;
-    let wanted = [
-        (128, Event::Notice),
-        (256, Event::Head { blocks: 2 }),
-        (384, Event::Text { left: 0 }),
-    ];
-    assert_eq!(rt; events.as_slice(), wanted.as_slice());
-    assert_eq!(rt; reader.finish(), Ok(1));
-    assert_eq!(rt; Some(reader.block().as_slice()), bytes.get(256..));
-    Ok(())
-}
-
-#[test]
-fn a_cut_message_ends_in_its_head(rt: HostRuntime) -> Result<(), Fail> {
-    let file = example(rt.alloc(), b"2", b' ')?;
-    let bytes = file.as_slice();
-    let cut = bytes.get(..383).ok_or("too short")?;
-    let (reader, _) = feed(&rt, rt.alloc(), cut, 0, 1)?;
-    assert_eq!(rt; reader.finish(), Err(QwkFault::Truncated { at: 128 }));
-    assert_eq!(rt; Some(reader.block().as_slice()), bytes.get(128..256));
-    Ok(())
-}
-
-#[test]
-fn a_new_reader_wants_a_notice(rt: HostRuntime) -> Result<(), Fail> {
-    let reader = BlockReader::new();
-    assert_eq!(rt; reader.finish(), Err(QwkFault::Truncated { at: 0 }));
-    assert_eq!(rt; reader.block().as_slice(), [0u8; 128].as_slice());
-    Ok(())
-}
-
-/// Whether two messages of two blocks, of which the last byte is cut, are found so.
-fn assert_cut(
-    rt: &impl Abort,
+/// Adds an event with the place behind it.
+fn add_event(
     alloc: Global,
-    bytes: &[u8],
-    cut: usize,
-    most: usize,
-) -> Result<(), Fail> {
-    let (reader, events) = feed(rt, alloc, bytes, cut, most)?;
-    let wanted = [
-        (128, Event::Notice),
-        (256, Event::Head { blocks: 2 }),
-        (384, Event::Text { left: 0 }),
-        (512, Event::Head { blocks: 2 }),
-    ];
-    assert_eq!(rt; events.as_slice(), wanted.as_slice());
-    assert_eq!(rt; reader.finish(), Err(QwkFault::Truncated { at: 384 }));
-    assert_eq!(rt; Some(reader.block().as_slice()), bytes.get(384..512));
-    Ok(())
-}
-
-#[test]
-fn every_cut_gives_the_same(rt: HostRuntime) -> Result<(), Fail> {
-    let file = two_messages(rt.alloc())?;
-    assert_eq!(rt; file.as_slice().len(), 640);
-    let bytes = file.as_slice().get(..639).ok_or("too short")?;
-    for cut in 0..=639 {
-        assert_cut(&rt, rt.alloc(), bytes, cut, 1000)?;
+    found: &mut String,
+    at: usize,
+    event: Option<Event>,
+) -> Result<(), AllocError> {
+    if let Some(event) = event {
+        found.push_str(format!(in alloc; "{at} {event:?}; ")?.as_str())?;
     }
-    assert_cut(&rt, rt.alloc(), bytes, 0, 1)
+    Ok(())
 }
 
+/// Feeds a short file up to its end or to a fault, and answers the events and the fault.
+fn feed(alloc: Global, bytes: &[u8], feeding: Feeding) -> Result<(BlockReader, String), Miss> {
+    if bytes.len() > 1000 {
+        return Err(Miss::Unreached);
+    }
+    let mut reader = BlockReader::new();
+    let mut found = String::new(alloc);
+    let mut at = 0usize;
+    for _ in 0..1000 {
+        let end = feeding.end(at, bytes.len());
+        if end < at || bytes.len() < end {
+            return Err(Miss::Unreached);
+        }
+        match reader.feed(&bytes[at..end]) {
+            Ok(fed) => {
+                at += fed.used;
+                add_event(alloc, &mut found, at, fed.event)?;
+            }
+            Err(fault) => {
+                found.push_str(format!(in alloc; "{fault:?}; ")?.as_str())?;
+                break;
+            }
+        }
+    }
+    Ok((reader, found))
+}
+
+/// What is found of a file that is fed.
+fn fed(alloc: Global, bytes: &[u8], feeding: Feeding) -> Result<String, Miss> {
+    let (reader, events) = feed(alloc, bytes, feeding)?;
+    let block = reader.block().as_slice().escape_ascii();
+    Ok(format!(in alloc; "{events}{:?} \"{block}\"", reader.finish())?)
+}
+
+/// The four numbers at the front of the words.
+fn numbers_of(words: &[Bytes]) -> Result<[u32; 4], Miss> {
+    let mut numbers = [0; 4];
+    for (number, word) in numbers.iter_mut().zip(words) {
+        *number = number_of(word.as_slice())?;
+    }
+    Ok(numbers)
+}
+
+fn feed_file(alloc: Global, words: &[Bytes]) -> Result<String, Miss> {
+    let [length, cut, before, behind] = numbers_of(words)?;
+    let blocks = words.get(4..).ok_or(Miss::Words)?;
+    let file = front_of(alloc, blocks, length)?;
+    let feeding = Feeding {
+        cut: cut as usize,
+        before: before as usize,
+        behind: behind as usize,
+    };
+    fed(alloc, file.as_slice(), feeding)
+}
+
+/// A message byte by byte, the same without its last byte, nothing, and a message with a bad count.
+const PIECES: &str = r#"
+384 0 1 1 "Produced by qwkdoor, packet 1"
+" 1      09-09-0101:46ALL                      BOB RAY                  Hello                                0       2     \xE1\0\0\x01\0 "
+"First line\xE3"
+=> 128 Notice; 256 Head { blocks: 2 }; 384 Text { left: 0 }; Ok(1) "First line\xe3                                                                                                                     "
+383 0 1 1 "Produced by qwkdoor, packet 1"
+" 1      09-09-0101:46ALL                      BOB RAY                  Hello                                0       2     \xE1\0\0\x01\0 "
+"First line\xE3"
+=> 128 Notice; 256 Head { blocks: 2 }; Err(Truncated { at: 128 }) " 1      09-09-0101:46ALL                      BOB RAY                  Hello                                0       2     \xe1\x00\x00\x01\x00 "
+0 0 1 1 => Err(Truncated { at: 0 }) "\x00\x00\x00\x00\x00\x00\x00\x00\x00\x00\x00\x00\x00\x00\x00\x00\x00\x00\x00\x00\x00\x00\x00\x00\x00\x00\x00\x00\x00\x00\x00\x00\x00\x00\x00\x00\x00\x00\x00\x00\x00\x00\x00\x00\x00\x00\x00\x00\x00\x00\x00\x00\x00\x00\x00\x00\x00\x00\x00\x00\x00\x00\x00\x00\x00\x00\x00\x00\x00\x00\x00\x00\x00\x00\x00\x00\x00\x00\x00\x00\x00\x00\x00\x00\x00\x00\x00\x00\x00\x00\x00\x00\x00\x00\x00\x00\x00\x00\x00\x00\x00\x00\x00\x00\x00\x00\x00\x00\x00\x00\x00\x00\x00\x00\x00\x00\x00\x00\x00\x00\x00\x00\x00\x00\x00\x00\x00\x00"
+384 255 100 1000 "Produced by qwkdoor, packet 1"
+" 1      09-09-0101:46ALL                      BOB RAY                  Hello                                0       0     \xE1\0\0\x01\0 "
+"First line\xE3"
+=> 128 Notice; BlocksFault { at: 128 }; Err(BadBlocks { at: 128 }) " 1      09-09-0101:46ALL                      BOB RAY                  Hello                                0       0     \xe1\x00\x00\x01\x00 "
+"#;
+
 #[test]
-fn a_bad_count_stops_the_reader(rt: HostRuntime) -> Result<(), Fail> {
-    let file = example(rt.alloc(), b"0", b' ')?;
-    assert_eq!(rt; file.as_slice().len(), 384);
-    let bytes = file.as_slice();
-    let front = bytes.get(..255).ok_or("too short")?;
-    let rest = bytes.get(255..).ok_or("too short")?;
-    assert!(rt; rest.len() <= 1000);
-    let (mut reader, _) = feed(&rt, rt.alloc(), front, 0, 100)?;
-    assert_eq!(rt; reader.feed(rest), Err(BlocksFault { at: 128 }));
-    assert_eq!(rt; Some(reader.block().as_slice()), bytes.get(128..256));
-    assert_eq!(rt; reader.finish(), Err(QwkFault::BadBlocks { at: 128 }));
-    Ok(())
+fn files_are_fed(rt: HostRuntime) -> Result<(), Miss> {
+    expect_cases(rt.alloc(), PIECES, feed_file)
+}
+
+/// Feeds the front of the two messages with each of these cuts. What is found is the same at all, or that of the first
+/// cut at which it is another.
+fn feed_cuts(alloc: Global, words: &[Bytes]) -> Result<String, Miss> {
+    let [length, first, last, most] = numbers_of(words)?;
+    let blocks = words_in(alloc, TWO)?;
+    let file = front_of(alloc, blocks.as_slice(), length)?;
+    let mut found = String::new(alloc);
+    for cut in first..=last {
+        let feeding = Feeding {
+            cut: cut as usize,
+            before: most as usize,
+            behind: most as usize,
+        };
+        let next = fed(alloc, file.as_slice(), feeding)?;
+        if cut > first && next != found {
+            return Ok(format!(in alloc; "cut at {cut}: {next}")?);
+        }
+        found = next;
+    }
+    Ok(found)
+}
+
+/// The two messages without their last byte. A case is how many bytes are fed, the first and the last cut, and how many
+/// bytes are fed at most at once.
+const CUTS: &str = r#"
+639 0 639 1000
+=> 128 Notice; 256 Head { blocks: 2 }; 384 Text { left: 0 }; 512 Head { blocks: 2 }; Err(Truncated { at: 384 }) " 1      09-09-0101:46ALL                      BOB RAY                  Hello                                0       2     \xe1\x00\x00\x01\x00 "
+639 0 0 1
+=> 128 Notice; 256 Head { blocks: 2 }; 384 Text { left: 0 }; 512 Head { blocks: 2 }; Err(Truncated { at: 384 }) " 1      09-09-0101:46ALL                      BOB RAY                  Hello                                0       2     \xe1\x00\x00\x01\x00 "
+"#;
+
+#[test]
+fn every_cut_gives_the_same(rt: HostRuntime) -> Result<(), Miss> {
+    expect_cases(rt.alloc(), CUTS, feed_cuts)
 }

@@ -3,4 +3,4 @@ use Rattle.qwk_vectors.proofs.tests.blocks.pieces.feed.Given as goal
 
 -- the front of the file was fed
 abbrev pub invariant-loop : goal.invariant-loop
-invariant-loop g l = record { within : l.at ≤ length l.bytes; taken : l.reader.taken ≡ l.at }
+invariant-loop l = record { within : l.at ≤ length l.bytes; taken : l.reader.taken ≡ l.at }

@@ -1,0 +1,125 @@
+//! A host of short files that tells nothing of them.
+ghost use Rattle.std.specs.Prelude.{◌≡◌, ℕ, ◌≤◌, ◌<◌, false, IfOk};
+ghost use Rattle.door_outside.specs.Cause.{HasCause, Rose};
+ghost use Rattle.door_outside.specs.Disk.{silent};
+
+use door_outside::{DiskFault, FileId, Host, VoiceFault};
+
+/// How many bytes a file of a small host has room for.
+const ROOM: usize = 64;
+
+/// How many files it has.
+const FILES: usize = 4;
+
+/// A host of four short files that tells nothing of them. After so many calls every call fails.
+#[derive(Drop)]
+pub(crate) struct SmallHost {
+    files: [[u8; ROOM]; FILES],
+    lens: [u8; FILES],
+    left: u32,
+    disk_faults: u64,
+    /// The journal as it was at the last sync with an open gate.
+    open: [u8; ROOM],
+}
+
+impl SmallHost {
+    pub(crate) fn new() -> SmallHost {
+        SmallHost {
+            files: [[0; ROOM]; FILES],
+            lens: [0; FILES],
+            left: 1000,
+            disk_faults: 0,
+            open: [0; ROOM],
+        }
+    }
+
+    /// Counts a fault.
+    fn fail(&mut self) -> DiskFault
+        ensures rose { Rose self.old.disk_faults self.new.disk_faults }
+        ensures later { self.old.disk_faults ≤ self.new.disk_faults }
+    {
+        self.disk_faults = self.disk_faults.saturating_add(1);
+        DiskFault
+    }
+
+    /// The place of a call's file, where the call doesn't fail.
+    fn place(&mut self, file: FileId) -> Result<usize, DiskFault>
+        ensures known { IfOk result (λ place. place < FILES) }
+        ensures cause { HasCause self.old.disk_faults self.new.disk_faults result }
+    {
+        let place = file.number() as usize;
+        if place >= FILES || self.left == 0 {
+            return Err(self.fail());
+        }
+        self.left -= 1;
+        Ok(place)
+    }
+
+    /// The bytes of a file.
+    pub(crate) fn content(&self, file: FileId) -> Option<&[u8]> {
+        let place = usize::from(file.number());
+        let len = usize::from(*self.lens.get(place)?);
+        self.files.get(place)?.get(..len)
+    }
+
+    /// The journal as it was at the last sync with an open gate.
+    pub(crate) fn open_journal(&self) -> &[u8] {
+        self.open.as_slice()
+    }
+}
+
+impl Host for SmallHost {
+    ghost tells = { false };
+
+    ghost disk = { λ _. silent };
+
+    ghost disk_faults = { λ s. s.disk_faults };
+
+    ghost voice_faults = { λ _. 0 };
+
+    fn length(&mut self, file: FileId) -> Result<u32, DiskFault> {
+        let place = self.place(file)?;
+        Ok(self.lens[place] as u32)
+    }
+
+    fn read_at(&mut self, file: FileId, at: u32, buf: &mut [u8]) -> Result<usize, DiskFault> {
+        let place = self.place(file)?;
+        let end = ROOM.min(self.lens[place] as usize);
+        let from = end.min(at as usize);
+        let count = buf.len().min(end - from);
+        buf[..count].copy_from_slice(&self.files[place][from..from + count]);
+        Ok(count)
+    }
+
+    fn write_at(&mut self, file: FileId, at: u32, bytes: &[u8]) -> Result<(), DiskFault> {
+        let place = self.place(file)?;
+        let from = at as usize;
+        if from + bytes.len() > ROOM {
+            return Err(self.fail());
+        }
+        let end = from + bytes.len();
+        self.files[place][from..end].copy_from_slice(bytes);
+        self.lens[place] = self.lens[place].max(end as u8);
+        Ok(())
+    }
+
+    fn cut(&mut self, file: FileId, len: u32) -> Result<(), DiskFault> {
+        let place = self.place(file)?;
+        if len < self.lens[place] as u32 {
+            self.lens[place] = len as u8;
+        }
+        Ok(())
+    }
+
+    fn sync(&mut self, file: FileId) -> Result<(), DiskFault> {
+        let place = self.place(file)?;
+        if place == 1 && self.files[1][0] == b'O' {
+            self.open = self.files[1];
+        }
+        Ok(())
+    }
+
+    fn say(&mut self, _bytes: &[u8]) -> Result<(), VoiceFault> {
+        Ok(())
+    }
+}
