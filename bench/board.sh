@@ -7,7 +7,7 @@ runs=${1:-3}
 top=$(dirname -- "$(readlink -f -- "$0")")/..
 # shellcheck source=/dev/null
 . "$top/bench/best.sh"
-program=$top/crates/qwkdoor/out/qwkdoor
+program=$top/.build/qwkdoor
 shelf=$top/crates/qwkdoor/data/shelf
 work=$(mktemp -d) || exit 1
 trap 'rm -rf -- "$work"' EXIT
@@ -28,7 +28,7 @@ enroll() {
     done
 }
 
-# The first run builds the program where that is missing.
+"$top/bin/qwkdoor" --build || exit 1
 "$top/bin/qwkdoor" "$work/data" "$shelf" init setup.txt || fail "init failed with status $?"
 
 first=$(runs=1 && best enroll 1 100) || fail 'a user was not enrolled'

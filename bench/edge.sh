@@ -6,7 +6,7 @@
 # Without them there is no DATA, and SHELF is the sample. MOST is how many calls fail in turn at most.
 
 top=$(dirname -- "$(readlink -f -- "$0")")/..
-program=$top/crates/qwkdoor/out/qwkdoor
+program=$top/.build/qwkdoor
 shelf_from=${SHELF_FROM:-$top/crates/qwkdoor/data/shelf}
 data_from=${DATA_FROM:-}
 most=${MOST:-400}
@@ -16,9 +16,7 @@ if ! command -v strace >/dev/null; then
     echo 'edge: strace is missing, so nothing is shown'
     exit 0
 fi
-# The first run builds the program where that is missing.
-"$top/bin/qwkdoor" "$top/bench/no-such-folder" "$top/crates/qwkdoor/data/shelf" scan P1 >/dev/null
-[ -x "$program" ] || exit 1
+"$top/bin/qwkdoor" --build || exit 1
 
 work=$(mktemp -d) || exit 1
 work=$(readlink -f -- "$work")

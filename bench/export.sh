@@ -7,7 +7,7 @@ runs=${1:-3}
 top=$(dirname -- "$(readlink -f -- "$0")")/..
 # shellcheck source=/dev/null
 . "$top/bench/best.sh"
-program=$top/crates/qwkdoor/out/qwkdoor
+program=$top/.build/qwkdoor
 work=$(mktemp -d) || exit 1
 shelf=$work/shelf
 trap 'rm -rf -- "$work"' EXIT
@@ -71,7 +71,7 @@ time_export() {
 
 mkdir -p "$shelf" || exit 1
 setup >"$shelf/setup.txt"
-# The first run builds the program where that is missing.
+"$top/bin/qwkdoor" --build || exit 1
 "$top/bin/qwkdoor" "$work/data" "$shelf" init setup.txt >/dev/null || fail "init failed with status $?"
 
 columns "the best of $runs" 'export (s)' 'board (bytes)' 'sha256sum (s)' ratio 'MESSAGES.DAT (bytes)'

@@ -9,7 +9,7 @@ top=$(dirname -- "$(readlink -f -- "$0")")/..
 runs=1
 # shellcheck source=/dev/null
 . "$top/bench/best.sh"
-program=$top/crates/qwkdoor/out/qwkdoor
+program=$top/.build/qwkdoor
 work=$(mktemp -d) || exit 1
 shelf=$work/shelf
 trap 'rm -rf -- "$work"' EXIT
@@ -45,7 +45,7 @@ written() {
 
 mkdir -p "$shelf" || exit 1
 cp "$top/crates/qwkdoor/data/shelf/setup.txt" "$shelf" || exit 1
-# The first run builds the program where that is missing.
+"$top/bin/qwkdoor" --build || exit 1
 "$top/bin/qwkdoor" "$work/data" "$shelf" init setup.txt >/dev/null || fail "init failed with status $?"
 
 for count in 2500 5000 9999; do

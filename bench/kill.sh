@@ -9,7 +9,7 @@ runs=1
 top=$(dirname -- "$(readlink -f -- "$0")")/..
 # shellcheck source=/dev/null
 . "$top/bench/best.sh"
-program=$top/crates/qwkdoor/out/qwkdoor
+program=$top/.build/qwkdoor
 shelf=$top/crates/qwkdoor/data/shelf
 work=$(mktemp -d) || exit 1
 trap 'rm -rf -- "$work"' EXIT
@@ -80,7 +80,7 @@ count_after() {
     fi
 }
 
-# The first run builds the program where that is missing.
+"$top/bin/qwkdoor" --build || exit 1
 "$top/bin/qwkdoor" "$work/data" "$shelf" init setup.txt || exit 1
 taken=$(best door enroll 'User 000' n all) || exit 1
 users=1

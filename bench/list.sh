@@ -46,9 +46,10 @@ list() {
     "$top/bin/qwkdoor" "$work/data" "$work/shelf" list BIG
 }
 
+"$top/bin/qwkdoor" --build || exit 1
 make_packet
 printf 'packet: %s bytes\n' "$(wc -c <"$big")"
-# The first call builds the program where it is missing, and reads the file into the system's memory.
+# The first call reads the file into the system's memory.
 list >"$work/reply" || fail "list failed with status $?"
 printf 'reply: %s lines, %s bytes\n' "$(wc -l <"$work/reply")" "$(wc -c <"$work/reply")"
 tail -n 1 "$work/reply"

@@ -8,7 +8,7 @@
 top=$(dirname -- "$(readlink -f -- "$0")")/..
 # shellcheck source=/dev/null
 . "$top/bench/best.sh"
-program=$top/crates/qwkdoor/out/qwkdoor
+program=$top/.build/qwkdoor
 samples=$top/crates/qwkdoor/data/shelf
 
 if ! command -v cc >/dev/null; then
@@ -141,8 +141,7 @@ refuse_each() {
         "$1" $((request - 1)) "$starved" "$faults" "$whole"
 }
 
-# The first run builds the program where that is missing.
-"$top/bin/qwkdoor" "$work/none" "$samples" scan P1 >/dev/null || fail "scan failed with status $?"
+"$top/bin/qwkdoor" --build || exit 1
 prepare
 refuse_each export 'Ann Lee' 10 out
 refuse_each upload 'Ann Lee' four

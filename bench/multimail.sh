@@ -14,6 +14,7 @@ for tool in mm tmux zip unzip; do
     fi
 done
 program=${DOOR:-$top/bin/qwkdoor}
+[ -n "${DOOR:-}" ] || "$program" --build || exit 1
 work=$(mktemp -d) || exit 1
 work=$(readlink -f -- "$work")
 shelf=$work/shelf

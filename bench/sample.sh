@@ -7,13 +7,13 @@ runs=${1:-3}
 top=$(dirname -- "$(readlink -f -- "$0")")/..
 # shellcheck source=/dev/null
 . "$top/bench/best.sh"
-program=$top/crates/qwkdoor/out/qwkdoor
+program=$top/.build/qwkdoor
 work=$(mktemp -d) || exit 1
 trap 'rm -rf -- "$work"' EXIT
 trap 'exit 1' HUP INT TERM
 
 shelf=$top/crates/qwkdoor/data/shelf
-# The first run builds the program where that is missing.
+"$top/bin/qwkdoor" --build || exit 1
 "$top/bin/qwkdoor" "$work/before" "$shelf" init setup.txt >/dev/null || fail "init failed with status $?"
 "$program" "$work/before" "$shelf" enroll 'Sam Sysop' n all >/dev/null || fail "enroll failed with status $?"
 

@@ -7,7 +7,7 @@ runs=${1:-3}
 top=$(dirname -- "$(readlink -f -- "$0")")/..
 # shellcheck source=/dev/null
 . "$top/bench/best.sh"
-program=$top/crates/qwkdoor/out/qwkdoor
+program=$top/.build/qwkdoor
 work=$(mktemp -d) || exit 1
 shelf=$work/shelf
 trap 'rm -rf -- "$work"' EXIT
@@ -27,7 +27,7 @@ expect() {
 
 mkdir -p "$shelf" || exit 1
 printf 'board: Bench\ncity: Springfield\nphone: 555-0100\nsysop: Sam Sysop\nbbsid: BENCH\nserial: 1\nzones:\nconference: 0 local - GENERAL\n' >"$shelf/setup.txt"
-# The first run builds the program where that is missing.
+"$top/bin/qwkdoor" --build || exit 1
 "$top/bin/qwkdoor" "$work/data" "$shelf" init setup.txt >/dev/null || fail "init failed with status $?"
 expect 'user 1 Ann Lee' enroll 'Ann Lee' - all
 expect 'packet 1: 0 messages' export 'Ann Lee' 1 out
