@@ -1,12 +1,15 @@
 #!/bin/sh
-# Shows by strace what a run asks of the system: that each sync reached the file and the folder, and that a
-# fault in any one call ends the run with the stated status and does no other harm. It is no part of the gate.
+# Shows by strace what a run asks of the system: that each sync reached the file and the folder, that a fault in
+# any one call ends the run with the stated status and does no other harm, and that a sync that failed keeps the next
+# run out. `.ci/run` runs it once, with few calls, after the gate.
 # usage: bench/edge.sh [WORDS..]    the command that is run; without words it is `list P1`
 # The folders that DATA_FROM and SHELF_FROM name are copied before each run, and stand for DATA and SHELF.
-# Without them there is no DATA, and SHELF is the sample. MOST is how many calls fail in turn at most.
+# Without them there is no DATA, and SHELF is the sample. CALLS is which of the system's calls are looked at, and
+# MOST how many of them fail in turn at most. PROGRAM is a program that is built already; without it the program is
+# built first.
 
 top=$(dirname -- "$(readlink -f -- "$0")")/..
-program=$top/.build/qwkdoor
+program=${PROGRAM:-$top/.build/qwkdoor}
 shelf_from=${SHELF_FROM:-$top/crates/qwkdoor/data/shelf}
 data_from=${DATA_FROM:-}
 most=${MOST:-400}
@@ -16,14 +19,14 @@ if ! command -v strace >/dev/null; then
     echo 'edge: strace is missing, so nothing is shown'
     exit 0
 fi
-"$top/bin/qwkdoor" --build || exit 1
+[ -n "${PROGRAM:-}" ] || "$top/bin/qwkdoor" --build || exit 1
 
 work=$(mktemp -d) || exit 1
 work=$(readlink -f -- "$work")
 trap 'rm -rf -- "$work"' EXIT
 trap 'exit 1' HUP INT TERM
 place=$work/place
-calls=openat,mkdir,mkdirat,stat,lstat,fstat,statx,newfstatat,read,pread64,write,pwrite64,ftruncate,fsync,flock
+calls=${CALLS:-openat,mkdir,mkdirat,stat,lstat,fstat,statx,newfstatat,read,pread64,write,pwrite64,ftruncate,fsync,flock}
 wrong=0
 
 if ! strace -qq -o "$work/probe" true 2>/dev/null; then
@@ -118,6 +121,29 @@ is_front() {
     head -c "$(wc -c <"$place/said")" "$work/said" | cmp -s - "$place/said"
 }
 
+# How many lines of standard error tell of a failed sync and what has to be done.
+told_of_sync() {
+    grep -c 'a sync failed.*restart the machine before the next run' "$place/faults"
+}
+
+# What the next run does after a call that failed. After a failed sync of DATA, as the run before told, it ends at
+# once, and says why, until the machine is restarted, which an empty LOCK stands for.
+try_next() {
+    unsynced=$(told_of_sync)
+    run "$program" "$place/data" "$place/shelf" "$@"
+    got=$?
+    if [ "$unsynced" -gt 0 ]; then
+        [ "$got" -eq 4 ] || complain "after call $number of $call failed: the next run ends with $got, wanted 4"
+        [ "$(told_of_sync)" -eq 1 ] || complain "after call $number of $call failed: the next run doesn't say what to do"
+        [ ! -s "$place/said" ] || complain "after call $number of $call failed: the next run says something"
+        printf '%s\n' "$call" >>"$work/kept_out"
+        : >"$place/data/LOCK"
+        run "$program" "$place/data" "$place/shelf" "$@"
+        got=$?
+    fi
+    [ "$got" -le 1 ] || complain "after call $number of $call failed: the next run ends with $got"
+}
+
 while read -r call number wanted; do
     lay_out
     run sh "$work/narrow" -o "$work/one" -e "inject=$call:error=EIO:when=$number" \
@@ -125,15 +151,27 @@ while read -r call number wanted; do
     got=$?
     [ "$got" -eq "$wanted" ] || complain "call $number of $call fails: status $got, wanted $wanted"
     is_front || complain "call $number of $call fails: another reply"
+    case $wanted in
+    4) line='disk fault' ;;
+    5) line='shelf fault' ;;
+    *) line='output fault' ;;
+    esac
     # strace says so where a path that it is given has `..` in it.
-    [ "$(grep -c -v '^strace: ' "$place/faults")" -eq 1 ] || complain "call $number of $call fails: not one line of fault"
-    run "$program" "$place/data" "$place/shelf" "$@"
-    got=$?
-    [ "$got" -le 1 ] || complain "after call $number of $call failed: the next run ends with $got"
+    grep -v '^strace: ' "$place/faults" >"$work/faults"
+    [ "$(tail -n 1 "$work/faults")" = "$line" ] || complain "call $number of $call fails: the last line isn't $line"
+    [ "$wanted" -eq 6 ] || [ "$(wc -l <"$work/faults")" -gt 1 ] ||
+        complain "call $number of $call fails: no line says which file"
+    [ "$call $wanted" != 'fsync 4' ] || [ "$(told_of_sync)" -eq 1 ] ||
+        complain "call $number of fsync fails: no line says what to do"
+    try_next "$@"
     printf '%s %s\n' "$call" "$wanted" >>"$work/tried"
 done <"$work/each"
 sort "$work/tried" | uniq -c | while read -r count call wanted; do
     printf '%s: %s calls failed in turn, status %s wanted of each\n' "$call" "$count" "$wanted"
+done
+
+[ ! -f "$work/kept_out" ] || sort "$work/kept_out" | uniq -c | while read -r count call; do
+    printf '%s: %s of them a sync that failed, status 4 and no reply wanted of the next run\n' "$call" "$count"
 done
 
 # A call that is interrupted goes on.
