@@ -25,9 +25,9 @@ short_closed (gate ∷ []) short = elim (cases_eq gate 79) [
 ]
 short_closed (gate ∷ b ∷ rest) short = absurd (omega arith)
 
-module _ (old mid new : Disk) (calm : IsCalm old) (same : Unchanged old mid) (file len : ℕ) (is_journal : file ≡ 1) (len_is : len ≡ length (old.files file)) (is_empty : len ≡ 0) (call : Passes (InFile 1 (Torn 0 1)) (InFile 1 (Torn 0 1)) mid new) where
+module _ (old mid new : Disk) (calm : IsCalm old) (same : Unchanged old mid) (file : ℕ) (is_journal : file ≡ 1) (is_empty : length (old.files file) ≡ 0) (call : Passes (InFile 1 (Torn 0 1)) (InFile 1 (Torn 0 1)) mid new) where
   none : mid.files 1 ≡ []
-  none = ap (λ (f : Files). f 1) same.files ∙ ap old.files (sym is_journal) ∙ nil_from_length (old.files file) (sym len_is ∙ is_empty)
+  none = ap (λ (f : Files). f 1) same.files ∙ ap old.files (sym is_journal) ∙ nil_from_length (old.files file) is_empty
 
   kept_mid : AllNow mid (λ image. SameFiles image.files old.files)
   kept_mid = now_unchanged same calm.kept

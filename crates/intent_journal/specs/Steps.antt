@@ -4,8 +4,8 @@ use Rattle.door_outside.specs.Disk.{Disk, Image, AllNow, Torn}
 use Rattle.intent_journal.specs.declared.patch.Patch.{Patch}
 use Rattle.intent_journal.specs.declared.patch.Patch.TheVariants.{Whole, Put}
 use Rattle.intent_journal.specs.Hosts.{IsFirm}
-use Rattle.intent_journal.specs.Journal.{IsClosed, body_patches, body_text, intent_of, open_patches, patches_of, spelled}
-use Rattle.intent_journal.specs.Patches.{Files, SameFiles, patched, are_within, data_files, is_once}
+use Rattle.intent_journal.specs.Journal.{IsClosed, body_patches, body_text, intent_of, open_patches, spelled}
+use Rattle.intent_journal.specs.Patches.{Files, SameFiles, patched, are_within, data_files}
 
 -- the journal is that of the disk as it reads, and carrying out the patches is allowed and gives the same data files
 pub record Stands (patches : List Patch) (goal image : Image) : Type 0 where
@@ -68,9 +68,3 @@ pub record IsOpen (patches : List Patch) (journal : List ℕ) : Type 0 where
   pub intent : open_patches journal ≡ patches
   pub body : body_patches journal ≡ Some patches
   pub gate : take 1 journal ≡ 79 ∷ []
-
--- what is read of an open journal
-pub record IsRead (count : ℕ) (text journal : List ℕ) : Type 0 where
-  pub reads : patches_of count text ≡ Some (spelled count text)
-  pub once : IsTrue (is_once (spelled count text))
-  pub is_open : IsOpen (spelled count text) journal

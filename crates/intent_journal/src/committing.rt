@@ -24,7 +24,8 @@ fn shut<H: Host>(host: &mut H) -> Result<(), DiskFault>
     ensures cause { HasCause (H.disk_faults host.old) (H.disk_faults host.new) result }
     ensures voice { H.voice_faults host.new ≡ H.voice_faults host.old }
 {
-    if host.length(FileId::journal())? == 0 {
+    let mut gate = [0u8; 1];
+    if host.read_at(FileId::journal(), 0, &mut gate)? == 0 {
         set_gate(host, CLOSED)?;
     }
     Ok(())

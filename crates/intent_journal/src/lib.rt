@@ -13,7 +13,8 @@
 //! A recovery does this:
 //!
 //! 1. It syncs the journal, so that each later crash leaves the gate and the body that it reads.
-//! 2. It reads them. Where they hold an intent, it goes on with step 4 of a commit, from the first patch.
+//! 2. It reads the gate, and the body only where the gate is open. Where they hold an intent, it goes on with
+//!    step 4 of a commit, from the first patch.
 //! 3. Where an open gate holds none, it does step 5 alone.
 //!
 //! Whatever part of the patches stands in the files, carrying out all of them again makes the same files. A
@@ -23,6 +24,7 @@
 
 mod carrying;
 mod committing;
+mod found;
 mod gate;
 mod headers;
 mod intent;

@@ -1,10 +1,9 @@
-// Reading the journal.
-ghost use Rattle.std.specs.Prelude.{◌≡◌, ℕ, ◌+◌, ◌<◌, ◌≤◌, ◌^◌, Bool, [], ◌&&◌, ◌==◌, slice_index, length, Some, None, IfSome, MatchOption};
+// Reading the bytes of the journal.
+ghost use Rattle.std.specs.Prelude.{◌≡◌, ℕ, ◌+◌, ◌<◌, ◌≤◌, ◌^◌, Bool, List, false, length, take, Some, None, IfSome, MatchOption};
 ghost use Rattle.record_numbers.specs.Numbers.{u16_at};
-ghost use Rattle.intent_journal.specs.Journal.{begins_patch, begins_body, front, patch_by, patches_of, are_once, open_patches};
-ghost use Rattle.intent_journal.specs.Steps.{IsRead};
+ghost use Rattle.intent_journal.specs.Journal.{begins_patch, begins_body, front, patch_by, patches_of, are_once};
+ghost use Rattle.intent_journal.specs.Found.{HasHead};
 
-use crate::gate::OPEN;
 use crate::marks::FileMarks;
 use crate::patch::{PUT, WHOLE};
 use door_outside::FileId;
@@ -14,7 +13,7 @@ use record_numbers::{u16_at, u32_at};
 const PATCH_HEADER: usize = 11;
 
 /// How many bytes stand before the patches.
-const JOURNAL_HEADER: usize = 13;
+pub(crate) const JOURNAL_HEADER: usize = 13;
 
 /// What stands before the length of a patch.
 #[derive(Clone, Copy)]
@@ -63,7 +62,7 @@ pub(crate) fn front_patch(text: &[u8]) -> Option<(PatchHead, &[u8], &[u8])>
 }
 
 /// Whether a text spells so many patches of which no two clash.
-fn is_intent(count: u32, text: &[u8]) -> bool
+pub(crate) fn is_intent(count: u32, text: &[u8]) -> bool
     ensures { result ≡ are_once (patches_of count text.now) }
 {
     let mut seen = FileMarks::new();
@@ -81,29 +80,27 @@ fn is_intent(count: u32, text: &[u8]) -> bool
     rest.is_empty()
 }
 
-/// Whether the gate is open, and the letters and all the bytes that the length speaks of stand behind it.
-fn is_open_body(journal: &[u8]) -> bool
-    ensures { result ≡ (slice_index journal.now 0 == 79 && begins_body journal.now) }
-{
-    journal.len() >= JOURNAL_HEADER
-        && journal[0] == OPEN
-        && journal[1..].starts_with(b"QDJ1")
-        && JOURNAL_HEADER + u32_at(journal, 9) as usize <= journal.len()
+/// What stands between the letters of a body and its patches.
+#[derive(Clone, Copy)]
+pub(crate) struct BodyHead {
+    /// How many patches it says that there are.
+    pub(crate) count: u32,
+    /// How many bytes their text has.
+    pub(crate) len: u32,
 }
 
-/// The patches behind an open gate: their count and their text.
-pub(crate) fn read_intent(journal: &[u8]) -> Option<(u32, &[u8])>
-    ensures { MatchOption result (open_patches journal.now ≡ []) (λ r. IsRead r.0 r.1.now journal.now) }
+/// The head of the body, by the gate and the 12 bytes behind it, or by fewer where the journal has no more.
+pub(crate) fn body_head(front: &[u8]) -> Option<BodyHead>
+    ensures { (journal : List ℕ) → front.now ≡ take 13 journal → MatchOption result (begins_body journal ≡ false) (λ head. HasHead head.count head.len journal) }
 {
-    if !is_open_body(journal) {
+    if front.len() < JOURNAL_HEADER {
         return None;
     }
-    let count = u32_at(journal, 5);
-    let end = JOURNAL_HEADER + u32_at(journal, 9) as usize;
-    let text = &journal[JOURNAL_HEADER..end];
-    if is_intent(count, text) {
-        Some((count, text))
-    } else {
-        None
+    if !front[1..].starts_with(b"QDJ1") {
+        return None;
     }
+    Some(BodyHead {
+        count: u32_at(front, 5),
+        len: u32_at(front, 9),
+    })
 }

@@ -1,7 +1,8 @@
 // Recovering what a crash left.
-ghost use Rattle.std.specs.Prelude.{◌≡◌, ℕ, [], ◌∷◌, ◌+◌, ◌≤◌, take, Some, IfOk, OnOk, IsErrOf, IsTrue};
+ghost use Rattle.std.specs.Prelude.{◌≡◌, ℕ, [], ◌∷◌, ◌+◌, ◌≤◌, take, Some, OnOk, IsErrOf, IsTrue};
 ghost use Rattle.door_outside.specs.Cause.{HasCause, Rose};
-ghost use Rattle.door_outside.specs.Disk.{Disk, Between, AllNow, Unchanged, as_read};
+ghost use Rattle.door_outside.specs.Disk.{Disk, Between, AllNow, as_read};
+ghost use Rattle.intent_journal.specs.Found.{Finds, HasText};
 ghost use Rattle.intent_journal.specs.Hosts.{IsCalm, IsFirm, IsSettled};
 ghost use Rattle.intent_journal.specs.Journal.{intent_of, patches_of, spelled};
 ghost use Rattle.intent_journal.specs.Patches.{byte_count, data_files, is_once};
@@ -9,8 +10,9 @@ ghost use Rattle.intent_journal.specs.Recovered.{recovered, Back};
 ghost use Rattle.intent_journal.specs.Steps.{IsOpen, IsSure};
 
 use crate::carrying::replay;
-use crate::gate::{CLOSED, is_open, set_gate};
-use crate::reading::read_intent;
+use crate::found::{Found, read_journal};
+use crate::gate::{CLOSED, set_gate};
+use crate::reading::is_intent;
 use crate::within::fits_files;
 use door_outside::{DiskFault, FileId, Host};
 use std::alloc::{AllocError, Global};
@@ -22,7 +24,7 @@ pub enum JournalError {
     /// A file call of the host failed. The host's count of disk faults says how often.
     #[error("disk fault")]
     DiskFault,
-    /// There is no memory for the journal. No file has changed.
+    /// There is no memory for the patches in the journal. No file has changed.
     #[error("out of memory")]
     OutOfMemory,
 }
@@ -104,10 +106,10 @@ fn finish_open<H: Host>(host: &mut H, count: u32, text: &[u8]) -> Result<(), Dis
     }
 }
 
-/// Carries out the intent that was read, or closes a gate over none.
-fn finish_recovery<H: Host>(host: &mut H, journal: &[u8]) -> Result<(), DiskFault>
+/// Carries out the patches of the body behind an open gate, or closes the gate over a body that is no intent.
+fn finish_body<H: Host>(host: &mut H, count: u32, text: &[u8]) -> Result<(), DiskFault>
     requires sure { IsTrue H.tells → IsSure (H.disk host.old) }
-    requires bytes { IsTrue H.tells → journal.now ≡ (H.disk host.old).files 1 }
+    requires has { IsTrue H.tells → HasText count text.now ((H.disk host.old).files 1) }
     ensures moments { IsTrue H.tells → Between (H.disk host.old) (H.disk host.new) (Back (H.disk host.old)) }
     ensures now { IsTrue H.tells → AllNow (H.disk host.new) (Back (H.disk host.old)) }
     ensures calm { OnOk result (IsTrue H.tells → IsCalm (H.disk host.new)) }
@@ -116,31 +118,35 @@ fn finish_recovery<H: Host>(host: &mut H, journal: &[u8]) -> Result<(), DiskFaul
     ensures cause { HasCause (H.disk_faults host.old) (H.disk_faults host.new) result }
     ensures voice { H.voice_faults host.new ≡ H.voice_faults host.old }
 {
-    match read_intent(journal) {
-        Some((count, text)) => finish_open(host, count, text),
-        None if is_open(journal) => close(host),
-        None => Ok(()),
+    if is_intent(count, text) {
+        finish_open(host, count, text)
+    } else {
+        close(host)
     }
 }
 
-/// All bytes of the journal.
-fn read_journal<H: Host>(alloc: Global, host: &mut H) -> Result<Vec<u8>, JournalError>
-    ensures bytes { IfOk result (λ bytes. IsTrue H.tells → bytes.items ≡ (H.disk host.old).files 1) }
-    ensures unchanged { IsTrue H.tells → Unchanged (H.disk host.old) (H.disk host.new) }
-    ensures later { H.disk_faults host.old ≤ H.disk_faults host.new }
-    ensures cause { IsErrOf result JournalError.DiskFault → Rose (H.disk_faults host.old) (H.disk_faults host.new) }
-    ensures kept { OnOk result (H.disk_faults host.new ≡ H.disk_faults host.old) }
-    ensures starved_faults { IsErrOf result JournalError.OutOfMemory → H.disk_faults host.new ≡ H.disk_faults host.old }
+/// Carries out the intent that was found, or closes a gate over none.
+fn finish_recovery<H: Host>(host: &mut H, found: &Found) -> Result<(), DiskFault>
+    requires sure { IsTrue H.tells → IsSure (H.disk host.old) }
+    requires finds { IsTrue H.tells → Finds found.now ((H.disk host.old).files 1) }
+    ensures moments { IsTrue H.tells → Between (H.disk host.old) (H.disk host.new) (Back (H.disk host.old)) }
+    ensures now { IsTrue H.tells → AllNow (H.disk host.new) (Back (H.disk host.old)) }
+    ensures calm { OnOk result (IsTrue H.tells → IsCalm (H.disk host.new)) }
+    ensures done { OnOk result (IsTrue H.tells → data_files (H.disk host.new).files ≡ recovered (H.disk host.old).files) }
+    ensures wrote { IsTrue H.tells → (H.disk host.new).wrote ≤ (H.disk host.old).wrote + byte_count (intent_of (H.disk host.old).files) + 1 }
+    ensures cause { HasCause (H.disk_faults host.old) (H.disk_faults host.new) result }
     ensures voice { H.voice_faults host.new ≡ H.voice_faults host.old }
 {
-    let len = host.length(FileId::journal())?;
-    let mut bytes = vec![in alloc; 0u8; len as usize]?;
-    host.read_at(FileId::journal(), 0, &mut bytes)?;
-    Ok(bytes)
+    match found {
+        Found::Closed => Ok(()),
+        Found::NoBody => close(host),
+        Found::Body { count, text } => finish_body(host, *count, text.as_slice()),
+    }
 }
 
 /// Brings to an end what a crash left: carries out the intent that the journal holds, if it holds one, and
-/// closes the gate. It takes memory for the bytes of the journal, and says nothing.
+/// closes the gate. Of a journal whose gate isn't open it reads one byte. It takes memory for the patches
+/// behind an open gate, and says nothing.
 ///
 /// A recovery that was stopped, any number of times, leads to the same files. `DiskFault` comes only where
 /// the host's count of disk faults rose. `OutOfMemory` hides no fault: it leaves the count as it was, as an
@@ -169,7 +175,7 @@ pub fn recover<H: Host>(alloc: Global, host: &mut H) -> Result<(), JournalError>
     ensures voice { H.voice_faults host.new ≡ H.voice_faults host.old }
 {
     settle(host)?;
-    let bytes = read_journal(alloc, host)?;
-    finish_recovery(host, &bytes)?;
+    let found = read_journal(alloc, host)?;
+    finish_recovery(host, &found)?;
     Ok(())
 }

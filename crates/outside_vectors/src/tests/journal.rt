@@ -58,6 +58,26 @@ recover 13 2 28 = 7
 recover 14 1 28 = 7
 ";
 
+/// The same on a host whose journal is too long to have a length, and on one whose reads of more than 13 bytes lose 4:
+/// bytes that didn't come aren't zeros.
+const RECOVERED_SO: &str = "\
+long 0 67 28 = 7
+long 0 79 27 = 7
+long 0 79 28 = 1
+short 0 79 28 = 7
+";
+
+/// The same journals, and how many bytes a recovery reads of them: the gate, the header, the last byte and the text.
+const READ: &str = "\
+reads 0 67 0 = 0
+reads 0 67 28 = 1
+reads 0 79 1 = 2
+reads 0 79 27 = 14
+reads 0 79 28 = 30
+reads 1 82 28 = 14
+reads 12 128 28 = 14
+";
+
 /// The open journal of `WHOLE`.
 const OPEN: [u8; 28] = *b"OQDJ1\x01\0\0\0\x0F\0\0\0\0\x02\0\0\0\0\0\x04\0\0\0\x01\0\0\0";
 
@@ -126,15 +146,24 @@ fn damaged(words: &str) -> Option<([u8; 28], usize)> {
 }
 
 /// Whether a recovery over such a journal is done, shuts the gate, and leaves this as the first byte of file 2.
-fn recovers(alloc: Global, words: &str, answer: &str) -> Option<bool> {
+fn recovers(alloc: Global, mut host: SmallHost, words: &str, answer: &str) -> Option<bool> {
     let (bytes, len) = damaged(words)?;
-    let mut host = SmallHost::new();
     let journal = &bytes[..bytes.len().min(len)];
     host.write_at(FileId::journal(), 0, journal).ok()?;
     host.write_at(FileId::jhr(0), 0, &[7; 6]).ok()?;
     recover(alloc, &mut host).ok()?;
     let first = u64::from(*host.content(FileId::jhr(0))?.first()?);
     Some(is_number(first, answer) && is_shut(&host))
+}
+
+/// Whether a recovery over such a journal is done, and reads so many bytes.
+fn reads(alloc: Global, words: &str, answer: &str) -> Option<bool> {
+    let (bytes, len) = damaged(words)?;
+    let mut host = SmallHost::new();
+    let journal = &bytes[..bytes.len().min(len)];
+    host.write_at(FileId::journal(), 0, journal).ok()?;
+    recover(alloc, &mut host).ok()?;
+    Some(is_number(host.read(), answer))
 }
 
 /// Whether the gate of a host is shut.
@@ -160,7 +189,10 @@ fn host_is_so(journal: &mut Journal, verb: &str, words: &str, answer: &str) -> O
         "open" => Some(host.open_journal().starts_with(answer.as_bytes())),
         "shut" => Some(says(is_shut(host), answer)),
         "file" => has(host, words, answer),
-        "recover" => recovers(journal.alloc, words, answer),
+        "recover" => recovers(journal.alloc, SmallHost::new(), words, answer),
+        "long" => recovers(journal.alloc, SmallHost::long(), words, answer),
+        "short" => recovers(journal.alloc, SmallHost::losing(4), words, answer),
+        "reads" => reads(journal.alloc, words, answer),
         _ => None,
     }
 }
@@ -180,7 +212,11 @@ impl Example for Journal {
 
 /// Plays an example on an empty host, with an intent of no patches.
 fn play_on(alloc: Global, text: &'static str) -> Result<(), Miss> {
-    let host = SmallHost::new();
+    play_with(alloc, SmallHost::new(), text)
+}
+
+/// Plays an example on a host, with an intent of no patches.
+fn play_with(alloc: Global, host: SmallHost, text: &'static str) -> Result<(), Miss> {
     let intent = Intent::new(alloc);
     play(
         &mut Journal {
@@ -208,4 +244,15 @@ fn a_patch_is_taken_under_its_conditions(rt: HostRuntime) -> Result<(), Miss> {
 #[test]
 fn only_an_open_intent_is_carried_out(rt: HostRuntime) -> Result<(), Miss> {
     play_on(rt.alloc(), RECOVERED)
+}
+
+#[test]
+fn a_journal_without_a_length_serves(rt: HostRuntime) -> Result<(), Miss> {
+    play_with(rt.alloc(), SmallHost::long(), WHOLE)?;
+    play_on(rt.alloc(), RECOVERED_SO)
+}
+
+#[test]
+fn a_recovery_reads_what_stands_behind_an_open_gate(rt: HostRuntime) -> Result<(), Miss> {
+    play_on(rt.alloc(), READ)
 }

@@ -20,6 +20,12 @@ pub(crate) struct SmallHost {
     disk_faults: u64,
     /// The journal as it was at the last sync with an open gate.
     open: [u8; ROOM],
+    /// How many bytes reads gave.
+    read: u64,
+    /// Whether the length of the journal can't be told.
+    is_long: bool,
+    /// How many bytes at its end a read of more than a header loses.
+    lost: usize,
 }
 
 impl SmallHost {
@@ -30,7 +36,29 @@ impl SmallHost {
             left: 1000,
             disk_faults: 0,
             open: [0; ROOM],
+            read: 0,
+            is_long: false,
+            lost: 0,
         }
+    }
+
+    /// One whose journal has no length that can be told, as one of 2^31 bytes and more.
+    pub(crate) fn long() -> SmallHost {
+        let mut host = SmallHost::new();
+        host.is_long = true;
+        host
+    }
+
+    /// One whose reads of more than 13 bytes lose so many at their end.
+    pub(crate) fn losing(lost: usize) -> SmallHost {
+        let mut host = SmallHost::new();
+        host.lost = lost;
+        host
+    }
+
+    /// How many bytes its reads gave.
+    pub(crate) fn read(&self) -> u64 {
+        self.read
     }
 
     /// Counts a fault.
@@ -40,6 +68,17 @@ impl SmallHost {
     {
         self.disk_faults = self.disk_faults.saturating_add(1);
         DiskFault
+    }
+
+    /// How many of so many bytes a read into a buffer with so much room gives.
+    fn given(&self, room: usize, count: usize) -> usize
+        ensures { result ≤ count }
+    {
+        if room > 13 {
+            count - count.min(self.lost)
+        } else {
+            count
+        }
     }
 
     /// The place of a call's file, where the call doesn't fail.
@@ -79,6 +118,9 @@ impl Host for SmallHost {
 
     fn length(&mut self, file: FileId) -> Result<u32, DiskFault> {
         let place = self.place(file)?;
+        if self.is_long && place == 1 {
+            return Err(self.fail());
+        }
         Ok(self.lens[place] as u32)
     }
 
@@ -86,7 +128,8 @@ impl Host for SmallHost {
         let place = self.place(file)?;
         let end = ROOM.min(self.lens[place] as usize);
         let from = end.min(at as usize);
-        let count = buf.len().min(end - from);
+        let count = self.given(buf.len(), buf.len().min(end - from));
+        self.read = self.read.saturating_add(count as u64);
         buf[..count].copy_from_slice(&self.files[place][from..from + count]);
         Ok(count)
     }
