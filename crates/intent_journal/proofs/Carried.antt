@@ -1,27 +1,23 @@
--- The patches are being carried out, one after the other.
+-- The patches are being written, one after the other.
 use Rattle.std.proofs.Common.{◌≡◌, ◌≢◌, inl, inr, ℕ, suc, ◌+◌, ◌≤◌, List, [], ◌∷◌, ◌++◌, refl, sym, ◌∙◌, ap, subst, append_assoc, length, arith}
 use Rattle.std.specs.Prelude.{All, Bool, true, IsTrue, Some, None}
 use Rattle.std.proofs.lemmas.Bool.{cases_eq}
 use Rattle.std.proofs.lemmas.List.Sums.{sum_by-cons}
-use Rattle.door_outside.specs.Disk.{Disk, Image, Now, AllNow, Between, Passes, InFile, Reached, as_read}
+use Rattle.door_outside.specs.Disk.{Disk, Image, AllNow, Between, Passes, InFile, Holds, Reached, as_read}
 use Rattle.door_outside.proofs.Moments.{still, joined, by_call, now_by}
-use Rattle.intent_journal.proofs.Steps.{apply_here, apply_there, part_hidden, part_within, patched_local}
-use Rattle.intent_journal.proofs.DataFiles.{data_each, from_data}
+use Rattle.intent_journal.proofs.Steps.{apply_here, apply_there, part_hidden, part_within, same_files}
 use Rattle.intent_journal.specs.Journal.{front, patch_by, patches_of}
-use Rattle.intent_journal.specs.Patches.{file_of, bytes_of, byte_count, is_once, patched_file, apply, patched, data_files}
+use Rattle.intent_journal.specs.Patches.{Files, file_of, bytes_of, byte_count, is_once, patched_file, apply, patched, data_files}
 use Rattle.intent_journal.specs.Spells.{IsFit}
 use Rattle.intent_journal.specs.Steps.{Stands, Partly}
 use Rattle.intent_journal.specs.declared.patch.Patch.{Patch}
 use Rattle.intent_journal.proofs.Front.{begins, bytes_by, file_by, nothing_left, fit_at}
 
--- every image stands for the outcome, and the patches that are left make it too
-pub record Ready (patches todo : List Patch) (goal image : Image) : Type 0 where
-  pub stands : Stands patches goal image
-  pub left : data_files (patched todo image.files) ≡ data_files (patched patches goal.files)
-
+-- every image stands for the outcome, and the patches that are left make it of the files as read
 pub record Reach (patches todo : List Patch) (old now : Disk) : Type 0 where
   pub since : Between old now (Stands patches (as_read old))
-  pub ready : AllNow now (Ready patches todo (as_read old))
+  pub stands : AllNow now (Stands patches (as_read old))
+  pub left : data_files (patched todo now.files) ≡ data_files (patched patches old.files)
   pub wrote : now.wrote + byte_count todo ≤ old.wrote + byte_count patches
 
 count_more : (p : Patch) (rest : List Patch) → byte_count (p ∷ rest) ≡ length (bytes_of p) + byte_count rest
@@ -41,7 +37,7 @@ carry_start tells patches n text old reads stands = record {
   todo = patches;
   split = refl;
   reads = reads;
-  reach = λ t. record { since = still old _; ready = λ image left. let here = stands t image left in record { stands = here; left = here.result }; wrote = omega arith };
+  reach = λ t. record { since = still old _; stands = stands t; left = refl; wrote = omega arith };
 }
 
 -- a part of a patch keeps the outcome
@@ -61,30 +57,24 @@ module _ (tells : Bool) (n : ℕ) (text : List ℕ) (old mid new : Disk) where
   carry_stops done rest p all_fit once reach call =
       let fit = fit_at done rest p all_fit in
       let after : (image : Image) → Reached (InFile (file_of p) (Partly p)) mid image → Stands (done ++ p ∷ rest) (as_read old) image =
-      λ image from. stands_on done p rest (as_read old) from.0 image once fit.no_journal (reach.ready from.0 from.1).stands from.2 in
+      λ image from. stands_on done p rest (as_read old) from.0 image once fit.no_journal (reach.stands from.0 from.1) from.2 in
       (joined reach.since (by_call call after), now_by call after)
 
-  -- what is left to do makes the outcome, file by file
-  left_after : (done rest : List Patch) (p : Patch) → Reach (done ++ p ∷ rest) (p ∷ rest) old mid → (before image : Image) → Now mid before → InFile (file_of p) (Partly p) before image
-      → image.files (file_of p) ≡ patched_file p (mid.files (file_of p)) → data_files (patched rest image.files) ≡ data_files (patched (done ++ p ∷ rest) old.files)
-  left_after done rest p reach before image left step holds = data_each _ _ (λ file is_data. elim (cases_eq file (file_of p)) [
-    | inl is ↦
-        let here : image.files file ≡ apply p mid.files file = ap image.files is ∙ holds ∙ sym (ap (λ (f : ℕ). patched_file p (mid.files f)) is) ∙ sym (apply_here p mid.files file is) in
-        patched_local rest file image.files (apply p mid.files) here ∙ from_data _ _ (reach.ready (as_read mid) mid.reads).left file is_data
-    | inr ne ↦
-        let there : image.files file ≡ apply p before.files file = step.others file ne ∙ sym (apply_there p before.files file ne) in
-        patched_local rest file image.files (apply p before.files) there ∙ from_data _ _ (reach.ready before left).left file is_data
+  -- the files as read have one patch more
+  patch_done : (p : Patch) → Holds (file_of p) (patched_file p (mid.files (file_of p))) mid.files new.files → new.files ≡ apply p mid.files
+  patch_done p holds = same_files new.files (apply p mid.files) (λ file. elim (cases_eq file (file_of p)) [
+    | inl is ↦ ap new.files is ∙ holds.holds ∙ sym (ap (λ (f : ℕ). patched_file p (mid.files f)) is) ∙ sym (apply_here p mid.files file is)
+    | inr ne ↦ holds.others file ne ∙ sym (apply_there p mid.files file ne)
   ])
 
   pub carry_goes_on : (done rest : List Patch) (p : Patch) → All IsFit (done ++ p ∷ rest) → is_once (done ++ p ∷ rest) ≡ true → Reach (done ++ p ∷ rest) (p ∷ rest) old mid → Passes (InFile (file_of p) (Partly p)) (InFile (file_of p) (Partly p)) mid new
-      → AllNow new (λ image. image.files (file_of p) ≡ patched_file p (mid.files (file_of p))) → new.wrote ≤ mid.wrote + length (bytes_of p) → Reach (done ++ p ∷ rest) rest old new
+      → Holds (file_of p) (patched_file p (mid.files (file_of p))) mid.files new.files → new.wrote ≤ mid.wrote + length (bytes_of p) → Reach (done ++ p ∷ rest) rest old new
   carry_goes_on done rest p all_fit once reach call holds wrote =
       let both = carry_stops done rest p all_fit once reach call in
       record {
         since = both.0;
-        ready = λ image left.
-            let from = call.now image left in
-            record { stands = both.1 image left; left = left_after done rest p reach from.0 image from.1 from.2 (holds image left) };
+        stands = both.1;
+        left = ap (λ (f : Files). data_files (patched rest f)) (patch_done p holds) ∙ reach.left;
         wrote = omega (arith, wrote, reach.wrote, count_more p rest);
       }
 
@@ -95,7 +85,7 @@ pub record Next (tells : Bool) (patches : List Patch) (n : ℕ) (old mid : Disk)
       → Between old new (Stands patches (as_read old)) × AllNow new (Stands patches (as_read old))
   pub wrote : (new : Disk) → (IsTrue tells → new.wrote ≤ mid.wrote + length (bytes_of p)) → IsTrue tells → new.wrote ≤ old.wrote + byte_count patches
   pub goes_on : (new : Disk) → (IsTrue tells → Passes (InFile (file_of p) (Partly p)) (InFile (file_of p) (Partly p)) mid new)
-      → (IsTrue tells → AllNow new (λ image. image.files (file_of p) ≡ patched_file p (mid.files (file_of p)))) → (IsTrue tells → new.wrote ≤ mid.wrote + length (bytes_of p)) → Carrying tells patches n after old new
+      → (IsTrue tells → Holds (file_of p) (patched_file p (mid.files (file_of p))) mid.files new.files) → (IsTrue tells → new.wrote ≤ mid.wrote + length (bytes_of p)) → Carrying tells patches n after old new
 
 pub some_pair : (a c : Patch × List ℕ) → Some a ≡ Some c → (a.0 ≡ c.0) × (a.1 ≡ c.1)
 some_pair a c is = let same : a ≡ c = cc in (ap (λ (x : Patch × List ℕ). x.0) same, ap (λ (x : Patch × List ℕ). x.1) same)
@@ -132,10 +122,10 @@ module _ (tells : Bool) (patches : List Patch) (n : ℕ) (text : List ℕ) (old 
   next_there carrying none = let b = begins n text carrying.todo carrying.reads in absurd (cc (none, b.at_front))
 
 -- where none is left
-pub carried : (tells : Bool) (patches : List Patch) (text : List ℕ) (old now : Disk) → Carrying tells patches 0 text old now → IsTrue tells → AllNow now (λ image. data_files image.files ≡ data_files (patched patches old.files))
-carried tells patches text old now carrying t image left =
+pub carried : (tells : Bool) (patches : List Patch) (text : List ℕ) (old now : Disk) → Carrying tells patches 0 text old now → IsTrue tells → data_files now.files ≡ data_files (patched patches old.files)
+carried tells patches text old now carrying t =
     let none : carrying.todo ≡ [] = nothing_left text carrying.todo carrying.reads in
-    subst (λ todo. data_files (patched todo image.files) ≡ data_files (patched patches old.files)) none ((carrying.reach t).ready image left).left
+    subst (λ todo. data_files (patched todo now.files) ≡ data_files (patched patches old.files)) none (carrying.reach t).left
 
 module _ (tells : Bool) (patches : List Patch) (m n : ℕ) (text : List ℕ) (old mid : Disk) (one_more : m ≡ suc n) (carrying : Carrying tells patches m text old mid) where
   pub next_at : All IsFit patches → is_once patches ≡ true → (p : Patch) (after : List ℕ) → front text ≡ Some (p, after) → Next tells patches n old mid p after
@@ -173,5 +163,5 @@ module _ (tells : Bool) (patches : List Patch) (m n : ℕ) (text : List ℕ) (ol
       pub wrote_here : IsTrue tells → new.wrote ≤ old.wrote + byte_count patches
       wrote_here = next_here.wrote new wrote_of
 
-      pub goes_on_here : (IsTrue tells → AllNow new (λ image. image.files number ≡ patched_file patch (mid.files number))) → Carrying tells patches n after old new
-      goes_on_here holds = next_here.goes_on new called (subst (λ (f : ℕ). IsTrue tells → AllNow new (λ image. image.files f ≡ patched_file patch (mid.files f))) same holds) wrote_of
+      pub goes_on_here : (IsTrue tells → Holds number (patched_file patch (mid.files number)) mid.files new.files) → Carrying tells patches n after old new
+      goes_on_here holds = next_here.goes_on new called (subst (λ (f : ℕ). IsTrue tells → Holds f (patched_file patch (mid.files f)) mid.files new.files) same holds) wrote_of

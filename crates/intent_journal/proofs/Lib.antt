@@ -17,3 +17,4 @@ mod Replaying
 mod Spelling
 mod Staging
 mod Steps
+mod Syncing

@@ -1,11 +1,11 @@
 -- What holds between the steps of a commit and of a recovery.
-use Rattle.std.specs.Prelude.{◌≡◌, ◌≢◌, ℕ, ◌+◌, ◌<◌, List, [], ◌∷◌, length, take, drop, Some, IsTrue}
-use Rattle.door_outside.specs.Disk.{Disk, Image, AllNow, Torn}
+use Rattle.std.specs.Prelude.{◌≡◌, ◌≢◌, ℕ, ◌+◌, ◌<◌, List, [], ◌∷◌, length, take, drop, true, Some, IsTrue}
+use Rattle.door_outside.specs.Disk.{Disk, Image, AllNow, Passes, Same, Torn, as_read}
 use Rattle.intent_journal.specs.declared.patch.Patch.{Patch}
 use Rattle.intent_journal.specs.declared.patch.Patch.TheVariants.{Whole, Put}
 use Rattle.intent_journal.specs.Hosts.{IsFirm}
 use Rattle.intent_journal.specs.Journal.{IsClosed, body_patches, body_text, intent_of, open_patches, spelled}
-use Rattle.intent_journal.specs.Patches.{Files, SameFiles, patched, are_within, data_files}
+use Rattle.intent_journal.specs.Patches.{Files, SameFiles, patched, are_within, data_files, is_touched}
 
 -- the journal is that of the disk as it reads, and carrying out the patches is allowed and gives the same data files
 pub record Stands (patches : List Patch) (goal image : Image) : Type 0 where
@@ -26,6 +26,16 @@ Partly (Put file at bytes) old new = Torn at (length bytes) old new
 -- a change of the journal that keeps its first byte
 abbrev pub BehindGate : List ℕ → List ℕ → Type 0
 BehindGate old new = 0 < length old → take 1 new ≡ take 1 old
+
+-- every image has the files of the patches as read
+abbrev pub AreDurable : List Patch → Disk → Type 0
+AreDurable patches disk = (file : ℕ) → is_touched file patches ≡ true → AllNow disk (λ image. image.files file ≡ disk.files file)
+
+-- nothing but syncs went by
+pub record OnlySynced (old new : Disk) : Type 0 where
+  pub call : Passes Same Same old new
+  pub same : as_read new ≡ as_read old
+  pub wrote : new.wrote ≡ old.wrote
 
 -- the journal has this body behind its gate, before free bytes, and nothing else has changed
 pub record HasBody (count : ℕ) (text : List ℕ) (old new : Files) : Type 0 where

@@ -7,7 +7,8 @@
 //!    grown since its last sync, and so an open gate too.
 //! 2. It writes the body behind the gate and syncs it, so that no gate is opened over half of one.
 //! 3. It opens the gate and syncs it, so that no data file changes before its patch can be found again.
-//! 4. It writes each patch and syncs its file, so that the gate is closed only over files that have them.
+//! 4. It writes the patches, and then syncs each file that they change, once, so that the gate is closed only
+//!    over files that have them.
 //! 5. It closes the gate and syncs it, so that no crash leaves it open over the next body.
 //!
 //! A recovery does this:

@@ -3,7 +3,7 @@ ghost use Rattle.std.specs.Prelude.{◌≡◌, ℕ, ◌<◌, List, [], ◌∷◌
 ghost use Rattle.door_outside.specs.File.{file_count};
 ghost use Rattle.std.specs.List.{list_any};
 ghost use Rattle.intent_journal.specs.Journal.{Marks};
-ghost use Rattle.intent_journal.specs.Patches.{file_of, is_whole, clash};
+ghost use Rattle.intent_journal.specs.Patches.{file_of, is_touched, is_whole, clash};
 ghost use Rattle.intent_journal.specs.declared.patch.Patch.{Patch};
 
 use door_outside::{FILE_COUNT, FileId};
@@ -43,6 +43,13 @@ impl FileMarks {
         } else {
             self.replaced[place]
         }
+    }
+
+    /// Whether one of the patches is for a file.
+    pub(crate) fn touches(&self, file: FileId) -> bool
+        ensures { (patches : List Patch) → Marks self.now.touched self.now.replaced patches → result ≡ is_touched file patches }
+    {
+        self.touched[usize::from(file.number())]
     }
 
     /// Marks the file of one more patch.

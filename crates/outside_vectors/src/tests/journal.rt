@@ -26,6 +26,19 @@ open = OQDJ1\x01\0\0\0\x0F\0\0\0\x01\x02\0\x08\0\0\0\x04\0\0\0\x01\0\0\0
 file 2 = \x07\x07\x07\x07\x07\x07\x07\x07\x01\0\0\0
 ";
 
+/// Four patches of two files, of which each is synced once.
+const SYNCED: &str = "\
+write 2 \x07\x07
+add put 2 0 \x01
+add whole 3 \x03\x04
+add put 2 1 \x02
+add put 2 2 \x05
+commit
+syncs = 2
+file 2 = \x01\x02\x05
+file 3 = \x03\x04
+";
+
 /// Puts are taken beside puts, up to the longest file.
 const BESIDE_PUT: &str = "\
 add put 2 8 \x01\0\0\0
@@ -189,6 +202,7 @@ fn host_is_so(journal: &mut Journal, verb: &str, words: &str, answer: &str) -> O
         "open" => Some(host.open_journal().starts_with(answer.as_bytes())),
         "shut" => Some(says(is_shut(host), answer)),
         "file" => has(host, words, answer),
+        "syncs" => Some(is_number(host.synced(), answer)),
         "recover" => recovers(journal.alloc, SmallHost::new(), words, answer),
         "long" => recovers(journal.alloc, SmallHost::long(), words, answer),
         "short" => recovers(journal.alloc, SmallHost::losing(4), words, answer),
@@ -233,6 +247,11 @@ fn play_with(alloc: Global, host: SmallHost, text: &'static str) -> Result<(), M
 fn an_open_journal_has_these_bytes(rt: HostRuntime) -> Result<(), Miss> {
     play_on(rt.alloc(), WHOLE)?;
     play_on(rt.alloc(), PUT)
+}
+
+#[test]
+fn each_file_is_synced_once(rt: HostRuntime) -> Result<(), Miss> {
+    play_on(rt.alloc(), SYNCED)
 }
 
 #[test]

@@ -22,6 +22,8 @@ pub(crate) struct SmallHost {
     open: [u8; ROOM],
     /// How many bytes reads gave.
     read: u64,
+    /// How many syncs of files but the journal there were.
+    synced: u64,
     /// Whether the length of the journal can't be told.
     is_long: bool,
     /// How many bytes at its end a read of more than a header loses.
@@ -37,6 +39,7 @@ impl SmallHost {
             disk_faults: 0,
             open: [0; ROOM],
             read: 0,
+            synced: 0,
             is_long: false,
             lost: 0,
         }
@@ -54,6 +57,11 @@ impl SmallHost {
         let mut host = SmallHost::new();
         host.lost = lost;
         host
+    }
+
+    /// How many syncs of its data files there were.
+    pub(crate) fn synced(&self) -> u64 {
+        self.synced
     }
 
     /// How many bytes its reads gave.
@@ -156,6 +164,9 @@ impl Host for SmallHost {
 
     fn sync(&mut self, file: FileId) -> Result<(), DiskFault> {
         let place = self.place(file)?;
+        if place != 1 {
+            self.synced = self.synced.saturating_add(1);
+        }
         if place == 1 && self.files[1][0] == b'O' {
             self.open = self.files[1];
         }
