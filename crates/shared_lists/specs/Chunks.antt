@@ -1,0 +1,7 @@
+-- Lists in chunks.
+use Rattle.std.specs.Prelude.{List}
+use Rattle.std.specs.List.{flat_map}
+
+-- the items of the chunks, one chunk after the other
+abbrev pub joined : {X : Type 0} → List (List X) → List X
+joined chunks = flat_map (λ chunk. chunk) chunks

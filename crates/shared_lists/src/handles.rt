@@ -1,0 +1,57 @@
+ghost use Rattle.std.specs.Prelude.{◌≡◌, IfOk};
+
+use byte_lists::Duplicate;
+use std::alloc::{AllocError, Global};
+use std::marker::Model;
+use std::rc::Rc;
+
+/// A value that is never changed, and that copies share. Contracts see the value.
+#[derive(Debug, Drop)]
+pub struct Shared<T> {
+    value: Rc<T, Global>,
+}
+
+impl<T> Model for Shared<T> {
+    ghost Value = { T };
+
+    ghost view = { λ s. s.value.value };
+}
+
+impl<T> Shared<T> {
+    /// The value.
+    pub fn get(&self) -> &T
+        ensures { result.now ≡ self.now }
+    {
+        self.value.as_ref()
+    }
+}
+
+impl<T: Drop> Shared<T> {
+    /// The value, which is moved.
+    ///
+    /// The error comes where there is no memory.
+    pub fn new(alloc: Global, value: T) -> Result<Shared<T>, AllocError>
+        ensures { IfOk result (λ shared. shared ≡ value) }
+    {
+        Ok(Shared {
+            value: Rc::new(alloc, value)?,
+        })
+    }
+
+    /// The same value, which isn't copied.
+    ///
+    /// The error comes where it is shared by more than can be counted.
+    pub fn share(&self) -> Result<Shared<T>, AllocError>
+        ensures { IfOk result (λ shared. shared ≡ self.now) }
+    {
+        Ok(Shared {
+            value: self.value.clone()?,
+        })
+    }
+}
+
+impl<T: Drop> Duplicate for Shared<T> {
+    fn duplicate(&self, _alloc: Global) -> Result<Shared<T>, AllocError> {
+        self.share()
+    }
+}
