@@ -18,3 +18,5 @@ pub mod MarkTurns
 pub mod MarkLoop
 pub mod MarkClauses
 pub mod PointerPuts
+pub mod BaseLaws
+pub mod ReceivedLoop

@@ -84,7 +84,7 @@ size_deleted : (m : Message) → header_size (record m { deleted = true }) ≡ h
 unfolding header_size subfields_of
 size_deleted m = refl
 
-deleted_marked : (s : Slot) → Marked s (slot_deleted s)
+pub deleted_marked : (s : Slot) → Marked s (slot_deleted s)
 deleted_marked Gone = unmarked Gone
 deleted_marked (Held m) = record { body = refl; size = size_deleted m; index = λ at. refl }
 
@@ -106,7 +106,7 @@ received_one : (name : List ℕ) (r : Receipt) (m : Message) (due : Bool) → Ma
 received_one name r m true = record { body = refl; size = size_received m r.now; index = λ at. refl }
 received_one name r m false = unmarked (Held m)
 
-received_marked : (name : List ℕ) (r : Receipt) (n : ℕ) (s : Slot) → Marked s (slot_received name r n s)
+pub received_marked : (name : List ℕ) (r : Receipt) (n : ℕ) (s : Slot) → Marked s (slot_received name r n s)
 received_marked name r n Gone = unmarked Gone
 received_marked name r n (Held m) = received_one name r m (is_due name r n m)
 

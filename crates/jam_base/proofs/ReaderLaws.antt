@@ -1,11 +1,11 @@
--- What `fresh`, `joined` and `pointed` make is a conference of its shape.
+-- What `fresh` and `joined` make is a conference of its shape.
 use Rattle.std.proofs.Common.{◌≡◌, ℕ, ◌+◌, ◌≤◌, ◌<◌, List, [], ◌∷◌, ◌++◌, length, sym, ap, ◌∙◌, subst, arith, length-append}
-use Rattle.std.specs.Prelude.{All, replicate, Some}
-use Rattle.std.proofs.Math.ListN.{set, length-replicate}
+use Rattle.std.specs.Prelude.{All, replicate}
+use Rattle.std.proofs.Math.ListN.{length-replicate}
 use Rattle.std.proofs.lemmas.List.{get_or-replicate}
 use Rattle.std.proofs.lemmas.List.Elements.{All-drop, All-append, All-cons, All-nil}
 use Rattle.jam_records.specs.declared.message.Slot.{Slot}
-use Rattle.jam_base.specs.Contents.{Contents, no_slots, with_reader, with_pointer, reader_place, pointers_with}
+use Rattle.jam_base.specs.Contents.{Contents, no_slots, with_reader}
 use Rattle.jam_layout.specs.Messages.{IsSlot}
 use Rattle.jam_layout.specs.Valid.{Rise, IsShape, IsConference}
 use Rattle.jam_layout.specs.declared.conference.Conference.{Conference}
@@ -72,17 +72,3 @@ module _ (base : Contents) (user : ℕ) (name : List ℕ) where
 pub shape_more : (s t : Shape) (readers : List Reader) (user : ℕ) (name : List ℕ) → s ≡ t → readers ≡ t.readers ++ record { id = user; name = name } ∷ []
     → record { place = s.place; created = s.created; kind = s.kind; readers = readers } ≡ record t { readers = t.readers ++ record { id = user; name = name } ∷ [] }
 shape_more s t readers user name same is = λ i. record { place = (same i).place; created = (same i).created; kind = (same i).kind; readers = is i }
-
-pub conference_more : (c d : Conference) (pointers : List ℕ) → c ≡ d → pointers ≡ d.pointers ++ 0 ∷ [] → record { counter = c.counter; slots = c.slots; pointers = pointers } ≡ record d { pointers = d.pointers ++ 0 ∷ [] }
-conference_more c d pointers same is = λ i. record { counter = (same i).counter; slots = (same i).slots; pointers = is i }
-
--- ---- a pointer moved
-pub pointed_base : (base made : Contents) (shape : Shape) (old : Conference) (slots : List Slot) (pointers : List ℕ) (place user number : ℕ)
-    → made ≡ record { shape = shape; conference = record { counter = old.counter; slots = slots; pointers = pointers } } → shape ≡ base.shape → old ≡ base.conference → slots ≡ old.slots → pointers ≡ set old.pointers place number
-    → reader_place user shape.readers ≡ Some place → made ≡ with_pointer user number base
-pointed_base base made shape old slots pointers place user number is shape_is old_is slots_are pointers_are found =
-    let there : reader_place user base.shape.readers ≡ Some place = ap (λ (s : Shape). reader_place user s.readers) (sym shape_is) ∙ found in
-    let moved : pointers ≡ pointers_with (reader_place user base.shape.readers) number base.conference.pointers =
-    pointers_are ∙ (ap (λ (c : Conference). set c.pointers place number) old_is ∙ ap (λ p. pointers_with p number base.conference.pointers) (sym there)) in
-    let same : slots ≡ base.conference.slots = slots_are ∙ ap (λ (c : Conference). c.slots) old_is in
-    is ∙ (λ i. record { shape = shape_is i; conference = record { counter = (old_is i).counter; slots = same i; pointers = moved i } })

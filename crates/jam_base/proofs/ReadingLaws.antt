@@ -1,14 +1,14 @@
 -- A base in which a reader has acknowledged what there is up to a message number: it is a conference of its shape, and only .JHR and .JLR differ.
-use Rattle.std.proofs.Common.{◌≡◌, ℕ, Bool, true, false, cond, ◌<◌, ◌≤◌, ◌^◌, List, length, Option, Some, None, refl, sym, ap, ◌∙◌, arith}
+use Rattle.std.proofs.Common.{◌≡◌, ℕ, Bool, true, false, cond, ◌<◌, ◌≤◌, ◌^◌, List, length, Option, Some, None, refl, sym, ap, ◌∙◌, subst, arith}
 use Rattle.std.proofs.Math.ListN.{set, length-set}
 use Rattle.std.proofs.lemmas.Bool.{cond-true, cond-false}
 use Rattle.std.proofs.lemmas.List.Elements.{All-set}
 use Rattle.jam_records.specs.declared.message.Slot.{Slot}
 use Rattle.jam_layout.specs.Layout.{layout}
 use Rattle.jam_layout.specs.Valid.{IsConference}
-use Rattle.jam_layout.specs.declared.conference.Conference.{Conference}
 use Rattle.jam_layout.specs.declared.files.BaseFiles.{BaseFiles}
-use Rattle.jam_base.specs.Contents.{Contents, counter_after, pointers_with, reader_place, receipt_to, with_acknowledged, with_pointer, with_slots}
+use Rattle.jam_layout.specs.declared.shape.Shape.{Shape}
+use Rattle.jam_base.specs.Contents.{Contents, pointers_with, reader_place, receipt_to, with_acknowledged, with_pointer, with_slots}
 use Rattle.jam_base.specs.Slots.{any_due, slots_received}
 use Rattle.jam_base.proofs.MarkedSlots.{received_files}
 use Rattle.jam_base.proofs.SlotChanges.{received_is, received_length}
@@ -28,6 +28,29 @@ pointed_is base user number most ok = by (reader_place user base.shape.readers)
         within = All-set (λ p. p ≤ length base.conference.slots) base.conference.pointers place number most ok.pointers.within;
       };
     }
+
+-- the pointer in a place at a number
+abbrev pub pointer_at : ℕ → ℕ → Contents → Contents
+pointer_at place number base = record base { conference = record base.conference { pointers = set base.conference.pointers place number } }
+
+pub pointer_there : (base : Contents) (user number place : ℕ) → reader_place user base.shape.readers ≡ Some place → pointer_at place number base ≡ with_pointer user number base
+pointer_there base user number place there =
+    ap (λ (p : Option ℕ). record base { conference = record base.conference { pointers = pointers_with p number base.conference.pointers } }) (sym there)
+
+pub moved_is : (base : Contents) (shape : Shape) (pointers : List ℕ) (place number : ℕ) → shape ≡ base.shape → pointers ≡ set base.conference.pointers place number → number ≤ length base.conference.slots → IsConference base.shape base.conference
+    → IsConference shape (record base.conference { pointers = pointers })
+moved_is base shape pointers place number shape_is pointers_are most ok =
+    let made : IsConference base.shape (record base.conference { pointers = set base.conference.pointers place number }) = record {
+      counter = ok.counter;
+      few = ok.few;
+      slots = ok.slots;
+      pointers = record {
+        all = length-set base.conference.pointers place number ∙ ok.pointers.all;
+        within = All-set (λ p. p ≤ length base.conference.slots) base.conference.pointers place number most ok.pointers.within;
+      };
+    } in
+    subst (λ (s : Shape). IsConference s (record base.conference { pointers = pointers })) (sym shape_is)
+    (subst (λ (ps : List ℕ). IsConference base.shape (record base.conference { pointers = ps })) (sym pointers_are) made)
 
 -- ---- messages received, and then the pointer moved
 module _ (base : Contents) (user : ℕ) (name : List ℕ) (upto now : ℕ) where
@@ -77,10 +100,8 @@ module _ (base : Contents) (user : ℕ) (name : List ℕ) (upto now : ℕ) where
       let new : BaseFiles = layout base.shape (with_pointer user upto received_to).conference in
       ap (λ (files : BaseFiles). record files { jlr = new.jlr }) (received_files base slots_to name (receipt_to user upto now base) refl)
 
-  -- the conference as it is made
-  pub reading_next : (old next : Conference) (slots : List Slot) (place : ℕ) → old ≡ base.conference → next ≡ record { counter = counter_after old.counter; slots = slots; pointers = set old.pointers place upto } → slots ≡ slots_to
-      → reader_place user base.shape.readers ≡ Some place → next ≡ (with_pointer user upto received_to).conference
-  reading_next old next slots place old_is next_is slots_are there =
-      let moved : set old.pointers place upto ≡ pointers_with (reader_place user base.shape.readers) upto base.conference.pointers =
-      ap (λ (c : Conference). set c.pointers place upto) old_is ∙ ap (λ (p : Option ℕ). pointers_with p upto base.conference.pointers) (sym there) in
-      next_is ∙ (λ i. record { counter = counter_after (old_is i).counter; slots = slots_are i; pointers = moved i })
+  -- the base as it is made
+  pub reading_made : (read next : Contents) (slots : List Slot) (place : ℕ) → read ≡ with_slots slots base → slots ≡ slots_to → next ≡ pointer_at place upto read → reader_place user base.shape.readers ≡ Some place
+      → next ≡ with_pointer user upto received_to
+  reading_made read next slots place read_is slots_are next_is there =
+      next_is ∙ (ap (pointer_at place upto) (read_is ∙ ap (λ (xs : List Slot). with_slots xs base) slots_are) ∙ pointer_there received_to user upto place there)

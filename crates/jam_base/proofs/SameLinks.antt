@@ -28,7 +28,7 @@ pub all_self : (slots : List Slot) → AllSame slots slots
 all_self [] = tt
 all_self (s ∷ slots) = (same_self s, all_self slots)
 
-length_same : (ss ts : List Slot) → AllSame ss ts → length ts ≡ length ss
+pub length_same : (ss ts : List Slot) → AllSame ss ts → length ts ≡ length ss
 length_same [] [] same = refl
 length_same [] (t ∷ ts) same = absurd same
 length_same (s ∷ ss) [] same = absurd same
@@ -40,7 +40,7 @@ place_same id [] (t ∷ ts) same = absurd same
 place_same id (s ∷ ss) [] same = absurd same
 place_same id (s ∷ ss) (t ∷ ts) same = λ i. cond (not (same.0.msgid id i)) (1 + place_same id ss ts same.1 i) 0
 
-first_same : (id : List ℕ) (ss ts : List Slot) → AllSame ss ts → first_of_id ts id ≡ first_of_id ss id
+pub first_same : (id : List ℕ) (ss ts : List Slot) → AllSame ss ts → first_of_id ts id ≡ first_of_id ss id
 first_same id ss ts same =
     λ i. number_at (cond (nat_lt (place_same id ss ts same i) (length_same ss ts same i)) (Some (place_same id ss ts same i)) None)
 
@@ -72,7 +72,7 @@ unfolding original
 original_same ss ts same zero = refl
 original_same ss ts same (suc n) = get_same (take n ts) n ss ts same ∙ answer_same (slice_get ss n) (take n ss) (take n ts) (take_same n ss ts same)
 
-children_same : (ss ts : List Slot) → AllSame ss ts → (number : ℕ) → children ts number ≡ children ss number
+pub children_same : (ss ts : List Slot) → AllSame ss ts → (number : ℕ) → children ts number ≡ children ss number
 unfolding children
 children_same ss ts same number = λ i. filter (λ k. original_same ss ts same k i == number) (numbers_to (length_same ss ts same i))
 

@@ -1,34 +1,13 @@
 // What a reader was offered of a conference, once it is acknowledged.
-ghost use Rattle.std.specs.Prelude.{◌≡◌, ◌≤◌, ◌<◌, length, slice_set, IfOk, IsSome};
+ghost use Rattle.std.specs.Prelude.{◌≡◌, ◌≤◌, ◌<◌, length, IfOk, IsSome};
 ghost use Rattle.jam_base.specs.Change.{Turns, SuitsIntent};
-ghost use Rattle.jam_base.specs.Contents.{reader_place, counter_after, with_acknowledged};
+ghost use Rattle.jam_base.specs.Contents.{reader_place, with_acknowledged};
 ghost use Rattle.jam_layout.specs.Layout.{layout};
 
 use crate::base::Base;
 use crate::change::BaseChange;
-use crate::pointers::moved;
 use crate::receipt::{Receipt, any_due, slots_received};
-use jam_layout::Conference;
-use jam_records::Slots;
 use std::alloc::{AllocError, Global};
-
-/// The conference with other slots, by one change, and the pointer in a place, from 0, at a message number.
-fn with_reading(
-    alloc: Global,
-    old: &Conference,
-    slots: Slots,
-    place: usize,
-    number: u32,
-) -> Result<Conference, AllocError>
-    requires { place < length old.now.pointers }
-    ensures { IfOk result (λ new. new ≡ record { counter = counter_after old.now.counter; slots = slots; pointers = slice_set old.now.pointers place number }) }
-{
-    Ok(Conference {
-        counter: old.counter.saturating_add(1),
-        slots,
-        pointers: moved(alloc, &old.pointers, place, number)?,
-    })
-}
 
 impl Base {
     /// The base in which a reader, the user of this id and name, has acknowledged what there is up to a message
@@ -54,18 +33,18 @@ impl Base {
     {
         let above = self.pointer(user).unwrap_or(0);
         let receipt = Receipt { above, upto, now };
-        let (shape, old) = self.parts();
-        let slots = old.slots.as_slice();
-        if !any_due(name, receipt, slots) {
+        let old = self.slots();
+        if !any_due(name, receipt, old) {
             return self.pointed(alloc, user, upto);
         }
-        let Some(place) = shape.readers.position(user) else {
+        let Some(place) = self.shape().readers.position(user) else {
             unreachable!()
         };
         let marks = self.reception(alloc, name, receipt)?;
-        let slots = slots_received(alloc, name, receipt, slots)?;
-        let next = with_reading(alloc, old, slots, place, upto)?;
-        let change = BaseChange::of_marks(alloc, Base::linked(alloc, shape, next)?, marks)?;
+        let slots = slots_received(alloc, name, receipt, old)?;
+        let read = self.changed(alloc, slots)?;
+        let next = read.with_pointer(alloc, place, upto)?;
+        let change = BaseChange::of_marks(alloc, next, marks)?;
         BaseChange::of_pointer(alloc, change.base, change.patches, place, upto)
     }
 }

@@ -1,4 +1,4 @@
-ghost use Rattle.std.specs.Prelude.{◌≡◌, ◌↔◌, ◌+◌, ◌-◌, ◌≤◌, ◌<◌, ◌==◌, ℕ, [], length, slice_get, All, None, IfOk, IsSome, IsTrue, if◌then◌else◌};
+ghost use Rattle.std.specs.Prelude.{◌≡◌, ◌↔◌, ◌+◌, ◌-◌, ◌*◌, ◌^◌, ◌≤◌, ◌<◌, ◌==◌, ℕ, [], length, slice_get, slice_set, All, None, IfOk, IsSome, IsTrue, if◌then◌else◌};
 ghost use Rattle.std.specs.Option.{option_copied};
 ghost use Rattle.jam_threads.specs.Children.{original};
 ghost use Rattle.jam_layout.specs.Layout.{layout, files_size};
@@ -9,6 +9,7 @@ ghost use Rattle.jam_base.specs.Slots.{has_live as has_live_of, numbered, slots_
 ghost use Rattle.jam_base.specs.MarkPuts.{delete_puts, receive_puts};
 ghost use Rattle.intent_journal.specs.Patches.{byte_count};
 ghost use Rattle.jam_threads.specs.Threading.{AreThreads};
+ghost use Rattle.jam_threads.specs.declared.threads.Threads.{Threads as ThreadsOf};
 ghost use Rattle.jam_layout.specs.Messages.{IsMessage};
 ghost use Rattle.jam_layout.specs.Conference.{live_count};
 ghost use Rattle.jam_layout.specs.Valid.{IsShape, IsConference};
@@ -25,23 +26,27 @@ use crate::slots::{has_live, with_deleted, with_messages};
 use byte_lists::{Bytes, Duplicate};
 use door_outside::FileId;
 use intent_journal::{Patch, Patches};
-use jam_layout::{Conference, Reader, Shape, files_size as size_of_files};
+use jam_layout::{Conference, Reader, Shape};
 use jam_records::{Message, Messages, Slot, Slots};
 use jam_threads::{Threads, links};
 use jam_writing::{
-    body_place, header_place, write_jdt, write_jdx, write_jhr, write_jlr, write_last_bodies,
-    write_last_headers, write_last_records,
+    write_files, write_jlr, write_last_bodies, write_last_headers, write_last_records,
 };
+use shared_lists::{Shared, SharedList};
+use shared_slots::SharedSlots;
 use std::alloc::{AllocError, Global};
 use std::marker::Model;
 
-/// A conference and its shape. Contracts see the two as `Contents`.
+/// A conference and its shape. The base before a change and the one after it share what the change leaves. Contracts
+/// see the two as `Contents`.
 #[derive(Debug, Drop)]
 pub struct Base {
-    shape: Shape,
-    conference: Conference,
+    shape: Shared<Shape>,
+    counter: u32,
+    slots: SharedSlots,
+    pointers: SharedList<u32>,
     /// The threads of its slots.
-    threads: Threads,
+    threads: Shared<Threads>,
 }
 
 impl Model for Base {
@@ -51,9 +56,9 @@ impl Model for Base {
 
     ghost Value = { Contents };
 
-    ghost view = { λ s. record { shape = s.shape; conference = s.conference } };
+    ghost view = { λ s. record { shape = s.shape; conference = record { counter = s.counter; slots = s.slots; pointers = s.pointers } } };
 
-    ghost invariant = { λ s. IsShape s.shape × IsConference s.shape s.conference × AreThreads s.conference.slots s.threads };
+    ghost invariant = { λ s. IsShape s.shape × IsConference s.shape (record { counter = s.counter; slots = s.slots; pointers = s.pointers }) × AreThreads s.slots s.threads };
 }
 
 impl Base {
@@ -68,56 +73,117 @@ impl Base {
         ensures { IfOk result (λ base. base ≡ record { shape = shape.now; conference = conference }) }
     {
         let threads = Threads::of(alloc, &conference.slots)?;
-        let shape = shape.duplicate(alloc)?;
+        let slots = SharedSlots::from_slots(alloc, conference.slots)?;
+        let pointers = SharedList::from_list(alloc, conference.pointers)?;
         Ok(Base {
-            shape,
-            conference,
-            threads,
+            shape: Shared::new(alloc, shape.duplicate(alloc)?)?,
+            counter: conference.counter,
+            slots,
+            pointers,
+            threads: Shared::new(alloc, threads)?,
         })
     }
 
-    /// The conference and its shape, each as it has to be.
-    pub(crate) fn parts(&self) -> (&Shape, &Conference)
-        ensures shape { result.0.now ≡ self.now.shape }
-        ensures conference { result.1.now ≡ self.now.conference }
+    /// Its shape.
+    pub(crate) fn shape(&self) -> &Shape
+        ensures same { result.now ≡ self.now.shape }
         ensures is_shape { IsShape self.now.shape }
         ensures is_conference { IsConference self.now.shape self.now.conference }
     {
-        (&self.shape, &self.conference)
+        self.shape.get()
+    }
+
+    /// Its slots.
+    pub(crate) fn slots(&self) -> &SharedSlots
+        ensures same { result.now ≡ self.now.conference.slots }
+        ensures is_conference { IsConference self.now.shape self.now.conference }
+    {
+        &self.slots
+    }
+
+    /// The pointers of its readers.
+    fn pointers(&self) -> &SharedList<u32>
+        ensures { result.now ≡ self.now.conference.pointers }
+    {
+        &self.pointers
     }
 
     /// The base with other slots, by one change, whose threads these are.
     fn with_threads(
         &self,
         alloc: Global,
-        slots: Slots,
-        threads: Threads,
+        slots: SharedSlots,
+        threads: Shared<Threads>,
     ) -> Result<Base, AllocError>
         requires conference { IsConference self.now.shape (with_slots slots self.now).conference }
         requires threads { AreThreads slots threads }
         ensures { IfOk result (λ base. base ≡ with_slots slots self.now) }
     {
-        let (shape, old) = self.parts();
-        let conference = Conference {
-            counter: old.counter.saturating_add(1),
-            slots,
-            pointers: old.pointers.copy(alloc)?,
-        };
-        let shape = shape.duplicate(alloc)?;
         Ok(Base {
-            shape,
-            conference,
+            shape: self.shape.share()?,
+            counter: self.counter.saturating_add(1),
+            slots,
+            pointers: self.pointers.copy(alloc)?,
             threads,
         })
     }
 
-    /// The base with other slots, by one change.
-    fn changed(&self, alloc: Global, slots: Slots) -> Result<Base, AllocError>
-        requires { IsConference self.now.shape (with_slots slots self.now).conference }
+    /// The base with other slots, by one change, whose threads are those of its own.
+    pub(crate) fn changed(&self, alloc: Global, slots: SharedSlots) -> Result<Base, AllocError>
+        requires conference { IsConference self.now.shape (with_slots slots self.now).conference }
+        requires threads { (threads : ThreadsOf) → AreThreads self.now.conference.slots threads → AreThreads slots threads }
         ensures { IfOk result (λ base. base ≡ with_slots slots self.now) }
     {
-        let threads = Threads::of(alloc, &slots)?;
+        let threads = self.threads.share()?;
         self.with_threads(alloc, slots, threads)
+    }
+
+    /// The same base, which is shared.
+    fn copy(&self, alloc: Global) -> Result<Base, AllocError>
+        ensures { IfOk result (λ copy. copy ≡ self.now) }
+    {
+        Ok(Base {
+            shape: self.shape.share()?,
+            counter: self.counter,
+            slots: self.slots.copy(alloc)?,
+            pointers: self.pointers.copy(alloc)?,
+            threads: self.threads.share()?,
+        })
+    }
+
+    /// The base of another shape, with the pointers of its readers.
+    fn with_readers(
+        &self,
+        alloc: Global,
+        shape: Shared<Shape>,
+        pointers: SharedList<u32>,
+    ) -> Result<Base, AllocError>
+        requires shape { IsShape shape }
+        requires conference { IsConference shape (record self.now.conference { pointers = pointers }) }
+        ensures { IfOk result (λ base. base ≡ record { shape = shape; conference = record self.now.conference { pointers = pointers } }) }
+    {
+        Ok(Base {
+            shape,
+            counter: self.counter,
+            slots: self.slots.copy(alloc)?,
+            pointers,
+            threads: self.threads.share()?,
+        })
+    }
+
+    /// The base with the pointer in a place, from 0, at a message number.
+    pub(crate) fn with_pointer(
+        &self,
+        alloc: Global,
+        place: usize,
+        number: u32,
+    ) -> Result<Base, AllocError>
+        requires there { place < length self.now.conference.pointers }
+        requires within { number ≤ length self.now.conference.slots }
+        ensures { IfOk result (λ base. base ≡ record self.now { conference = record self.now.conference { pointers = slice_set self.now.conference.pointers place number } }) }
+    {
+        let pointers = moved(alloc, &self.pointers, place, number)?;
+        self.with_readers(alloc, self.shape.share()?, pointers)
     }
 
     /// The threads with these messages at the end, and the patches of the links that these change in the
@@ -126,15 +192,14 @@ impl Base {
         &self,
         alloc: Global,
         messages: &[Message],
-    ) -> Result<(Threads, Patches), AllocError>
+    ) -> Result<(Shared<Threads>, Patches), AllocError>
         requires { length self.now.conference.slots + length messages.now ≤ 9999 }
         ensures threads { IfOk result (λ made. AreThreads (slots_with_all self.now.conference.slots messages.now) made.0) }
         ensures patches { IfOk result (λ made. made.1 ≡ link_puts self.now.shape.place self.now.conference.slots self.now.conference.slots messages.now) }
     {
-        let mut threads = self.threads.copy(alloc)?;
-        let slots = self.conference.slots.as_slice();
-        let links = add_messages(alloc, self.place(), slots, &mut threads, messages)?;
-        Ok((threads, links))
+        let mut threads = self.threads.get().copy(alloc)?;
+        let links = add_messages(alloc, self.place(), &self.slots, &mut threads, messages)?;
+        Ok((Shared::new(alloc, threads)?, links))
     }
 
     /// No change.
@@ -142,8 +207,7 @@ impl Base {
         ensures base { IfOk result (λ change. change.base ≡ self.now) }
         ensures patches { IfOk result (λ change. change.patches ≡ []) }
     {
-        let (shape, conference) = self.parts();
-        let base = Base::linked(alloc, shape, conference.duplicate(alloc)?)?;
+        let base = self.copy(alloc)?;
         Ok(BaseChange::of_nothing(alloc, base))
     }
 
@@ -152,44 +216,23 @@ impl Base {
         ensures place { result ≡ self.now.shape.place }
         ensures bound { result < 64 }
     {
-        self.shape.place
-    }
-
-    /// The bytes of its .JHR.
-    pub(crate) fn jhr(&self, alloc: Global) -> Result<Bytes, AllocError>
-        ensures { IfOk result (λ jhr. jhr ≡ (layout self.now.shape self.now.conference).jhr) }
-    {
-        let links = links(alloc, &self.conference.slots)?;
-        write_jhr(alloc, &self.shape, &self.conference, &links)
-    }
-
-    /// The bytes of its .JDT.
-    pub(crate) fn jdt(&self, alloc: Global) -> Result<Bytes, AllocError>
-        ensures { IfOk result (λ jdt. jdt ≡ (layout self.now.shape self.now.conference).jdt) }
-    {
-        write_jdt(alloc, &self.conference)
-    }
-
-    /// The bytes of its .JDX.
-    pub(crate) fn jdx(&self, alloc: Global) -> Result<Bytes, AllocError>
-        ensures { IfOk result (λ jdx. jdx ≡ (layout self.now.shape self.now.conference).jdx) }
-    {
-        write_jdx(alloc, &self.conference)
+        self.shape.get().place
     }
 
     /// The bytes of its .JLR.
     pub(crate) fn jlr(&self, alloc: Global) -> Result<Bytes, AllocError>
         ensures { IfOk result (λ jlr. jlr ≡ (layout self.now.shape self.now.conference).jlr) }
     {
-        let pointers = self.conference.pointers.as_slice();
-        write_jlr(alloc, self.shape.readers.as_slice(), pointers)
+        let readers = self.shape().readers.as_slice();
+        let pointers = self.pointers().to_list(alloc)?;
+        write_jlr(alloc, readers, pointers.as_slice())
     }
 
     /// The patch of its change counter and its count of messages that aren't deleted.
     pub(crate) fn counts(&self, alloc: Global) -> Result<Patch, AllocError>
         ensures { IfOk result (λ patch. patch ≡ counts_put self.now.shape.place self.now.conference) }
     {
-        let bytes = two_numbers(self.conference.counter, self.live_count());
+        let bytes = two_numbers(self.counter, self.live_count());
         Ok(Patch::Put {
             file: FileId::jhr(self.place()),
             at: 8,
@@ -203,8 +246,8 @@ impl Base {
         requires within { number ≤ length self.now.conference.slots }
         ensures { IfOk result (λ patches. patches ≡ delete_puts self.now.shape.kind self.now.shape.place self.now.conference.slots number (numbered self.now.conference.slots number)) }
     {
-        let slots = self.conference.slots.as_slice();
-        delete_patches(alloc, self.place(), self.shape.kind, slots, number)
+        let kind = self.shape.get().kind;
+        delete_patches(alloc, self.place(), kind, &self.slots, number)
     }
 
     /// The patches that mark read what is due of this receipt.
@@ -216,8 +259,8 @@ impl Base {
     ) -> Result<Patches, AllocError>
         ensures { IfOk result (λ patches. patches ≡ receive_puts self.now.shape.kind self.now.shape.place name.now receipt 1024 1 self.now.conference.slots) }
     {
-        let slots = self.conference.slots.as_slice();
-        receive_patches(alloc, self.place(), self.shape.kind, name, receipt, slots)
+        let kind = self.shape.get().kind;
+        receive_patches(alloc, self.place(), kind, name, receipt, &self.slots)
     }
 
     /// The patch of the headers behind so many slots.
@@ -225,11 +268,12 @@ impl Base {
         requires { count ≤ length self.now.conference.slots }
         ensures { IfOk result (λ patch. patch ≡ last_headers_of self.now.shape count self.now.conference) }
     {
-        let slots = self.conference.slots.as_slice();
-        let offset = body_place(slots, count);
-        let at = header_place(slots, count);
-        let kind = self.shape.kind;
-        let bytes = write_last_headers(alloc, kind, slots, &self.threads, count, offset)?;
+        let slots = &self.slots;
+        let threads = self.threads.get();
+        let offset = slots.body_place(count);
+        let at = slots.header_place(count);
+        let kind = self.shape.get().kind;
+        let bytes = write_last_headers(alloc, kind, slots, threads, count, offset)?;
         let file = FileId::jhr(self.place());
         Ok(Patch::Put { file, at, bytes })
     }
@@ -239,8 +283,8 @@ impl Base {
         requires { count ≤ length self.now.conference.slots }
         ensures { IfOk result (λ patch. patch ≡ last_bodies_of self.now.shape.place count self.now.conference) }
     {
-        let slots = self.conference.slots.as_slice();
-        let at = body_place(slots, count);
+        let slots = &self.slots;
+        let at = slots.body_place(count);
         let bytes = write_last_bodies(alloc, slots, count)?;
         let file = FileId::jdt(self.place());
         Ok(Patch::Put { file, at, bytes })
@@ -251,8 +295,8 @@ impl Base {
         requires { count ≤ length self.now.conference.slots }
         ensures { IfOk result (λ patch. patch ≡ last_records_of self.now.shape.place count self.now.conference) }
     {
-        let slots = self.conference.slots.as_slice();
-        let first = header_place(slots, count);
+        let slots = &self.slots;
+        let first = slots.header_place(count);
         let bytes = write_last_records(alloc, slots, count, first)?;
         let file = FileId::jdx(self.place());
         let at = 8 * count as u32;
@@ -274,7 +318,10 @@ impl Base {
             slots: Slots::new(alloc),
             pointers: no_pointers(alloc, shape.readers.len())?,
         };
-        BaseChange::of_files(alloc, Base::linked(alloc, shape, conference)?)
+        let links = links(alloc, &conference.slots)?;
+        let files = write_files(alloc, shape, &conference, &links)?;
+        let base = Base::linked(alloc, shape, conference)?;
+        BaseChange::of_files(alloc, base, files)
     }
 
     /// The base with a further reader, whose pointer is 0: the user of this id, above that of each reader, and
@@ -287,13 +334,13 @@ impl Base {
         ensures files { IfOk result (λ change. Turns self.now.shape.place (layout self.now.shape self.now.conference) (layout change.base.shape change.base.conference) change.patches) }
         ensures intent { IfOk result (λ change. SuitsIntent self.now.shape.place (layout change.base.shape change.base.conference) change.patches) }
     {
-        let (shape, conference) = self.parts();
-        let mut shape = shape.duplicate(alloc)?;
+        let mut shape = self.shape().duplicate(alloc)?;
         let name = Bytes::from_slice(alloc, name)?;
         shape.readers.add(Reader { id: user, name })?;
-        let mut conference = conference.duplicate(alloc)?;
-        conference.pointers.add(0)?;
-        BaseChange::of_jlr(alloc, Base::linked(alloc, &shape, conference)?)
+        let mut pointers = self.pointers().copy(alloc)?;
+        pointers.add(alloc, 0)?;
+        let base = self.with_readers(alloc, Shared::new(alloc, shape)?, pointers)?;
+        BaseChange::of_jlr(alloc, base)
     }
 
     /// The base with these messages at the end, one after the other. Its patches make its files of those of
@@ -310,8 +357,7 @@ impl Base {
         ensures intent { IfOk result (λ change. SuitsIntent self.now.shape.place (layout change.base.shape change.base.conference) change.patches) }
         ensures slots { (s : ℕ) → (result ≡ Err (AppendRefusal.Slots s)) ↔ ((s ≡ length self.now.conference.slots + length messages.now) × (9999 < s)) }
     {
-        let (_, conference) = self.parts();
-        let count = conference.slots.len() as u64 + messages.as_slice().len() as u64;
+        let count = self.slots().len() as u64 + messages.as_slice().len() as u64;
         if count > 9999 {
             return Err(AppendRefusal::Slots(count));
         }
@@ -333,11 +379,11 @@ impl Base {
         if messages.as_slice().is_empty() {
             return self.unchanged(alloc);
         }
-        let (_, conference) = self.parts();
+        let old = self.slots();
         let (threads, links) = self.threaded(alloc, messages.as_slice())?;
-        let slots = with_messages(alloc, &conference.slots, messages)?;
+        let slots = with_messages(alloc, old, messages)?;
         let base = self.with_threads(alloc, slots, threads)?;
-        BaseChange::of_appended(alloc, base, conference.slots.len(), links)
+        BaseChange::of_appended(alloc, base, old.len(), links)
     }
 
     /// The base with the message of a number marked deleted. Its patches make its files of those of this base.
@@ -352,12 +398,12 @@ impl Base {
         ensures intent { IfOk result (λ change. SuitsIntent self.now.shape.place (layout change.base.shape change.base.conference) change.patches) }
         ensures none { (result ≡ Err KillRefusal.NoMessage) ↔ ¬ IsTrue (has_live_of number self.now.conference.slots) }
     {
-        let (_, conference) = self.parts();
-        if !has_live(number, &conference.slots) {
+        let old = self.slots();
+        if !has_live(number, old) {
             return Err(KillRefusal::NoMessage);
         }
         let marks = self.deletion(alloc, number)?;
-        let slots = with_deleted(alloc, number, &conference.slots)?;
+        let slots = with_deleted(alloc, number, old)?;
         let base = self.changed(alloc, slots)?;
         Ok(BaseChange::of_marks(alloc, base, marks)?)
     }
@@ -381,13 +427,12 @@ impl Base {
         ensures intent { IfOk result (λ change. SuitsIntent self.now.shape.place (layout change.base.shape change.base.conference) change.patches) }
     {
         let receipt = Receipt { above, upto, now };
-        let (_, conference) = self.parts();
-        let slots = conference.slots.as_slice();
-        if !any_due(name, receipt, slots) {
+        let old = self.slots();
+        if !any_due(name, receipt, old) {
             return self.unchanged(alloc);
         }
         let marks = self.reception(alloc, name, receipt)?;
-        let slots = slots_received(alloc, name, receipt, slots)?;
+        let slots = slots_received(alloc, name, receipt, old)?;
         BaseChange::of_marks(alloc, self.changed(alloc, slots)?, marks)
     }
 
@@ -402,16 +447,10 @@ impl Base {
         ensures files { IfOk result (λ change. Turns self.now.shape.place (layout self.now.shape self.now.conference) (layout change.base.shape change.base.conference) change.patches) }
         ensures intent { IfOk result (λ change. SuitsIntent self.now.shape.place (layout change.base.shape change.base.conference) change.patches) }
     {
-        let (shape, old) = self.parts();
-        let Some(place) = shape.readers.position(user) else {
+        let Some(place) = self.shape().readers.position(user) else {
             unreachable!()
         };
-        let conference = Conference {
-            counter: old.counter,
-            slots: old.slots.copy(alloc)?,
-            pointers: moved(alloc, &old.pointers, place, number)?,
-        };
-        let base = Base::linked(alloc, shape, conference)?;
+        let base = self.with_pointer(alloc, place, number)?;
         BaseChange::of_pointer(alloc, base, Patches::new(alloc), place, number)
     }
 
@@ -419,14 +458,14 @@ impl Base {
     pub fn slot_count(&self) -> u32
         ensures { result ≡ length self.now.conference.slots }
     {
-        self.conference.slots.len() as u32
+        self.slots.len() as u32
     }
 
     /// How many messages aren't deleted. It is ActiveMsgs of the base header.
     pub fn live_count(&self) -> u32
         ensures { result ≡ live_count self.now.conference.slots }
     {
-        self.conference.live_count() as u32
+        self.slots.live_count()
     }
 
     /// The last-read pointer of the reader who is the user of this id: a message number, or 0 before the first.
@@ -434,15 +473,26 @@ impl Base {
     pub fn pointer(&self, user: u32) -> Option<u32>
         ensures { result ≡ pointer_of user self.now.shape.readers self.now.conference.pointers }
     {
-        let place = self.shape.readers.position(user)?;
-        self.conference.pointers.get(place).copied()
+        let place = self.shape.get().readers.position(user)?;
+        self.pointers.get(place).copied()
+    }
+
+    /// How many bytes its .JLR has.
+    fn jlr_size(&self) -> u64
+        ensures size { result ≡ 16 * length self.now.shape.readers }
+        ensures bound { result ≤ 2 ^ 36 }
+    {
+        16 * self.shape().readers.as_slice().len() as u64
     }
 
     /// How many bytes the four files have together.
     pub fn size(&self) -> u64
         ensures { result ≡ files_size (layout self.now.shape self.now.conference) }
     {
-        size_of_files(&self.shape, &self.conference)
+        let slots = &self.slots;
+        let count = slots.len();
+        let messages = u64::from(slots.header_place(count)) + u64::from(slots.body_place(count));
+        messages + 8 * count as u64 + self.jlr_size()
     }
 
     /// The slot of a message number, from 1, or None where there is none.
@@ -452,7 +502,7 @@ impl Base {
         if number == 0 {
             return None;
         }
-        self.conference.slots.get(number as usize - 1)
+        self.slots.get(number as usize - 1)
     }
 
     /// The number of the message that this one answers, or 0 where it answers none that is there or no slot
@@ -460,6 +510,6 @@ impl Base {
     pub fn reply_to(&self, number: u32) -> u32
         ensures { result ≡ original self.now.conference.slots number }
     {
-        self.threads.reply_to(number)
+        self.threads.get().reply_to(number)
     }
 }

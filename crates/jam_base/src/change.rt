@@ -1,4 +1,4 @@
-ghost use Rattle.std.specs.Prelude.{◌≡◌, ◌≤◌, [], ◌∷◌, ◌++◌, length, IfOk};
+ghost use Rattle.std.specs.Prelude.{◌≡◌, ◌≤◌, [], ◌∷◌, ◌++◌, ◌<◌, length, IfOk};
 ghost use Rattle.jam_layout.specs.Layout.{layout};
 ghost use Rattle.jam_base.specs.Change.{whole_jlr, whole_files};
 ghost use Rattle.jam_base.specs.MarkPuts.{pointer_patch as pointer_patch_of};
@@ -9,6 +9,7 @@ use crate::pointers::pointer_patch;
 use byte_lists::Bytes;
 use door_outside::FileId;
 use intent_journal::{Patch, Patches};
+use jam_layout::BaseFiles;
 use std::alloc::{AllocError, Global};
 
 /// A base after a change, and the change of its files.
@@ -85,12 +86,17 @@ impl BaseChange {
         Ok(BaseChange { base, patches })
     }
 
-    /// The change to this base that writes its four files.
-    pub(crate) fn of_files(alloc: Global, base: Base) -> Result<BaseChange, AllocError>
+    /// The change to this base that writes its four files, which these are.
+    pub(crate) fn of_files(
+        alloc: Global,
+        base: Base,
+        files: BaseFiles,
+    ) -> Result<BaseChange, AllocError>
+        requires { files ≡ layout base.shape base.conference }
         ensures base { IfOk result (λ change. change.base ≡ base) }
         ensures patches { IfOk result (λ change. change.patches ≡ whole_files base.shape.place (layout base.shape base.conference)) }
     {
-        let patches = files_of(alloc, &base)?;
+        let patches = whole_of(alloc, base.place(), files)?;
         Ok(BaseChange { base, patches })
     }
 }
@@ -148,15 +154,15 @@ fn jlr_of(alloc: Global, base: &Base) -> Result<Patches, AllocError>
     Ok(patches)
 }
 
-/// What writes a base's four files.
-fn files_of(alloc: Global, base: &Base) -> Result<Patches, AllocError>
-    ensures { IfOk result (λ patches. patches ≡ whole_files base.now.shape.place (layout base.now.shape base.now.conference)) }
+/// What writes the four files of a place.
+fn whole_of(alloc: Global, place: u8, files: BaseFiles) -> Result<Patches, AllocError>
+    requires { place < 64 }
+    ensures { IfOk result (λ patches. patches ≡ whole_files place files) }
 {
-    let place = base.place();
     let mut patches = Patches::new(alloc);
-    patches.add(whole(FileId::jhr(place), base.jhr(alloc)?))?;
-    patches.add(whole(FileId::jdt(place), base.jdt(alloc)?))?;
-    patches.add(whole(FileId::jdx(place), base.jdx(alloc)?))?;
-    patches.add(whole(FileId::jlr(place), base.jlr(alloc)?))?;
+    patches.add(whole(FileId::jhr(place), files.jhr))?;
+    patches.add(whole(FileId::jdt(place), files.jdt))?;
+    patches.add(whole(FileId::jdx(place), files.jdx))?;
+    patches.add(whole(FileId::jlr(place), files.jlr))?;
     Ok(patches)
 }

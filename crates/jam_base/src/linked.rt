@@ -1,5 +1,5 @@
 // The links that messages at the end of a conference change in the headers of older ones.
-ghost use Rattle.std.specs.Prelude.{◌≡◌, ◌+◌, ◌≤◌, ◌<◌, List, [], ◌∷◌, ◌++◌, ◌^◌, length, sum_by, Some, IfOk, OnOk};
+ghost use Rattle.std.specs.Prelude.{◌≡◌, ◌+◌, ◌≤◌, ◌<◌, List, [], ◌∷◌, ◌++◌, ◌^◌, length, Some, IfOk, OnOk};
 ghost use Rattle.intent_journal.specs.declared.patch.Patch.{Patch};
 ghost use Rattle.door_outside.specs.File.{jhr_file};
 ghost use Rattle.record_numbers.specs.Numbers.{u32_text};
@@ -7,7 +7,6 @@ ghost use Rattle.jam_records.specs.declared.message.Slot.{Slot as SlotOf};
 ghost use Rattle.jam_records.specs.declared.message.Slot.TheVariants.{Held};
 ghost use Rattle.jam_threads.specs.LinkChanges.{link_change};
 ghost use Rattle.jam_threads.specs.Threading.{AreThreads, AreOfSlots};
-ghost use Rattle.jam_layout.specs.Sizes.{slot_header};
 ghost use Rattle.jam_base.specs.Places.{header_place as place_of_header, field_place as place_of_field};
 ghost use Rattle.jam_base.specs.Puts.{link_put, link_puts};
 ghost use Rattle.jam_base.specs.Slots.{slots_with_all};
@@ -16,9 +15,9 @@ use crate::numbers::one_number;
 use byte_lists::Bytes;
 use door_outside::FileId;
 use intent_journal::{Patch, Patches};
-use jam_records::{Message, Slot};
+use jam_records::Message;
 use jam_threads::{LinkField, LinkPatch, Threads};
-use jam_writing::header_place;
+use shared_slots::SharedSlots;
 use std::alloc::{AllocError, Global};
 
 /// Where a link number stands in a header (JAM message base proposal, revision 1).
@@ -32,14 +31,18 @@ fn field_place(field: LinkField) -> u32
 }
 
 /// The patch of a link number of one of the slots.
-fn patch_of(alloc: Global, place: u8, slots: &[Slot], link: LinkPatch) -> Result<Patch, AllocError>
+fn patch_of(
+    alloc: Global,
+    place: u8,
+    slots: &SharedSlots,
+    link: LinkPatch,
+) -> Result<Patch, AllocError>
     requires place { place < 64 }
-    requires small { 1024 + sum_by slot_header slots.now < 2 ^ 31 }
     requires some { 0 < link.number }
     requires within { link.number ≤ length slots.now }
     ensures { IfOk result (λ patch. patch ≡ Patch.Put (jhr_file place) (place_of_header slots.now link.number + place_of_field link.field) (u32_text link.value)) }
 {
-    let at = header_place(slots, link.number as usize - 1);
+    let at = slots.header_place(link.number as usize - 1);
     Ok(Patch::Put {
         file: FileId::jhr(place),
         at: at + field_place(link.field),
@@ -52,11 +55,10 @@ fn add_link(
     alloc: Global,
     patches: &mut Patches,
     place: u8,
-    slots: &[Slot],
+    slots: &SharedSlots,
     link: LinkPatch,
 ) -> Result<(), AllocError>
     requires place { place < 64 }
-    requires small { 1024 + sum_by slot_header slots.now < 2 ^ 31 }
     requires some { 0 < link.number }
     ensures { OnOk result (patches.new ≡ patches.old ++ link_put place slots.now (Some link)) }
 {
@@ -72,12 +74,11 @@ fn add_message(
     alloc: Global,
     patches: &mut Patches,
     place: u8,
-    slots: &[Slot],
+    slots: &SharedSlots,
     threads: &mut Threads,
     message: &Message,
 ) -> Result<(), AllocError>
     requires place { place < 64 }
-    requires small { 1024 + sum_by slot_header slots.now < 2 ^ 31 }
     requires threads { AreOfSlots threads.old }
     requires few { (now : List SlotOf) → AreThreads now threads.old → length now + 2 < 2 ^ 32 }
     ensures patches { OnOk result ((now : List SlotOf) → AreThreads now threads.old → patches.new ≡ patches.old ++ link_put place slots.now (link_change now message.now.replyid)) }
@@ -95,12 +96,11 @@ fn add_message(
 pub fn add_messages(
     alloc: Global,
     place: u8,
-    slots: &[Slot],
+    slots: &SharedSlots,
     threads: &mut Threads,
     messages: &[Message],
 ) -> Result<Patches, AllocError>
     requires place { place < 64 }
-    requires small { 1024 + sum_by slot_header slots.now < 2 ^ 31 }
     requires threads { AreThreads slots.now threads.old }
     requires few { length slots.now + length messages.now ≤ 9999 }
     ensures patches { IfOk result (λ patches. patches ≡ link_puts place slots.now slots.now messages.now) }

@@ -11,7 +11,7 @@ use door_outside::FileId;
 use intent_journal::{Patch, Patches};
 use jam_layout::Marks;
 use jam_records::{Kind, Message, Slot};
-use jam_writing::{header_length, header_place};
+use shared_slots::{SharedSlots, header_length};
 use std::alloc::{AllocError, Global};
 
 /// What changes of a message in place.
@@ -68,19 +68,18 @@ pub fn delete_patches(
     alloc: Global,
     place: u8,
     kind: Kind,
-    slots: &[Slot],
+    slots: &SharedSlots,
     number: u32,
 ) -> Result<Patches, AllocError>
     requires place { place < 64 }
-    requires small { 1024 + sum_by slot_header slots.now < 2 ^ 31 }
     requires above { 0 < number }
     requires within { number ≤ length slots.now }
     ensures { IfOk result (λ patches. patches ≡ delete_puts kind place slots.now number (numbered slots.now number)) }
 {
     let mut patches = Patches::new(alloc);
     let index = number as usize - 1;
-    let at = header_place(slots, index);
-    if let Slot::Held(message) = &slots[index] {
+    let at = slots.header_place(index);
+    if let Slot::Held(message) = slots.at(index) {
         let mark = Mark {
             received: message.received,
             seen: message.seen,
@@ -129,7 +128,7 @@ pub fn receive_patches(
     kind: Kind,
     name: &[u8],
     receipt: Receipt,
-    slots: &[Slot],
+    slots: &SharedSlots,
 ) -> Result<Patches, AllocError>
     requires place { place < 64 }
     requires few { length slots.now ≤ 9999 }
@@ -140,7 +139,7 @@ pub fn receive_patches(
     let mut at = 1024;
     for index in 0..slots.len() {
         let number = index as u32 + 1;
-        let slot = &slots[index];
+        let slot = slots.at(index);
         add_receipt(
             alloc,
             &mut patches,

@@ -7,6 +7,7 @@ use crate::numbers::two_numbers;
 use byte_lists::{Bytes, List};
 use door_outside::FileId;
 use intent_journal::Patch;
+use shared_lists::SharedList;
 use std::alloc::{AllocError, Global};
 
 /// How many readers have records that end below 2^31, as a patch does.
@@ -24,16 +25,16 @@ pub fn no_pointers(alloc: Global, count: usize) -> Result<List<u32>, AllocError>
 /// The pointers with the one in a place, from 0, at a message number.
 pub fn moved(
     alloc: Global,
-    pointers: &List<u32>,
+    pointers: &SharedList<u32>,
     place: usize,
     number: u32,
-) -> Result<List<u32>, AllocError>
+) -> Result<SharedList<u32>, AllocError>
     requires { place < length pointers.now }
     ensures { IfOk result (λ new. new ≡ slice_set pointers.now place number) }
 {
-    let mut items = pointers.copy(alloc)?.into_vec();
-    items[place] = number;
-    Ok(List::from_vec(items))
+    let mut copy = pointers.copy(alloc)?;
+    copy.set(alloc, place, number)?;
+    Ok(copy)
 }
 
 /// The patch that moves the pointer of the reader in a place, from 0, to a number, at which it is in this base.

@@ -1,8 +1,9 @@
-ghost use Rattle.std.specs.Prelude.{◌≡◌, ◌+◌, ◌<◌, ◌^◌, length, IfOk};
+ghost use Rattle.std.specs.Prelude.{◌≡◌, ◌+◌, ◌<◌, ◌≤◌, length, slice_index_or, slice_set, unwrap_or, IfOk};
 ghost use Rattle.jam_base.specs.Slots.{is_due as is_due_of, has_due as has_due_of, any_due as any_due_of, slot_received, slots_received as received_of};
 
 use byte_lists::Duplicate;
-use jam_records::{Message, Slot, Slots};
+use jam_records::{Message, Slot};
+use shared_slots::SharedSlots;
 use std::alloc::{AllocError, Global};
 
 /// Which messages to a name are received, and when.
@@ -36,55 +37,69 @@ fn has_due(name: &[u8], receipt: Receipt, number: u32, slot: &Slot) -> bool
 }
 
 /// Whether one of the slots holds such a message.
-pub fn any_due(name: &[u8], receipt: Receipt, slots: &[Slot]) -> bool
-    requires { length slots.now + 1 < 2 ^ 32 }
+pub fn any_due(name: &[u8], receipt: Receipt, slots: &SharedSlots) -> bool
     ensures { result ≡ any_due_of name.now receipt 1 slots.now }
 {
     for place in 0..slots.len() {
-        if has_due(name, receipt, place as u32 + 1, &slots[place]) {
+        if has_due(name, receipt, place as u32 + 1, slots.at(place)) {
             return true;
         }
     }
     false
 }
 
-/// A copy of a slot, in which such a message is marked read at the moment.
-fn received_slot(
+/// A copy of a slot that holds such a message, in which it is marked read at the moment, or None for another slot.
+fn received(
     alloc: Global,
     name: &[u8],
     receipt: Receipt,
     number: u32,
     slot: &Slot,
-) -> Result<Slot, AllocError>
-    ensures { IfOk result (λ new. new ≡ slot_received name.now receipt number slot.now) }
+) -> Result<Option<Slot>, AllocError>
+    ensures { IfOk result (λ new. slot_received name.now receipt number slot.now ≡ unwrap_or new slot.now) }
 {
-    match slot {
-        Slot::Gone => Ok(Slot::Gone),
-        Slot::Held(message) => {
-            let mut copy = message.duplicate(alloc)?;
-            if is_due(name, receipt, number, message) {
-                copy.seen = true;
-                copy.received = receipt.now;
-            }
-            Ok(Slot::Held(copy))
-        }
+    let Slot::Held(message) = slot else {
+        return Ok(None);
+    };
+    if !is_due(name, receipt, number, message) {
+        return Ok(None);
+    }
+    let mut copy = message.duplicate(alloc)?;
+    copy.seen = true;
+    copy.received = receipt.now;
+    Ok(Some(Slot::Held(copy)))
+}
+
+/// The slots, in which such a message in a place from 0 is marked read at the moment.
+fn received_at(
+    alloc: Global,
+    name: &[u8],
+    receipt: Receipt,
+    place: usize,
+    slots: SharedSlots,
+) -> Result<SharedSlots, AllocError>
+    requires place { place < length slots }
+    requires few { length slots ≤ 9999 }
+    ensures { IfOk result (λ new. new ≡ slice_set slots place (slot_received name.now receipt (place + 1) (slice_index_or slots place Slot.Gone))) }
+{
+    match received(alloc, name, receipt, place as u32 + 1, slots.at(place))? {
+        None => Ok(slots),
+        Some(slot) => slots.replaced(alloc, place, slot),
     }
 }
 
-/// Copies of the slots, in which each such message is marked read at the moment.
+/// The slots, in which each such message is marked read at the moment.
 pub fn slots_received(
     alloc: Global,
     name: &[u8],
     receipt: Receipt,
-    slots: &[Slot],
-) -> Result<Slots, AllocError>
-    requires { length slots.now + 1 < 2 ^ 32 }
+    slots: &SharedSlots,
+) -> Result<SharedSlots, AllocError>
     ensures { IfOk result (λ new. new ≡ received_of name.now receipt 1 slots.now) }
 {
-    let mut copies = Slots::new(alloc);
+    let mut new = slots.copy(alloc)?;
     for place in 0..slots.len() {
-        let number = place as u32 + 1;
-        copies.add(received_slot(alloc, name, receipt, number, &slots[place])?)?;
+        new = received_at(alloc, name, receipt, place, new)?;
     }
-    Ok(copies)
+    Ok(new)
 }

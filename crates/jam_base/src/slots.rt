@@ -1,24 +1,34 @@
 // The slots of a conference after a change of them.
-ghost use Rattle.std.specs.Prelude.{◌≡◌, ◌+◌, ◌≤◌, ◌<◌, ◌==◌, ◌^◌, length, IfOk, OnOk};
+ghost use Rattle.std.specs.Prelude.{◌≡◌, ◌+◌, ◌≤◌, ◌<◌, ◌==◌, ◌^◌, length, sum_by, IfOk};
+ghost use Rattle.jam_layout.specs.Sizes.{slot_header};
+ghost use Rattle.shared_slots.specs.Bodies.{body_size};
 ghost use Rattle.jam_base.specs.Slots.{slots_with_all, has_live as has_live_of, slot_deleted, slots_deleted};
 
-use byte_lists::List;
-use jam_records::{Messages, Slot, Slots};
+use byte_lists::Duplicate;
+use jam_records::{Messages, Slot};
+use shared_slots::SharedSlots;
 use std::alloc::{AllocError, Global};
 
 /// The slots with these messages at the end.
-pub fn with_messages(alloc: Global, slots: &Slots, messages: Messages) -> Result<Slots, AllocError>
+pub fn with_messages(
+    alloc: Global,
+    slots: &SharedSlots,
+    messages: Messages,
+) -> Result<SharedSlots, AllocError>
+    requires few { length (slots_with_all slots.now messages) ≤ 9999 }
+    requires headers { 1024 + sum_by slot_header (slots_with_all slots.now messages) < 2 ^ 31 }
+    requires bodies { sum_by body_size (slots_with_all slots.now messages) < 2 ^ 31 }
     ensures { IfOk result (λ new. new ≡ slots_with_all slots.now messages) }
 {
     let mut longer = slots.copy(alloc)?;
     for message in messages.into_vec() {
-        longer.add(Slot::Held(message))?;
+        longer = longer.with_slot(alloc, Slot::Held(message))?;
     }
     Ok(longer)
 }
 
 /// Whether a message number is that of a message that isn't deleted.
-pub fn has_live(number: u32, slots: &Slots) -> bool
+pub fn has_live(number: u32, slots: &SharedSlots) -> bool
     ensures { result ≡ has_live_of number slots.now }
 {
     if number == 0 {
@@ -40,13 +50,26 @@ fn delete(slot: &mut Slot)
     }
 }
 
+/// A copy of a slot with its message marked deleted.
+fn deleted(alloc: Global, slot: &Slot) -> Result<Slot, AllocError>
+    ensures { IfOk result (λ new. new ≡ slot_deleted slot.now) }
+{
+    let mut copy = slot.duplicate(alloc)?;
+    delete(&mut copy);
+    Ok(copy)
+}
+
 /// The slots with the message of a number marked deleted.
-pub fn with_deleted(alloc: Global, number: u32, slots: &Slots) -> Result<Slots, AllocError>
+pub fn with_deleted(
+    alloc: Global,
+    number: u32,
+    slots: &SharedSlots,
+) -> Result<SharedSlots, AllocError>
     requires above { 0 < number }
     requires within { number ≤ length slots.now }
     ensures { IfOk result (λ new. new ≡ slots_deleted number slots.now) }
 {
-    let mut items = slots.copy(alloc)?.into_vec();
-    delete(&mut items[number as usize - 1]);
-    Ok(List::from_vec(items))
+    let place = number as usize - 1;
+    let slot = deleted(alloc, slots.at(place))?;
+    slots.copy(alloc)?.replaced(alloc, place, slot)
 }

@@ -1,7 +1,7 @@
 -- The loops that write .JHR and .JDX: what is written, and the pieces of the slots that are left, are the whole.
 use Rattle.std.proofs.Common.{◌≡◌, ℕ, ◌+◌, ◌≤◌, ◌<◌, List, [], ◌∷◌, ◌++◌, length, take, drop, get_or, refl, sym, ap, ◌∙◌, arith, append_assoc, append-nil}
 use Rattle.std.specs.Prelude.{sum_by}
-use Rattle.std.proofs.lemmas.List.{drop_all, drop_more, take_all, take_more, take-append-drop}
+use Rattle.std.proofs.lemmas.List.{drop_all, drop_more, take-append-drop}
 use Rattle.std.proofs.lemmas.List.Sums.{sum_by-cons, sum_by-append, get_or-le-sum_by}
 use Rattle.jam_records.specs.declared.message.Kind.{Kind}
 use Rattle.jam_records.specs.declared.message.Slot.{Slot}
@@ -93,28 +93,3 @@ record_added slots place first at next text new whole s within item written move
 pub index_end : (slots : List Slot) (place first at : ℕ) (text whole : List ℕ) → length slots ≤ place → IndexSoFar slots place first at text whole → text ≡ whole
 index_end slots place first at text whole none so_far =
     sym (append-nil text) ∙ (ap (λ (xs : List Slot). text ++ index_records at xs) (sym (drop_all place slots none)) ∙ so_far.text_is)
-
--- ---- where the pieces of a slot stand: the sum so far over the slots before a place
-pub record SumSoFar (size : Slot → ℕ) (slots : List Slot) (place first index at : ℕ) : Type 0 where
-  pub at_is : at ≡ first + sum_by size (take index (take place slots))
-
-add_zero_nil : (size : Slot → ℕ) (s : Slot) → size s + sum_by size [] ≡ size s
-add_zero_nil size s = omega arith
-
-sum_step : (size : Slot → ℕ) (slots : List Slot) (index : ℕ) (s : Slot) → index < length slots → s ≡ get_or slots index s → sum_by size (take (index + 1) slots) ≡ sum_by size (take index slots) + size s
-sum_step size slots index s within item =
-    ap (sum_by size) (take_more slots index s within ∙ ap (λ (x : Slot). take index slots ++ x ∷ []) (sym item))
-    ∙ (sum_by-append size (take index slots) (s ∷ []) ∙ ap (λ n. sum_by size (take index slots) + n) (sum_by-cons size s [] ∙ add_zero_nil size s))
-
-pub sum_begin : (size : Slot → ℕ) (slots : List Slot) (place first : ℕ) → SumSoFar size slots place first 0 first
-sum_begin size slots place first = record { at_is = omega arith }
-
-pub sum_fits : (size : Slot → ℕ) (slots : List Slot) (place first index at most : ℕ) (s : Slot) → index < length (take place slots) → s ≡ get_or (take place slots) index s → first + sum_by size slots < most → SumSoFar size slots place first index at → at + size s < most
-sum_fits size slots place first index at most s within item small so_far =
-    omega (arith, so_far.at_is, sum_step size (take place slots) index s within item, sum_parts size (take place slots) (index + 1), sum_parts size slots place, small)
-
-pub sum_more : (size : Slot → ℕ) (slots : List Slot) (place first index at next : ℕ) (s : Slot) → index < length (take place slots) → s ≡ get_or (take place slots) index s → next ≡ at + size s → SumSoFar size slots place first index at → SumSoFar size slots place first (index + 1) next
-sum_more size slots place first index at next s within item moved so_far = record { at_is = omega (arith, so_far.at_is, sum_step size (take place slots) index s within item, moved) }
-
-pub sum_end : (size : Slot → ℕ) (slots : List Slot) (place first index at : ℕ) → length (take place slots) ≤ index → SumSoFar size slots place first index at → at ≡ first + sum_by size (take place slots)
-sum_end size slots place first index at none so_far = so_far.at_is ∙ ap (λ (xs : List Slot). first + sum_by size xs) (take_all index (take place slots) none)

@@ -9,6 +9,8 @@ use Rattle.jam_threads.specs.declared.link.Link.{Link}
 use Rattle.jam_layout.specs.Headers.{entry_text}
 use Rattle.jam_layout.specs.Index.{no_pair, pair_of}
 use Rattle.jam_layout.specs.declared.entry.Entry.{Entry}
+-- to .JDT: the body, and its length
+pub use Rattle.shared_slots.specs.Bodies.{body_piece, body_size}
 
 -- a message with its number and its links
 abbrev pub entry_with : ℕ → Link → Message → Entry
@@ -18,14 +20,6 @@ entry_with number link m = record { number = number; text_len = length m.body; l
 abbrev pub header_piece : Kind → ℕ → ℕ → Link → Slot → List ℕ
 header_piece kind offset number link Gone = []
 header_piece kind offset number link (Held m) = entry_text kind offset (entry_with number link m)
-
--- to .JDT: the body, and its length
-abbrev pub body_piece : Slot → List ℕ
-body_piece Gone = []
-body_piece (Held m) = m.body
-
-abbrev pub body_size : Slot → ℕ
-body_size slot = length (body_piece slot)
 
 -- to .JDX: the record, where the next header stands at a place
 abbrev pub index_piece : ℕ → Slot → List ℕ

@@ -1,5 +1,5 @@
-// What the slots from a place on, from 0, give to the files of their conference, and where that stands.
-ghost use Rattle.std.specs.Prelude.{◌≡◌, ◌+◌, ◌++◌, ◌≤◌, ◌<◌, ◌^◌, length, take, drop, sum_by, IfOk};
+// What the slots from a place on, from 0, give to the files of their conference.
+ghost use Rattle.std.specs.Prelude.{◌≡◌, ◌+◌, ◌≤◌, ◌<◌, ◌^◌, length, take, drop, sum_by, IfOk};
 ghost use Rattle.std.specs.List.{flat_map};
 ghost use Rattle.jam_threads.specs.Links.{link_of};
 ghost use Rattle.jam_threads.specs.Threading.{AreThreads};
@@ -13,58 +13,10 @@ use crate::jdt::add_slot as add_body;
 use crate::jdx::add_slot as add_record;
 use crate::jhr::add_slot as add_slot_header;
 use byte_lists::Bytes;
-use jam_layout::header_size;
-use jam_records::{Kind, Slot};
+use jam_records::Kind;
 use jam_threads::Threads;
+use shared_slots::SharedSlots;
 use std::alloc::{AllocError, Global};
-
-/// How many bytes the header of what a slot holds has, with its subfields.
-pub fn header_length(slot: &Slot) -> u32
-    requires { slot_header slot.now < 2 ^ 31 }
-    ensures { result ≡ slot_header slot.now }
-{
-    match slot {
-        Slot::Gone => 0,
-        Slot::Held(message) => header_size(message),
-    }
-}
-
-/// How many bytes the body of what a slot holds has.
-fn body_length(slot: &Slot) -> u32
-    requires { body_size slot.now < 2 ^ 31 }
-    ensures { result ≡ body_size slot.now }
-{
-    match slot {
-        Slot::Gone => 0,
-        Slot::Held(message) => message.body.as_slice().len() as u32,
-    }
-}
-
-/// Where the header of the message in a place stands in .JHR, or would stand.
-pub fn header_place(slots: &[Slot], place: usize) -> u32
-    requires small { 1024 + sum_by slot_header slots.now < 2 ^ 31 }
-    requires within { place ≤ length slots.now }
-    ensures { result ≡ 1024 + sum_by slot_header (take place slots.now) }
-{
-    let mut at = 1024;
-    for slot in &slots[..place] {
-        at += header_length(slot);
-    }
-    at
-}
-
-/// Where the body of the message in a place begins in .JDT, or would begin.
-pub fn body_place(slots: &[Slot], place: usize) -> u32
-    requires small { sum_by body_size slots.now < 2 ^ 31 }
-    requires within { place ≤ length slots.now }
-    ensures { result ≡ sum_by body_size (take place slots.now) }
-{
-    let mut at = 0;
-    for slot in &slots[..place] {
-        at += body_length(slot);
-    }
-    at
-}
 
 /// The headers of the messages from a place on, whose bodies begin at an offset in .JDT. The threads are those of
 /// all slots.
@@ -73,7 +25,7 @@ pub fn body_place(slots: &[Slot], place: usize) -> u32
 pub fn write_last_headers(
     alloc: Global,
     kind: Kind,
-    slots: &[Slot],
+    slots: &SharedSlots,
     threads: &Threads,
     from: usize,
     offset: u32,
@@ -91,7 +43,7 @@ pub fn write_last_headers(
     for place in from..slots.len() {
         let link = threads.link(place);
         let number = place as u32 + 1;
-        at = add_slot_header(alloc, &mut text, kind, number, at, link, &slots[place])?;
+        at = add_slot_header(alloc, &mut text, kind, number, at, link, slots.at(place))?;
     }
     Ok(text)
 }
@@ -99,13 +51,17 @@ pub fn write_last_headers(
 /// The bodies of the messages from a place on.
 ///
 /// The error comes where there is no memory.
-pub fn write_last_bodies(alloc: Global, slots: &[Slot], from: usize) -> Result<Bytes, AllocError>
+pub fn write_last_bodies(
+    alloc: Global,
+    slots: &SharedSlots,
+    from: usize,
+) -> Result<Bytes, AllocError>
     requires { from ≤ length slots.now }
     ensures { IfOk result (λ text. text ≡ flat_map body_piece (drop from slots.now)) }
 {
     let mut text = Bytes::new(alloc);
-    for slot in &slots[from..] {
-        add_body(&mut text, slot)?;
+    for place in from..slots.len() {
+        add_body(&mut text, slots.at(place))?;
     }
     Ok(text)
 }
@@ -115,7 +71,7 @@ pub fn write_last_bodies(alloc: Global, slots: &[Slot], from: usize) -> Result<B
 /// The error comes where there is no memory.
 pub fn write_last_records(
     alloc: Global,
-    slots: &[Slot],
+    slots: &SharedSlots,
     from: usize,
     first: u32,
 ) -> Result<Bytes, AllocError>
@@ -127,7 +83,7 @@ pub fn write_last_records(
     let mut text = Bytes::new(alloc);
     let mut at = first;
     for place in from..slots.len() {
-        at = add_record(&mut text, at, &slots[place])?;
+        at = add_record(&mut text, at, slots.at(place))?;
     }
     Ok(text)
 }

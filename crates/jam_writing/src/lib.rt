@@ -16,7 +16,4 @@ pub use jdt::write_jdt;
 pub use jdx::write_jdx;
 pub use jhr::write_jhr;
 pub use jlr::write_jlr;
-pub use last::{
-    body_place, header_length, header_place, write_last_bodies, write_last_headers,
-    write_last_records,
-};
+pub use last::{write_last_bodies, write_last_headers, write_last_records};

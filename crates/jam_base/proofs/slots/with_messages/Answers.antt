@@ -1,35 +1,37 @@
-use Rattle.std.proofs.Common.{rules, ◌≡◌, List, length, sym, ap, ◌∙◌, arith}
-use Rattle.std.proofs.lemmas.List.{nil_from_length}
+use Rattle.std.proofs.Common.{◌≡◌, ◌∙◌, ◌∷◌, List, length, sym, ap, arith}
+use Rattle.std.specs.Prelude.{sum_by}
 use Rattle.std.specs.Vec.Iter.{into_iter_items}
-use Rattle.jam_base.specs.Slots.{slots_with_all}
 use Rattle.jam_records.specs.declared.message.Message.{Message}
 use Rattle.jam_records.specs.declared.message.Slot.{Slot}
+use Rattle.jam_layout.specs.Sizes.{slot_header}
+use Rattle.shared_slots.specs.Bodies.{body_size}
+use Rattle.jam_base.specs.Slots.{slots_with_all}
+use Rattle.jam_base.proofs.BaseLaws.{next_fits}
+use Rattle.jam_base.proofs.SlotChanges.{length_all}
 use Rattle.jam_base.proofs.slots.with_messages.Goals as goal
 
-pub loop-message-init : goal.loop-message-init
-loop-message-init c =
-    let items : into_iter_items c.into_iter-message-iterator.result ≡ c.args.messages = c.into_iter-message-iterator.ensures.into_iter_gives.0 ∙ c.into_vec-message-items.ensures in
-    record {
-      so_far = ap (λ (ms : List Message). slots_with_all c.in_ok-longer.longer ms) items;
-      counted = search rules;
-      can_next = tt;
-      is_finite = tt;
-    }
-
-pub loop-message-preserved : goal.loop-message-preserved
-loop-message-preserved c =
-    let v = c.loop-message.invariant in
-    let steps = c.in-Some.ensures.steps in
+pub with_slot-requires-clause-few : goal.with_slot-requires-clause-few
+with_slot-requires-clause-few c =
+    let longer : List Slot = c.loop-message.longer in
     let rest : List Message = into_iter_items c.next.new.self in
-    record {
-      so_far = ap (λ (slots : List Slot). slots_with_all slots rest) c.in_ok-add.ensures.ok ∙ (ap (λ (ms : List Message). slots_with_all c.loop-message.longer ms) (sym steps.0) ∙ v.so_far);
-      counted = omega (arith, steps.1, v.counted, ap length steps.0);
-      can_next = tt;
-      is_finite = tt;
-    }
+    let so_far : slots_with_all longer (c.in-Some.message ∷ rest) ≡ slots_with_all c.in_ok-longer.longer c.args.messages = ap (slots_with_all longer) (sym c.in-Some.ensures.steps.0) ∙ c.loop-message.invariant.so_far in
+    let all = ap (λ (xs : List Slot). length (slots_with_all xs c.args.messages)) c.in_ok-longer.ensures in
+    omega (arith, length_all longer (c.in-Some.message ∷ rest), ap length so_far, all, c.requires.few)
 
-pub returns : goal.returns
-returns c =
-    let v = c.loop-message.invariant in
-    let none = nil_from_length (into_iter_items c.loop-message.message-iterator) (sym v.counted ∙ c.in-None.ensures.steps.0) in
-    ap (λ (ms : List Message). slots_with_all c.loop-message.longer ms) (sym none) ∙ (v.so_far ∙ ap (λ (slots : List Slot). slots_with_all slots c.args.messages) c.in_ok-longer.ensures)
+pub with_slot-requires-clause-headers : goal.with_slot-requires-clause-headers
+with_slot-requires-clause-headers c =
+    let longer : List Slot = c.loop-message.longer in
+    let rest : List Message = into_iter_items c.next.new.self in
+    let made : List Slot = slots_with_all c.in_ok-longer.longer c.args.messages in
+    let so_far : slots_with_all longer (c.in-Some.message ∷ rest) ≡ made = ap (slots_with_all longer) (sym c.in-Some.ensures.steps.0) ∙ c.loop-message.invariant.so_far in
+    let all = ap (λ (xs : List Slot). sum_by slot_header (slots_with_all xs c.args.messages)) c.in_ok-longer.ensures in
+    omega (arith, next_fits slot_header longer made c.in-Some.message rest so_far, all, c.requires.headers)
+
+pub with_slot-requires-clause-bodies : goal.with_slot-requires-clause-bodies
+with_slot-requires-clause-bodies c =
+    let longer : List Slot = c.loop-message.longer in
+    let rest : List Message = into_iter_items c.next.new.self in
+    let made : List Slot = slots_with_all c.in_ok-longer.longer c.args.messages in
+    let so_far : slots_with_all longer (c.in-Some.message ∷ rest) ≡ made = ap (slots_with_all longer) (sym c.in-Some.ensures.steps.0) ∙ c.loop-message.invariant.so_far in
+    let all = ap (λ (xs : List Slot). sum_by body_size (slots_with_all xs c.args.messages)) c.in_ok-longer.ensures in
+    omega (arith, next_fits body_size longer made c.in-Some.message rest so_far, all, c.requires.bodies)

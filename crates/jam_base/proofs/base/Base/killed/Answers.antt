@@ -1,51 +1,58 @@
 use Rattle.std.proofs.Common.{◌≡◌, ◌∙◌, ℕ, true, Ok, Result, sym, ap}
-use Rattle.jam_layout.specs.declared.conference.Conference.{Conference}
 use Rattle.jam_base.specs.Contents.{Contents}
 use Rattle.jam_base.specs.Slots.{has_live, slots_deleted}
 use Rattle.jam_base.specs.declared.change.BaseChange.{BaseChange}
+use Rattle.jam_base.proofs.BaseLaws.{deleted_threads}
 use Rattle.jam_base.proofs.SlotChanges.{live_above, live_within, deleted_is}
 use Rattle.jam_base.proofs.MarkClauses.{killed_turns, killed_suits, killed_costs}
 use Rattle.jam_base.proofs.base.Base.killed.Goals as goal
 
-pub changed-requires : goal.changed-requires
-changed-requires c =
+pub changed-requires-clause-conference : goal.changed-requires-clause-conference
+changed-requires-clause-conference c =
     let base : Contents = c.args.self.now in
-    let slots : c.in_ok-slots.slots ≡ slots_deleted c.args.number base.conference.slots = c.in_ok-slots.ensures ∙ ap (λ (k : Conference). slots_deleted c.args.number k.slots) c.parts.ensures.conference in
-    let live : has_live c.args.number base.conference.slots ≡ true = sym (c.has_live.ensures ∙ ap (λ (k : Conference). has_live c.args.number k.slots) c.parts.ensures.conference) ∙ c.if-not-has_live.false in
-    deleted_is base c.in_ok-slots.slots c.args.number slots (live_above c.args.number base.conference.slots live) (live_within c.args.number base.conference.slots live) c.parts.ensures.is_conference
+    let slots : c.in_ok-slots.slots ≡ slots_deleted c.args.number base.conference.slots = c.in_ok-slots.ensures ∙ ap (slots_deleted c.args.number) c.slots-old.ensures.same in
+    let live : has_live c.args.number base.conference.slots ≡ true = sym (c.has_live.ensures ∙ ap (has_live c.args.number) c.slots-old.ensures.same) ∙ c.if-not-has_live.false in
+    deleted_is base c.in_ok-slots.slots c.args.number slots (live_above c.args.number base.conference.slots live) (live_within c.args.number base.conference.slots live) c.slots-old.ensures.is_conference
+
+pub changed-requires-clause-threads : goal.changed-requires-clause-threads
+changed-requires-clause-threads c =
+    let base : Contents = c.args.self.now in
+    let slots : c.in_ok-slots.slots ≡ slots_deleted c.args.number base.conference.slots = c.in_ok-slots.ensures ∙ ap (slots_deleted c.args.number) c.slots-old.ensures.same in
+    let live : has_live c.args.number base.conference.slots ≡ true = sym (c.has_live.ensures ∙ ap (has_live c.args.number) c.slots-old.ensures.same) ∙ c.if-not-has_live.false in
+    deleted_threads base.conference.slots c.in_ok-slots.slots c.args.number slots (live_above c.args.number base.conference.slots live) (live_within c.args.number base.conference.slots live)
 
 pub deletion-requires-clause-above : goal.deletion-requires-clause-above
 deletion-requires-clause-above c =
     let base : Contents = c.args.self.now in
-    let live : has_live c.args.number base.conference.slots ≡ true = sym (c.has_live.ensures ∙ ap (λ (k : Conference). has_live c.args.number k.slots) c.parts.ensures.conference) ∙ c.if-not-has_live.false in
+    let live : has_live c.args.number base.conference.slots ≡ true = sym (c.has_live.ensures ∙ ap (has_live c.args.number) c.slots-old.ensures.same) ∙ c.if-not-has_live.false in
     live_above c.args.number base.conference.slots live
 
 pub deletion-requires-clause-within : goal.deletion-requires-clause-within
 deletion-requires-clause-within c =
     let base : Contents = c.args.self.now in
-    let live : has_live c.args.number base.conference.slots ≡ true = sym (c.has_live.ensures ∙ ap (λ (k : Conference). has_live c.args.number k.slots) c.parts.ensures.conference) ∙ c.if-not-has_live.false in
+    let live : has_live c.args.number base.conference.slots ≡ true = sym (c.has_live.ensures ∙ ap (has_live c.args.number) c.slots-old.ensures.same) ∙ c.if-not-has_live.false in
     live_within c.args.number base.conference.slots live
 
 pub returns-clause-files : goal.returns-clause-files
 returns-clause-files c =
     let base : Contents = c.args.self.now in
-    let slots : c.in_ok-slots.slots ≡ slots_deleted c.args.number base.conference.slots = c.in_ok-slots.ensures ∙ ap (λ (k : Conference). slots_deleted c.args.number k.slots) c.parts.ensures.conference in
-    let live : has_live c.args.number base.conference.slots ≡ true = sym (c.has_live.ensures ∙ ap (λ (k : Conference). has_live c.args.number k.slots) c.parts.ensures.conference) ∙ c.if-not-has_live.false in
+    let slots : c.in_ok-slots.slots ≡ slots_deleted c.args.number base.conference.slots = c.in_ok-slots.ensures ∙ ap (slots_deleted c.args.number) c.slots-old.ensures.same in
+    let live : has_live c.args.number base.conference.slots ≡ true = sym (c.has_live.ensures ∙ ap (has_live c.args.number) c.slots-old.ensures.same) ∙ c.if-not-has_live.false in
     let change : Result BaseChange ℕ = Ok c.in_ok-of_marks.field-0 in
     killed_turns base c.args.number c.in_ok-slots.slots c.in_ok-marks.marks c.in_ok-base.base change live slots c.in_ok-marks.ensures c.in_ok-base.ensures c.in_ok-of_marks.ensures.base c.in_ok-of_marks.ensures.patches
 
 pub returns-clause-intent : goal.returns-clause-intent
 returns-clause-intent c =
     let base : Contents = c.args.self.now in
-    let slots : c.in_ok-slots.slots ≡ slots_deleted c.args.number base.conference.slots = c.in_ok-slots.ensures ∙ ap (λ (k : Conference). slots_deleted c.args.number k.slots) c.parts.ensures.conference in
-    let live : has_live c.args.number base.conference.slots ≡ true = sym (c.has_live.ensures ∙ ap (λ (k : Conference). has_live c.args.number k.slots) c.parts.ensures.conference) ∙ c.if-not-has_live.false in
+    let slots : c.in_ok-slots.slots ≡ slots_deleted c.args.number base.conference.slots = c.in_ok-slots.ensures ∙ ap (slots_deleted c.args.number) c.slots-old.ensures.same in
+    let live : has_live c.args.number base.conference.slots ≡ true = sym (c.has_live.ensures ∙ ap (has_live c.args.number) c.slots-old.ensures.same) ∙ c.if-not-has_live.false in
     let change : Result BaseChange ℕ = Ok c.in_ok-of_marks.field-0 in
     killed_suits base c.args.number c.in_ok-slots.slots c.in_ok-marks.marks c.in_ok-base.base change live slots c.in_ok-marks.ensures c.in_ok-base.ensures c.in_ok-of_marks.ensures.base c.in_ok-of_marks.ensures.patches
 
 pub returns-clause-costs : goal.returns-clause-costs
 returns-clause-costs c =
     let base : Contents = c.args.self.now in
-    let slots : c.in_ok-slots.slots ≡ slots_deleted c.args.number base.conference.slots = c.in_ok-slots.ensures ∙ ap (λ (k : Conference). slots_deleted c.args.number k.slots) c.parts.ensures.conference in
-    let live : has_live c.args.number base.conference.slots ≡ true = sym (c.has_live.ensures ∙ ap (λ (k : Conference). has_live c.args.number k.slots) c.parts.ensures.conference) ∙ c.if-not-has_live.false in
+    let slots : c.in_ok-slots.slots ≡ slots_deleted c.args.number base.conference.slots = c.in_ok-slots.ensures ∙ ap (slots_deleted c.args.number) c.slots-old.ensures.same in
+    let live : has_live c.args.number base.conference.slots ≡ true = sym (c.has_live.ensures ∙ ap (has_live c.args.number) c.slots-old.ensures.same) ∙ c.if-not-has_live.false in
     let change : Result BaseChange ℕ = Ok c.in_ok-of_marks.field-0 in
     killed_costs base c.args.number c.in_ok-slots.slots c.in_ok-marks.marks c.in_ok-base.base change live slots c.in_ok-marks.ensures c.in_ok-base.ensures c.in_ok-of_marks.ensures.base c.in_ok-of_marks.ensures.patches

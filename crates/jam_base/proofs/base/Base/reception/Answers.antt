@@ -1,8 +1,5 @@
-use Rattle.std.proofs.Common.{ap, arith}
-use Rattle.std.specs.Prelude.{sum_by}
-use Rattle.jam_layout.specs.Sizes.{slot_header}
 use Rattle.jam_writing.proofs.PieceLaws.{headers_small}
 use Rattle.jam_base.proofs.base.Base.reception.Goals as goal
 
 pub receive_patches-requires-clause-small : goal.receive_patches-requires-clause-small
-receive_patches-requires-clause-small c = omega (arith, ap (sum_by slot_header) c.as_slice-slots.ensures, headers_small c.self.inside.shape c.self.inside.conference c.self.invariant.1)
+receive_patches-requires-clause-small c = headers_small c.self.inside.shape (record { counter = c.self.inside.counter; slots = c.self.inside.slots; pointers = c.self.inside.pointers }) c.self.invariant.1

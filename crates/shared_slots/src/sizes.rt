@@ -1,0 +1,40 @@
+// What a slot has in the files of its conference.
+ghost use Rattle.std.specs.Prelude.{◌≡◌, ◌<◌, ◌^◌};
+ghost use Rattle.jam_layout.specs.Sizes.{slot_header};
+ghost use Rattle.shared_slots.specs.Bodies.{body_size};
+ghost use Rattle.shared_slots.specs.Kept.{one_live};
+
+use jam_layout::header_size;
+use jam_records::Slot;
+
+/// How many bytes the header of what a slot holds has, with its subfields.
+pub fn header_length(slot: &Slot) -> u32
+    requires { slot_header slot.now < 2 ^ 31 }
+    ensures { result ≡ slot_header slot.now }
+{
+    match slot {
+        Slot::Gone => 0,
+        Slot::Held(message) => header_size(message),
+    }
+}
+
+/// How many bytes the body of what a slot holds has.
+pub(crate) fn body_length(slot: &Slot) -> u32
+    requires { body_size slot.now < 2 ^ 31 }
+    ensures { result ≡ body_size slot.now }
+{
+    match slot {
+        Slot::Gone => 0,
+        Slot::Held(message) => message.body.as_slice().len() as u32,
+    }
+}
+
+/// How many messages of a slot aren't deleted.
+pub(crate) fn live_in(slot: &Slot) -> u32
+    ensures { result ≡ one_live slot.now }
+{
+    match slot {
+        Slot::Gone => 0,
+        Slot::Held(message) => u32::from(!message.deleted),
+    }
+}
