@@ -3,3 +3,5 @@ pub mod PostLaws
 pub mod RecordLaws
 pub mod SizeLaws
 pub mod FitLaws
+pub mod PostSteps
+pub mod UploadLaws

@@ -1,11 +1,13 @@
-ghost use Rattle.std.specs.Prelude.{◌≡◌, IfOk};
+ghost use Rattle.std.specs.Prelude.{◌≡◌, ◌+◌, Some, IfOk, OnOk};
 ghost use Rattle.board_changes.specs.Change.{Becomes};
+ghost use Rattle.board_changes.specs.Changed.{base_at};
 ghost use Rattle.board_changes.specs.Gathered.{Gathered};
 ghost use Rattle.board_layout.specs.Board.{shapes_of};
 ghost use Rattle.board_layout.specs.Layout.{IsLayout, base_files};
 ghost use Rattle.board_layout.specs.Valid.{IsBoard};
 ghost use Rattle.board_ledger.specs.Ledger.{ledger_text};
 ghost use Rattle.post_changes.specs.Posted.{ArePlaced, posted_with, spread as spread_of};
+ghost use Rattle.post_changes.specs.Posting.{Posting};
 
 use crate::place::place_posted;
 use crate::record::with_uploads;
@@ -14,6 +16,7 @@ use board_layout::StoredBoard;
 use board_ledger::Ledger;
 use byte_lists::List;
 use intent_journal::Intent;
+use jam_base::Base;
 use jam_records::Message;
 use offer_changes::gather;
 use std::alloc::{AllocError, Global};
@@ -25,13 +28,50 @@ pub type Post = (u8, Message);
 /// Posts in order.
 pub type Posts = List<Post>;
 
+/// Adds to a change, which has those of the places before, the base of a place with its posts at the end, or None
+/// where it has none, and the patches that make its files.
+fn add_base(
+    alloc: Global,
+    board: &StoredBoard,
+    place: u8,
+    base: &Base,
+    posts: &[Post],
+    change: &mut BoardChange,
+) -> Result<(), AllocError>
+    requires board { IsBoard board.now }
+    requires base { base_at place board.now ≡ Some base.now }
+    requires so_far { Posting board.now posts.now place change.old }
+    ensures ledger { OnOk result (change.new.ledger ≡ change.old.ledger) }
+    ensures so_far { OnOk result (Posting board.now posts.now (place + 1) change.new) }
+{
+    let made = place_posted(alloc, board, place, base, posts)?;
+    let next = gather(made, &mut change.intent)?;
+    change.bases.add(next)
+}
+
+/// Adds to a change, which has none yet, the bases of all places with posts, and the patches that make their files.
+fn add_bases(
+    alloc: Global,
+    board: &StoredBoard,
+    posts: &[Post],
+    change: &mut BoardChange,
+) -> Result<(), AllocError>
+    requires { Posting board.now posts.now 0 change.old }
+    ensures { OnOk result (Becomes board.now (posted_with change.old.ledger posts.now board.now) change.new) }
+{
+    for (place, base) in board.bases().iter().enumerate() {
+        add_base(alloc, board, place as u8, base, posts, change)?;
+    }
+    Ok(())
+}
+
 /// The change of a board to another ledger, whose file the intent makes, with posts at the ends of their
 /// conferences. The conferences have the same shapes by both ledgers, and the board that it makes is valid.
 pub(crate) fn posted(
     alloc: Global,
     board: &StoredBoard,
     ledger: Ledger,
-    mut intent: Intent,
+    intent: Intent,
     posts: &[Post],
 ) -> Result<BoardChange, AllocError>
     requires shapes { shapes_of ledger ≡ shapes_of board.now.ledger }
@@ -39,16 +79,13 @@ pub(crate) fn posted(
     requires gathered { Gathered (IsLayout board.now) (ledger_text ledger) (base_files board.now) (base_files (posted_with ledger posts.now board.now)) 0 intent }
     ensures { IfOk result (Becomes board.now (posted_with ledger posts.now board.now)) }
 {
-    let mut bases = List::new(alloc);
-    for (place, base) in board.bases().iter().enumerate() {
-        let change = place_posted(alloc, board, place as u8, base, posts)?;
-        bases.add(gather(change, &mut intent)?)?;
-    }
-    Ok(BoardChange {
+    let mut change = BoardChange {
         ledger,
-        bases,
+        bases: List::new(alloc),
         intent,
-    })
+    };
+    add_bases(alloc, board, posts, &mut change)?;
+    Ok(change)
 }
 
 /// The change of a board by posts: the messages of each place go to the end of the conference there, in order, each

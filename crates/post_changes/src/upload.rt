@@ -1,13 +1,33 @@
 ghost use Rattle.std.specs.Prelude.{◌≡◌, IfOk};
 ghost use Rattle.board_changes.specs.Change.{Becomes};
 ghost use Rattle.board_layout.specs.Valid.{IsBoard};
-ghost use Rattle.post_changes.specs.Posted.{ArePlaced, uploaded as uploaded_of};
+ghost use Rattle.board_ledger.specs.UploadPuts.{upload_puts};
+ghost use Rattle.board_ledger.specs.Valid.{IsLedger};
+ghost use Rattle.post_changes.specs.Posted.{ArePlaced, uploaded as uploaded_of, with_record as with_record_of};
 
 use crate::post::{Posts, posted};
 use crate::record::{record_of, with_record};
-use board_changes::{BoardChange, ledger_intent};
+use board_changes::{BoardChange, add_all};
 use board_layout::StoredBoard;
+use board_ledger::{Ledger, UploadRecord, upload_patches};
+use intent_journal::Intent;
 use std::alloc::{AllocError, Global};
+
+/// The intent that puts an upload record at the end of the ledger's file, and no other. Both ledgers are valid.
+fn upload_intent(
+    alloc: Global,
+    ledger: &Ledger,
+    upload: &UploadRecord,
+) -> Result<Intent, AllocError>
+    requires ledger { IsLedger ledger.now }
+    requires longer { IsLedger (with_record_of upload.now ledger.now) }
+    ensures { IfOk result (λ intent. intent ≡ upload_puts ledger.now upload.now) }
+{
+    let patches = upload_patches(alloc, ledger, upload)?;
+    let mut intent = Intent::new(alloc);
+    add_all(&mut intent, patches)?;
+    Ok(intent)
+}
 
 /// The change of a board by a reply packet that the user of an id, from 1, sent: the messages of its posts go to the
 /// ends of their conferences, as `spread` has it, and the record of the packet stands behind the others, with its
@@ -28,8 +48,9 @@ pub fn uploaded(
     ensures { IfOk result (Becomes board.now (uploaded_of user digest.now refused posts.now board.now)) }
 {
     let posts = posts.as_slice();
+    let old = board.ledger();
     let upload = record_of(user, digest, refused, posts);
-    let ledger = with_record(alloc, board.ledger(), upload)?;
-    let intent = ledger_intent(alloc, &ledger)?;
+    let intent = upload_intent(alloc, old, &upload)?;
+    let ledger = with_record(alloc, old, upload)?;
     posted(alloc, board, ledger, intent, posts)
 }

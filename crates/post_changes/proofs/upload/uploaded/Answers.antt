@@ -1,16 +1,17 @@
 use Rattle.std.proofs.Common.{◌≡◌, length, sym, ap, ◌∙◌, subst, arith}
 use Rattle.std.specs.Prelude.{IfOk}
-use Rattle.board_changes.proofs.GatherLaws.{gathered_none}
 use Rattle.board_changes.specs.Change.{Becomes}
 use Rattle.board_changes.specs.Gathered.{Gathered}
 use Rattle.board_layout.specs.Board.{Board, shapes_of}
 use Rattle.board_layout.specs.Layout.{IsLayout, base_files}
 use Rattle.board_layout.specs.Valid.{IsBoard}
 use Rattle.board_ledger.specs.Ledger.{ledger_text}
+use Rattle.board_ledger.specs.UploadPuts.{upload_puts}
 use Rattle.board_ledger.specs.Valid.{IsLedger}
 use Rattle.board_ledger.specs.declared.ledger.Ledger.{Ledger}
 use Rattle.board_ledger.specs.declared.upload.UploadRecord.{UploadRecord}
 use Rattle.post_changes.proofs.RecordLaws.{record_counts, record_shapes}
+use Rattle.post_changes.proofs.UploadLaws.{gathered_upload}
 use Rattle.post_changes.specs.Posted.{posted_with, record_of, with_record}
 use Rattle.post_changes.proofs.upload.uploaded.Goals as goal
 
@@ -23,20 +24,19 @@ record_of-upload-requires c =
     let r : UploadRecord = record_of c.args.user c.args.digest.now c.args.refused c.args.posts.now in
     omega (arith, record_counts c.args.board.now.ledger r c.requires.next.ledger, ap length c.as_slice-posts.ensures)
 
-pub ledger_intent-requires : goal.ledger_intent-requires
-ledger_intent-requires c =
+pub upload_intent-requires-clause-longer : goal.upload_intent-requires-clause-longer
+upload_intent-requires-clause-longer c =
     let b : Board = c.args.board.now in
     let r : UploadRecord = record_of c.args.user c.args.digest.now c.args.refused c.args.posts.now in
-    let same : c.in_ok-ledger.ledger ≡ with_record r b.ledger =
-    made b.ledger c.ledger.result.now c.in_ok-ledger.ledger r c.record_of-upload.result c.in_ok-ledger.ensures (c.record_of-upload.ensures ∙ ap (record_of c.args.user c.args.digest.now c.args.refused) c.as_slice-posts.ensures) c.ledger.ensures.ledger in
-    subst IsLedger (sym same) c.requires.next.ledger
+    let upload : c.record_of-upload.result ≡ r = c.record_of-upload.ensures ∙ ap (record_of c.args.user c.args.digest.now c.args.refused) c.as_slice-posts.ensures in
+    subst IsLedger (λ i. with_record (sym upload i) (sym c.ledger-old.ensures.ledger i)) c.requires.next.ledger
 
 pub posted-requires-clause-shapes : goal.posted-requires-clause-shapes
 posted-requires-clause-shapes c =
     let b : Board = c.args.board.now in
     let r : UploadRecord = record_of c.args.user c.args.digest.now c.args.refused c.args.posts.now in
     let same : c.in_ok-ledger.ledger ≡ with_record r b.ledger =
-    made b.ledger c.ledger.result.now c.in_ok-ledger.ledger r c.record_of-upload.result c.in_ok-ledger.ensures (c.record_of-upload.ensures ∙ ap (record_of c.args.user c.args.digest.now c.args.refused) c.as_slice-posts.ensures) c.ledger.ensures.ledger in
+    made b.ledger c.ledger-old.result.now c.in_ok-ledger.ledger r c.record_of-upload.result c.in_ok-ledger.ensures (c.record_of-upload.ensures ∙ ap (record_of c.args.user c.args.digest.now c.args.refused) c.as_slice-posts.ensures) c.ledger-old.ensures.ledger in
     ap shapes_of same ∙ record_shapes b.ledger r
 
 pub posted-requires-clause-next : goal.posted-requires-clause-next
@@ -44,21 +44,26 @@ posted-requires-clause-next c =
     let b : Board = c.args.board.now in
     let r : UploadRecord = record_of c.args.user c.args.digest.now c.args.refused c.args.posts.now in
     let same : c.in_ok-ledger.ledger ≡ with_record r b.ledger =
-    made b.ledger c.ledger.result.now c.in_ok-ledger.ledger r c.record_of-upload.result c.in_ok-ledger.ensures (c.record_of-upload.ensures ∙ ap (record_of c.args.user c.args.digest.now c.args.refused) c.as_slice-posts.ensures) c.ledger.ensures.ledger in
+    made b.ledger c.ledger-old.result.now c.in_ok-ledger.ledger r c.record_of-upload.result c.in_ok-ledger.ensures (c.record_of-upload.ensures ∙ ap (record_of c.args.user c.args.digest.now c.args.refused) c.as_slice-posts.ensures) c.ledger-old.ensures.ledger in
     subst IsBoard (λ i. posted_with (sym same i) (sym c.as_slice-posts.ensures i) b) c.requires.next
 
 pub posted-requires-clause-gathered : goal.posted-requires-clause-gathered
 posted-requires-clause-gathered c =
     let b : Board = c.args.board.now in
-    let l : Ledger = c.in_ok-ledger.ledger in
-    let next : Board = posted_with l c.as_slice-posts.result.now b in
-    subst (Gathered (IsLayout b) (ledger_text l) (base_files b) (base_files next) 0) (sym c.in_ok-intent.ensures)
-    (gathered_none (IsLayout b) (ledger_text l) (base_files b) (base_files next) (λ files is. is.places))
+    let r : UploadRecord = record_of c.args.user c.args.digest.now c.args.refused c.args.posts.now in
+    let upload : c.record_of-upload.result ≡ r = c.record_of-upload.ensures ∙ ap (record_of c.args.user c.args.digest.now c.args.refused) c.as_slice-posts.ensures in
+    let same : c.in_ok-ledger.ledger ≡ with_record r b.ledger =
+    made b.ledger c.ledger-old.result.now c.in_ok-ledger.ledger r c.record_of-upload.result c.in_ok-ledger.ensures upload c.ledger-old.ensures.ledger in
+    let puts : c.in_ok-intent.intent ≡ upload_puts b.ledger r = c.in_ok-intent.ensures ∙ (λ i. upload_puts (c.ledger-old.ensures.ledger i) (upload i)) in
+    let next : Ledger → Board = λ (l : Ledger). posted_with l c.as_slice-posts.result.now b in
+    subst (λ (l : Ledger). Gathered (IsLayout b) (ledger_text l) (base_files b) (base_files (next l)) 0 c.in_ok-intent.intent) (sym same)
+    (subst (Gathered (IsLayout b) (ledger_text (with_record r b.ledger)) (base_files b) (base_files (next (with_record r b.ledger))) 0) (sym puts)
+    (gathered_upload b.ledger r c.ledger-old.ensures.board.ledger c.requires.next.ledger (IsLayout b) (base_files b) (base_files (next (with_record r b.ledger))) (λ files is. is.places) (λ files is. is.ledger)))
 
 pub returns : goal.returns
 returns c =
     let b : Board = c.args.board.now in
     let r : UploadRecord = record_of c.args.user c.args.digest.now c.args.refused c.args.posts.now in
     let same : c.in_ok-ledger.ledger ≡ with_record r b.ledger =
-    made b.ledger c.ledger.result.now c.in_ok-ledger.ledger r c.record_of-upload.result c.in_ok-ledger.ensures (c.record_of-upload.ensures ∙ ap (record_of c.args.user c.args.digest.now c.args.refused) c.as_slice-posts.ensures) c.ledger.ensures.ledger in
+    made b.ledger c.ledger-old.result.now c.in_ok-ledger.ledger r c.record_of-upload.result c.in_ok-ledger.ensures (c.record_of-upload.ensures ∙ ap (record_of c.args.user c.args.digest.now c.args.refused) c.as_slice-posts.ensures) c.ledger-old.ensures.ledger in
     subst (λ (next : Board). IfOk c.posted.result (Becomes b next)) (λ i. posted_with (same i) (c.as_slice-posts.ensures i) b) c.posted.ensures
