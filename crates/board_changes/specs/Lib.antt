@@ -2,3 +2,4 @@ pub mod Changed
 pub mod Change
 pub mod Gathered
 pub mod Enrolling
+pub mod Spending

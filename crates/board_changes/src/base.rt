@@ -36,7 +36,8 @@ pub fn with_base(
 ) -> Result<BoardChange, AllocError>
     requires change { IsSomeAnd (base_at place board.now) (λ old. Changes old change) }
     requires next { IsBoard (with_base_of place (Some change.base) board.now) }
-    ensures { IfOk result (λ next. Becomes board.now (with_base_of place (Some change.base) board.now) next) }
+    ensures becomes { IfOk result (λ next. Becomes board.now (with_base_of place (Some change.base) board.now) next) }
+    ensures patches { IfOk result (λ next. next.intent ≡ change.patches) }
 {
     let ledger = board.ledger();
     let mut intent = Intent::new(alloc);

@@ -1,25 +1,70 @@
 -- A change by posts with the base of one place more, and with those of all.
-use Rattle.std.proofs.Common.{◌≡◌, ◌+◌, ℕ, [], ◌∷◌, ◌++◌, List, length, length-append, take, slice_get, Some, Option, refl, sym, ap, ◌∙◌, subst, arith}
-use Rattle.std.specs.Prelude.{IfSome, option_map, unwrap_or}
-use Rattle.std.proofs.lemmas.List.{take_all}
-use Rattle.board_changes.proofs.LeadLaws.{leads_next}
-use Rattle.board_changes.proofs.MemberLaws.{renewed_pushed}
+use Rattle.std.proofs.Common.{◌≡◌, inl, inr, ◌+◌, ◌<◌, ◌≤◌, ◌==◌, cond, ℕ, [], ◌∷◌, ◌++◌, List, length, length-append, take, slice_get, Some, Option, refl, sym, ap, ◌∙◌, subst, arith}
+use Rattle.std.specs.Prelude.{IfSome, count_by, nat_lt, option_map, sum_by, unwrap_or}
+use Rattle.std.proofs.lemmas.Bool.{cases_order, cond-false, cond-true, eq-eqb, le-ltb, lt-ltb, ne_eqb}
+use Rattle.std.proofs.lemmas.List.{take_all, take_more}
+use Rattle.std.proofs.lemmas.List.Sums.{count_by-le-length, sum_by-append, sum_by-cons}
+use Rattle.board_changes.proofs.LeadLaws.{leads_next, places_count}
+use Rattle.board_changes.proofs.MemberLaws.{files_at, files_count, place_known, renewed_pushed}
 use Rattle.offer_changes.proofs.PlaceSteps.{change_joins, change_suits, change_turns, step_gathered, step_joins}
 use Rattle.board_changes.specs.Change.{Becomes, Changes}
-use Rattle.board_changes.specs.Gathered.{Gathered, Joins}
+use Rattle.board_changes.specs.Gathered.{at_place, Gathered, Joins}
+use Rattle.board_changes.specs.Spending.{Spends, SpendsHere}
 use Rattle.offer_changes.specs.Steps.{base_after, patches_of}
 use Rattle.board_changes.specs.declared.change.BoardChange.{BoardChange}
+use Rattle.board_layout.proofs.BasePlaces.{shapes_count}
 use Rattle.board_layout.specs.Board.{Board, shapes_of}
-use Rattle.board_layout.specs.Layout.{IsLayout, base_files}
+use Rattle.board_layout.specs.Layout.{IsLayout, base_files, board_size, files_in, no_base}
 use Rattle.board_layout.specs.Renewed.{contents_of, renewed}
 use Rattle.board_layout.specs.Valid.{IsBoard}
 use Rattle.board_ledger.specs.Ledger.{ledger_text}
+use Rattle.board_ledger.specs.declared.ledger.Ledger.{Ledger}
+use Rattle.intent_journal.specs.Patches.{byte_count}
+use Rattle.intent_journal.specs.declared.patch.Patch.{Patch}
+use Rattle.jam_base.proofs.PutBounds.{count_append}
 use Rattle.jam_base.specs.Contents.{Contents}
 use Rattle.jam_base.specs.declared.change.BaseChange.{BaseChange}
+use Rattle.jam_layout.specs.Layout.{files_size}
+use Rattle.jam_layout.specs.declared.files.BaseFiles.{BaseFiles}
 use Rattle.jam_records.specs.declared.message.Message.{Message}
+use Rattle.post_changes.proofs.PlacePosts.{count_posts}
 use Rattle.post_changes.proofs.PostLaws.{base_posted, contents_count, contents_places, shapes_places}
-use Rattle.post_changes.specs.Posted.{posted_in, posted_with}
-use Rattle.post_changes.specs.Posting.{Posting}
+use Rattle.post_changes.specs.Posted.{posted_in, posted_with, posts_in}
+use Rattle.post_changes.specs.Posting.{Posting, SpentSoFar, posts_before, size_before}
+
+-- ---- how many posts, and how many bytes
+before_here : (n place : ℕ) → cond (nat_lt n (place + 1)) 1 0 ≡ cond (nat_lt n place) 1 0 + cond (n == place) 1 0
+before_here n place = elim (cases_order n place) [
+  | inl is ↦ omega (arith, cond-true {A = ℕ} (nat_lt n (place + 1)) 1 0 (lt-ltb n (place + 1) (omega (arith, is))), cond-false {A = ℕ} (nat_lt n place) 1 0 (le-ltb n place (omega (arith, is))), cond-true {A = ℕ} (n == place) 1 0 (eq-eqb n place is))
+  | inr (inl less) ↦ omega (arith, cond-true {A = ℕ} (nat_lt n (place + 1)) 1 0 (lt-ltb n (place + 1) (omega (arith, less))), cond-true {A = ℕ} (nat_lt n place) 1 0 (lt-ltb n place less), cond-false {A = ℕ} (n == place) 1 0 (ne_eqb n place (λ e. omega (arith, e, less))))
+  | inr (inr more) ↦ omega (arith, cond-false {A = ℕ} (nat_lt n (place + 1)) 1 0 (le-ltb n (place + 1) (omega (arith, more))), cond-false {A = ℕ} (nat_lt n place) 1 0 (le-ltb n place (omega (arith, more))), cond-false {A = ℕ} (n == place) 1 0 (ne_eqb n place (λ e. omega (arith, e, more))))
+]
+
+before_counted : (place : ℕ) (posts : List (ℕ × Message)) → posts_before (place + 1) posts ≡ posts_before place posts + count_by (λ post. post.0 == place) posts
+before_counted place [] = refl
+before_counted place (post ∷ posts) = omega (
+  arith,
+  sum_by-cons (λ (p : ℕ × Message). cond (nat_lt p.0 (place + 1)) 1 0) post posts,
+  sum_by-cons (λ (p : ℕ × Message). cond (nat_lt p.0 place) 1 0) post posts,
+  sum_by-cons (λ (p : ℕ × Message). cond (p.0 == place) 1 0) post posts,
+  before_here post.0 place,
+  before_counted place posts,
+)
+
+before_more : (place : ℕ) (posts : List (ℕ × Message)) → posts_before (place + 1) posts ≡ posts_before place posts + length (posts_in place posts)
+before_more place posts = omega (arith, before_counted place posts, count_posts place posts)
+
+size_more : (b : Board) (place : ℕ) (base : Contents) → IsBoard b → slice_get (contents_of b) place ≡ Some base → size_before (place + 1) b ≡ size_before place b + files_size (files_in base)
+size_more b place base ok here =
+    let files : List BaseFiles = base_files b in
+    let within : place < length files = omega (arith, files_count b ok, place_known b place base here, shapes_count b.ledger 0 b.ledger.setup.conferences) in
+    omega (
+      arith,
+      ap (sum_by files_size) (take_more files place no_base within),
+      sum_by-append files_size (take place files) (at_place files place ∷ []),
+      sum_by-cons files_size (at_place files place) [],
+      ap files_size (files_at b place base here),
+    )
 
 -- ---- no place yet
 none_yet : (xs ys : List Contents) → renewed (take 0 xs) [] ≡ take 0 ys
@@ -28,14 +73,22 @@ none_yet [] (y ∷ ys) = refl
 none_yet (x ∷ xs) [] = refl
 none_yet (x ∷ xs) (y ∷ ys) = refl
 
+no_files : (files : List BaseFiles) → sum_by files_size (take 0 files) ≡ 0
+no_files [] = refl
+no_files (f ∷ files) = refl
+
+pub spent_begun : (b : Board) (posts : List (ℕ × Message)) (l : Ledger) (patches : List Patch) → length patches ≤ 2 → length (ledger_text b.ledger) + byte_count patches ≤ length (ledger_text l) + 4 → SpentSoFar b posts 0 l patches
+spent_begun b posts l patches few grown = record { few = omega (arith, few); grown = omega (arith, grown, no_files (base_files b), no_files (base_files (posted_with l posts b))) }
+
 pub posting_begun : (b : Board) (posts : List (ℕ × Message)) (change : BoardChange) → shapes_of change.ledger ≡ shapes_of b.ledger → IsBoard (posted_with change.ledger posts b) → change.bases ≡ []
-    → Gathered (IsLayout b) (ledger_text change.ledger) (base_files b) (base_files (posted_with change.ledger posts b)) 0 change.intent → Posting b posts 0 change
-posting_begun b posts change shapes next none gathered = record {
+    → Gathered (IsLayout b) (ledger_text change.ledger) (base_files b) (base_files (posted_with change.ledger posts b)) 0 change.intent → SpentSoFar b posts 0 change.ledger change.intent → Posting b posts 0 change
+posting_begun b posts change shapes next none gathered spent = record {
   shapes = shapes;
   next = next;
   bases = ap (renewed (take 0 (contents_of b))) none ∙ none_yet (contents_of b) (contents_of (posted_with change.ledger posts b));
   counted = ap length none;
   gathered = gathered;
+  spent = spent;
 }
 
 -- ---- one place more
@@ -52,20 +105,37 @@ module _ (b : Board) (posts : List (ℕ × Message)) (place : ℕ) (base : Conte
       (step_joins b next place base (base_after base made) change.intent (patches_of made) ok so_far.next here there so_far.gathered
       (change_turns base (base_after base made) made changes refl) (change_suits base (base_after base made) made changes refl))
 
-  one_more : (new : Option Contents) → new ≡ option_map (λ c. c.base) made → Posting b posts (place + 1) (record { ledger = change.ledger; bases = change.bases ++ new ∷ []; intent = change.intent ++ patches_of made })
-  one_more new same = record {
+  spent_more : SpendsHere (length (posts_in place posts)) (files_in base) (files_in (base_after base made)) (patches_of made) → SpentSoFar b posts (place + 1) change.ledger (change.intent ++ patches_of made)
+  spent_more costs =
+      let posts_more = before_more place posts in
+      record {
+        few = omega (arith, so_far.spent.few, costs.few, posts_more, length-append change.intent (patches_of made));
+        grown = omega (
+          arith,
+          so_far.spent.grown,
+          costs.grown,
+          posts_more,
+          count_append change.intent (patches_of made),
+          size_more b place base ok here,
+          size_more next place (base_after base made) so_far.next there,
+        );
+      }
+
+  one_more : (new : Option Contents) → SpendsHere (length (posts_in place posts)) (files_in base) (files_in (base_after base made)) (patches_of made) → new ≡ option_map (λ c. c.base) made → Posting b posts (place + 1) (record { ledger = change.ledger; bases = change.bases ++ new ∷ []; intent = change.intent ++ patches_of made })
+  one_more new costs same = record {
     shapes = so_far.shapes;
     next = so_far.next;
     bases = renewed_pushed (contents_of b) (contents_of next) change.bases place base new so_far.bases so_far.counted here (there ∙ ap (λ (o : Option Contents). Some (unwrap_or o base)) (sym same));
     counted = omega (arith, length-append change.bases (new ∷ []), so_far.counted);
     gathered = step_gathered b next place base (base_after base made) change.intent (patches_of made) ok so_far.next here there so_far.gathered
         (change_turns base (base_after base made) made changes refl) (change_suits base (base_after base made) made changes refl);
+    spent = spent_more costs;
   }
 
-  pub post_more : (after : BoardChange) (new : Option Contents) → new ≡ option_map (λ c. c.base) made → after.ledger ≡ change.ledger → after.bases ≡ change.bases ++ new ∷ [] → after.intent ≡ change.intent ++ patches_of made → Posting b posts (place + 1) after
-  post_more after new same ledger bases intent =
+  pub post_more : (after : BoardChange) (new : Option Contents) → SpendsHere (length (posts_in place posts)) (files_in base) (files_in (base_after base made)) (patches_of made) → new ≡ option_map (λ c. c.base) made → after.ledger ≡ change.ledger → after.bases ≡ change.bases ++ new ∷ [] → after.intent ≡ change.intent ++ patches_of made → Posting b posts (place + 1) after
+  post_more after new costs same ledger bases intent =
       let all : after ≡ record { ledger = change.ledger; bases = change.bases ++ new ∷ []; intent = change.intent ++ patches_of made } = λ i. record { ledger = ledger i; bases = bases i; intent = intent i } in
-      subst (Posting b posts (place + 1)) (sym all) (one_more new same)
+      subst (Posting b posts (place + 1)) (sym all) (one_more new costs same)
 
 -- ---- all places
 pub posts_become : (b : Board) (posts : List (ℕ × Message)) (count : ℕ) (change : BoardChange) → IsBoard b → count ≡ length (contents_of b) → Posting b posts count change → Becomes b (posted_with change.ledger posts b) change
@@ -78,4 +148,19 @@ posts_become b posts count change ok all posting =
       bases = ap (λ (xs : List Contents). renewed xs change.bases) (sym (take_all count (contents_of b) (omega (arith, all))))
           ∙ (posting.bases ∙ take_all count (contents_of next) (omega (arith, all, contents_count b posts change.ledger ok posting.shapes)));
       intent = leads_next b next change.intent ok posting.next (shapes_places change.ledger b.ledger posting.shapes) (subst (λ (k : ℕ). Gathered (IsLayout b) (ledger_text change.ledger) (base_files b) (base_files next) k change.intent) end posting.gathered);
+    }
+
+-- the size of all data files
+size_all : (b : Board) (count : ℕ) → IsBoard b → count ≡ length b.ledger.setup.conferences → size_before count b ≡ board_size b
+size_all b count ok all = ap (λ (files : List BaseFiles). length (ledger_text b.ledger) + sum_by files_size files) (take_all count (base_files b) (omega (arith, all, files_count b ok)))
+
+pub posts_spend : (b : Board) (posts : List (ℕ × Message)) (count : ℕ) (change : BoardChange) → IsBoard b → count ≡ length (contents_of b) → Posting b posts count change → Spends (length posts) b (posted_with change.ledger posts b) change.intent
+posts_spend b posts count change ok all posting =
+    let next : Board = posted_with change.ledger posts b in
+    let places : count ≡ length b.ledger.setup.conferences = all ∙ (contents_places b posts change.ledger ok posting.shapes ∙ (places_count b ok ∙ files_count b ok)) in
+    let places_next : count ≡ length next.ledger.setup.conferences = places ∙ shapes_places change.ledger b.ledger posting.shapes in
+    let most : posts_before count posts ≤ length posts = count_by-le-length (λ (post : ℕ × Message). nat_lt post.0 count) posts in
+    record {
+      few = omega (arith, posting.spent.few, most);
+      grown = omega (arith, posting.spent.grown, most, size_all b count ok places, size_all next count posting.next places_next);
     }

@@ -1,5 +1,5 @@
 -- A change of a board by posts, place by place.
-use Rattle.std.specs.Prelude.{◌≡◌, ℕ, List, length, take}
+use Rattle.std.specs.Prelude.{◌≡◌, ℕ, ◌+◌, ◌*◌, ◌≤◌, List, length, take, count_by, nat_lt, sum_by}
 use Rattle.board_changes.specs.Gathered.{Gathered}
 use Rattle.board_changes.specs.declared.change.BoardChange.{BoardChange}
 use Rattle.board_layout.specs.Board.{Board, shapes_of}
@@ -7,8 +7,25 @@ use Rattle.board_layout.specs.Layout.{IsLayout, base_files}
 use Rattle.board_layout.specs.Renewed.{contents_of, renewed}
 use Rattle.board_layout.specs.Valid.{IsBoard}
 use Rattle.board_ledger.specs.Ledger.{ledger_text}
+use Rattle.board_ledger.specs.declared.ledger.Ledger.{Ledger}
+use Rattle.intent_journal.specs.Patches.{byte_count}
+use Rattle.intent_journal.specs.declared.patch.Patch.{Patch}
+use Rattle.jam_layout.specs.Layout.{files_size}
 use Rattle.jam_records.specs.declared.message.Message.{Message}
 use Rattle.post_changes.specs.Posted.{posted_with}
+
+-- how many posts are in the first places
+abbrev pub posts_before : ℕ → List (ℕ × Message) → ℕ
+posts_before count posts = count_by (λ post. nat_lt post.0 count) posts
+
+-- how many bytes the ledger and the files of the first places have
+abbrev pub size_before : ℕ → Board → ℕ
+size_before count b = length (ledger_text b.ledger) + sum_by files_size (take count (base_files b))
+
+-- how much the patches of the first places put, and those of the ledger before them, of which there are two at most
+pub record SpentSoFar (b : Board) (posts : List (ℕ × Message)) (count : ℕ) (l : Ledger) (patches : List Patch) : Type 0 where
+  pub few : length patches ≤ 2 + 5 * posts_before count posts
+  pub grown : size_before count b + byte_count patches ≤ size_before count (posted_with l posts b) + (4 + 12 * posts_before count posts)
 
 -- the change has its ledger, by which the next board is valid and its conferences have the same shapes, and of the first
 -- places the bases with their posts and the patches of their files
@@ -18,3 +35,4 @@ pub record Posting (b : Board) (posts : List (ℕ × Message)) (count : ℕ) (ch
   pub bases : renewed (take count (contents_of b)) change.bases ≡ take count (contents_of (posted_with change.ledger posts b))
   pub counted : length change.bases ≡ count
   pub gathered : Gathered (IsLayout b) (ledger_text change.ledger) (base_files b) (base_files (posted_with change.ledger posts b)) count change.intent
+  pub spent : SpentSoFar b posts count change.ledger change.intent

@@ -2,8 +2,10 @@
 ghost use Rattle.std.specs.Prelude.{◌≡◌, ◌≤◌, ◌+◌, Some, length, IfOk, IfSome};
 ghost use Rattle.board_changes.specs.Change.{Changes};
 ghost use Rattle.board_changes.specs.Changed.{base_at};
+ghost use Rattle.board_changes.specs.Spending.{SpendsHere};
 ghost use Rattle.jam_layout.specs.Valid.{IsConference};
-ghost use Rattle.offer_changes.specs.Steps.{base_after};
+ghost use Rattle.offer_changes.specs.Steps.{base_after, patches_of};
+ghost use Rattle.board_layout.specs.Layout.{files_in};
 ghost use Rattle.post_changes.specs.Posted.{posted_in, posts_in};
 ghost use Rattle.slot_changes.specs.Msgids.{all_identified, generated};
 
@@ -50,6 +52,7 @@ pub(crate) fn place_posted(
     requires next { IsConference (posted_in board.now posts.now place base.now).shape (posted_in board.now posts.now place base.now).conference }
     ensures base { IfOk result (λ change. base_after base.now change ≡ posted_in board.now posts.now place base.now) }
     ensures changes { IfOk result (λ change. IfSome change (Changes base.now)) }
+    ensures costs { IfOk result (λ change. SpendsHere (length (posts_in place posts.now)) (files_in base.now) (files_in (base_after base.now change)) (patches_of change)) }
 {
     let conference = conference_of(board, place).number;
     let bbsid = board.ledger().setup.bbsid.as_slice();

@@ -1,13 +1,14 @@
-ghost use Rattle.std.specs.Prelude.{◌≡◌, ◌+◌, Some, IfOk, OnOk};
+ghost use Rattle.std.specs.Prelude.{◌≡◌, ◌+◌, Some, length, IfOk, OnOk};
 ghost use Rattle.board_changes.specs.Change.{Becomes};
 ghost use Rattle.board_changes.specs.Changed.{base_at};
 ghost use Rattle.board_changes.specs.Gathered.{Gathered};
+ghost use Rattle.board_changes.specs.Spending.{Spends};
 ghost use Rattle.board_layout.specs.Board.{shapes_of};
 ghost use Rattle.board_layout.specs.Layout.{IsLayout, base_files};
 ghost use Rattle.board_layout.specs.Valid.{IsBoard};
 ghost use Rattle.board_ledger.specs.Ledger.{ledger_text};
 ghost use Rattle.post_changes.specs.Posted.{ArePlaced, posted_with, spread as spread_of};
-ghost use Rattle.post_changes.specs.Posting.{Posting};
+ghost use Rattle.post_changes.specs.Posting.{Posting, SpentSoFar};
 
 use crate::place::place_posted;
 use crate::record::with_uploads;
@@ -57,7 +58,8 @@ fn add_bases(
     change: &mut BoardChange,
 ) -> Result<(), AllocError>
     requires { Posting board.now posts.now 0 change.old }
-    ensures { OnOk result (Becomes board.now (posted_with change.old.ledger posts.now board.now) change.new) }
+    ensures becomes { OnOk result (Becomes board.now (posted_with change.old.ledger posts.now board.now) change.new) }
+    ensures costs { OnOk result (Spends (length posts.now) board.now (posted_with change.old.ledger posts.now board.now) change.new.intent) }
 {
     for (place, base) in board.bases().iter().enumerate() {
         add_base(alloc, board, place as u8, base, posts, change)?;
@@ -77,7 +79,9 @@ pub(crate) fn posted(
     requires shapes { shapes_of ledger ≡ shapes_of board.now.ledger }
     requires next { IsBoard (posted_with ledger posts.now board.now) }
     requires gathered { Gathered (IsLayout board.now) (ledger_text ledger) (base_files board.now) (base_files (posted_with ledger posts.now board.now)) 0 intent }
-    ensures { IfOk result (Becomes board.now (posted_with ledger posts.now board.now)) }
+    requires spent { SpentSoFar board.now posts.now 0 ledger intent }
+    ensures becomes { IfOk result (Becomes board.now (posted_with ledger posts.now board.now)) }
+    ensures costs { IfOk result (λ change. Spends (length posts.now) board.now (posted_with ledger posts.now board.now) change.intent) }
 {
     let mut change = BoardChange {
         ledger,
@@ -96,7 +100,8 @@ pub(crate) fn posted(
 pub fn spread(alloc: Global, board: &StoredBoard, posts: &Posts) -> Result<BoardChange, AllocError>
     requires places { ArePlaced posts.now board.now }
     requires next { IsBoard (spread_of posts.now board.now) }
-    ensures { IfOk result (Becomes board.now (spread_of posts.now board.now)) }
+    ensures becomes { IfOk result (Becomes board.now (spread_of posts.now board.now)) }
+    ensures costs { IfOk result (λ change. Spends (length posts.now) board.now (spread_of posts.now board.now) change.intent) }
 {
     let old = board.ledger();
     let ledger = with_uploads(alloc, old, old.uploads.copy(alloc)?)?;

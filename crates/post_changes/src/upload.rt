@@ -1,5 +1,6 @@
-ghost use Rattle.std.specs.Prelude.{◌≡◌, IfOk};
+ghost use Rattle.std.specs.Prelude.{◌≡◌, length, IfOk};
 ghost use Rattle.board_changes.specs.Change.{Becomes};
+ghost use Rattle.board_changes.specs.Spending.{Spends};
 ghost use Rattle.board_layout.specs.Valid.{IsBoard};
 ghost use Rattle.board_ledger.specs.UploadPuts.{upload_puts};
 ghost use Rattle.board_ledger.specs.Valid.{IsLedger};
@@ -45,7 +46,8 @@ pub fn uploaded(
 ) -> Result<BoardChange, AllocError>
     requires places { ArePlaced posts.now board.now }
     requires next { IsBoard (uploaded_of user digest.now refused posts.now board.now) }
-    ensures { IfOk result (Becomes board.now (uploaded_of user digest.now refused posts.now board.now)) }
+    ensures becomes { IfOk result (Becomes board.now (uploaded_of user digest.now refused posts.now board.now)) }
+    ensures costs { IfOk result (λ change. Spends (length posts.now) board.now (uploaded_of user digest.now refused posts.now board.now) change.intent) }
 {
     let posts = posts.as_slice();
     let old = board.ledger();

@@ -7,13 +7,17 @@ use Rattle.std.proofs.lemmas.List.Elements.{All-cons, All-drop, All-head, All-ni
 use Rattle.board_changes.proofs.OneBase.{base_fits, base_was, board_next, size_next}
 use Rattle.board_changes.specs.Change.{Changes}
 use Rattle.board_changes.specs.Changed.{base_at, with_base}
+use Rattle.board_changes.specs.Spending.{Spends}
 use Rattle.board_layout.specs.Board.{Board}
 use Rattle.board_layout.specs.Layout.{board_size, files_in}
 use Rattle.board_layout.specs.Valid.{IsBoard, board_limit}
 use Rattle.board_ledger.specs.declared.ledger.Ledger.{Ledger}
+use Rattle.intent_journal.specs.Patches.{byte_count}
+use Rattle.intent_journal.specs.declared.patch.Patch.{Patch}
 use Rattle.jam_base.proofs.SlotChanges.{appended_is, length_all}
 use Rattle.jam_base.specs.Change.{SuitsIntent, Turns}
 use Rattle.jam_base.specs.Contents.{Contents, with_messages}
+use Rattle.jam_base.specs.Puts.{Costs}
 use Rattle.jam_base.specs.Slots.{slots_with_all}
 use Rattle.jam_base.specs.declared.change.BaseChange.{BaseChange}
 use Rattle.jam_layout.specs.Messages.{IsMessage, IsSlot}
@@ -71,6 +75,16 @@ pub copies_are : (b : Board) (place : ℕ) (c : SetupConference) (base : Content
 copies_are b place c base bbsid ledger count items messages copies is id same slots all made =
     let own : bbsid ≡ b.ledger.setup.bbsid = id ∙ ap (λ (l : Ledger). l.setup.bbsid) same in
     made ∙ (λ i. all_identified (generated (named b place c is i) (own i)) (slots i + 1) (all i))
+
+-- how much it puts
+pub appended_spends : (b : Board) (place : ℕ) (messages copies : List Message) (base : Contents) (change : BaseChange) (intent : List Patch) → IsBoard b → base_at place b ≡ Some base → change.base ≡ with_messages copies base → length copies ≡ length messages
+    → Costs (length copies) (files_in base) (files_in change.base) change.patches → intent ≡ change.patches → with_base place (Some change.base) b ≡ appended place messages b → Spends (length messages) b (appended place messages b) intent
+appended_spends b place messages copies base change intent ok here is many costs same next =
+    let grows = size_next b place base change.base ok here (ap (λ (c : Contents). c.shape) is ∙ shape_stays base copies) in
+    record {
+      few = omega (arith, costs.few, many, ap (length {A = Patch}) same);
+      grown = omega (arith, costs.short, many, ap byte_count same, grows, ap board_size next);
+    }
 
 module _ (b : Board) (place : ℕ) (messages : List Message) (base : Contents) (ok : IsBoard b) (here : base_at place b ≡ Some base) where
   given : List Message

@@ -1,5 +1,6 @@
 ghost use Rattle.std.specs.Prelude.{◌≡◌, ◌<◌, ◌≤◌, ◌+◌, length, IfOk};
 ghost use Rattle.board_changes.specs.Change.{Becomes};
+ghost use Rattle.board_changes.specs.Spending.{Spends};
 ghost use Rattle.board_layout.specs.Valid.{IsBoard};
 ghost use Rattle.slot_changes.specs.Changed.{appended as appended_of};
 ghost use Rattle.slot_changes.specs.Msgids.{generated as generated_of, identified as identified_of, all_identified as all_identified_of};
@@ -65,7 +66,8 @@ pub fn appended(
 ) -> Result<BoardChange, AllocError>
     requires place { place < length board.now.conferences }
     requires next { IsBoard (appended_of place messages.now board.now) }
-    ensures { IfOk result (λ change. Becomes board.now (appended_of place messages.now board.now) change) }
+    ensures becomes { IfOk result (λ change. Becomes board.now (appended_of place messages.now board.now) change) }
+    ensures costs { IfOk result (λ change. Spends (length messages.now) board.now (appended_of place messages.now board.now) change.intent) }
 {
     let base = base_of(board, place);
     let conference = conference_of(board, place).number;

@@ -1,6 +1,7 @@
-ghost use Rattle.std.specs.Prelude.{◌≡◌, IfOk, IsTrue};
+ghost use Rattle.std.specs.Prelude.{◌≡◌, ◌≤◌, length, IfOk, IsTrue};
 ghost use Rattle.board_changes.specs.Change.{Becomes, Changes};
 ghost use Rattle.board_layout.specs.Valid.{IsBoard};
+ghost use Rattle.intent_journal.specs.Patches.{byte_count};
 ghost use Rattle.jam_base.specs.Contents.{with_deleted};
 ghost use Rattle.jam_base.specs.Slots.{has_live};
 ghost use Rattle.slot_changes.specs.Changed.{deleted as deleted_of, HasMessage};
@@ -16,6 +17,7 @@ fn killed(alloc: Global, base: &Base, number: u32) -> Result<BaseChange, AllocEr
     requires { IsTrue (has_live number base.now.conference.slots) }
     ensures base { IfOk result (λ change. change.base ≡ with_deleted number base.now) }
     ensures changes { IfOk result (λ change. Changes base.now change) }
+    ensures costs { IfOk result (λ change. (length change.patches ≤ 2) × (byte_count change.patches ≤ 24)) }
 {
     match base.killed(alloc, number) {
         Ok(change) => Ok(change),
@@ -36,7 +38,8 @@ pub fn deleted(
 ) -> Result<BoardChange, AllocError>
     requires message { HasMessage place number board.now }
     requires next { IsBoard (deleted_of place number board.now) }
-    ensures { IfOk result (λ change. Becomes board.now (deleted_of place number board.now) change) }
+    ensures becomes { IfOk result (λ change. Becomes board.now (deleted_of place number board.now) change) }
+    ensures costs { IfOk result (λ change. (length change.intent ≤ 2) × (byte_count change.intent ≤ 24)) }
 {
     let change = killed(alloc, base_of(board, place), number)?;
     with_base(alloc, board, place, change)

@@ -16,8 +16,11 @@ add_all-requires c =
     subst (λ (intent : List Patch). Joins intent c.args.change.patches) (sym c.new-intent.ensures)
     (base_joins b c.args.place there.0 c.args.change c.ledger-ledger.ensures.board there.1 there.2 c.requires.next)
 
-pub returns : goal.returns
-returns c =
+pub returns-clause-patches : goal.returns-clause-patches
+returns-clause-patches c = c.in_ok-add_all.ensures ∙ ap (λ (intent : List Patch). intent ++ c.args.change.patches) c.new-intent.ensures
+
+pub returns-clause-becomes : goal.returns-clause-becomes
+returns-clause-becomes c =
     let b : Board = c.args.board.now in
     let there = changed_there (base_at c.args.place b) c.args.change c.requires.change in
     let added : c.add_all.new.intent ≡ c.args.change.patches = c.in_ok-add_all.ensures ∙ ap (λ (intent : List Patch). intent ++ c.args.change.patches) c.new-intent.ensures in

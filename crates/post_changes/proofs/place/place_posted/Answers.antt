@@ -1,6 +1,6 @@
-use Rattle.std.proofs.Common.{◌≡◌, ◌+◌, List, [], length, refl, sym, ap, ◌∙◌, subst, arith}
+use Rattle.std.proofs.Common.{◌≡◌, ◌≢◌, ◌+◌, List, [], length, refl, sym, ap, ◌∙◌, subst, arith}
 use Rattle.std.specs.Prelude.{All}
-use Rattle.std.proofs.lemmas.Bool.{eqb-true}
+use Rattle.std.proofs.lemmas.Bool.{eqb-false, eqb-true}
 use Rattle.std.proofs.lemmas.List.{nil_from_length}
 use Rattle.board_layout.specs.Board.{Board}
 use Rattle.jam_base.specs.Contents.{Contents}
@@ -61,3 +61,15 @@ returns-clause-base c =
 
 pub returns-clause-changes : goal.returns-clause-changes
 returns-clause-changes c = changes c.args.base.now c.in_ok-messages.messages c.in_ok-extended.field-0 c.in_ok-extended.ensures.base c.in_ok-extended.ensures.files c.in_ok-extended.ensures.intent
+
+pub returns-then-is_empty-clause-costs : goal.returns-then-is_empty-clause-costs
+returns-then-is_empty-clause-costs c = record { few = omega arith; grown = omega arith }
+
+pub returns-clause-costs : goal.returns-clause-costs
+returns-clause-costs c =
+    let costs = c.in_ok-extended.ensures.costs in
+    let some : length c.as_slice.result.now ≢ 0 = eqb-false (length c.as_slice.result.now) 0 (sym c.is_empty.ensures ∙ c.if-is_empty.false) in
+    let same : length c.as_slice.result.now ≡ length c.in_ok-messages.messages = ap length c.as_slice.ensures in
+    let many : length c.in_ok-messages.messages ≡ length (posts_in c.args.place c.args.posts.now) =
+    omega (arith, ap (length {A = Message}) c.in_ok-messages.ensures, identified_count (generated c.conference_of.result.now.number c.as_slice-bbsid.result.now) (c.slot_count-first.result + 1) (posts_in c.args.place c.args.posts.now)) in
+    record { few = omega (arith, costs.few, some, same, many); grown = omega (arith, costs.short, some, same, many) }

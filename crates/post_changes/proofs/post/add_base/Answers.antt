@@ -22,5 +22,5 @@ returns-clause-so_far c =
     let after : BoardChange = record { ledger = c.args.change.now.ledger; bases = c.add.new.self; intent = c.gather.new.intent } in
     on_ok_weaker c.add.result
     (λ added. post_more b c.args.posts.now c.args.place c.args.base.now c.args.change.now made c.requires.board c.requires.base c.in_ok-made.ensures.base c.in_ok-made.ensures.changes c.requires.so_far after
-    c.in_ok-next.next c.in_ok-next.ensures.base refl added c.in_ok-next.ensures.gathers)
+    c.in_ok-next.next c.in_ok-made.ensures.costs c.in_ok-next.ensures.base refl added c.in_ok-next.ensures.gathers)
     c.add.ensures.ok

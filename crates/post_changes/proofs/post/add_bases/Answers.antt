@@ -1,10 +1,11 @@
-use Rattle.std.proofs.Common.{◌∙◌, subst, arith}
+use Rattle.std.proofs.Common.{◌∙◌, length, subst, arith}
 use Rattle.board_changes.proofs.MemberLaws.{place_small}
 use Rattle.board_changes.specs.Change.{Becomes}
+use Rattle.board_changes.specs.Spending.{Spends}
 use Rattle.board_layout.specs.Board.{Board}
 use Rattle.board_ledger.specs.declared.ledger.Ledger.{Ledger}
 use Rattle.post_changes.proofs.PlacePosts.{base_here}
-use Rattle.post_changes.proofs.PostSteps.{posts_become}
+use Rattle.post_changes.proofs.PostSteps.{posts_become, posts_spend}
 use Rattle.post_changes.specs.Posted.{posted_with}
 use Rattle.post_changes.proofs.post.add_bases.Goals as goal
 
@@ -21,8 +22,15 @@ loop-place-preserved c =
     let v = c.loop-place.invariant in
     record { ledger = c.in_ok-add_base.ensures.ledger ∙ v.ledger; so_far = c.in_ok-add_base.ensures.so_far; all = v.all; end = v.end }
 
-pub returns : goal.returns
-returns c =
+pub returns-clause-becomes : goal.returns-clause-becomes
+returns-clause-becomes c =
     let b : Board = c.args.board.now in
     let v = c.loop-place.invariant in
     subst (λ (l : Ledger). Becomes b (posted_with l c.args.posts.now b) c.loop-place.change) v.ledger (posts_become b c.args.posts.now c.loop-place.place c.loop-place.change c.bases-base-items.ensures.board (omega (arith, v.end)) v.so_far)
+
+pub returns-clause-costs : goal.returns-clause-costs
+returns-clause-costs c =
+    let b : Board = c.args.board.now in
+    let posts = c.args.posts.now in
+    let v = c.loop-place.invariant in
+    subst (λ (l : Ledger). Spends (length posts) b (posted_with l posts b) c.loop-place.change.intent) v.ledger (posts_spend b posts c.loop-place.place c.loop-place.change c.bases-base-items.ensures.board (omega (arith, v.end)) v.so_far)

@@ -1,14 +1,18 @@
-use Rattle.std.proofs.Common.{◌≡◌, List, sym, ap, ◌∙◌, subst}
+use Rattle.std.proofs.Common.{◌≡◌, ℕ, List, length, sym, ap, ◌∙◌, subst, arith}
 use Rattle.std.specs.Prelude.{IfOk}
 use Rattle.board_changes.proofs.GatherLaws.{gathered_kept}
 use Rattle.board_changes.specs.Change.{Becomes}
 use Rattle.board_changes.specs.Gathered.{Gathered}
+use Rattle.board_changes.specs.Spending.{Spends}
 use Rattle.board_layout.specs.Board.{Board, shapes_of}
 use Rattle.board_layout.specs.Layout.{IsLayout, base_files}
 use Rattle.board_layout.specs.Valid.{IsBoard}
 use Rattle.board_ledger.specs.Ledger.{ledger_text}
 use Rattle.board_ledger.specs.declared.ledger.Ledger.{Ledger}
 use Rattle.board_ledger.specs.declared.upload.UploadRecord.{UploadRecord}
+use Rattle.intent_journal.specs.Patches.{byte_count}
+use Rattle.jam_records.specs.declared.message.Message.{Message}
+use Rattle.post_changes.proofs.PostSteps.{spent_begun}
 use Rattle.post_changes.specs.Posted.{posted_with}
 use Rattle.post_changes.proofs.post.spread.Goals as goal
 
@@ -34,7 +38,20 @@ posted-requires-clause-gathered c =
     subst (Gathered (IsLayout b) (ledger_text l) (base_files b) (base_files next) 0) (sym c.new.ensures)
     (gathered_kept (IsLayout b) (ledger_text l) (base_files b) (base_files next) (λ files is. is.places) (λ files is. is.ledger ∙ ap ledger_text (sym same)))
 
-pub returns : goal.returns
-returns c =
+pub posted-requires-clause-spent : goal.posted-requires-clause-spent
+posted-requires-clause-spent c =
+    let b : Board = c.args.board.now in
+    let l : Ledger = c.in_ok-ledger.ledger in
+    let same : l ≡ b.ledger = kept b.ledger c.ledger-old.result.now l c.in_ok-copy.field-0 c.in_ok-ledger.ensures c.in_ok-copy.ensures c.ledger-old.ensures.ledger in
+    spent_begun b c.as_slice.result.now l c.new.result (omega (arith, ap length c.new.ensures)) (omega (arith, ap byte_count c.new.ensures, ap (λ (k : Ledger). length (ledger_text k)) same))
+
+pub returns-clause-becomes : goal.returns-clause-becomes
+returns-clause-becomes c =
     let same = kept c.args.board.now.ledger c.ledger-old.result.now c.in_ok-ledger.ledger c.in_ok-copy.field-0 c.in_ok-ledger.ensures c.in_ok-copy.ensures c.ledger-old.ensures.ledger in
-    subst (λ (next : Board). IfOk c.posted.result (Becomes c.args.board.now next)) (λ i. posted_with (same i) (c.as_slice.ensures i) c.args.board.now) c.posted.ensures
+    subst (λ (next : Board). IfOk c.posted.result (Becomes c.args.board.now next)) (λ i. posted_with (same i) (c.as_slice.ensures i) c.args.board.now) c.posted.ensures.becomes
+
+pub returns-clause-costs : goal.returns-clause-costs
+returns-clause-costs c =
+    let same = kept c.args.board.now.ledger c.ledger-old.result.now c.in_ok-ledger.ledger c.in_ok-copy.field-0 c.in_ok-ledger.ensures c.in_ok-copy.ensures c.ledger-old.ensures.ledger in
+    let costs : (l : Ledger) → List (ℕ × Message) → Type 0 = λ l posts. IfOk c.posted.result (λ change. Spends (length posts) c.args.board.now (posted_with l posts c.args.board.now) change.intent) in
+    subst (λ (l : Ledger). costs l c.args.posts.now) same (subst (costs c.in_ok-ledger.ledger) c.as_slice.ensures c.posted.ensures.costs)

@@ -1,7 +1,8 @@
-use Rattle.std.proofs.Common.{◌≡◌, length, sym, ap, ◌∙◌, subst, arith}
+use Rattle.std.proofs.Common.{◌≡◌, ℕ, List, length, sym, ap, ◌∙◌, subst, arith}
 use Rattle.std.specs.Prelude.{IfOk}
 use Rattle.board_changes.specs.Change.{Becomes}
 use Rattle.board_changes.specs.Gathered.{Gathered}
+use Rattle.board_changes.specs.Spending.{Spends}
 use Rattle.board_layout.specs.Board.{Board, shapes_of}
 use Rattle.board_layout.specs.Layout.{IsLayout, base_files}
 use Rattle.board_layout.specs.Valid.{IsBoard}
@@ -10,7 +11,11 @@ use Rattle.board_ledger.specs.UploadPuts.{upload_puts}
 use Rattle.board_ledger.specs.Valid.{IsLedger}
 use Rattle.board_ledger.specs.declared.ledger.Ledger.{Ledger}
 use Rattle.board_ledger.specs.declared.upload.UploadRecord.{UploadRecord}
-use Rattle.post_changes.proofs.RecordLaws.{record_counts, record_shapes}
+use Rattle.board_ledger.proofs.UploadPutLaws.{last_digest, upload_bytes}
+use Rattle.intent_journal.specs.Patches.{byte_count}
+use Rattle.jam_records.specs.declared.message.Message.{Message}
+use Rattle.post_changes.proofs.PostSteps.{spent_begun}
+use Rattle.post_changes.proofs.RecordLaws.{record_counts, record_length, record_shapes}
 use Rattle.post_changes.proofs.UploadLaws.{gathered_upload}
 use Rattle.post_changes.specs.Posted.{posted_with, record_of, with_record}
 use Rattle.post_changes.proofs.upload.uploaded.Goals as goal
@@ -60,10 +65,32 @@ posted-requires-clause-gathered c =
     (subst (Gathered (IsLayout b) (ledger_text (with_record r b.ledger)) (base_files b) (base_files (next (with_record r b.ledger))) 0) (sym puts)
     (gathered_upload b.ledger r c.ledger-old.ensures.board.ledger c.requires.next.ledger (IsLayout b) (base_files b) (base_files (next (with_record r b.ledger))) (λ files is. is.places) (λ files is. is.ledger)))
 
-pub returns : goal.returns
-returns c =
+pub posted-requires-clause-spent : goal.posted-requires-clause-spent
+posted-requires-clause-spent c =
+    let b : Board = c.args.board.now in
+    let r : UploadRecord = record_of c.args.user c.args.digest.now c.args.refused c.args.posts.now in
+    let upload : c.record_of-upload.result ≡ r = c.record_of-upload.ensures ∙ ap (record_of c.args.user c.args.digest.now c.args.refused) c.as_slice-posts.ensures in
+    let same : c.in_ok-ledger.ledger ≡ with_record r b.ledger =
+    made b.ledger c.ledger-old.result.now c.in_ok-ledger.ledger r c.record_of-upload.result c.in_ok-ledger.ensures upload c.ledger-old.ensures.ledger in
+    let puts : c.in_ok-intent.intent ≡ upload_puts b.ledger r = c.in_ok-intent.ensures ∙ (λ i. upload_puts (c.ledger-old.ensures.ledger i) (upload i)) in
+    let digest = last_digest b.ledger r c.requires.next.ledger in
+    spent_begun b c.as_slice-posts.result.now c.in_ok-ledger.ledger c.in_ok-intent.intent (omega (arith, ap length puts))
+    (omega (arith, ap byte_count puts, upload_bytes b.ledger r digest, ap (λ (k : Ledger). length (ledger_text k)) same, record_length b.ledger r c.ledger-old.ensures.board.ledger digest))
+
+pub returns-clause-becomes : goal.returns-clause-becomes
+returns-clause-becomes c =
     let b : Board = c.args.board.now in
     let r : UploadRecord = record_of c.args.user c.args.digest.now c.args.refused c.args.posts.now in
     let same : c.in_ok-ledger.ledger ≡ with_record r b.ledger =
     made b.ledger c.ledger-old.result.now c.in_ok-ledger.ledger r c.record_of-upload.result c.in_ok-ledger.ensures (c.record_of-upload.ensures ∙ ap (record_of c.args.user c.args.digest.now c.args.refused) c.as_slice-posts.ensures) c.ledger-old.ensures.ledger in
-    subst (λ (next : Board). IfOk c.posted.result (Becomes b next)) (λ i. posted_with (same i) (c.as_slice-posts.ensures i) b) c.posted.ensures
+    subst (λ (next : Board). IfOk c.posted.result (Becomes b next)) (λ i. posted_with (same i) (c.as_slice-posts.ensures i) b) c.posted.ensures.becomes
+
+pub returns-clause-costs : goal.returns-clause-costs
+returns-clause-costs c =
+    let b : Board = c.args.board.now in
+    let r : UploadRecord = record_of c.args.user c.args.digest.now c.args.refused c.args.posts.now in
+    let upload : c.record_of-upload.result ≡ r = c.record_of-upload.ensures ∙ ap (record_of c.args.user c.args.digest.now c.args.refused) c.as_slice-posts.ensures in
+    let same : c.in_ok-ledger.ledger ≡ with_record r b.ledger =
+    made b.ledger c.ledger-old.result.now c.in_ok-ledger.ledger r c.record_of-upload.result c.in_ok-ledger.ensures upload c.ledger-old.ensures.ledger in
+    let costs : (l : Ledger) → List (ℕ × Message) → Type 0 = λ l posts. IfOk c.posted.result (λ change. Spends (length posts) b (posted_with l posts b) change.intent) in
+    subst (λ (l : Ledger). costs l c.args.posts.now) same (subst (costs c.in_ok-ledger.ledger) c.as_slice-posts.ensures c.posted.ensures.costs)

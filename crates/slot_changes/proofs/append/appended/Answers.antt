@@ -2,12 +2,16 @@ use Rattle.std.proofs.Common.{◌≡◌, ℕ, ◌+◌, List, length, Some, sym, 
 use Rattle.std.specs.Prelude.{All, IfOk}
 use Rattle.board_changes.specs.Change.{Becomes}
 use Rattle.board_changes.specs.Changed.{base_at, with_base}
+use Rattle.board_changes.specs.Spending.{Spends}
+use Rattle.board_changes.specs.declared.change.BoardChange.{BoardChange}
 use Rattle.board_layout.specs.Board.{Board}
 use Rattle.board_layout.specs.Valid.{IsBoard}
+use Rattle.jam_base.proofs.ChangeClauses.{one_ok}
 use Rattle.jam_base.specs.Contents.{Contents, with_messages}
+use Rattle.jam_base.specs.declared.change.BaseChange.{BaseChange}
 use Rattle.jam_layout.specs.Messages.{IsMessage}
 use Rattle.jam_records.specs.declared.message.Message.{Message}
-use Rattle.slot_changes.proofs.AppendLaws.{appended_few, appended_messages, appended_there, copies_are}
+use Rattle.slot_changes.proofs.AppendLaws.{appended_few, appended_messages, appended_spends, appended_there, copies_are}
 use Rattle.slot_changes.proofs.MsgidLaws.{identified_count}
 use Rattle.slot_changes.specs.Changed.{appended}
 use Rattle.slot_changes.specs.Msgids.{all_identified, generated, msgid_in}
@@ -50,11 +54,25 @@ with_base-requires-clause-next c =
     c.conference_of.ensures c.as_slice-bbsid.ensures.same c.ledger.ensures.ledger c.slot_count-first.ensures c.as_slice.ensures c.in_ok-messages.ensures in
     subst IsBoard (sym (next_is b c.args.place base c.in_ok-extended.field-0.base c.args.messages.now c.in_ok-messages.messages c.base_of-base.ensures.board c.base_of-base.ensures.base c.in_ok-extended.ensures.base are)) c.requires.next
 
-pub returns : goal.returns
-returns c =
+pub returns-clause-becomes : goal.returns-clause-becomes
+returns-clause-becomes c =
     let b : Board = c.args.board.now in
     let base : Contents = c.base_of-base.result.now in
     let are = copies_are b c.args.place c.conference_of.result.now base c.as_slice-bbsid.result.now c.ledger.result.now c.slot_count-first.result c.as_slice.result.now c.args.messages.now c.in_ok-messages.messages
     c.conference_of.ensures c.as_slice-bbsid.ensures.same c.ledger.ensures.ledger c.slot_count-first.ensures c.as_slice.ensures c.in_ok-messages.ensures in
     subst (λ (next : Board). IfOk c.with_base.result (Becomes b next))
-    (next_is b c.args.place base c.in_ok-extended.field-0.base c.args.messages.now c.in_ok-messages.messages c.base_of-base.ensures.board c.base_of-base.ensures.base c.in_ok-extended.ensures.base are) c.with_base.ensures
+    (next_is b c.args.place base c.in_ok-extended.field-0.base c.args.messages.now c.in_ok-messages.messages c.base_of-base.ensures.board c.base_of-base.ensures.base c.in_ok-extended.ensures.base are) c.with_base.ensures.becomes
+
+pub returns-clause-costs : goal.returns-clause-costs
+returns-clause-costs c =
+    let b : Board = c.args.board.now in
+    let base : Contents = c.base_of-base.result.now in
+    let made : BaseChange = c.in_ok-extended.field-0 in
+    let are = copies_are b c.args.place c.conference_of.result.now base c.as_slice-bbsid.result.now c.ledger.result.now c.slot_count-first.result c.as_slice.result.now c.args.messages.now c.in_ok-messages.messages
+    c.conference_of.ensures c.as_slice-bbsid.ensures.same c.ledger.ensures.ledger c.slot_count-first.ensures c.as_slice.ensures c.in_ok-messages.ensures in
+    let next = next_is b c.args.place base made.base c.args.messages.now c.in_ok-messages.messages c.base_of-base.ensures.board c.base_of-base.ensures.base c.in_ok-extended.ensures.base are in
+    let many : length c.in_ok-messages.messages ≡ length c.args.messages.now =
+    omega (arith, ap length c.in_ok-messages.ensures, identified_count (generated c.conference_of.result.now.number c.as_slice-bbsid.result.now) (c.slot_count-first.result + 1) c.as_slice.result.now, ap length c.as_slice.ensures) in
+    one_ok (λ (change : BoardChange). change.intent ≡ made.patches) (λ (change : BoardChange). Spends (length c.args.messages.now) b (appended c.args.place c.args.messages.now b) change.intent) c.with_base.result
+    (λ change same. appended_spends b c.args.place c.args.messages.now c.in_ok-messages.messages base made change.intent c.base_of-base.ensures.board c.base_of-base.ensures.base c.in_ok-extended.ensures.base many c.in_ok-extended.ensures.costs same next)
+    c.with_base.ensures.patches
