@@ -2,3 +2,4 @@ pub mod DataLaws
 pub mod DataReading
 pub mod CommitLaws
 pub mod NextLaws
+pub mod WriteBounds

@@ -2,4 +2,5 @@ pub mod Causes
 pub mod Held
 pub mod Loading
 pub mod Changes
+pub mod Written
 pub mod Readers

@@ -6,6 +6,7 @@ ghost use Rattle.intent_journal.specs.Hosts.{IsSettled};
 ghost use Rattle.mail_board.specs.Causes.{HasFault};
 ghost use Rattle.mail_board.specs.Changes.{changed, Fits};
 ghost use Rattle.mail_board.specs.Held.{BeforeOrNext, Rests, sure};
+ghost use Rattle.mail_board.specs.Written.{PutsFew, WritesFew};
 ghost use Rattle.mail_board.specs.declared.change.ChangeError.TheVariants.{DiskFault as DiskFails, OutOfMemory};
 
 use crate::board::Board;
@@ -113,7 +114,8 @@ impl From<AllocError> for ChangeError {
 /// What a change that fits makes of a board.
 fn next_of(alloc: Global, stored: &StoredBoard, change: &Change) -> Result<BoardChange, AllocError>
     requires { Fits change.now stored.now }
-    ensures { IfOk result (λ next. Becomes stored.now (changed change.now stored.now) next) }
+    ensures becomes { IfOk result (λ next. Becomes stored.now (changed change.now stored.now) next) }
+    ensures costs { IfOk result (λ next. PutsFew change.now stored.now next.intent) }
 {
     match change {
         Change::Enroll { name, net, members } => {
@@ -159,6 +161,10 @@ impl Board {
         ensures fault { IsErrOf result ChangeError.DiskFault → self.new ≡ record { board = self.old.board; doubtful = true } }
         ensures unchanged { IsErrOf result ChangeError.Doubt → (self.new ≡ self.old) × (host.new ≡ host.old) }
         ensures starved { IsErrOf result ChangeError.OutOfMemory → (self.new ≡ self.old) × (host.new ≡ host.old) }
+        // Whatever it answers, posting messages writes fewer bytes than twice those by which it enlarges the data files,
+        // and 400 for each message and once more. Deleting one writes at most 200.
+        ensures wrote { IsTrue H.tells → WritesFew change.now self.old.board (H.disk host.old).wrote (H.disk host.new).wrote }
+
         ensures cause { HasFault ChangeError.DiskFault (H.disk_faults host.old) (H.disk_faults host.new) result }
         ensures voice { H.voice_faults host.new ≡ H.voice_faults host.old }
     {
