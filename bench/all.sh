@@ -1,14 +1,15 @@
 #!/bin/sh
 # Runs all benches of time in turn, and prints one table of what they found: the seconds of our program, and those of
 # `cat` and `sha256sum` of the same bytes where a bench takes them. What each bench says itself goes to standard error.
-# edge.sh, gate.sh, kill.sh, memory.sh and multimail.sh are no benches of the program's time, so they are left out. It
-# is no part of the gate.
+# A second table has what growth.sh found: the seconds at half a size and at the whole size, and how many times as long
+# the whole takes. edge.sh, gate.sh, kill.sh, memory.sh and multimail.sh are no benches of the program's time,
+# so they are left out. It is no part of the gate.
 # usage: bench/all.sh [RUNS]    how often a command is timed, in the benches that take it
 
 top=$(dirname -- "$(readlink -f -- "$0")")/..
-TABLE=$(mktemp) || exit 1
-export TABLE
-trap 'rm -f -- "$TABLE"' EXIT
+TABLE=$(mktemp) && GROWTH=$(mktemp) || exit 1
+export TABLE GROWTH
+trap 'rm -f -- "$TABLE" "$GROWTH"' EXIT
 trap 'exit 1' HUP INT TERM
 status=0
 
@@ -36,4 +37,10 @@ awk -F '\t' '
         print "|---|--:|--:|--:|--:|"
     }
     { line($1, seconds($2), seconds($3), seconds($4), $4 + 0 > 0 ? sprintf("%.2f", $2 / $4) : "-") }' "$TABLE"
+awk -F '\t' '
+    NR == 1 {
+        printf "\n| %-50s | %9s | %9s | %12s |\n", "the same work at two sizes", "half (s)", "whole (s)", "whole / half"
+        print "|---|--:|--:|--:|"
+    }
+    { printf "| %-50s | %9.4f | %9.4f | %12s |\n", $1, $2, $3, $4 }' "$GROWTH"
 exit "$status"

@@ -1,5 +1,11 @@
 #!/bin/sh
-# What the benches of time share. Those that call `best` set runs, how often a command is timed, and read this file.
+# What the benches share. Those that call `best` set runs, how often a command is timed, and top, and read this file.
+
+# Proves and builds the program, where PROGRAM doesn't name one that is to be run in its place.
+build_program() {
+    # shellcheck disable=SC2154 # those that call it set top
+    [ -n "${PROGRAM:-}" ] || "$top/bin/qwkdoor" --build || exit 1
+}
 
 fail() {
     printf '%s\n' "$1" >&2
