@@ -1,7 +1,7 @@
 #!/bin/sh
 # Shows by strace what a run asks of the system: that each sync reached the file and the folder, that a fault in
 # any one call ends the run with the stated status and does no other harm, and that a sync that failed keeps the next
-# run out. `.ci/run` runs it once, with few calls, after the gate.
+# run out. `.ci/run` runs it in a short form, with few calls, after the gate.
 # usage: bench/edge.sh [WORDS..]    the command that is run; without words it is `list P1`
 # The folders that DATA_FROM and SHELF_FROM name are copied before each run, and stand for DATA and SHELF.
 # Without them there is no DATA, and SHELF is the sample. CALLS is which of the system's calls are looked at, and
@@ -81,6 +81,9 @@ show_syncs() {
                 printf "%s: %d writes, %d new lengths, %d syncs, %d of the first two since the last sync\n", \
                     substr(p, length(data) + 2), written[p], cut[p], synced[p], open[p]
             printf "folder: %d syncs, its parent: %d\n", folder, parent
+            for (p in open)
+                if (open[p] > 0)
+                    printf "WRONG: %s was not synced after its last change\n", substr(p, length(data) + 2)
             for (p in fresh)
                 if (fresh[p] < last)
                     printf "WRONG: the name of %s was not synced\n", substr(p, length(data) + 2)

@@ -1,7 +1,8 @@
 #!/bin/sh
 # Kills runs that enroll a user (SIGKILL), each after a random few milliseconds, and checks the board after each: it
 # must be the one before the run or the one after it, and the one after it where the run's reply was printed. Says
-# how many were killed before and after the change. It is no part of the gate. usage: bench/kill.sh [TIMES]
+# how many were killed before and after the change. .ci/run kills 25. usage: bench/kill.sh [TIMES]
+# PROGRAM may name the program.
 
 times=${1:-200}
 # shellcheck disable=SC2034 # how often best times a command
@@ -9,7 +10,7 @@ runs=1
 top=$(dirname -- "$(readlink -f -- "$0")")/..
 # shellcheck source=/dev/null
 . "$top/bench/best.sh"
-program=$top/.build/qwkdoor
+program=${PROGRAM:-$top/.build/qwkdoor}
 shelf=$top/crates/qwkdoor/data/shelf
 work=$(mktemp -d) || exit 1
 trap 'rm -rf -- "$work"' EXIT
@@ -80,8 +81,8 @@ count_after() {
     fi
 }
 
-"$top/bin/qwkdoor" --build || exit 1
-"$top/bin/qwkdoor" "$work/data" "$shelf" init setup.txt || exit 1
+build_program
+door init setup.txt || exit 1
 taken=$(best door enroll 'User 000' n all) || exit 1
 users=1
 awk -v times="$times" -v taken="$taken" -v seed="$$" 'BEGIN {

@@ -8,8 +8,9 @@
 top=$(dirname -- "$(readlink -f -- "$0")")/..
 # shellcheck source=/dev/null
 . "$top/bench/best.sh"
-program=$top/.build/qwkdoor
+program=${PROGRAM:-$top/.build/qwkdoor}
 samples=$top/crates/qwkdoor/data/shelf
+step=${1:-1}
 
 if ! command -v cc >/dev/null; then
     echo 'memory: a C compiler is missing, so nothing is shown'
@@ -107,17 +108,19 @@ refuse_each() {
     put_back
     door "$@" >"$work/whole" || fail "$1 failed with status $?"
     door check >"$work/after" || fail "check ends with status $?"
-    request=0
+    request=$((1 - step))
+    tried=0
     starved=0
     faults=0
     whole=0
     while :; do
-        request=$((request + 1))
+        request=$((request + step))
         put_back
         REFUSE=$request REFUSED=$work/refused LD_PRELOAD=$work/refuse.so \
             "$program" "$work/board" "$work/shelf" "$@" >"$work/said" 2>/dev/null
         status=$?
         [ -e "$work/refused" ] || break
+        tried=$((tried + 1))
         [ "$status" -eq 0 ] || [ ! -s "$work/said" ] || fail "$1 without request $request says $(cat "$work/said")"
         case $status in
         0)
@@ -138,10 +141,10 @@ refuse_each() {
         esac
     done
     printf '%s: %s requests for memory refused in turn: %s ended with 7, %s with 4 or 5, %s asked again\n' \
-        "$1" $((request - 1)) "$starved" "$faults" "$whole"
+        "$1" "$tried" "$starved" "$faults" "$whole"
 }
 
-"$top/bin/qwkdoor" --build || exit 1
+build_program
 prepare
 refuse_each export 'Ann Lee' 10 out
 refuse_each upload 'Ann Lee' four
