@@ -1,5 +1,5 @@
 -- The MESSAGES.DAT of an export reads as what is offered, and as nothing else.
-use Rattle.std.proofs.Common.{◌≡◌, ◌↔◌, ℕ, ◌+◌, ◌≤◌, List, length, Option, Some, None, Ok, refl, sym, subst, arith}
+use Rattle.std.proofs.Common.{◌≡◌, ◌↔◌, ℕ, ◌+◌, ◌≤◌, List, length, map, Option, Some, None, Ok, refl, sym, ap, ◌∙◌, subst, arith}
 use Rattle.std.specs.Prelude.{All, filter}
 use Rattle.board_layout.specs.Board.{Board}
 use Rattle.board_layout.specs.Lookups.{user_of}
@@ -8,10 +8,12 @@ use Rattle.board_ledger.specs.declared.user.User.{User}
 use Rattle.door_export.proofs.ExportLaws.{MayExport, last_small, may_export}
 use Rattle.door_export.specs.Export.{ExportRefusal, Handout, export_as, export_of, export_to, packet_to, unless_refused, user_refusal}
 use Rattle.mail_board.specs.Readers.{user_id}
+use Rattle.long_names.specs.Plain.{plain}
 use Rattle.offered_packets.proofs.Offers.{taken_few}
+use Rattle.offered_packets.proofs.ReadBack.{all_read}
 use Rattle.offered_packets.proofs.PacketSizes.{all_writable, notice_short}
 use Rattle.offered_packets.specs.Offered.{all_numbers, is_new, offered}
-use Rattle.offered_packets.specs.Shown.{notice, packet}
+use Rattle.offered_packets.specs.Shown.{notice, packet, packet_read}
 use Rattle.qwk_blocks.proofs.Written.{no_others, packet_back}
 use Rattle.qwk_blocks.specs.Packet.{PacketReads}
 use Rattle.qwk_blocks.specs.Written.{Writable, spelling}
@@ -55,3 +57,10 @@ module _ (limit now : ℕ) (b : Board) (p : Handout) (ok : IsBoard b) where
 
 pub exported_reads : (name : List ℕ) (limit now : ℕ) (b : Board) (p : Handout) → IsBoard b → export_of name limit now b ≡ Ok p → (id : ℕ) × (user_id name b ≡ Some id) × ((messages : List QwkMessage) → PacketReads p.messages messages ↔ (messages ≡ packet b id limit))
 exported_reads name limit now b p ok is = by_id limit now b p ok (user_id name b) (user_id name b) refl is
+
+-- what its reader sees
+pub exported_seen : (name : List ℕ) (limit now : ℕ) (b : Board) (p : Handout) → IsBoard b → export_of name limit now b ≡ Ok p
+    → (id : ℕ) × (user_id name b ≡ Some id) × ((messages : List QwkMessage) → PacketReads p.messages messages → map plain messages ≡ packet_read b id limit)
+exported_seen name limit now b p ok is =
+    let r = exported_reads name limit now b p ok is in
+    (r.0, r.1, λ messages reads. ap (map plain) ((r.2 messages).0 reads) ∙ all_read b (offered b r.0 limit))

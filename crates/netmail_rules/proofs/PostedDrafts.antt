@@ -15,7 +15,7 @@ use Rattle.jam_layout.specs.Messages.{EmptyOr, IsBody, IsMessage}
 use Rattle.netmail_rules.specs.AddressLine.{is_plain, net_line}
 use Rattle.netmail_rules.specs.Draft.{is_net_view, is_netmail, netmail_line, first_line, recipient_of, destination_of, kept_line, kept_lines, kept_body, draft_of}
 use Rattle.netmail_rules.specs.Fits.{IsView, HasShortTexts, IsOfItsTypes, with_msgid}
-use Rattle.netmail_rules.specs.Verdict.{unless_refused, verdict}
+use Rattle.netmail_rules.specs.Verdict.{unless_refused, plain_verdict, verdict}
 use Rattle.netmail_rules.specs.Rules.{first_refusing, new_bytes, rules_before, rules_in}
 use Rattle.netmail_rules.specs.Status.{private_status, comment_status}
 use Rattle.netmail_rules.specs.declared.net_line.NetLine.{NetLine}
@@ -23,6 +23,9 @@ use Rattle.netmail_rules.specs.declared.rule.Rule.{Rule}
 use Rattle.netmail_rules.specs.declared.verdict.Verdict.TheVariants.{Post}
 use Rattle.netmail_rules.specs.declared.view.ConferenceView.{ConferenceView}
 use Rattle.netmail_rules.specs.declared.view.View.{View}
+use Rattle.long_names.specs.Plain.{plain}
+use Rattle.long_names.proofs.LongValues.{long_is}
+use Rattle.long_names.proofs.PlainValues.{to_keeps, subject_keeps}
 use Rattle.netmail_rules.proofs.PostedNames.{chosen, names_well}
 
 -- ---- no rule refuses
@@ -152,24 +155,33 @@ record WasPosted (v : View) (c : ConferenceView) (q : QwkMessage) (now : ℕ) (d
   made : draft_of v q now ≡ draft
   passed : Passed v c q (draft_of v q now)
 
-posted_by : (v : View) (c : ConferenceView) (q : QwkMessage) (now : ℕ) (draft : Message) → v.conference ≡ Some c → verdict v q now ≡ Post draft → WasPosted v c q now draft
-unfolding verdict
+posted_by : (v : View) (c : ConferenceView) (q : QwkMessage) (now : ℕ) (draft : Message) → v.conference ≡ Some c → plain_verdict v q now ≡ Post draft → WasPosted v c q now draft
+unfolding plain_verdict
 posted_by v c q now draft conference posted =
     let d : Message = draft_of v q now in
     let p = was_posted (first_refusing (rules_before v q ++ rules_in v v.conference q d)) d draft posted in
     let none : first_refusing (rules_before v q ++ rules_in v (Some c) q d) ≡ None = subst (λ (o : Option ConferenceView). first_refusing (rules_before v q ++ rules_in v o q d) ≡ None) conference p.0 in
     record { made = p.1; passed = passed_in v c q d none }
 
-pub posted_is_message : (v : View) (c : ConferenceView) (q : QwkMessage) (now : ℕ) (draft : Message) (msgid : List ℕ) → v.conference ≡ Some c → IsView v → HasShortTexts q.header
-    → verdict v q now ≡ Post draft → IsTrue (is_text 80 msgid) → IsOfItsTypes (with_msgid msgid draft) → IsMessage c.kind (with_msgid msgid draft)
-posted_is_message v c q now draft msgid conference view short posted id types =
-    let w = posted_by v c q now draft conference posted in
-    let own : IsOfItsTypes (with_msgid msgid (draft_of v q now)) = subst (λ (m : Message). IsOfItsTypes (with_msgid msgid m)) (sym w.made) types in
-    subst (λ (m : Message). IsMessage c.kind (with_msgid msgid m)) w.made (draft_fits v c q now msgid conference view short w.passed id own)
+-- a message as it is read has names and a subject that aren't longer than a message may have them
+read_short : (m : QwkMessage) → HasShortTexts m.header → HasShortTexts (plain m).header
+read_short m short = record {
+  to = to_keeps (λ text. length text ≤ 36) m (λ value long. (long_is 36 value long).most_bytes) short.to;
+  subject = subject_keeps (λ text. length text ≤ 72) m (λ value long. (long_is 72 value long).most_bytes) short.subject;
+}
 
-pub posted_has_room : (v : View) (c : ConferenceView) (q : QwkMessage) (now : ℕ) (draft : Message) → v.conference ≡ Some c → verdict v q now ≡ Post draft
+pub posted_is_message : (v : View) (c : ConferenceView) (m : QwkMessage) (now : ℕ) (draft : Message) (msgid : List ℕ) → v.conference ≡ Some c → IsView v → HasShortTexts m.header
+    → verdict v m now ≡ Post draft → IsTrue (is_text 80 msgid) → IsOfItsTypes (with_msgid msgid draft) → IsMessage c.kind (with_msgid msgid draft)
+posted_is_message v c m now draft msgid conference view short posted id types =
+    let q : QwkMessage = plain m in
+    let w = posted_by v c q now draft conference posted in
+    let own : IsOfItsTypes (with_msgid msgid (draft_of v q now)) = subst (λ (x : Message). IsOfItsTypes (with_msgid msgid x)) (sym w.made) types in
+    subst (λ (x : Message). IsMessage c.kind (with_msgid msgid x)) w.made (draft_fits v c q now msgid conference view (read_short m short) w.passed id own)
+
+pub posted_has_room : (v : View) (c : ConferenceView) (m : QwkMessage) (now : ℕ) (draft : Message) → v.conference ≡ Some c → verdict v m now ≡ Post draft
     → (c.slots < 9999) × (new_bytes draft c.msgid_len ≤ v.room)
-posted_has_room v c q now draft conference posted =
+posted_has_room v c m now draft conference posted =
+    let q : QwkMessage = plain m in
     let w = posted_by v c q now draft conference posted in
     let full = or_false (leb 9999 c.slots) (ltb v.room (new_bytes (draft_of v q now) c.msgid_len)) w.passed.full in
-    (leb-false 9999 c.slots full.0, subst (λ (m : Message). new_bytes m c.msgid_len ≤ v.room) w.made (ltb-false v.room (new_bytes (draft_of v q now) c.msgid_len) full.1))
+    (leb-false 9999 c.slots full.0, subst (λ (x : Message). new_bytes x c.msgid_len ≤ v.room) w.made (ltb-false v.room (new_bytes (draft_of v q now) c.msgid_len) full.1))

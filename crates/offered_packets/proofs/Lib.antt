@@ -10,3 +10,4 @@ pub mod ShownMessages
 pub mod PacketSizes
 pub mod Controls
 pub mod EachShown
+pub mod ReadBack

@@ -14,14 +14,13 @@ use Rattle.qwk_blocks.proofs.Written.{header_back, length_padded}
 use Rattle.offered_packets.specs.Sees.{message_at}
 use Rattle.offered_packets.specs.Shown.{shown_message, shown, shown_all, notice}
 use Rattle.offered_packets.specs.declared.offered_message.OfferedMessage.{OfferedMessage}
-use Rattle.offered_packets.proofs.FieldLaws.{lines_length}
-use Rattle.offered_packets.proofs.ShownMessages.{is_there, message_fits}
+use Rattle.offered_packets.proofs.ShownMessages.{is_there, message_fits, message_size}
 use Rattle.offered_packets.proofs.Packets.{shown_at}
 
--- it can be written, and its text has no more bytes than a body may have
+-- it can be written, and its text has at most the bytes of a body and of lines that give long values
 pub record IsShort (m : QwkMessage) : Type 0 where
   pub writable : Writable m
-  pub short : length (ended m.lines) ≤ 16384
+  pub short : length (ended m.lines) ≤ 16551
 
 one_short : (b : Board) (place number logical : ℕ) (found : Option Message) → IsBoard b → logical < 2 ^ 16 → found ≡ message_at b place number → IfSome (option_map (shown_message b place number logical) found) IsShort
 one_short b place number logical None ok small is = tt
@@ -29,7 +28,7 @@ one_short b place number logical (Some m) ok small is =
     let there = is_there b place number m ok (sym is) in
     record {
       writable = message_fits b place number logical m ok small there;
-      short = omega (arith, lines_length m.body, there.message.body);
+      short = message_size b place number logical m there;
     }
 
 pub shown_short : (b : Board) (place number logical : ℕ) → IsBoard b → logical < 2 ^ 16 → IfSome (shown b place number logical) IsShort
@@ -60,7 +59,7 @@ pub all_writable : (b : Board) (messages : List OfferedMessage) → IsBoard b �
 all_writable b messages ok few = All-weaker IsShort Writable (λ m short. short.writable) (shown_all b messages) (all_short b messages ok few)
 
 -- ---- how long
-one_length : (m : QwkMessage) → IsShort m → length (message_text m) ≤ 16512
+one_length : (m : QwkMessage) → IsShort m → length (message_text m) ≤ 16768
 unfolding message_text
 one_length m short =
     let blocks : ℕ = blocks_of (length (ended m.lines)) in
@@ -68,7 +67,7 @@ one_length m short =
     let text : length (padded (128 * blocks) (ended m.lines)) ≡ 128 * blocks = length_padded (128 * blocks) (ended m.lines) (omega arith) in
     omega (arith, length-append (header_text m.header (1 + blocks)) (padded (128 * blocks) (ended m.lines)), short.short)
 
-all_length : (messages : List QwkMessage) → All IsShort messages → length (flat_map message_text messages) ≤ 16512 * length messages
+all_length : (messages : List QwkMessage) → All IsShort messages → length (flat_map message_text messages) ≤ 16768 * length messages
 all_length [] short = omega arith
 all_length (m ∷ messages) short = omega (
   arith,

@@ -1,5 +1,5 @@
 -- What is shown of a valid board can be written.
-use Rattle.std.proofs.Common.{◌≡◌, ℕ, zero, suc, ◌+◌, ◌-◌, ◌^◌, ◌<◌, ◌≤◌, true, false, ◌&&◌, eqb, leb, List, [], length, get_or, take, refl, sym, ap, ◌∙◌, subst, inl, inr, arith}
+use Rattle.std.proofs.Common.{◌≡◌, ℕ, zero, suc, ◌+◌, ◌-◌, ◌^◌, ◌<◌, ◌≤◌, Bool, true, false, ◌&&◌, cond, eqb, leb, List, [], length, get_or, take, refl, sym, ap, ◌∙◌, subst, inl, inr, arith}
 use Rattle.std.specs.Prelude.{Some, slice_get, IsTrue}
 use Rattle.std.specs.Char.{to_ascii_uppercase}
 use Rattle.std.specs.List.{All, list_all}
@@ -27,18 +27,25 @@ use Rattle.jam_threads.specs.Children.{original}
 use Rattle.jam_threads.proofs.ChildrenLemmas.{slot_original-le}
 use Rattle.qwk_blocks.specs.Header.{IsPad}
 use Rattle.qwk_blocks.specs.Text.{ended}
-use Rattle.qwk_blocks.specs.Written.{TextFits, HeaderFits, Writable, blocks_of}
+use Rattle.qwk_blocks.specs.Written.{TextFits, Writable}
 use Rattle.qwk_blocks.specs.declared.message.Header.{Header}
 use Rattle.qwk_blocks.specs.declared.message.QwkMessage.{QwkMessage}
+use Rattle.long_names.specs.Fits.{FitsOrLong, HeaderFitsWithLong, FitsWithLong}
+use Rattle.long_names.specs.Plain.{with_long, in_capitals}
+use Rattle.long_names.specs.Value.{short_form, is_long, most_of}
+use Rattle.long_names.specs.declared.line_field.LineField.{LineField}
+use Rattle.long_names.specs.declared.line_field.LineField.TheVariants.{To, From, Subject}
+use Rattle.long_names.proofs.Shortening.{ends_from, bare_len, bare_end}
+use Rattle.long_names.proofs.WithLong.{long_fits, long_text_size, capitals_writable}
 use Rattle.setup_file.specs.Valid.{IsSetupConference, numbers_of}
 use Rattle.setup_file.specs.declared.conference.Conference.{Conference as SetupConference}
 use Rattle.text_fields.proofs.Trimming.{nothing_ends}
 use Rattle.board_layout.specs.Lookups.{held_in}
 use Rattle.offered_packets.specs.Sees.{slots_in, message_at}
-use Rattle.offered_packets.specs.Shown.{shown_text, shown_name, shown_lines, conference_number, shown_header, shown_message}
-use Rattle.offered_packets.proofs.FieldLaws.{ends_from, bare_len, bare_end, are_lines, lines_length}
+use Rattle.offered_packets.specs.Shown.{shown_text, shown_lines, conference_number, whole_header, whole_message, shown_message}
+use Rattle.offered_packets.proofs.FieldLaws.{are_lines, lines_length}
 use Rattle.offered_packets.proofs.BoardLookups.{slots_of, conference_fits}
-use Rattle.offered_packets.proofs.PlainTexts.{IsPlain, upper_plain}
+use Rattle.offered_packets.proofs.PlainTexts.{IsPlain}
 
 -- ---- texts
 plain_text : (most : ℕ) (text : List ℕ) → IsTrue (is_text most text) → IsPlain text
@@ -51,49 +58,26 @@ plain_or_empty : (most : ℕ) (text : List ℕ) → EmptyOr (is_text most) text 
 plain_or_empty most text (inl none) = λ k d within. absurd (omega arith)
 plain_or_empty most text (inr e) = plain_text most text e
 
--- no other byte's capital is a space
-upper_space : (b : ℕ) → to_ascii_uppercase b ≡ 32 → b ≡ 32
-upper_space b e = grind (arith, nat_tests)
+-- the short form of a text has no byte below 20h either, and no space at its end
+short_plain : (text : List ℕ) → IsPlain text → IsPlain (short_form text)
+short_plain text plain = All-take (λ b. 0x20 ≤ b) (bare_len (take 25 text)) (take 25 text) (All-take (λ b. 0x20 ≤ b) 25 text plain)
 
-shown_plain : (text : List ℕ) → IsPlain text → IsPlain (shown_text text)
-shown_plain text plain = All-take (λ b. 0x20 ≤ b) (bare_len (take 25 text)) (take 25 text) (All-take (λ b. 0x20 ≤ b) 25 text plain)
-
-shown_short : (text : List ℕ) → length (shown_text text) ≤ 25
-shown_short text = omega (arith, length-take 25 text, length-take (bare_len (take 25 text)) (take 25 text))
-
--- the last byte of what is shown is no space
-last_bare : (text : List ℕ) → 0 < length (shown_text text) → get_or (shown_text text) (length (shown_text text) - 1) 0 ≡ 32 → ⊥
-last_bare text some is = bare_end (take 25 text) some is
-
-pub text_fits : (text : List ℕ) → IsPlain text → TextFits 25 (shown_text text)
-text_fits text plain = record {
-  short = shown_short text;
-  trimmed = ends_from IsPad (shown_text text) (λ some pad. elim pad [
-    | inl space ↦ last_bare text some space
-    | inr nul ↦ let low : 0x20 ≤ get_or (shown_text text) (length (shown_text text) - 1) 0 = shown_plain text plain (length (shown_text text) - 1) 0 (omega arith) in omega arith
+short_fits : (text : List ℕ) → IsPlain text → TextFits 25 (short_form text)
+short_fits text plain = record {
+  short = omega (arith, length-take 25 text, length-take (bare_len (take 25 text)) (take 25 text));
+  trimmed = ends_from IsPad (short_form text) (λ some pad. elim pad [
+    | inl space ↦ bare_end (take 25 text) some space
+    | inr nul ↦ let low : 0x20 ≤ get_or (short_form text) (length (short_form text) - 1) 0 = short_plain text plain (length (short_form text) - 1) 0 (omega arith) in omega (arith, low, nul)
   ]);
 }
 
--- the last of capitals is the capital of the last
-last_upper : (text : List ℕ) → 0 < length text → get_or (str_to_ascii_uppercase text) (length (str_to_ascii_uppercase text) - 1) 0 ≡ to_ascii_uppercase (get_or text (length text - 1) 0)
-last_upper text some =
-    ap (λ n. get_or (str_to_ascii_uppercase text) (n - 1) 0) (length-map text to_ascii_uppercase) ∙ get_or-map to_ascii_uppercase text (length text - 1) 0 0 (omega arith)
+-- what is shown goes as a line, or has room in its field
+shown_at_field : (field : LineField) (text : List ℕ) (long : Bool) → is_long (most_of field) text ≡ long → IsPlain text → FitsOrLong field (cond long text (short_form text))
+shown_at_field field text true is plain = inl is
+shown_at_field field text false is plain = inr (short_fits text plain)
 
-pub name_fits : (name : List ℕ) → IsPlain name → TextFits 25 (shown_name name)
-name_fits name plain =
-    let count : length (shown_name name) ≡ length (shown_text name) = length-map (shown_text name) to_ascii_uppercase in
-    record {
-      short = omega (arith, shown_short name);
-      trimmed = ends_from IsPad (shown_name name) (λ some pad.
-          let there : 0 < length (shown_text name) = omega arith in
-          let last : ℕ = get_or (shown_text name) (length (shown_text name) - 1) 0 in
-          let turn : get_or (shown_name name) (length (shown_name name) - 1) 0 ≡ to_ascii_uppercase last = last_upper (shown_text name) there in
-          let low : 0x20 ≤ last = shown_plain name plain (length (shown_text name) - 1) 0 (omega arith) in
-          elim pad [
-            | inl space ↦ last_bare name there (upper_space last (sym turn ∙ space))
-            | inr nul ↦ let high : 0x20 ≤ to_ascii_uppercase last = upper_plain last low in absurd (omega (arith, turn, nul))
-          ]);
-    }
+pub text_fits : (field : LineField) (text : List ℕ) → IsPlain text → FitsOrLong field (shown_text field text)
+text_fits field text plain = shown_at_field field text (is_long (most_of field) text) refl plain
 
 -- ---- messages of a board
 -- a number whose slot holds a message is that of a slot
@@ -176,10 +160,7 @@ number_small conferences place each = elim (cases_lt place (length conferences))
   | inr past ↦ let none : get_or (numbers_of conferences) place 0 ≡ 0 = get_or_past (numbers_of conferences) place 0 (omega (arith, length-map conferences (λ (c : SetupConference). c.number))) in omega arith
 ]
 
-blocks_small : (body : List ℕ) → length body ≤ 16384 → 1 + blocks_of (length (ended (shown_lines body))) ≤ 129
-blocks_small body short = omega (arith, lines_length body)
-
-header_fits : (b : Board) (place number logical : ℕ) (m : Message) → IsBoard b → logical < 2 ^ 16 → IsThere b place number m → HeaderFits (shown_message b place number logical m).header
+header_fits : (b : Board) (place number logical : ℕ) (m : Message) → IsBoard b → logical < 2 ^ 16 → IsThere b place number m → HeaderFitsWithLong (whole_message b place number logical m).header
 header_fits b place number logical m ok small there =
     let few : number ≤ 9999 = omega (arith, there.within, there.few) in
     let answered : original (slots_in b place) number ≤ 99999999 = omega (arith, there.few, original_small (slots_in b place) number there.within) in
@@ -188,35 +169,43 @@ header_fits b place number logical m ok small there =
       number = shown_number;
       date = refl;
       time = refl;
-      texts = record {
-        to = name_fits m.to (plain_text 36 m.to there.message.to);
-        from = name_fits m.from (plain_text 36 m.from there.message.from);
-        subject = text_fits m.subject (plain_or_empty 72 m.subject there.message.subject);
-        password = record { short = omega arith; trimmed = nothing_ends IsPad };
-      };
+      to = text_fits To m.to (plain_text 36 m.to there.message.to);
+      from = text_fits From m.from (plain_text 36 m.from there.message.from);
+      subject = text_fits Subject m.subject (plain_or_empty 72 m.subject there.message.subject);
+      password = record { short = omega arith; trimmed = nothing_ends IsPad };
       reference = answered;
       conference = number_small b.ledger.setup.conferences place ok.ledger.setup.conferences.each;
       logical = small;
     }
 
-pub message_fits : (b : Board) (place number logical : ℕ) (m : Message) → IsBoard b → logical < 2 ^ 16 → IsThere b place number m → Writable (shown_message b place number logical m)
-message_fits b place number logical m ok small there = record {
+-- with its names and subject whole it can be written once the long ones go as lines
+pub whole_fits : (b : Board) (place number logical : ℕ) (m : Message) → IsBoard b → logical < 2 ^ 16 → IsThere b place number m → FitsWithLong (whole_message b place number logical m)
+whole_fits b place number logical m ok small there = record {
   header = header_fits b place number logical m ok small there;
   lines = are_lines m.body;
-  blocks = omega (arith, blocks_small m.body there.message.body);
+  blocks = omega (arith, lines_length m.body, there.message.body);
 }
 
+pub message_fits : (b : Board) (place number logical : ℕ) (m : Message) → IsBoard b → logical < 2 ^ 16 → IsThere b place number m → Writable (shown_message b place number logical m)
+message_fits b place number logical m ok small there =
+    let whole : QwkMessage = whole_message b place number logical m in
+    capitals_writable (with_long whole) (long_fits whole (whole_fits b place number logical m ok small there))
+
+-- its text has at most 167 bytes more than its body
+pub message_size : (b : Board) (place number logical : ℕ) (m : Message) → IsThere b place number m → length (ended (shown_message b place number logical m).lines) ≤ 16551
+message_size b place number logical m there = omega (arith, long_text_size (whole_message b place number logical m), lines_length m.body, there.message.body)
+
 -- what was made of the parts of a message
-pub made_fits : (b : Board) (place number logical : ℕ) (m : Message) (slots : List Slot) (header : Header) (lines : List (List ℕ)) (conference answered : ℕ) → IsBoard b → logical < 2 ^ 16 → slots ≡ slots_in b place
-    → Some m ≡ held_in (numbered slots number) → header ≡ shown_header conference number answered logical m → conference ≡ conference_number b place → answered ≡ original slots number → lines ≡ shown_lines m.body
-    → Writable (record { header = header; lines = lines })
-made_fits b place number logical m slots header lines conference answered ok small where_is held header_is conference_is answers lines_is =
+pub made_fits : (b : Board) (place number logical : ℕ) (m : Message) (slots : List Slot) (header : Header) (lines : List (List ℕ)) (conference answered : ℕ) (made : QwkMessage) → IsBoard b → logical < 2 ^ 16 → slots ≡ slots_in b place
+    → Some m ≡ held_in (numbered slots number) → header ≡ whole_header conference number answered logical m → conference ≡ conference_number b place → answered ≡ original slots number → lines ≡ shown_lines m.body
+    → made ≡ in_capitals (with_long (record { header = header; lines = lines })) → Writable made
+made_fits b place number logical m slots header lines conference answered made ok small where_is held header_is conference_is answers lines_is made_is =
     let found : message_at b place number ≡ Some m = ap (λ (xs : List Slot). held_in (numbered xs number)) (sym where_is) ∙ sym held in
     let reply : answered ≡ original (slots_in b place) number = answers ∙ ap (λ (xs : List Slot). original xs number) where_is in
-    let whole : header ≡ (shown_message b place number logical m).header
-    = header_is ∙ (ap (λ c. shown_header c number answered logical m) conference_is ∙ ap (λ a. shown_header (conference_number b place) number a logical m) reply) in
+    let whole : header ≡ (whole_message b place number logical m).header
+    = header_is ∙ (ap (λ c. whole_header c number answered logical m) conference_is ∙ ap (λ a. whole_header (conference_number b place) number a logical m) reply) in
     let with_lines : Header → QwkMessage = λ h. record { header = h; lines = lines } in
-    let with_header : List (List ℕ) → QwkMessage = λ ls. record { header = (shown_message b place number logical m).header; lines = ls } in
-    let same : ◌≡◌ {A = QwkMessage} (record { header = header; lines = lines }) (shown_message b place number logical m)
+    let with_header : List (List ℕ) → QwkMessage = λ ls. record { header = (whole_message b place number logical m).header; lines = ls } in
+    let same : ◌≡◌ {A = QwkMessage} (record { header = header; lines = lines }) (whole_message b place number logical m)
     = ap with_lines whole ∙ ap with_header lines_is in
-    subst Writable (sym same) (message_fits b place number logical m ok small (is_there b place number m ok found))
+    subst Writable (sym (made_is ∙ ap (λ (q : QwkMessage). in_capitals (with_long q)) same)) (message_fits b place number logical m ok small (is_there b place number m ok found))

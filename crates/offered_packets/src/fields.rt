@@ -1,14 +1,12 @@
 // What a packet shows of the fields of a message.
 ghost use Rattle.std.specs.Prelude.{◌≡◌, ◌==◌, IfOk, if◌then◌else◌};
-ghost use Rattle.offered_packets.specs.Shown.{shown_status as status_of, shown_text as text_of, shown_name as name_of, shown_line as line_of, shown_lines as lines_of};
+ghost use Rattle.offered_packets.specs.Shown.{shown_status as status_of, shown_text as text_of, shown_line as line_of, shown_lines as lines_of};
 
 use byte_lists::{Bytes, Lines};
 use jam_records::Message;
+use long_names::{LineField, is_long, short_form};
 use std::alloc::{AllocError, Global};
-use text_fields::{Blank, split_at_byte, trimmed_end};
-
-/// The bytes that a name and a subject have room for.
-const FIELD: usize = 25;
+use text_fields::split_at_byte;
 
 /// What ends a line of a packet.
 const LINE_END: u8 = 0xE3;
@@ -25,20 +23,15 @@ pub(crate) fn shown_status(message: &Message) -> u8
     }
 }
 
-/// The first 25 bytes, without the spaces at their end.
-pub(crate) fn shown_text(text: &[u8]) -> &[u8]
-    ensures { result.now ≡ text_of text.now }
+/// A name or a subject, whole where it goes as a line, and else as much of it as its field has room for.
+pub(crate) fn shown_text(field: LineField, text: &[u8]) -> &[u8]
+    ensures { result.now ≡ text_of field text.now }
 {
-    trimmed_end(&text[..text.len().min(FIELD)], Blank::Spaces)
-}
-
-/// The same in ASCII capitals.
-pub(crate) fn shown_name(alloc: Global, name: &[u8]) -> Result<Bytes, AllocError>
-    ensures { IfOk result (λ shown. shown ≡ name_of name.now) }
-{
-    let mut shown = shown_text(name).to_vec(alloc)?;
-    shown.make_ascii_uppercase();
-    Ok(Bytes::from_vec(shown))
+    if is_long(text, field.most()) {
+        text
+    } else {
+        short_form(text)
+    }
 }
 
 /// The byte, or `?` for what would end a line of the packet.

@@ -1,13 +1,14 @@
 //! Laws of packets, each the contract of a function that does nothing.
-ghost use Rattle.std.specs.Prelude.{◌≡◌, ℕ, ◌≤◌, ◌<◌, ◌^◌, List, length, All, Contains, IfSome};
+ghost use Rattle.std.specs.Prelude.{◌≡◌, ℕ, ◌≤◌, ◌<◌, ◌^◌, List, length, map, All, Contains, IfSome};
 ghost use Rattle.board_layout.specs.Board.{Board};
 ghost use Rattle.board_layout.specs.Valid.{IsBoard};
 ghost use Rattle.board_ledger.specs.declared.user.User.{User};
+ghost use Rattle.long_names.specs.Plain.{plain};
 ghost use Rattle.qwk_blocks.specs.Written.{spelling, Writable as IsWritable};
 ghost use Rattle.qwk_control.specs.Written.{Writable as IsWritableControl};
 ghost use Rattle.offered_packets.specs.Control.{control};
 ghost use Rattle.offered_packets.specs.Offered.{offered};
-ghost use Rattle.offered_packets.specs.Shown.{shown, shown_all, packet, notice};
+ghost use Rattle.offered_packets.specs.Shown.{shown, shown_all, packet, packet_read, notice};
 ghost use Rattle.offered_packets.specs.declared.offered_message.OfferedMessage.{OfferedMessage};
 
 use qwk_moments::laws::written_bytes;
@@ -26,6 +27,12 @@ pub fn control_can_be_written()
 {
     written_bytes();
 }
+
+/// What a reader sees of a packet's messages: names and subjects whole where they are long, and else as their fields
+/// have them.
+pub fn shown_is_read()
+    ensures { (b : Board) (user limit : ℕ) → map plain (packet b user limit) ≡ packet_read b user limit }
+{}
 
 /// Each message that is offered is shown.
 pub fn each_offered_is_shown()

@@ -1,13 +1,16 @@
 ghost use Rattle.std.specs.Prelude.{◌≡◌, ℕ, ◌<◌, ◌^◌, length, All, IfOk, IfSome};
+ghost use Rattle.std.specs.Str.{str_to_ascii_uppercase};
+ghost use Rattle.long_names.specs.Plain.{with_long as with_long_of, in_capitals as in_capitals_of};
 ghost use Rattle.qwk_blocks.specs.Written.{spelling, Writable};
-ghost use Rattle.offered_packets.specs.Shown.{conference_number as number_in, shown_header as header_of, shown as shown_of, shown_all, notice};
+ghost use Rattle.offered_packets.specs.Shown.{conference_number as number_in, whole_header as header_of, shown as shown_of, shown_all, notice};
 
-use crate::fields::{shown_lines, shown_name, shown_status, shown_text};
+use crate::fields::{shown_lines, shown_status, shown_text};
 use crate::lookups::{base_at, message_of};
 use crate::offered_message::Offered;
 use board_layout::StoredBoard;
 use byte_lists::Bytes;
 use jam_records::Message;
+use long_names::{LineField, with_long};
 use qwk_blocks::{Header, QwkMessage, QwkMessages};
 use qwk_moments::{date_field, time_field};
 use std::alloc::{AllocError, Global};
@@ -22,9 +25,9 @@ fn conference_number(board: &StoredBoard, place: u8) -> u16
     }
 }
 
-/// The header that shows a message, which stands in a conference under a number, answers an original, and has a
-/// place in the packet, the logical number.
-fn shown_header(
+/// The header that shows a message with whole names and subject. It stands in a conference under a number, answers an
+/// original, and has a place in the packet, the logical number.
+fn whole_header(
     alloc: Global,
     conference: u16,
     number: u32,
@@ -39,9 +42,12 @@ fn shown_header(
         number: Some(number),
         date: date_field(message.written),
         time: time_field(message.written),
-        to: shown_name(alloc, message.to.as_slice())?,
-        from: shown_name(alloc, message.from.as_slice())?,
-        subject: Bytes::from_slice(alloc, shown_text(message.subject.as_slice()))?,
+        to: Bytes::from_slice(alloc, shown_text(LineField::To, message.to.as_slice()))?,
+        from: Bytes::from_slice(alloc, shown_text(LineField::From, message.from.as_slice()))?,
+        subject: Bytes::from_slice(
+            alloc,
+            shown_text(LineField::Subject, message.subject.as_slice()),
+        )?,
         password: Bytes::new(alloc),
         reference: Some(original),
         activity: 0xE1,
@@ -49,6 +55,25 @@ fn shown_header(
         logical,
         tag: b' ',
     })
+}
+
+/// A name in ASCII capitals.
+fn in_capitals(alloc: Global, name: &Bytes) -> Result<Bytes, AllocError>
+    ensures { IfOk result (λ shown. shown ≡ str_to_ascii_uppercase name.now) }
+{
+    let mut shown = name.as_slice().to_vec(alloc)?;
+    shown.make_ascii_uppercase();
+    Ok(Bytes::from_vec(shown))
+}
+
+/// A message with its long names and subject as lines, and its To and From in ASCII capitals.
+fn as_it_goes(alloc: Global, whole: &QwkMessage) -> Result<QwkMessage, AllocError>
+    ensures { IfOk result (λ message. message ≡ in_capitals_of (with_long_of whole.now)) }
+{
+    let mut message = with_long(alloc, whole)?;
+    message.header.to = in_capitals(alloc, &message.header.to)?;
+    message.header.from = in_capitals(alloc, &message.header.from)?;
+    Ok(message)
 }
 
 /// A message of a board, by the place of its conference and its number, as a packet shows it under a logical
@@ -74,9 +99,9 @@ pub fn shown(
     };
     let conference = conference_number(board, place);
     let original = base.reply_to(number);
-    let header = shown_header(alloc, conference, number, original, logical, message)?;
+    let header = whole_header(alloc, conference, number, original, logical, message)?;
     let lines = shown_lines(alloc, message.body.as_slice())?;
-    Ok(Some(QwkMessage { header, lines }))
+    Ok(Some(as_it_goes(alloc, &QwkMessage { header, lines })?))
 }
 
 /// What a packet shows of messages of a board, with logical numbers from 1. The messages can be written, in fewer

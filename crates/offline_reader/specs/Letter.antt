@@ -2,6 +2,7 @@
 use Rattle.std.specs.Prelude.{ℕ, ◌==◌, ◌-◌, if◌then◌else◌, List, [], ◌∷◌, ◌++◌, Option, None, slice_get, codes, decimal}
 use Rattle.std.specs.List.{flat_map}
 use Rattle.offline_reader.specs.Printed.{printed, printed_number, printed_line}
+use Rattle.long_names.specs.Plain.{plain}
 use Rattle.qwk_blocks.specs.declared.message.Header.{Header}
 use Rattle.qwk_blocks.specs.declared.message.QwkMessage.{QwkMessage}
 
@@ -19,9 +20,13 @@ heading header =
     ++ (printed_line (codes "Number: ") (printed_number header.number)
     ++ printed_line (codes "Reference: ") (printed_number header.reference))))))
 
--- the heading, an empty line and the lines of the text
+-- the heading of a message as it is read, an empty line and the lines of the text
+abbrev pub plain_letter : QwkMessage → List ℕ
+plain_letter message = heading message.header ++ (10 ∷ [] ++ flat_map (λ line. printed_line [] (printed line)) message.lines)
+
+-- the same of a message of a packet
 abbrev pub letter : QwkMessage → List ℕ
-letter message = heading message.header ++ (10 ∷ [] ++ flat_map (λ line. printed_line [] (printed line)) message.lines)
+letter message = plain_letter (plain message)
 
 -- the message in a place, which counts from 1
 abbrev pub message_in : List QwkMessage → ℕ → Option QwkMessage

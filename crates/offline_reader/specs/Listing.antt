@@ -2,6 +2,7 @@
 use Rattle.std.specs.Prelude.{ℕ, Bool, ◌==◌, ◌||◌, if◌then◌else◌, List, ◌++◌, length, codes, decimal}
 use Rattle.std.specs.List.{flat_map, enumerate_from}
 use Rattle.offline_reader.specs.Printed.{printed, printed_number, printed_line}
+use Rattle.long_names.specs.Plain.{plain}
 use Rattle.qwk_blocks.specs.declared.message.Header.{Header}
 use Rattle.qwk_blocks.specs.declared.message.QwkMessage.{QwkMessage}
 use Rattle.qwk_control.specs.declared.control.Control.{Control}
@@ -38,10 +39,14 @@ kind_text header = codes " " ++ (kind header ++ codes " ")
 abbrev pub count_text : ℕ → List ℕ
 count_text lines = codes " [" ++ (decimal lines ++ codes "]\n")
 
+-- the line of a message, as it is read, in a place
+abbrev pub plain_line : ℕ → QwkMessage → List ℕ
+plain_line place message =
+    place_text place message.header ++ (kind_text message.header ++ (names message.header ++ count_text (length message.lines)))
+
 -- the line of the message in a place
 unfoldable pub listing_line : ℕ × QwkMessage → List ℕ
-listing_line (place, message) =
-    place_text place message.header ++ (kind_text message.header ++ (names message.header ++ count_text (length message.lines)))
+listing_line (place, message) = plain_line place (plain message)
 
 -- a line for each message, and their count
 abbrev pub listing : List QwkMessage → List ℕ

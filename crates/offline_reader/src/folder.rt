@@ -19,6 +19,6 @@ pub fn list_folder(
     let mut page = Bytes::new(alloc);
     add_text_line(&mut page, b"board ", control.board.as_slice())?;
     add_text_line(&mut page, b"user ", control.user.as_slice())?;
-    add_listing(&mut page, messages)?;
+    add_listing(alloc, &mut page, messages)?;
     Ok(page)
 }

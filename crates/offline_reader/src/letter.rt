@@ -1,11 +1,12 @@
 ghost use Rattle.std.specs.Prelude.{◌≡◌, ◌↔◌, [], ◌++◌, OnOk, IfOk, IsErrOf, codes};
 ghost use Rattle.std.specs.List.{flat_map};
 ghost use Rattle.std.specs.Option.{option_map};
-ghost use Rattle.offline_reader.specs.Letter.{moment_text, heading, letter, message_in};
+ghost use Rattle.offline_reader.specs.Letter.{moment_text, heading, plain_letter, letter, message_in};
 ghost use Rattle.offline_reader.specs.Printed.{printed, printed_line};
 
 use crate::print::{add_number_line, add_printed, add_text_line};
 use byte_lists::{Bytes, Lines};
+use long_names::plain;
 use qwk_blocks::{Header, QwkMessage, QwkMessages};
 use std::alloc::{AllocError, Global};
 use thiserror::Error;
@@ -67,9 +68,9 @@ fn add_lines(page: &mut Bytes, lines: &Lines) -> Result<(), AllocError>
     Ok(())
 }
 
-/// The text of a message.
-fn letter_of(alloc: Global, message: &QwkMessage) -> Result<Bytes, AllocError>
-    ensures { IfOk result (λ text. text ≡ letter message.now) }
+/// The text of a message as it is read.
+fn plain_letter_of(alloc: Global, message: &QwkMessage) -> Result<Bytes, AllocError>
+    ensures { IfOk result (λ text. text ≡ plain_letter message.now) }
 {
     let mut page = Bytes::new(alloc);
     add_heading(&mut page, &message.header)?;
@@ -78,8 +79,17 @@ fn letter_of(alloc: Global, message: &QwkMessage) -> Result<Bytes, AllocError>
     Ok(page)
 }
 
+/// The text of a message.
+fn letter_of(alloc: Global, message: &QwkMessage) -> Result<Bytes, AllocError>
+    ensures { IfOk result (λ text. text ≡ letter message.now) }
+{
+    let read = plain(alloc, message)?;
+    plain_letter_of(alloc, &read)
+}
+
 /// The message in a place, which counts from 1: its header a line a field, an empty line and the lines of
-/// its text. NoMessage comes exactly where the place is 0 or past the last message.
+/// its text. Long names and subjects are whole in the header, and the lines that give them aren't shown.
+/// NoMessage comes exactly where the place is 0 or past the last message.
 pub fn show_message(alloc: Global, messages: &QwkMessages, place: u32) -> Result<Bytes, ShowError>
     ensures text { IfOk result (λ text. option_map letter (message_in messages.now place) ≡ Some text) }
     ensures no_message { IsErrOf result ShowError.NoMessage ↔ (message_in messages.now place ≡ None) }

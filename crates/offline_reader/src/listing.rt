@@ -1,9 +1,10 @@
 ghost use Rattle.std.specs.Prelude.{◌≡◌, ◌∷◌, [], ◌++◌, OnOk, IfOk, ℕ, length, codes, decimal};
 ghost use Rattle.std.specs.List.{flat_map, enumerate_from};
-ghost use Rattle.offline_reader.specs.Listing.{kind, place_text, kind_text, names, count_text, listing_line, listing};
+ghost use Rattle.offline_reader.specs.Listing.{kind, place_text, kind_text, names, count_text, plain_line, listing_line, listing};
 
 use crate::print::{add_number, add_printed};
 use byte_lists::Bytes;
+use long_names::plain;
 use qwk_blocks::{Header, QwkMessage, QwkMessages};
 use std::alloc::{AllocError, Global};
 use text_fields::add_decimal;
@@ -67,10 +68,9 @@ fn add_count(page: &mut Bytes, lines: u64) -> Result<(), AllocError>
     page.add(b"]\n")
 }
 
-/// Adds the line of a message.
-#[tactic(auto, unfolding(crate::specs::Listing::listing_line))]
-fn add_line(page: &mut Bytes, place: u64, message: &QwkMessage) -> Result<(), AllocError>
-    ensures { OnOk result (page.new ≡ page.old ++ listing_line (place, message.now)) }
+/// Adds the line of a message as it is read.
+fn add_plain_line(page: &mut Bytes, place: u64, message: &QwkMessage) -> Result<(), AllocError>
+    ensures { OnOk result (page.new ≡ page.old ++ plain_line place message.now) }
 {
     add_place(page, place, &message.header)?;
     add_kind(page, &message.header)?;
@@ -78,13 +78,31 @@ fn add_line(page: &mut Bytes, place: u64, message: &QwkMessage) -> Result<(), Al
     add_count(page, message.lines.len() as u64)
 }
 
+/// Adds the line of a message.
+#[tactic(auto, unfolding(crate::specs::Listing::listing_line))]
+fn add_line(
+    alloc: Global,
+    page: &mut Bytes,
+    place: u64,
+    message: &QwkMessage,
+) -> Result<(), AllocError>
+    ensures { OnOk result (page.new ≡ page.old ++ listing_line (place, message.now)) }
+{
+    let read = plain(alloc, message)?;
+    add_plain_line(page, place, &read)
+}
+
 /// Adds the listing of messages.
-pub fn add_listing(page: &mut Bytes, messages: &QwkMessages) -> Result<(), AllocError>
+pub fn add_listing(
+    alloc: Global,
+    page: &mut Bytes,
+    messages: &QwkMessages,
+) -> Result<(), AllocError>
     ensures { OnOk result (page.new ≡ page.old ++ listing messages.now) }
 {
     let mut place = 1u64;
     for message in messages.as_slice() {
-        add_line(page, place, message)?;
+        add_line(alloc, page, place, message)?;
         place += 1;
     }
     add_decimal(page, messages.len() as u64)?;
@@ -92,11 +110,12 @@ pub fn add_listing(page: &mut Bytes, messages: &QwkMessages) -> Result<(), Alloc
 }
 
 /// The listing of a packet: a line `PLACE CONFERENCE/NUMBER KIND FROM > TO: SUBJECT [LINES]` for each
-/// message, where places count from 1, and then `N messages`.
+/// message, where places count from 1, and then `N messages`. Long names and subjects are whole, and the
+/// lines that give them don't count.
 pub fn list_packet(alloc: Global, messages: &QwkMessages) -> Result<Bytes, AllocError>
     ensures { IfOk result (λ text. text ≡ listing messages.now) }
 {
     let mut page = Bytes::new(alloc);
-    add_listing(&mut page, messages)?;
+    add_listing(alloc, &mut page, messages)?;
     Ok(page)
 }

@@ -5,6 +5,7 @@ use Rattle.std.proofs.lemmas.List.{take_more, take_all, map-append, take-append-
 use Rattle.std.proofs.lemmas.List.Folds.{list_any_at}
 use Rattle.std.specs.List.{All, list_any}
 use Rattle.import_sheet.specs.declared.sheet.Sheet.{Sheet}
+use Rattle.long_names.specs.Plain.{with_long}
 use Rattle.qwk_blocks.specs.declared.message.QwkMessage.{QwkMessage}
 use Rattle.rep_packet.specs.declared.rep.Rep.{Rep}
 use Rattle.offline_writer.specs.Fitting.{FitsQwk, IsFirstUnfit}
@@ -16,7 +17,8 @@ same_places : (drafts : List QwkMessage) (a b : ℕ) → min a 65535 ≡ min b 6
 same_places [] a b is i = []
 same_places (draft ∷ drafts) a b is i =
     let more : min (a + 1) 65535 ≡ min (b + 1) 65535 = omega arith in
-    record draft { header = record draft.header { logical = is i } } ∷ same_places drafts (a + 1) (b + 1) more i
+    let m : QwkMessage = with_long draft in
+    record m { header = record m.header { logical = is i } } ∷ same_places drafts (a + 1) (b + 1) more i
 
 -- one draft more is in its place
 pub placed_on : (made new old rest total : List QwkMessage) (number next : ℕ) (draft done : QwkMessage) → old ≡ draft ∷ rest → new ≡ made ++ done ∷ [] → done ≡ placed (number, draft)

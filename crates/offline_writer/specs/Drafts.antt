@@ -3,6 +3,7 @@ use Rattle.std.specs.Prelude.{ℕ, ◌-◌, ◌==◌, ◌||◌, Bool, if◌then�
 use Rattle.std.specs.List.{suffix_len}
 use Rattle.std.specs.Str.Lines.{lines}
 use Rattle.import_sheet.specs.declared.sheet.Sheet.{Sheet}
+use Rattle.long_names.specs.Plain.{plain}
 use Rattle.offline_reader.specs.Listing.{private_status}
 use Rattle.qwk_blocks.specs.declared.message.Header.{Header}
 use Rattle.qwk_blocks.specs.declared.message.QwkMessage.{QwkMessage}
@@ -60,10 +61,10 @@ draft_header control envelope now = record {
   tag = 32;
 }
 
--- the draft of a reply to a message, with the lines of a text
+-- the draft of a reply to a message as it is read, with the lines of a text
 abbrev pub reply_draft : Control → QwkMessage → List ℕ → ℕ → QwkMessage
 reply_draft control answered text now = record {
-  header = draft_header control (reply_envelope answered.header) now;
+  header = draft_header control (reply_envelope (plain answered).header) now;
   lines = lines text;
 }
 

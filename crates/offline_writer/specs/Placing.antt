@@ -1,14 +1,19 @@
 -- Drafts at the end of a reply packet.
 use Rattle.std.specs.Prelude.{◌≡◌, ℕ, ◌+◌, ◌==◌, Bool, List, ◌++◌, length, map, min, All}
 use Rattle.std.specs.List.{enumerate_from, list_any}
+use Rattle.long_names.specs.Plain.{with_long}
 use Rattle.qwk_blocks.specs.declared.message.QwkMessage.{QwkMessage}
 use Rattle.qwk_control.specs.declared.control.Control.{Control}
 use Rattle.rep_packet.specs.declared.rep.Rep.{Rep}
 use Rattle.offline_writer.specs.Fitting.{FitsQwk}
 
--- a draft in a place of a reply packet, which is its logical number, up to 65,535
+-- a message with a logical number, up to 65,535
+abbrev pub numbered : ℕ → QwkMessage → QwkMessage
+numbered place m = record m { header = record m.header { logical = min place 65535 } }
+
+-- a draft in a place of a reply packet, which is its logical number, with its long values as lines
 abbrev pub placed : ℕ × QwkMessage → QwkMessage
-placed (place, draft) = record draft { header = record draft.header { logical = min place 65535 } }
+placed (place, draft) = numbered place (with_long draft)
 
 -- drafts of which the first has this place
 abbrev pub placed_from : ℕ → List QwkMessage → List QwkMessage

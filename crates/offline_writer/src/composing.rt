@@ -1,6 +1,6 @@
 //! Messages of a sheet to a conference of a packet.
 ghost use Rattle.std.specs.Prelude.{◌≡◌, ◌↔◌, ◌<◌, ℕ, true, false, Err, length, IfOk, OnOk, OnErr, IsErrOf, MatchOption, All};
-ghost use Rattle.qwk_blocks.specs.Written.{Writable};
+ghost use Rattle.long_names.specs.Fits.{FitsWithLong};
 ghost use Rattle.offline_writer.specs.Answer.{DraftsOrUnfit};
 ghost use Rattle.offline_writer.specs.Drafts.{entry_envelope, entry_draft, entry_drafts};
 ghost use Rattle.offline_writer.specs.Fitting.{IsClean, IsFirstUnfit};
@@ -58,7 +58,7 @@ pub fn draft_entries(
 ) -> Result<QwkMessages, DraftError>
     requires { length entries.now < 4294967295 }
     ensures drafts { DraftsOrUnfit (entry_drafts control.now conference entries.now now) result }
-    ensures writable { All (λ entry. IsClean (entry_envelope conference entry)) entries.now → IfOk result (λ drafts. All Writable drafts) }
+    ensures writable { All (λ entry. IsClean (entry_envelope conference entry)) entries.now → IfOk result (λ drafts. All FitsWithLong drafts) }
 {
     let mut drafts = QwkMessages::new(alloc);
     for entry in entries.as_slice() {

@@ -11,7 +11,8 @@ use thiserror::Error;
 #[derive(Clone, Copy, Debug, PartialEq, Eq, Error)]
 pub enum DraftError {
     /// The message of this number, from 1, is the first that can't be put into QWK: its To or its Subject has
-    /// over 25 bytes, or its text has a byte E3h, a 0Dh that ends no line, or over 16,384 bytes.
+    /// over 25 bytes and can't go as a line, or its text has a byte E3h, a 0Dh that ends no line, or over
+    /// 16,384 bytes.
     #[error("message {0} can't be put into QWK")]
     Text(u32),
     /// There was no memory.

@@ -2,12 +2,13 @@
 ghost use Rattle.std.specs.Prelude.{◌≤◌, ◌↔◌, All, IsTrue, length};
 ghost use Rattle.text_fields.specs.Split.{Lacks};
 ghost use Rattle.qwk_blocks.specs.Text.{ended};
-ghost use Rattle.offline_writer.specs.Fitting.{FitsQwk};
+ghost use Rattle.offline_writer.specs.Fitting.{FitsField, FitsQwk};
 
 use byte_lists::Lines;
+use long_names::{LineField, is_long};
 use qwk_blocks::QwkMessage;
 
-/// The most bytes of To and of the subject.
+/// The bytes that To and the subject have room for.
 const FIELD: usize = 25;
 
 /// The byte that ends a line in QWK.
@@ -48,14 +49,21 @@ fn are_short(lines: &Lines, most: usize) -> bool
     true
 }
 
+/// Whether a value has room in its field or goes as a line.
+fn fits_field(field: LineField, value: &[u8]) -> bool
+    ensures { IsTrue result ↔ FitsField field value.now }
+{
+    value.len() <= FIELD || is_long(value, field.most())
+}
+
 /// Whether a draft can be put into QWK.
 pub(crate) fn fits_qwk(draft: &QwkMessage) -> bool
     ensures { IsTrue result ↔ FitsQwk draft.now }
 {
-    if draft.header.to.as_slice().len() > FIELD {
+    if !fits_field(LineField::To, draft.header.to.as_slice()) {
         return false;
     }
-    if draft.header.subject.as_slice().len() > FIELD {
+    if !fits_field(LineField::Subject, draft.header.subject.as_slice()) {
         return false;
     }
     if !all_lack(&draft.lines, LINE_END) {

@@ -1,8 +1,9 @@
 //! Drafts at the end of a reply packet.
 ghost use Rattle.std.specs.Prelude.{◌≡◌, ◌+◌, ◌++◌, min, IfOk, OnOk, OnErr};
-ghost use Rattle.offline_writer.specs.Placing.{placed as placed_at, placed_from, with_drafts};
+ghost use Rattle.offline_writer.specs.Placing.{numbered as numbered_at, placed as placed_at, placed_from, with_drafts};
 
 use byte_lists::List;
+use long_names::with_long;
 use qwk_blocks::{QwkMessage, QwkMessages};
 use rep_packet::Rep;
 use std::alloc::{AllocError, Global};
@@ -15,13 +16,21 @@ fn next_number(before: usize) -> u16
     (before.min(65_534) + 1) as u16
 }
 
-/// A draft with its logical number.
-fn placed(number: u16, draft: QwkMessage) -> QwkMessage
-    ensures { result ≡ placed_at (number, draft) }
+/// A message with a logical number.
+fn numbered(number: u16, message: QwkMessage) -> QwkMessage
+    ensures { result ≡ numbered_at number message }
 {
-    let mut draft = draft;
-    draft.header.logical = number;
-    draft
+    let mut message = message;
+    message.header.logical = number;
+    message
+}
+
+/// A draft in its place, with its long values as lines.
+fn placed(alloc: Global, number: u16, draft: &QwkMessage) -> Result<QwkMessage, AllocError>
+    ensures { IfOk result (λ message. message ≡ placed_at (number, draft.now)) }
+{
+    let message = with_long(alloc, draft)?;
+    Ok(numbered(number, message))
 }
 
 /// Drafts in their places, of which the first has this number.
@@ -35,7 +44,8 @@ fn placed_drafts(
     let mut made = Vec::new(alloc);
     let mut number = first;
     for draft in drafts.into_vec() {
-        made.push(placed(number, draft))?;
+        let message = placed(alloc, number, &draft)?;
+        made.push(message)?;
         number = number.saturating_add(1);
     }
     Ok(made)
@@ -57,8 +67,8 @@ fn append(
     added
 }
 
-/// Adds drafts at the end of a reply packet, each with its place, from 1, as its logical number, or 65,535
-/// where the place is greater. Where there is no memory for them, the packet is unchanged.
+/// Adds drafts at the end of a reply packet, each with its long values as lines, and with its place, from 1, as its
+/// logical number, or 65,535 where the place is greater. Where there is no memory for them, the packet is unchanged.
 pub fn add_drafts(alloc: Global, rep: &mut Rep, drafts: QwkMessages) -> Result<(), AllocError>
     ensures ok { OnOk result (rep.new ≡ with_drafts rep.old drafts) }
     ensures err { OnErr result (rep.new ≡ rep.old) }

@@ -3,7 +3,7 @@ ghost use Rattle.std.specs.Prelude.{◌≡◌, ◌↔◌, ℕ, ◌<◌, ◌^◌,
 ghost use Rattle.std.specs.Option.{option_copied};
 ghost use Rattle.offline_reader.specs.Letter.{message_in};
 ghost use Rattle.offline_reader.specs.Listing.{private_status};
-ghost use Rattle.qwk_blocks.specs.Written.{Writable};
+ghost use Rattle.long_names.specs.Fits.{FitsWithLong};
 ghost use Rattle.qwk_blocks.specs.declared.message.QwkMessage.{QwkMessage};
 ghost use Rattle.offline_writer.specs.Answer.{DraftsOrUnfit};
 ghost use Rattle.offline_writer.specs.Drafts.{reply_envelope, reply_draft};
@@ -14,6 +14,7 @@ use crate::drafting::{Envelope, header_of};
 use crate::fault::{DraftError, ReplyError};
 use crate::fitting::fits_qwk;
 use crate::placing::add_drafts;
+use long_names::plain;
 use qwk_blocks::{Header, QwkMessage, QwkMessages};
 use qwk_control::Control;
 use rep_packet::Rep;
@@ -51,14 +52,14 @@ fn draft_of(
     ensures draft { IfOk result (λ draft. draft ≡ reply_draft control.now answered.now text.now now) }
     ensures conference { IfOk result (λ draft. draft.header.conference < 2 ^ 16) }
 {
-    let envelope = envelope_of(alloc, &answered.header)?;
-    Ok(QwkMessage {
-        header: header_of(alloc, control, envelope, now)?,
-        lines: lines_of(alloc, text)?,
-    })
+    let read = plain(alloc, answered)?;
+    let lines = lines_of(alloc, text)?;
+    let envelope = envelope_of(alloc, &read.header)?;
+    let header = header_of(alloc, control, envelope, now)?;
+    Ok(QwkMessage { header, lines })
 }
 
-/// The draft of a reply to a message, from the packet's user and with the lines of a text. `Text(1)` comes
+/// The draft of a reply to a message as it is read, from the packet's user and with the lines of a text. `Text(1)` comes
 /// where it can't be put into QWK. `now` is in seconds since 1970, in UTC.
 pub fn draft_reply(
     alloc: Global,
@@ -68,7 +69,7 @@ pub fn draft_reply(
     now: u32,
 ) -> Result<QwkMessages, DraftError>
     ensures drafts { DraftsOrUnfit (reply_draft control.now answered.now text.now now ∷ []) result }
-    ensures writable { IsClean (reply_envelope answered.now.header) → IfOk result (λ drafts. All Writable drafts) }
+    ensures writable { IsClean (reply_envelope answered.now.header) → IfOk result (λ drafts. All FitsWithLong drafts) }
 {
     let draft = draft_of(alloc, control, answered, text, now)?;
     if !fits_qwk(&draft) {

@@ -6,6 +6,7 @@ use Rattle.std.specs.Str.Lines.{lines}
 use Rattle.door_outside.specs.Shelf.{Files}
 use Rattle.entry_runs.proofs.ShelfLaws.{IsLawfulOnShelf, some_behind}
 use Rattle.entry_runs.specs.declared.class.Class.TheVariants as class
+use Rattle.long_names.specs.Plain.{plain}
 use Rattle.offline_reader.specs.Letter.{heading, letter, message_in}
 use Rattle.offline_reader.specs.Listing.{listing, folder_listing, listing_line}
 use Rattle.qwk_blocks.proofs.Messages.{packet_unique}
@@ -57,7 +58,7 @@ some_listing : (messages : List QwkMessage) → listing messages ≢ []
 some_listing messages = some_behind (flat_map listing_line (enumerate_from 1 messages)) _ (some_behind (decimal (length messages)) (codes " messages\n") (λ is. absurd (cc is)))
 
 some_letter : (message : QwkMessage) → letter message ≢ []
-some_letter message = some_behind (heading message.header) _ (λ is. absurd (cc is))
+some_letter message = some_behind (heading (plain message).header) _ (λ is. absurd (cc is))
 
 some_shown : (found : Option QwkMessage) → (shown found).text ≢ []
 some_shown None = some_refusal NoMessage

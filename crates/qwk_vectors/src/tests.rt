@@ -2,6 +2,7 @@ mod addresses;
 mod blocks;
 mod control;
 mod files;
+mod long_values;
 mod messages;
 mod moments;
 mod replies;

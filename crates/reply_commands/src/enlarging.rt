@@ -1,6 +1,6 @@
 //! Drafts at the end of the reply packet under a name.
 ghost use Rattle.std.specs.Prelude.{◌≡◌, All, IsTrue, IfOk};
-ghost use Rattle.qwk_blocks.specs.Written.{Writable};
+ghost use Rattle.long_names.specs.Fits.{FitsWithLong};
 ghost use Rattle.qwk_control.specs.Line.{IsId};
 ghost use Rattle.shelf_files.specs.Halts.{Comes, ShelfCauses};
 ghost use Rattle.reply_commands.specs.RepFile.{EnlargesRep, MayBeWritten};
@@ -32,7 +32,7 @@ pub(crate) fn enlarge<S: Shelf>(
     drafts: QwkMessages,
 ) -> Result<Enlarged, Halt>
     requires id { IsId bbsid.now }
-    requires writable { All Writable drafts }
+    requires writable { All FitsWithLong drafts }
     ensures made { IsTrue S.tells → Comes result (EnlargesRep (S.files shelf.old) name.now bbsid.now drafts) }
     ensures may_be_written { IfOk result MayBeWritten }
     ensures unchanged { IsTrue S.tells → S.files shelf.new ≡ S.files shelf.old }

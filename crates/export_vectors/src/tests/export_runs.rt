@@ -219,8 +219,8 @@ fn a_caller_gets_his_conferences_alone(rt: HostRuntime) -> Result<(), Miss> {
     expect_transcript(rt.alloc(), MEMBERS)
 }
 
-/// Messages with names and a subject that QWK cuts, a byte that it can't show, and the first and the last moment; and
-/// one that is as long as it may be.
+/// Messages with long names and a long subject, a byte that QWK can't show, and the first and the last moment; and one
+/// that is as long as it may be.
 const CUT_SHORT: &str = r#"
 * board B
 * put odd From: Bob Ray The Second Of Us All Of Them\nTo: Abcdefghijklmnopqrstuvwxyz0123456789\n
@@ -236,8 +236,9 @@ imported 3 into 0
 packet 1: 3 messages
 * blocks wanted
 Produced by qwkdoor, packet 1
- 1      01-01-7000:00ABCDEFGHIJKLMNOPQRSTUVWXYBOB RAY THE SECOND OF US 1234567890123456789012345            0       2     \xE1\0\0\x01\0
-a?b\xE3\xE3.x\xE3
+ 1      01-01-7000:00ABCDEFGHIJKLMNOPQRSTUVWXYBOB RAY THE SECOND OF US 1234567890123456789012345            0       3     \xE1\0\0\x01\0
+To: Abcdefghijklmnopqrstuvwxyz0123456789\xE3From: Bob Ray The Second Of Us All Of Them\xE3Subject: 12345678901234567890123456789012345
+6789012345678901234567890123456789012\xE3\xE3a?b\xE3\xE3.x\xE3
  2      02-07-0606:28ALL                      BOB RAY                                                       1       2     \xE1\0\0\x02\0
 \x20
  3      09-09-0101:46ALL                      BOB RAY                  Hello                                0       129   \xE1\0\0\x03\0
@@ -378,4 +379,67 @@ usage
 #[test]
 fn other_words_export_nothing(rt: HostRuntime) -> Result<(), Miss> {
     expect_transcript(rt.alloc(), OTHER_WORDS)
+}
+
+/// A subject of 30 bytes, which goes as a line before the text.
+const LONG_SUBJECT: &str = r#"
+* board B
+* put minutes From: Bob Ray\nTo: All\nSubject: Minutes of the monthly meeting\n\nHi\n.\n
+> import 0 minutes
+imported 1 into 0
+> export "Ann Lee" 10 out
+packet 1: 1 messages
+* packet out/MESSAGES.DAT
+Produced by qwkdoor, packet 1
+ 1      09-09-0101:46ALL                      BOB RAY                  Minutes of the monthly me            0       2     \xE1\0\0\x01\0
+Subject: Minutes of the monthly meeting\xE3\xE3Hi\xE3
+> read out
+board Test Board
+user ANN LEE
+1 0/1 public BOB RAY > ALL: Minutes of the monthly meeting [1]
+1 messages
+"#;
+
+/// A name of 36 bytes and a subject of 72: exported, read, answered, uploaded, and exported again.
+const ROUND: &str = r#"
+* board B
+* put letter From: Robert Bartholomew Ray of Greenfield\nTo: All\nSubject: abcdefghijklmnopqrstuvwxyz0123456789abcdefghijklmnopqrstuvwxyz0123456789\n\nFirst line\n.\n
+* put thanks Thanks\n
+> import 0 letter
+imported 1 into 0
+> export "Ann Lee" 10 out
+packet 1: 1 messages
+> read out 1
+From: Robert Bartholomew Ray of Greenfield
+To: ALL
+Subject: abcdefghijklmnopqrstuvwxyz0123456789abcdefghijklmnopqrstuvwxyz0123456789
+Date: 09-09-01 01:46
+Conference: 0
+Number: 1
+Reference: 0
+
+First line
+> reply out 1 thanks R.MSG
+replied to 1, 1 in R.MSG
+> upload "Ann Lee" R.MSG
+1 posted 0 2
+posted 1 refused 0
+> export "Ann Lee" 10 out
+packet 2: 2 messages
+> read out 2
+From: ANN LEE
+To: Robert Bartholomew Ray of Greenfield
+Subject: abcdefghijklmnopqrstuvwxyz0123456789abcdefghijklmnopqrstuvwxyz0123456789
+Date: 09-09-01 01:46
+Conference: 0
+Number: 2
+Reference: 1
+
+Thanks
+"#;
+
+#[test]
+fn long_names_and_subjects_travel_whole(rt: HostRuntime) -> Result<(), Miss> {
+    expect_transcript(rt.alloc(), LONG_SUBJECT)?;
+    expect_transcript(rt.alloc(), ROUND)
 }

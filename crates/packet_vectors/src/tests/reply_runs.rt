@@ -138,7 +138,7 @@ const COMPOSED: &str = r#"
 * folders
 * put net From: Ann Lee\nTo: Ann\nSubject: Net\n\nAnn@2:5020/400.1\nHi\n.\n
 * put bad From: A\nSubject: x\n\n
-* put long From: A\nTo: B\nSubject: 12345678901234567890123456\n\n.\n
+* put long From: A\nTo: B\nSubject: 1234567890123456789012345\xE3\n\n.\n
 * put empty
 > compose out 1 net R1.MSG
 composed 1, 1 in R1.MSG

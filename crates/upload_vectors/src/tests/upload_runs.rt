@@ -90,7 +90,7 @@ posted 0 refused 1
 > compose out 5 net R4.MSG
 refused noconference
 > compose out 1 long R5.MSG
-refused text 1
+composed 1, 1 in R5.MSG
 * data 6 from 1076 \x05\0\0\x02
 * data 6 from 1100 \x01\0\0\0\x0C\0\0\02:5020/400.1\x02\0\0\0\x07\0\0\0Ann Lee
 * data 6 from 1135 \x03\0\0\0\x03\0\0\0Ann\x04\0\0\0\x0B\0\0\01.1.TESTBBS
@@ -100,6 +100,24 @@ refused text 1
 #[test]
 fn net_mail_goes_to_its_address(rt: HostRuntime) -> Result<(), Miss> {
     expect_transcript(rt.alloc(), NET_MAIL)
+}
+
+/// A text that begins as lines of long names do, with a name that isn't long.
+const NO_LONG: &str = r#"
+* board B
+* blocks rep
+TESTBBS
+ 0      09-09-0101:46ALL                      ANN LEE                  Hello                                0       2     \xE1\0\0\x01\0
+To: whom it may concern\xE3\xE3Hi\xE3
+> upload "Ann Lee" rep
+1 posted 0 1
+posted 1 refused 0
+* data 3 ends 0 To: whom it may concern\r\rHi\r
+"#;
+
+#[test]
+fn a_short_name_before_a_text_stays_in_it(rt: HostRuntime) -> Result<(), Miss> {
+    expect_transcript(rt.alloc(), NO_LONG)
 }
 
 /// Answers to a letter of Bob's to Cy, and one to the first of them; and the subfields of Ann's answer, who doesn't see

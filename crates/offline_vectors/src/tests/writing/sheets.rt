@@ -46,7 +46,7 @@ fn entries_become_messages(rt: HostRuntime) -> Result<(), Fail> {
 #[test]
 fn the_first_that_cannot_be_put_into_qwk(rt: HostRuntime) -> Result<(), Fail> {
     let mut sheets = entries(rt.alloc())?;
-    sheets.add(entry(rt.alloc(), b"12345678901234567890123456", false, b"")?)?;
+    sheets.add(entry(rt.alloc(), b"1234567890123456789012345\xE3", false, b"")?)?;
     sheets.add(entry(rt.alloc(), b"", false, b"\xE3\r")?)?;
     for (conference, wanted) in [(0, ComposeError::Text(3)), (5, ComposeError::NoConference)] {
         let error = composed(rt.alloc(), conference, &sheets).err();

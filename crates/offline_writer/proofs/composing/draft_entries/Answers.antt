@@ -2,7 +2,7 @@ use Rattle.std.proofs.Common.{◌+◌, [], ◌∷◌, length, ap, refl, sym, sub
 use Rattle.std.specs.List.{All}
 use Rattle.std.proofs.lemmas.Bool.{true≢false}
 use Rattle.std.proofs.lemmas.List.Elements.{All-nil, All-cons, All-append}
-use Rattle.qwk_blocks.specs.Written.{Writable}
+use Rattle.long_names.specs.Fits.{FitsWithLong}
 use Rattle.offline_writer.specs.Drafts.{entry_draft}
 use Rattle.offline_writer.specs.Fitting.{FitsQwk}
 use Rattle.offline_writer.proofs.Places.{first_unfit_at, drafts_more, drafts_all}
@@ -32,4 +32,4 @@ pub returns-clause-writable : goal.returns-clause-writable
 returns-clause-writable c clean =
     let v = c.loop-entry.invariant in
     let all = drafts_all (entry_draft c.args.control.now c.args.conference c.args.now) c.as_slice-entry-items.result.now c.args.entries.now c.loop-entry.entry-index c.loop-entry.drafts v.all (omega arith) v.drafts in
-    subst (All Writable) (sym all) (entries_writable c.args.control.now c.args.conference c.args.now c.args.entries.now (omega arith) clean (subst (All FitsQwk) all v.fit))
+    subst (All FitsWithLong) (sym all) (entries_writable c.args.control.now c.args.conference c.args.now c.args.entries.now (omega arith) clean (subst (All FitsQwk) all v.fit))

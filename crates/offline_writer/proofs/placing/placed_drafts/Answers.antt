@@ -10,7 +10,7 @@ loop-draft-preserved c =
     record {
       so_far =
           placed_on c.loop-draft.made.items c.push.new.self.items (into_iter_items c.loop-draft.draft-iterator) (into_iter_items c.next.new.self) _ c.loop-draft.number c.saturating_add-number.result
-          c.in-Some.draft c.placed.result steps.0 c.in_ok-push.ensures.items c.placed.ensures (omega (arith, c.saturating_add-number.ensures)) v.so_far;
+          c.in-Some.draft c.in_ok-message.message steps.0 c.in_ok-push.ensures.items c.in_ok-message.ensures (omega (arith, c.saturating_add-number.ensures)) v.so_far;
       counted = omega (arith, steps.1, v.counted, ap length steps.0);
       can_next = tt;
       is_finite = tt;

@@ -1,6 +1,6 @@
 use Rattle.std.proofs.Common.{Some, None}
 use Rattle.netmail_rules.proofs.Verdicts.{refused_first, judged_later}
-use Rattle.netmail_rules.proofs.verdict.judge.Goals as goal
+use Rattle.netmail_rules.proofs.verdict.judge_plain.Goals as goal
 
 pub returns-in-Some : goal.returns-in-Some
 returns-in-Some c = refused_first c.args.view.now c.args.message.now c.args.now c.rules_before.result c.in-Some.rule c.rules_before.ensures c.in-Some.ensures

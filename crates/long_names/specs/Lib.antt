@@ -1,0 +1,4 @@
+pub mod Value
+pub mod Lead
+pub mod Plain
+pub mod Fits

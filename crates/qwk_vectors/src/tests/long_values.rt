@@ -1,0 +1,143 @@
+//! Long names and subjects. A case is To, From, the subject and the lines of a message, and so is what is found.
+use byte_lists::{Bytes, Lines};
+use case_texts::{Miss, expect_cases, quoted};
+use long_names::{plain, with_long};
+use qwk_blocks::{Header, QwkMessage};
+use std::alloc::{AllocError, Global};
+
+/// A header with these texts.
+fn header_of(to: Bytes, from: Bytes, subject: Bytes, password: Bytes) -> Header {
+    Header {
+        status: b' ',
+        number: Some(1),
+        date: *b"09-09-01",
+        time: *b"01:46",
+        to,
+        from,
+        subject,
+        password,
+        reference: Some(0),
+        activity: 0xE1,
+        conference: 0,
+        logical: 1,
+        tag: b' ',
+    }
+}
+
+/// The message of a case.
+fn message_of(alloc: Global, words: &[Bytes]) -> Result<QwkMessage, Miss> {
+    let [to, from, subject, text @ ..] = words else {
+        return Err(Miss::Words);
+    };
+    let mut lines = Lines::new(alloc);
+    for line in text {
+        lines.add(line.copy(alloc)?)?;
+    }
+    let to = to.copy(alloc)?;
+    let from = from.copy(alloc)?;
+    let subject = subject.copy(alloc)?;
+    let header = header_of(to, from, subject, Bytes::new(alloc));
+    Ok(QwkMessage { header, lines })
+}
+
+/// A message in the words of a case.
+fn described(alloc: Global, message: &QwkMessage) -> Result<String, AllocError> {
+    let header = &message.header;
+    let mut found = quoted(alloc, header.to.as_slice())?;
+    for text in [header.from.as_slice(), header.subject.as_slice()] {
+        found.push_str(" ")?;
+        found.push_str(quoted(alloc, text)?.as_str())?;
+    }
+    for line in message.lines.as_slice() {
+        found.push_str(" ")?;
+        found.push_str(quoted(alloc, line.as_slice())?.as_str())?;
+    }
+    Ok(found)
+}
+
+/// The message as it is read.
+fn read(alloc: Global, words: &[Bytes]) -> Result<String, Miss> {
+    let message = message_of(alloc, words)?;
+    Ok(described(alloc, &plain(alloc, &message)?)?)
+}
+
+/// The message as it goes.
+fn gone(alloc: Global, words: &[Bytes]) -> Result<String, Miss> {
+    let message = message_of(alloc, words)?;
+    Ok(described(alloc, &with_long(alloc, &message)?)?)
+}
+
+const GONE: &str = r#"
+# Values of 25, 26, 36 and 37 bytes, and a subject of 72 and 73.
+"abcdefghijklmnopqrstuvwxy" "B" "S" "Hi"
+=> "abcdefghijklmnopqrstuvwxy" "B" "S" "Hi"
+"abcdefghijklmnopqrstuvwxyz" "B" "S" "Hi"
+=> "abcdefghijklmnopqrstuvwxy" "B" "S" "To: abcdefghijklmnopqrstuvwxyz" "" "Hi"
+"A" "abcdefghijklmnopqrstuvwxyz0123456789" "S" "Hi"
+=> "A" "abcdefghijklmnopqrstuvwxy" "S" "From: abcdefghijklmnopqrstuvwxyz0123456789" "" "Hi"
+"A" "abcdefghijklmnopqrstuvwxyz0123456789a" "S" "Hi"
+=> "A" "abcdefghijklmnopqrstuvwxyz0123456789a" "S" "Hi"
+"A" "B" "abcdefghijklmnopqrstuvwxyz0123456789abcdefghijklmnopqrstuvwxyz0123456789"
+=> "A" "B" "abcdefghijklmnopqrstuvwxy" "Subject: abcdefghijklmnopqrstuvwxyz0123456789abcdefghijklmnopqrstuvwxyz0123456789" ""
+"A" "B" "abcdefghijklmnopqrstuvwxyz0123456789abcdefghijklmnopqrstuvwxyz0123456789a"
+=> "A" "B" "abcdefghijklmnopqrstuvwxyz0123456789abcdefghijklmnopqrstuvwxyz0123456789a"
+# All three, in their order; and one whose 25th byte is a space.
+"abcdefghijklmnopqrstuvwxyz" "bcdefghijklmnopqrstuvwxyz0" "cdefghijklmnopqrstuvwxyz01" "Hi"
+=> "abcdefghijklmnopqrstuvwxy" "bcdefghijklmnopqrstuvwxyz" "cdefghijklmnopqrstuvwxyz0" "To: abcdefghijklmnopqrstuvwxyz" "From: bcdefghijklmnopqrstuvwxyz0" "Subject: cdefghijklmnopqrstuvwxyz01" "" "Hi"
+"abcdefghijklmnopqrstuvwx z" "B" "S" "Hi"
+=> "abcdefghijklmnopqrstuvwx" "B" "S" "To: abcdefghijklmnopqrstuvwx z" "" "Hi"
+# A space at either end, a byte below 20h, and E3h.
+" abcdefghijklmnopqrstuvwxyz" "abcdefghijklmnopqrstuvwxyz " "abcdefghijklmnopqrstuvwxyz\x1F" "Hi"
+=> " abcdefghijklmnopqrstuvwxyz" "abcdefghijklmnopqrstuvwxyz " "abcdefghijklmnopqrstuvwxyz\x1f" "Hi"
+"A" "B" "abcdefghijklmnopqrstuvwxyz\xE3" "Hi"
+=> "A" "B" "abcdefghijklmnopqrstuvwxyz\xe3" "Hi"
+# A text that would be taken for such lines, also behind empty ones.
+"abcdefghijklmnopqrstuvwxy" "B" "S" "To: abcdefghijklmnopqrstuvwxyz" "" "Hi"
+=> "abcdefghijklmnopqrstuvwxy" "B" "S" "" "To: abcdefghijklmnopqrstuvwxyz" "" "Hi"
+"abcdefghijklmnopqrstuvwxy" "B" "S" "" "" "To: abcdefghijklmnopqrstuvwxyz" ""
+=> "abcdefghijklmnopqrstuvwxy" "B" "S" "" "" "" "To: abcdefghijklmnopqrstuvwxyz" ""
+"A" "B" "S" "" "" => "A" "B" "S" "" ""
+"A" "B" "S" => "A" "B" "S"
+"#;
+
+#[test]
+fn long_values_go_as_lines(rt: HostRuntime) -> Result<(), Miss> {
+    expect_cases(rt.alloc(), GONE, gone)
+}
+
+const READ: &str = r#"
+"ABCDEFGHIJKLMNOPQRSTUVWXY" "B" "S" "To: abcdefghijklmnopqrstuvwxyz" "" "Hi"
+=> "abcdefghijklmnopqrstuvwxyz" "B" "S" "Hi"
+"ABCDEFGHIJKLMNOPQRSTUVWXY" "BCDEFGHIJKLMNOPQRSTUVWXYZ" "cdefghijklmnopqrstuvwxyz0" "To: abcdefghijklmnopqrstuvwxyz" "From: bcdefghijklmnopqrstuvwxyz0" "Subject: cdefghijklmnopqrstuvwxyz01" "" "" "Hi"
+=> "abcdefghijklmnopqrstuvwxyz" "bcdefghijklmnopqrstuvwxyz0" "cdefghijklmnopqrstuvwxyz01" "" "Hi"
+"ABCDEFGHIJKLMNOPQRSTUVWX" "B" "S" "To: abcdefghijklmnopqrstuvwx z" ""
+=> "abcdefghijklmnopqrstuvwx z" "B" "S"
+# Out of order, twice, without an empty line, for another field, and for another value.
+"abcdefghijklmnopqrstuvwxy" "abcdefghijklmnopqrstuvwxy" "S" "From: abcdefghijklmnopqrstuvwxyz" "To: abcdefghijklmnopqrstuvwxyz" ""
+=> "abcdefghijklmnopqrstuvwxy" "abcdefghijklmnopqrstuvwxy" "S" "From: abcdefghijklmnopqrstuvwxyz" "To: abcdefghijklmnopqrstuvwxyz" ""
+"abcdefghijklmnopqrstuvwxy" "B" "S" "To: abcdefghijklmnopqrstuvwxyz" "To: abcdefghijklmnopqrstuvwxyz" ""
+=> "abcdefghijklmnopqrstuvwxy" "B" "S" "To: abcdefghijklmnopqrstuvwxyz" "To: abcdefghijklmnopqrstuvwxyz" ""
+"abcdefghijklmnopqrstuvwxy" "B" "S" "To: abcdefghijklmnopqrstuvwxyz" "Hi"
+=> "abcdefghijklmnopqrstuvwxy" "B" "S" "To: abcdefghijklmnopqrstuvwxyz" "Hi"
+"abcdefghijklmnopqrstuvwxy" "B" "S" "To: abcdefghijklmnopqrstuvwxyz"
+=> "abcdefghijklmnopqrstuvwxy" "B" "S" "To: abcdefghijklmnopqrstuvwxyz"
+"abcdefghijklmnopqrstuvwxy" "B" "S" "From: abcdefghijklmnopqrstuvwxyz" ""
+=> "abcdefghijklmnopqrstuvwxy" "B" "S" "From: abcdefghijklmnopqrstuvwxyz" ""
+"abcdefghijklmnopqrstuvwxz" "B" "S" "To: abcdefghijklmnopqrstuvwxyz" ""
+=> "abcdefghijklmnopqrstuvwxz" "B" "S" "To: abcdefghijklmnopqrstuvwxyz" ""
+"abcdefghijklmnopqrstuvwxy" "B" "S" "To:abcdefghijklmnopqrstuvwxyz" ""
+=> "abcdefghijklmnopqrstuvwxy" "B" "S" "To:abcdefghijklmnopqrstuvwxyz" ""
+# A value that is short, as anybody may write it.
+"ALL" "B" "S" "To: whom it may concern" "" "Hi" => "ALL" "B" "S" "To: whom it may concern" "" "Hi"
+# Behind one empty line more than the text had.
+"abcdefghijklmnopqrstuvwxy" "B" "S" "" "To: abcdefghijklmnopqrstuvwxyz" "" "Hi"
+=> "abcdefghijklmnopqrstuvwxy" "B" "S" "To: abcdefghijklmnopqrstuvwxyz" "" "Hi"
+"abcdefghijklmnopqrstuvwxy" "B" "S" "" "" "To: abcdefghijklmnopqrstuvwxyz" ""
+=> "abcdefghijklmnopqrstuvwxy" "B" "S" "" "To: abcdefghijklmnopqrstuvwxyz" ""
+"A" "B" "S" "" "" => "A" "B" "S" "" ""
+"#;
+
+#[test]
+fn long_values_are_read_from_lines(rt: HostRuntime) -> Result<(), Miss> {
+    expect_cases(rt.alloc(), READ, read)
+}
