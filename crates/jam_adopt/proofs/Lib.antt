@@ -1,0 +1,12 @@
+pub mod Feeds
+pub mod FieldLists
+pub mod FilledFields
+pub mod FirstRules
+pub mod HeaderTests
+pub mod IndexWalk
+pub mod LeapLaws
+pub mod LeapSteps
+pub mod OneField
+pub mod Stops
+pub mod Trims
+pub mod ValueTests
