@@ -1,0 +1,5 @@
+mod files;
+mod lines;
+mod messages;
+mod records;
+mod shared;
