@@ -36,6 +36,8 @@ enum Handle {
 struct DataFile {
     path: String,
     handle: Handle,
+    /// How many bytes this run knows that the file has, at least.
+    known: u64,
 }
 
 /// The 258 files of a board. A file stays open from its first use on, so that a sync goes by the handle that
@@ -86,6 +88,7 @@ impl DataFolder {
             files.push(DataFile {
                 path,
                 handle: Handle::Closed,
+                known: 0,
             })?;
         }
         let parent = format!(in alloc; "{folder}/..")?;
@@ -103,26 +106,44 @@ impl DataFolder {
         })
     }
 
-    /// The file's length in bytes. A length of 2^31 or more is an error.
+    /// The file's length in bytes. A length of 2^31 or more is an error, and so is one below what this run knows
+    /// of.
     pub fn length(&mut self, file: FileId) -> Result<u32, Trouble>
         ensures { IfOk result (λ len. len < 2 ^ 31) }
     {
         self.open_to_read(file)?;
-        match self.opened(file) {
-            None => Ok(0),
-            Some(open) => Ok(short_length(open)?),
+        let len = match self.opened(file) {
+            None => 0,
+            Some(open) => short_length(open)?,
+        };
+        let known = &mut self.files[usize::from(file.number())].known;
+        if u64::from(len) < *known {
+            return Err(Trouble::Shorter);
         }
+        *known = u64::from(len);
+        Ok(len)
     }
 
-    /// Fills the buffer from a place on, up to the file's end.
+    /// Fills the buffer from a place on, up to the file's end. Where that comes before bytes that this run knows
+    /// of, the file has lost them, and none is made up.
     pub fn read_at(&mut self, file: FileId, at: u32, buf: &mut [u8]) -> Result<usize, Trouble>
         ensures { IfOk result (λ count. count ≤ length buf.old) }
     {
         self.open_to_read(file)?;
-        match self.opened(file) {
-            None => Ok(0),
-            Some(open) => Ok(read_full(open, u64::from(at), buf)?),
+        let at = u64::from(at);
+        let count = match self.opened(file) {
+            None => 0,
+            Some(open) => read_full(open, at, buf)?,
+        };
+        let end = at.saturating_add(count as u64);
+        let known = &mut self.files[usize::from(file.number())].known;
+        if count < buf.len() && end < *known {
+            return Err(Trouble::Shorter);
         }
+        if count > 0 {
+            *known = end.max(*known);
+        }
+        Ok(count)
     }
 
     /// Puts the bytes at a place. A gap before them reads as zeros.
@@ -156,9 +177,11 @@ impl DataFolder {
     fn set_len(&mut self, file: FileId, len: u32) -> Result<(), Trouble> {
         self.open_to_write(file)?;
         match self.opened(file) {
-            None => Err(Trouble::System(ErrorKind::NotFound.into())),
-            Some(open) => Ok(open.set_len(u64::from(len))?),
+            None => return Err(Trouble::System(ErrorKind::NotFound.into())),
+            Some(open) => open.set_len(u64::from(len))?,
         }
+        self.files[usize::from(file.number())].known = u64::from(len);
+        Ok(())
     }
 
     /// Puts the file's bytes, its length and its name on the disk. Where that fails, no run goes on until the

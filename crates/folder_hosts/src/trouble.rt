@@ -16,6 +16,8 @@ pub enum Trouble {
     Lock(io::Error),
     /// A sync failed.
     Sync(io::Error),
+    /// The file has fewer bytes than before, though this run took none from it.
+    Shorter,
     /// Any other call of the system failed.
     System(io::Error),
 }
@@ -42,6 +44,7 @@ impl Trouble {
                 let _ = eprintln!(rt; "{path}: {error}");
                 tell_unsynced(rt, folder)
             }
+            Trouble::Shorter => eprintln!(rt; "{path}: it became shorter during the run"),
             Trouble::System(error) => eprintln!(rt; "{path}: {error}"),
         };
     }
