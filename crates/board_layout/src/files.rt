@@ -10,7 +10,7 @@ use door_outside::{FileId, Host};
 use jam_base::BaseFiles;
 use std::alloc::Global;
 
-/// All bytes of a file.
+/// All bytes of a file, as many as the host gives.
 pub(crate) fn read_file<H: Host>(
     alloc: Global,
     host: &mut H,
@@ -24,7 +24,8 @@ pub(crate) fn read_file<H: Host>(
 {
     let len = host.length(file)?;
     let mut bytes = vec![in alloc; 0u8; len as usize]?;
-    host.read_at(file, 0, &mut bytes)?;
+    let count = host.read_at(file, 0, &mut bytes)?;
+    bytes.truncate(count);
     Ok(Bytes::from_vec(bytes))
 }
 
