@@ -1,5 +1,6 @@
 pub mod Arms
 pub mod BoardEntries
 pub mod EntryLaws
+pub mod Histories
 pub mod Reading
 pub mod Wrongs

@@ -2,3 +2,4 @@ pub mod Answers
 pub mod Run
 pub mod Step
 pub mod BoardEntry
+pub mod Histories

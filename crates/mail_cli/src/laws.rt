@@ -1,13 +1,16 @@
 //! Laws of entries.
-ghost use Rattle.std.specs.Prelude.{◌≡◌, ℕ};
-ghost use Rattle.entry_runs.specs.Door.{World, AreLawful};
-ghost use Rattle.entry_runs.specs.Runs.{Stepped};
+ghost use Rattle.std.specs.Prelude.{◌≡◌, ℕ, List, [], ◌∷◌, ◌++◌, false};
+ghost use Rattle.door_outside.specs.Shelf as Shelf;
+ghost use Rattle.entry_runs.specs.Door.{World, AreLawful, Step, any_touches, here};
+ghost use Rattle.entry_runs.specs.Runs.{Outcome, Runs, Stepped};
 ghost use Rattle.intent_journal.specs.Patches.{Files};
-ghost use Rattle.board_commands.specs.State.{State, Stores};
+ghost use Rattle.board_commands.specs.State.{State, NotMade, Stores};
+ghost use Rattle.board_laws.specs.History.{Deed, IsHistory};
 ghost use Rattle.board_laws.specs.Kept.{StaysMade, StaysOffered};
 ghost use Rattle.board_laws.specs.Once.{ChangesOnce, SaysAgain};
 ghost use Rattle.board_laws.specs.Passed.{IsPassed, PacketsRise};
 ghost use Rattle.mail_cli.specs.BoardEntry.{board_command, steps};
+ghost use Rattle.mail_cli.specs.Histories.{AreJoined, Continues, KeepPromises, Passage, reached};
 ghost use Rattle.mail_cli.specs.Step.{act, door};
 ghost use Rattle.door_commands.specs.declared.entry.Entry.{Entry};
 
@@ -49,4 +52,24 @@ pub fn passed()
 pub fn once()
     ensures changes { ChangesOnce board_command steps }
     ensures again { SaysAgain board_command steps }
+{}
+
+/// A history and what a run makes behind it are one history: with the entries that were carried out, from the state that it
+/// leads to, it leads to the state after them; so it does with the entry in which the run was stopped or a crash came,
+/// where that was carried out. Entries that touch no board go on so behind any history, whatever the state: so where a crash
+/// leaves files as it could have left them before the run, they go on behind the history of those.
+pub fn runs_are_histories()
+    ensures runs { (now : ℕ) (deeds : List (Deed Entry)) → IsHistory steps deeds → (shelf : Shelf.Files) (entries : List Entry) (outcome : Outcome (World State))
+        → Runs (Step (door now)) (here (reached deeds) shelf) entries outcome → Continues now deeds entries outcome.world.state }
+    ensures stopped { (now : ℕ) (deeds : List (Deed Entry)) → IsHistory steps deeds → (shelf : Shelf.Files) (front : List Entry) (entry : Entry) (outcome : Outcome (World State)) (stepped : Stepped (World State))
+        → Runs (Step (door now)) (here (reached deeds) shelf) front outcome → Step (door now) outcome.world entry stepped → Continues now deeds (front ++ entry ∷ []) stepped.world.state }
+    ensures untouched { (now : ℕ) (deeds other : List (Deed Entry)) → IsHistory steps other → (shelf : Shelf.Files) (entries : List Entry) (outcome : Outcome (World State)) → any_touches (door now) entries ≡ false
+        → Runs (Step (door now)) (here (reached deeds) shelf) entries outcome → Continues now other entries (reached other) }
+{}
+
+/// For every list of runs and crashes from no board on, the last files stand for the board after one history, of all entries
+/// that were carried out, in order. On that board each message that was offered to a user is offered until he acknowledges a
+/// packet or it is deleted; and for each user and SHA-256 one upload at most changed the board.
+pub fn runs_and_crashes()
+    ensures { (files : Files) (passages : List Passage) → Stores NotMade files → AreJoined files passages → KeepPromises files passages }
 {}
