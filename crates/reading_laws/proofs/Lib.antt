@@ -1,0 +1,4 @@
+pub mod Fields
+pub mod Packets
+pub mod Controls
+pub mod Sheets
