@@ -1,3 +1,5 @@
 pub mod OneCommand
 pub mod Entering
 pub mod Batches
+pub mod Deciding
+pub mod SomeEntries

@@ -141,7 +141,7 @@ behind_unique UploadPacket words a b x y =
     x.4 ∙ (λ i. command.Upload (user i) (file i)) ∙ sym y.4
 
 -- what stands behind a first word is read by its verb
-behind_verb : (verb : Verb) (rest : List (List ℕ)) (c : Command) → CommandReads (first_word verb ∷ rest) c → ReadsBehind verb rest c
+pub behind_verb : (verb : Verb) (rest : List (List ℕ)) (c : Command) → CommandReads (first_word verb ∷ rest) c → ReadsBehind verb rest c
 behind_verb verb rest c reads =
     let words = reads.2 in
     let first : first_word verb ≡ first_word reads.0 = cc in

@@ -15,3 +15,8 @@ pub fn one_command()
 pub fn one_list()
     ensures { (words : List (List ℕ)) (shelf : Files) (a b : List Entry) → EntriesRead words shelf a → EntriesRead words shelf b → a ≡ b }
 {}
+
+/// With a shelf, words are some list of entries: so they are exactly one.
+pub fn some_list()
+    ensures { (words : List (List ℕ)) (shelf : Files) → (entries : List Entry) × EntriesRead words shelf entries }
+{}
