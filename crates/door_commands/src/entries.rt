@@ -1,9 +1,9 @@
 //! The entries that words are.
-ghost use Rattle.std.specs.Prelude.{◌≡◌, ◌∷◌, [], All, IfOk, IsErrOf, IsTrue};
+ghost use Rattle.std.specs.Prelude.{◌≡◌, ◌∷◌, [], ℕ, List, All, IfOk, IsErrOf, IsTrue};
 ghost use Rattle.shelf_files.specs.ShelfFile.{file_of};
 ghost use Rattle.door_commands.specs.Batch.{BatchReads, IsRead, batch_limit};
 ghost use Rattle.door_commands.specs.Entries.{AreEntries, EntriesRead, EntryCanRun, UnreadCauses};
-ghost use Rattle.door_commands.specs.Words.{IsNoCommand};
+ghost use Rattle.door_commands.specs.Words.{CommandReads, IsNoCommand};
 
 use crate::batch::entries_in;
 use crate::command::Command;
@@ -48,7 +48,7 @@ fn entries_of_batch<S: Shelf>(
 
 /// The entries that words are: one command, or, for a batch, the commands of its file as the shelf holds it now, up to
 /// and with the first line that is none, or that it isn't there or has more than 1,048,576 bytes. Words that are no
-/// command are an entry too. The shelf is only read.
+/// command are an entry too. The shelf is only read, and only for a batch.
 ///
 /// `ShelfFault` comes only where the shelf's count of faults rose, and `OutOfMemory` where there is no memory.
 pub fn entries_of<S: Shelf>(alloc: Global, words: &Words, shelf: &mut S) -> Result<Entries, Unread>
@@ -58,6 +58,7 @@ pub fn entries_of<S: Shelf>(alloc: Global, words: &Words, shelf: &mut S) -> Resu
     ensures unchanged { IsTrue S.tells → S.files shelf.new ≡ S.files shelf.old }
     ensures causes { UnreadCauses (S.faults shelf.old) (S.faults shelf.new) result }
     ensures no_command { IsNoCommand words.now → ¬ IsErrOf result Unread.ShelfFault }
+    ensures no_batch { ((file : List ℕ) → ¬ CommandReads words.now (Command.Batch file)) → shelf.new ≡ shelf.old }
 {
     match Command::parse(alloc, words)? {
         Some(Command::Batch { file }) => entries_of_batch(alloc, shelf, &file),

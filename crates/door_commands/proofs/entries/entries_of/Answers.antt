@@ -1,4 +1,4 @@
-use Rattle.std.proofs.Common.{rules, ◌≡◌, inl, inr, ◌∷◌, []}
+use Rattle.std.proofs.Common.{rules, ◌≡◌, inl, inr, refl, ◌∷◌, []}
 use Rattle.std.specs.Prelude.{Err}
 use Rattle.shelf_files.specs.declared.refusal.Refusal.TheVariants.{NoFile}
 use Rattle.door_commands.proofs.Entering.{batch_entries, command_entries, command_runs, one_runs}
@@ -17,6 +17,11 @@ returns-in-Some-Batch-clause-no_command g c none =
     let reads : CommandReads c.args.words.now (command.Batch c.in-Some-Batch.file) = search rules in
     absurd (none (command.Batch c.in-Some-Batch.file) reads)
 
+pub returns-in-Some-Batch-clause-no_batch : goal.returns-in-Some-Batch-clause-no_batch
+returns-in-Some-Batch-clause-no_batch g c none =
+    let reads : CommandReads c.args.words.now (command.Batch c.in-Some-Batch.file) = search rules in
+    absurd (none c.in-Some-Batch.file reads)
+
 pub returns-in_ok-only-in-Some : goal.returns-in_ok-only-in-Some
 returns-in_ok-only-in-Some g c =
     let words = c.args.words.now in
@@ -30,6 +35,7 @@ returns-in_ok-only-in-Some g c =
       unchanged = search rules;
       causes = search rules;
       no_command = search rules;
+      no_batch = λ none. refl;
     }
 
 pub returns-in_ok-only-in-None-clause-some : goal.returns-in_ok-only-in-None-clause-some
