@@ -1,11 +1,16 @@
 //! Lists and their copies.
 use board_ledger::{Counts, Highs, UploadRecord, Uploads, User, Users};
 use byte_lists::Bytes;
-use door_outside::ShelfName;
+use door_outside::{FileId, ShelfName};
+use intent_journal::{Patch, Patches};
 use jam_layout::{Reader, Readers};
 use jam_records::{Message, Messages, Slot, Slots};
 use jam_threads::links;
 use memory_outside::CallNumbers;
+use netmail_rules::Rule;
+use offered_packets::{Offered, OfferedMessage};
+use packet_verdicts::{Outcome, Outcomes};
+use post_changes::Posts;
 use std::alloc::{AllocError, Global};
 use std::test::Fail;
 
@@ -59,6 +64,19 @@ fn messages_are_copied(rt: HostRuntime) -> Result<(), Fail> {
 }
 
 #[test]
+fn posts_are_copied(rt: HostRuntime) -> Result<(), Fail> {
+    let alloc = rt.alloc();
+    let mut posts = Posts::new(alloc);
+    posts.add((3, message_of(alloc)?))?;
+    let copies = posts.copy(alloc)?;
+    let (place, copy) = copies.get(0).ok_or("no post")?;
+    assert_eq!(rt; *place, 3);
+    assert!(rt; are_equal(copy, &message_of(alloc)?));
+    assert!(rt; copies.get(1).is_none());
+    Ok(())
+}
+
+#[test]
 fn slots_are_copied(rt: HostRuntime) -> Result<(), Fail> {
     let alloc = rt.alloc();
     let mut slots = Slots::new(alloc);
@@ -84,6 +102,72 @@ fn links_are_copied(rt: HostRuntime) -> Result<(), Fail> {
     let copies = found.copy(alloc)?;
     assert_eq!(rt; copies.get(1), found.get(1));
     assert!(rt; copies.get(1).is_some() && copies.get(2).is_none());
+    Ok(())
+}
+
+#[test]
+fn patches_are_copied(rt: HostRuntime) -> Result<(), Fail> {
+    let alloc = rt.alloc();
+    let mut patches = Patches::new(alloc);
+    patches.add(Patch::Whole {
+        file: FileId::ledger(),
+        bytes: Bytes::from_slice(alloc, b"all")?,
+    })?;
+    patches.add(Patch::Put {
+        file: FileId::jdt(1),
+        at: 5,
+        bytes: Bytes::from_slice(alloc, b"some")?,
+    })?;
+    let copies = patches.copy(alloc)?;
+    assert_eq!(rt; copies.len(), 2);
+    match (copies.get(0), copies.get(1)) {
+        (
+            Some(Patch::Whole { file, bytes }),
+            Some(
+                Patch::Put {
+                    file: other,
+                    at,
+                    bytes: more,
+                },
+            ),
+        ) => {
+            assert_eq!(rt; (file.number(), bytes.as_slice()), (0, b"all".as_slice()));
+            assert_eq!(rt;
+                (other.number(), *at, more.as_slice()),
+                (7, 5, b"some".as_slice())
+            );
+        }
+        _ => return Err(Fail::from("other patches")),
+    }
+    Ok(())
+}
+
+#[test]
+fn offered_messages_are_copied(rt: HostRuntime) -> Result<(), Fail> {
+    let alloc = rt.alloc();
+    let message = OfferedMessage {
+        place: 2,
+        number: 7,
+    };
+    let mut offered = Offered::new(alloc);
+    offered.add(message)?;
+    assert_eq!(rt; offered.copy(alloc)?.as_slice(), [message].as_slice());
+    Ok(())
+}
+
+#[test]
+fn outcomes_are_copied(rt: HostRuntime) -> Result<(), Fail> {
+    let alloc = rt.alloc();
+    let posted = Outcome::Posted {
+        conference: 1,
+        number: 9,
+    };
+    let refused = Outcome::Refused(Rule::Conference);
+    let mut outcomes = Outcomes::new(alloc);
+    outcomes.add(posted)?;
+    outcomes.add(refused)?;
+    let copies = outcomes.copy(alloc)?;
+    assert_eq!(rt; copies.as_slice(), [posted, refused].as_slice());
     Ok(())
 }
 

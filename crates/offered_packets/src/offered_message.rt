@@ -1,4 +1,5 @@
-use byte_lists::List;
+use byte_lists::{Duplicate, List};
+use std::alloc::{AllocError, Global};
 
 /// A message of a board that a user is offered.
 #[derive(Debug, Clone, Copy, PartialEq, Eq)]
@@ -7,6 +8,12 @@ pub struct OfferedMessage {
     pub place: u8,
     /// Its message number, from 1.
     pub number: u32,
+}
+
+impl Duplicate for OfferedMessage {
+    fn duplicate(&self, _alloc: Global) -> Result<OfferedMessage, AllocError> {
+        Ok(*self)
+    }
 }
 
 /// The messages that a user is offered, by place and then by number.

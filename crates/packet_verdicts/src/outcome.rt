@@ -1,5 +1,6 @@
-use byte_lists::List;
+use byte_lists::{Duplicate, List};
 use netmail_rules::Rule;
+use std::alloc::{AllocError, Global};
 
 /// What became of an uploaded message.
 #[derive(Debug, Clone, Copy, PartialEq, Eq)]
@@ -13,6 +14,12 @@ pub enum Outcome {
     },
     /// This is the first rule that refuses it.
     Refused(Rule),
+}
+
+impl Duplicate for Outcome {
+    fn duplicate(&self, _alloc: Global) -> Result<Outcome, AllocError> {
+        Ok(*self)
+    }
 }
 
 /// What became of the messages of a packet, in their order.

@@ -1,6 +1,6 @@
 use crate::boot::{boot_id, keep_id, kept_id};
 use crate::folder_host::FolderHost;
-use door_outside::{FileId, Host};
+use door_outside::{DiskFault, FileId, Host};
 use std::fs::{self, OpenOptions};
 use std::test::Fail;
 
@@ -51,5 +51,25 @@ fn a_sync_that_failed_since_the_last_start_keeps_runs_out(rt: HostRuntime) -> Re
     assert!(rt; kept_id(&file) == Some(here));
     assert_eq!(rt; fs::read(&rt, path)?.as_slice(), here.as_slice());
     fs::remove_file(&rt, path)?;
+    Ok(())
+}
+
+#[test]
+fn a_file_that_loses_bytes_during_a_run_is_a_fault(rt: HostRuntime) -> Result<(), Fail> {
+    let folder = "qwkdoor_test_shorter";
+    let _ = fs::remove_dir_all(&rt, folder);
+    let ledger = FileId::ledger();
+    let mut host = FolderHost::new(rt, folder, SHELF)?;
+    let mut buf = [b'-'; 8];
+    assert_eq!(rt; host.write_at(ledger, 0, b"ledger"), Ok(()));
+    assert_eq!(rt; host.length(ledger), Ok(6));
+    assert_eq!(rt; host.read_at(ledger, 9, &mut buf), Ok(0));
+    assert_eq!(rt; host.cut(ledger, 5), Ok(()));
+    assert_eq!(rt; host.read_at(ledger, 0, &mut buf), Ok(5));
+    fs::write(&rt, "qwkdoor_test_shorter/LEDGER.DAT", b"led")?;
+    assert_eq!(rt; host.read_at(ledger, 0, &mut buf), Err(DiskFault));
+    assert_eq!(rt; host.length(ledger), Err(DiskFault));
+    assert_eq!(rt; host.read_at(ledger, 0, &mut buf[..3]), Ok(3));
+    fs::remove_dir_all(&rt, folder)?;
     Ok(())
 }

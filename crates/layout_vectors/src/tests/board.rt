@@ -6,7 +6,7 @@ use std::alloc::{AllocError, Global};
 use std::test::Fail;
 
 /// The ledger of a board of three conferences, without users.
-const LEDGER: [u8; 119] =
+pub(crate) const LEDGER: [u8; 119] =
     *b"QMDL\x01\0\x03\0\0\0\x02\0\0\0\0\0\0\xCA\x9A;90\0\0\x0A\0Test Board\x0B\0Springfield\x08\0555-0100\x09\0Sam Sysop\x07\0TESTBBS\x01\0\x02\0\0\0\0\x02\x07\0GENERAL\x01\0\x02\0\x07\0NETMAIL\x07\0\0\x01\x04\0NEWS";
 
 /// The same with a user to whom packet 5 is offered, up to message 3 of the first conference.
@@ -90,7 +90,7 @@ fn damage_with(alloc: Global, files: &[(u16, &[u8])]) -> Result<Option<Damage>, 
 }
 
 /// The damage of a record of a file.
-fn named(file: u16, item: u32, rule: DamageRule) -> Option<Damage> {
+pub(crate) fn named(file: u16, item: u32, rule: DamageRule) -> Option<Damage> {
     Some(Damage { file, item, rule })
 }
 
