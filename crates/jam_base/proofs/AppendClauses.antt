@@ -6,6 +6,7 @@ use Rattle.jam_records.specs.declared.message.Message.{Message}
 use Rattle.jam_records.specs.declared.message.Slot.{Slot}
 use Rattle.jam_layout.specs.Layout.{layout}
 use Rattle.jam_layout.specs.declared.files.BaseFiles.{BaseFiles}
+use Rattle.jam_base.specs.Bodies.{Lengthens}
 use Rattle.jam_base.specs.Change.{Turns, SuitsIntent}
 use Rattle.jam_base.specs.Contents.{Contents, counter_after, with_slots}
 use Rattle.jam_base.specs.Puts.{append_puts, counts_put, last_puts, link_puts, Costs}
@@ -13,6 +14,7 @@ use Rattle.jam_base.specs.Slots.{slots_with_all}
 use Rattle.jam_base.specs.declared.change.BaseChange.{BaseChange}
 use Rattle.jam_base.proofs.AppendCosts.{append_costs, append_suits}
 use Rattle.jam_base.proofs.AppendPuts.{append_turns}
+use Rattle.jam_base.proofs.BodyLaws.{append_lengthens}
 use Rattle.jam_base.proofs.ChangeClauses.{both_ok}
 
 abbrev files_in : Contents → BaseFiles
@@ -45,3 +47,6 @@ module _ {E : Type 0} (base : Contents) (slots : List Slot) (messages : List Mes
 
   pub extended_costs : IfOk r (λ change. Costs (length messages) (files_in base) (files_in change.base) change.patches)
   extended_costs = clause (λ f ps. Costs (length messages) (files_in base) f ps) (append_costs base.shape base.conference (counter_after base.conference.counter) messages)
+
+  pub extended_lengthens : IfOk r (λ change. Lengthens base.shape.place (files_in base) (files_in change.base) change.patches)
+  extended_lengthens = clause (λ f ps. Lengthens base.shape.place (files_in base) f ps) (append_lengthens base.shape base.conference (counter_after base.conference.counter) messages)

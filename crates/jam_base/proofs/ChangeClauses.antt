@@ -1,13 +1,18 @@
 -- What a change does to the files of a base, from what its base and its patches are.
-use Rattle.std.proofs.Common.{◌≡◌, ℕ, List, [], Result, Ok, Err, sym, ap, ◌∙◌, subst}
+use Rattle.std.proofs.Common.{◌≡◌, ℕ, List, [], Result, Ok, Err, sym, ap, ◌∙◌, subst, arith}
 use Rattle.std.specs.Prelude.{IfOk}
+use Rattle.std.proofs.lemmas.List.Elements.{All-cons, All-nil}
 use Rattle.intent_journal.specs.declared.patch.Patch.{Patch}
+use Rattle.intent_journal.specs.declared.patch.Patch.TheVariants.{Whole}
+use Rattle.door_outside.specs.File.{jlr_file}
 use Rattle.jam_layout.specs.Layout.{layout}
 use Rattle.jam_layout.specs.declared.files.BaseFiles.{BaseFiles}
 use Rattle.jam_layout.specs.declared.shape.Shape.{Shape}
+use Rattle.jam_base.specs.Bodies.{Lengthens}
 use Rattle.jam_base.specs.Change.{whole_jhr, whole_jlr, whole_reading, whole_messages, whole_files, Turns, SuitsIntent}
 use Rattle.jam_base.specs.Contents.{Contents, no_slots}
 use Rattle.jam_base.specs.declared.change.BaseChange.{BaseChange}
+use Rattle.jam_base.proofs.BodyLaws.{SparesBodies, bodies_stay}
 use Rattle.jam_base.proofs.PatchLaws.{jhr_turns, jlr_turns, reading_turns, messages_turn, whole_turns, nothing_turns, jhr_small, jlr_small, reading_small, messages_small, whole_small, nothing_small}
 
 abbrev files_in : Contents → BaseFiles
@@ -30,6 +35,10 @@ turns_moved place old new base made patches is text turns =
 suits_moved : (place : ℕ) (new base : Contents) (made patches : List Patch) → base ≡ new → patches ≡ made → SuitsIntent place (files_in new) made → SuitsIntent place (files_in base) patches
 suits_moved place new base made patches is text suits =
     subst (λ (b : Contents). SuitsIntent place (files_in b) patches) (sym is) (subst (λ (ps : List Patch). SuitsIntent place (files_in new) ps) (sym text) suits)
+
+lengthens_moved : (place : ℕ) (old : BaseFiles) (new base : Contents) (made patches : List Patch) → base ≡ new → patches ≡ made → Lengthens place old (files_in new) made → Lengthens place old (files_in base) patches
+lengthens_moved place old new base made patches is text lengthens =
+    subst (λ (b : Contents). Lengthens place old (files_in b) patches) (sym is) (subst (λ (ps : List Patch). Lengthens place old (files_in new) ps) (sym text) lengthens)
 
 -- ---- a base that is made of another
 module _ {E : Type 0} (place : ℕ) (old : BaseFiles) (new made : Contents) (r : Result BaseChange E) where
@@ -58,6 +67,14 @@ module _ {E : Type 0} (place : ℕ) (old : BaseFiles) (new made : Contents) (r :
   jlr_suits is here base patches =
       both_ok (λ (change : BaseChange). change.base ≡ made) (λ (change : BaseChange). change.patches ≡ whole_jlr made.shape.place (files_in made)) (λ (change : BaseChange). SuitsIntent place (files_in change.base) change.patches) r
       (λ change b p. suits_moved place new change.base (whole_jlr place (files_in new)) change.patches (b ∙ is) (p ∙ (ap (λ (c : Contents). whole_jlr c.shape.place (files_in c)) is ∙ ap (λ k. whole_jlr k (files_in new)) here)) (jlr_small place (files_in new))) base patches
+
+  pub jlr_lengthens : made ≡ new → new.shape.place ≡ place → old.jdt ≡ (files_in new).jdt
+      → IfOk r (λ change. change.base ≡ made) → IfOk r (λ change. change.patches ≡ whole_jlr made.shape.place (files_in made)) → IfOk r (λ change. Lengthens place old (files_in change.base) change.patches)
+  jlr_lengthens is here same base patches =
+      let stay : Lengthens place old (files_in new) (whole_jlr place (files_in new)) =
+      bodies_stay place old (files_in new) (whole_jlr place (files_in new)) same (All-cons (SparesBodies place) (Whole (jlr_file place) (files_in new).jlr) [] (λ e. omega (arith, e)) (All-nil (SparesBodies place))) in
+      both_ok (λ (change : BaseChange). change.base ≡ made) (λ (change : BaseChange). change.patches ≡ whole_jlr made.shape.place (files_in made)) (λ (change : BaseChange). Lengthens place old (files_in change.base) change.patches) r
+      (λ change b p. lengthens_moved place old new change.base (whole_jlr place (files_in new)) change.patches (b ∙ is) (p ∙ (ap (λ (c : Contents). whole_jlr c.shape.place (files_in c)) is ∙ ap (λ k. whole_jlr k (files_in new)) here)) stay) base patches
 
   pub reading_changes : made ≡ new → new.shape.place ≡ place → record old { jhr = (files_in new).jhr; jlr = (files_in new).jlr } ≡ files_in new
       → IfOk r (λ change. change.base ≡ made) → IfOk r (λ change. change.patches ≡ whole_reading made.shape.place (files_in made)) → IfOk r (λ change. Turns place old (files_in change.base) change.patches)
@@ -89,6 +106,11 @@ module _ {E : Type 0} (place : ℕ) (old : BaseFiles) (new made : Contents) (r :
   no_change same base patches =
       both_ok (λ (change : BaseChange). change.base ≡ new) (λ (change : BaseChange). change.patches ≡ []) (λ (change : BaseChange). Turns place old (files_in change.base) change.patches) r
       (λ change b p. turns_moved place old new change.base [] change.patches b p (subst (λ (f : BaseFiles). Turns place old f []) same (nothing_turns place old))) base patches
+
+  pub no_change_lengthens : old ≡ files_in new → IfOk r (λ change. change.base ≡ new) → IfOk r (λ change. change.patches ≡ []) → IfOk r (λ change. Lengthens place old (files_in change.base) change.patches)
+  no_change_lengthens same base patches =
+      both_ok (λ (change : BaseChange). change.base ≡ new) (λ (change : BaseChange). change.patches ≡ []) (λ (change : BaseChange). Lengthens place old (files_in change.base) change.patches) r
+      (λ change b p. lengthens_moved place old new change.base [] change.patches b p (bodies_stay place old (files_in new) [] (ap (λ (f : BaseFiles). f.jdt) same) (All-nil (SparesBodies place)))) base patches
 
   pub no_change_suits : IfOk r (λ change. change.base ≡ new) → IfOk r (λ change. change.patches ≡ []) → IfOk r (λ change. SuitsIntent place (files_in change.base) change.patches)
   no_change_suits base patches =

@@ -9,6 +9,7 @@ pub mod HeaderPlaces
 pub mod AppendLaws
 pub mod PutLaws
 pub mod AppendPuts
+pub mod BodyLaws
 pub mod PutBounds
 pub mod AppendCosts
 pub mod LinkLoop

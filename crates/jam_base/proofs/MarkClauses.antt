@@ -15,10 +15,12 @@ use Rattle.jam_layout.specs.Sizes.{slot_header}
 use Rattle.jam_layout.specs.declared.files.BaseFiles.{BaseFiles}
 use Rattle.jam_layout.proofs.BaseLaws.{base_length}
 use Rattle.jam_writing.proofs.PieceLaws.{headers_length}
+use Rattle.jam_base.specs.Bodies.{Lengthens}
 use Rattle.jam_base.specs.Change.{Turns, SuitsIntent}
 use Rattle.jam_base.specs.Contents.{Contents, with_slots}
 use Rattle.jam_base.specs.Puts.{counts_put}
 use Rattle.jam_base.specs.declared.change.BaseChange.{BaseChange}
+use Rattle.jam_base.proofs.BodyLaws.{SparesBodies, bodies_stay, counts_spares, marks_spares, received_spares}
 use Rattle.jam_base.proofs.ChangeClauses.{both_ok, one_ok}
 use Rattle.jam_base.proofs.HeaderPlaces.{counts_in}
 use Rattle.jam_base.proofs.PutBounds.{IsPut, count_more, count_append, puts_suit}
@@ -84,6 +86,15 @@ module _ (base : Contents) (slots : List Slot) (marks : List Patch)
       (All-append (IsPut base.shape.place size) marks (counts ∷ []) (are size long) (All-cons (IsPut base.shape.place size) counts [] counts_is (All-nil (IsPut base.shape.place size))))
       (omega (arith, few, long, length-append marks (counts ∷ []), count_append marks (counts ∷ []), count_more counts []))
 
+-- so the bodies stay
+pub marks_lengthen : (base : Contents) (slots : List Slot) (marks : List Patch) → record (files_in base) { jhr = (files_in (with_slots slots base)).jhr } ≡ files_in (with_slots slots base) → All (SparesBodies base.shape.place) marks
+    → Lengthens base.shape.place (files_in base) (files_in (with_slots slots base)) (marks ++ counts_put base.shape.place (with_slots slots base).conference ∷ [])
+marks_lengthen base slots marks files apart =
+    let place : ℕ = base.shape.place in
+    let counts : Patch = counts_put place (with_slots slots base).conference in
+    bodies_stay place (files_in base) (files_in (with_slots slots base)) (marks ++ counts ∷ []) (ap (λ (f : BaseFiles). f.jdt) files)
+    (All-append (SparesBodies place) marks (counts ∷ []) apart (All-cons (SparesBodies place) counts [] (counts_spares place (with_slots slots base).conference) (All-nil (SparesBodies place))))
+
 -- ---- as a function answers
 module _ {E : Type 0} (base : Contents) (slots : List Slot) (marks : List Patch) (made : Contents) (r : Result BaseChange E) (is : made ≡ with_slots slots base)
     (base_is : IfOk r (λ change. change.base ≡ made)) (patches_are : IfOk r (λ change. change.patches ≡ marks ++ counts_put made.shape.place made.conference ∷ [])) where
@@ -132,6 +143,10 @@ module _ {E : Type 0} (base : Contents) (name : List ℕ) (r : Receipt) (slots :
   received_suits = clause (λ f ps. SuitsIntent base.shape.place f ps) (marks_suit base new_slots puts same sizes_same files_same turned
       (λ size room. receive_are base.shape.place base.shape.kind name r (link_of old_slots) (files_in base).jdt (files_in base).jdx (files_in base).jlr size 1024 1 old_slots room)
       (receive_cost base.shape.place base.shape.kind name r (link_of old_slots) (files_in base).jdt (files_in base).jdx (files_in base).jlr 1024 1 old_slots))
+
+  pub received_lengthens : IfOk res (λ change. Lengthens base.shape.place (files_in base) (files_in change.base) change.patches)
+  received_lengthens = clause (λ f ps. Lengthens base.shape.place (files_in base) f ps)
+      (marks_lengthen base new_slots puts files_same (received_spares base.shape.kind base.shape.place name r 1024 1 old_slots))
 
 -- ---- a message deleted
 live_message : (s : Slot) → is_live s ≡ true → (m : Message) × (s ≡ Held m)
@@ -234,3 +249,13 @@ module _ {E : Type 0} (base : Contents) (number : ℕ) (slots : List Slot) (mark
       let put : Patch = marks_put base.shape.kind base.shape.place (header_place base.conference.slots number) number (record m { deleted = true }) in
       let counts : Patch = counts_put base.shape.place (with_slots (set base.conference.slots (number - 1) (Held (record m { deleted = true }))) base).conference in
       clause_of m found.1 (λ g ps. (length ps ≤ 2) × (byte_count ps ≤ 24)) (omega arith, omega (arith, count_more put (counts ∷ []), count_more counts []))
+
+  pub killed_lengthens : IfOk res (λ change. Lengthens base.shape.place (files_in base) (files_in change.base) change.patches)
+  killed_lengthens =
+      let m = found.0 in
+      let f = facts m found.1 in
+      let place : ℕ = base.shape.place in
+      let put : Patch = marks_put base.shape.kind place (header_place base.conference.slots number) number (record m { deleted = true }) in
+      clause_of m found.1 (λ g ps. Lengthens place (files_in base) g ps)
+      (marks_lengthen base (set base.conference.slots (number - 1) (Held (record m { deleted = true }))) (put ∷ []) f.files
+      (All-cons (SparesBodies place) put [] (marks_spares base.shape.kind place (header_place base.conference.slots number) number (record m { deleted = true })) (All-nil (SparesBodies place))))

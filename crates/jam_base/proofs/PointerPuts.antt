@@ -23,12 +23,14 @@ use Rattle.jam_layout.specs.declared.files.BaseFiles.{BaseFiles}
 use Rattle.jam_layout.specs.declared.reader.Reader.{Reader}
 use Rattle.jam_layout.proofs.BaseLaws.{base_length}
 use Rattle.jam_writing.proofs.PieceLaws.{headers_length}
+use Rattle.jam_base.specs.Bodies.{Lengthens}
 use Rattle.jam_base.specs.Change.{Turns, SuitsIntent}
 use Rattle.jam_base.specs.Contents.{Contents, with_pointer, reader_place, pointers_with, receipt_to}
 use Rattle.jam_base.specs.MarkPuts.{pointer_patch, pointer_put, receive_puts}
 use Rattle.jam_base.specs.Puts.{counts_put}
 use Rattle.jam_base.specs.declared.change.BaseChange.{BaseChange}
 use Rattle.jam_base.specs.declared.receipt.Receipt.{Receipt}
+use Rattle.jam_base.proofs.BodyLaws.{SparesBodies, bodies_stay, counts_spares, pointer_spares, received_spares}
 use Rattle.jam_base.proofs.ChangeClauses.{both_ok}
 use Rattle.jam_base.proofs.MarkClauses.{marks_turn}
 use Rattle.jam_base.proofs.MarkTurns.{receive_turns, receive_cost, receive_are, receive_apart}
@@ -142,6 +144,14 @@ module _ {E : Type 0} (base : Contents) (user number reader : ℕ) (made : Conte
       by true one = one
       by false one = jlr_small base.shape.place (layout base.shape (with_pointer user number base).conference)
 
+  pub pointed_lengthens : IfOk res (λ change. Lengthens base.shape.place (layout base.shape base.conference) (layout change.base.shape change.base.conference) change.patches)
+  pointed_lengthens =
+      let next : Contents = with_pointer user number base in
+      let place : ℕ = base.shape.place in
+      clause (λ f ps. Lengthens place (layout base.shape base.conference) f ps)
+      (bodies_stay place (layout base.shape base.conference) (layout base.shape next.conference) (pointer_patch next reader number ∷ []) refl
+      (All-cons (SparesBodies place) (pointer_patch next reader number) [] (pointer_spares next reader number) (All-nil (SparesBodies place))))
+
 module _ {E : Type 0} (base : Contents) (user : ℕ) (name : List ℕ) (upto now reader : ℕ) (marks : List Patch) (made : Contents) (res : Result BaseChange E)
     (there : reader_place user base.shape.readers ≡ Some reader) (all : length base.conference.pointers ≡ length base.shape.readers)
     (marks_are : marks ≡ receive_puts base.shape.kind base.shape.place name (receipt_to user upto now base) 1024 1 base.conference.slots)
@@ -223,3 +233,15 @@ module _ {E : Type 0} (base : Contents) (user : ℕ) (name : List ℕ) (upto now
 
   pub acknowledged_suits : IfOk res (λ change. SuitsIntent base.shape.place (layout change.base.shape change.base.conference) change.patches)
   acknowledged_suits = both (λ f ps. SuitsIntent base.shape.place f ps) (marks_suit (nat_lt reader 0x7FF_FFFF))
+
+  pub acknowledged_lengthens : IfOk res (λ change. Lengthens base.shape.place (layout base.shape base.conference) (layout change.base.shape change.base.conference) change.patches)
+  acknowledged_lengthens =
+      let r : Receipt = receipt_to user upto now base in
+      let place : ℕ = base.shape.place in
+      let counts : Patch = counts_put place new.conference in
+      let pointer : Patch = pointer_patch new reader upto in
+      let marked : All (SparesBodies place) (puts ++ counts ∷ []) =
+      All-append (SparesBodies place) puts (counts ∷ []) (received_spares base.shape.kind place name r 1024 1 base.conference.slots) (All-cons (SparesBodies place) counts [] (counts_spares place new.conference) (All-nil (SparesBodies place))) in
+      both (λ f ps. Lengthens place (layout base.shape base.conference) f ps)
+      (bodies_stay place (layout base.shape base.conference) (layout base.shape new.conference) all_puts (ap (λ (f : BaseFiles). f.jdt) (received_files base slots name r refl))
+      (All-append (SparesBodies place) (puts ++ counts ∷ []) (pointer ∷ []) marked (All-cons (SparesBodies place) pointer [] (pointer_spares new reader upto) (All-nil (SparesBodies place)))))

@@ -78,7 +78,7 @@ module _ (place at : ℕ) (bytes jhr jdt jdx jlr : List ℕ) where
   }
 
 -- ---- patches after others
-patched-append : (ps qs : List Patch) (files : Files) → patched (ps ++ qs) files ≡ patched qs (patched ps files)
+pub patched-append : (ps qs : List Patch) (files : Files) → patched (ps ++ qs) files ≡ patched qs (patched ps files)
 patched-append [] qs files = refl
 patched-append (p ∷ ps) qs files = patched-append ps qs (apply p files)
 

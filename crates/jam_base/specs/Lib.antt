@@ -1,3 +1,4 @@
+pub mod Bodies
 pub mod Change
 pub mod Contents
 pub mod MarkPuts

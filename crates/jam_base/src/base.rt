@@ -2,6 +2,7 @@ ghost use Rattle.std.specs.Prelude.{◌≡◌, ◌↔◌, ◌+◌, ◌-◌, ◌*
 ghost use Rattle.std.specs.Option.{option_copied};
 ghost use Rattle.jam_threads.specs.Children.{original};
 ghost use Rattle.jam_layout.specs.Layout.{layout, files_size};
+ghost use Rattle.jam_base.specs.Bodies.{Lengthens};
 ghost use Rattle.jam_base.specs.Change.{Turns, SuitsIntent};
 ghost use Rattle.jam_base.specs.Contents.{reader_place, pointer_of, no_slots, with_reader, with_slots, with_messages as with_messages_of, with_deleted as with_deleted_of, with_received, with_pointer};
 ghost use Rattle.jam_base.specs.Puts.{counts_put, last_headers as last_headers_of, last_bodies as last_bodies_of, last_records as last_records_of, link_puts, Costs};
@@ -206,6 +207,7 @@ impl Base {
     fn unchanged(&self, alloc: Global) -> Result<BaseChange, AllocError>
         ensures base { IfOk result (λ change. change.base ≡ self.now) }
         ensures patches { IfOk result (λ change. change.patches ≡ []) }
+        ensures bodies { IfOk result (λ change. Lengthens self.now.shape.place (layout self.now.shape self.now.conference) (layout change.base.shape change.base.conference) change.patches) }
     {
         let base = self.copy(alloc)?;
         Ok(BaseChange::of_nothing(alloc, base))
@@ -332,6 +334,7 @@ impl Base {
         requires { All (λ reader. reader.id < user) self.now.shape.readers }
         ensures base { IfOk result (λ change. change.base ≡ with_reader user name.now self.now) }
         ensures files { IfOk result (λ change. Turns self.now.shape.place (layout self.now.shape self.now.conference) (layout change.base.shape change.base.conference) change.patches) }
+        ensures bodies { IfOk result (λ change. Lengthens self.now.shape.place (layout self.now.shape self.now.conference) (layout change.base.shape change.base.conference) change.patches) }
         ensures intent { IfOk result (λ change. SuitsIntent self.now.shape.place (layout change.base.shape change.base.conference) change.patches) }
     {
         let mut shape = self.shape().duplicate(alloc)?;
@@ -354,6 +357,7 @@ impl Base {
         ensures base { IfOk result (λ change. change.base ≡ with_messages_of messages.now self.now) }
         ensures costs { IfOk result (λ change. Costs (length messages.now) (layout self.now.shape self.now.conference) (layout change.base.shape change.base.conference) change.patches) }
         ensures files { IfOk result (λ change. Turns self.now.shape.place (layout self.now.shape self.now.conference) (layout change.base.shape change.base.conference) change.patches) }
+        ensures bodies { IfOk result (λ change. Lengthens self.now.shape.place (layout self.now.shape self.now.conference) (layout change.base.shape change.base.conference) change.patches) }
         ensures intent { IfOk result (λ change. SuitsIntent self.now.shape.place (layout change.base.shape change.base.conference) change.patches) }
         ensures slots { (s : ℕ) → (result ≡ Err (AppendRefusal.Slots s)) ↔ ((s ≡ length self.now.conference.slots + length messages.now) × (9999 < s)) }
     {
@@ -374,6 +378,7 @@ impl Base {
         ensures base { IfOk result (λ change. change.base ≡ with_messages_of messages self.now) }
         ensures costs { IfOk result (λ change. Costs (length messages) (layout self.now.shape self.now.conference) (layout change.base.shape change.base.conference) change.patches) }
         ensures files { IfOk result (λ change. Turns self.now.shape.place (layout self.now.shape self.now.conference) (layout change.base.shape change.base.conference) change.patches) }
+        ensures bodies { IfOk result (λ change. Lengthens self.now.shape.place (layout self.now.shape self.now.conference) (layout change.base.shape change.base.conference) change.patches) }
         ensures intent { IfOk result (λ change. SuitsIntent self.now.shape.place (layout change.base.shape change.base.conference) change.patches) }
     {
         if messages.as_slice().is_empty() {
@@ -395,6 +400,7 @@ impl Base {
         ensures base { IfOk result (λ change. change.base ≡ with_deleted_of number self.now) }
         ensures costs { IfOk result (λ change. (length change.patches ≤ 2) × (byte_count change.patches ≤ 24)) }
         ensures files { IfOk result (λ change. Turns self.now.shape.place (layout self.now.shape self.now.conference) (layout change.base.shape change.base.conference) change.patches) }
+        ensures bodies { IfOk result (λ change. Lengthens self.now.shape.place (layout self.now.shape self.now.conference) (layout change.base.shape change.base.conference) change.patches) }
         ensures intent { IfOk result (λ change. SuitsIntent self.now.shape.place (layout change.base.shape change.base.conference) change.patches) }
         ensures none { (result ≡ Err KillRefusal.NoMessage) ↔ ¬ IsTrue (has_live_of number self.now.conference.slots) }
     {
@@ -424,6 +430,7 @@ impl Base {
     ) -> Result<BaseChange, AllocError>
         ensures base { IfOk result (λ change. change.base ≡ with_received name.now (record { above = above; upto = upto; now = now }) self.now) }
         ensures files { IfOk result (λ change. Turns self.now.shape.place (layout self.now.shape self.now.conference) (layout change.base.shape change.base.conference) change.patches) }
+        ensures bodies { IfOk result (λ change. Lengthens self.now.shape.place (layout self.now.shape self.now.conference) (layout change.base.shape change.base.conference) change.patches) }
         ensures intent { IfOk result (λ change. SuitsIntent self.now.shape.place (layout change.base.shape change.base.conference) change.patches) }
     {
         let receipt = Receipt { above, upto, now };
@@ -445,6 +452,7 @@ impl Base {
         requires within { number ≤ length self.now.conference.slots }
         ensures base { IfOk result (λ change. change.base ≡ with_pointer user number self.now) }
         ensures files { IfOk result (λ change. Turns self.now.shape.place (layout self.now.shape self.now.conference) (layout change.base.shape change.base.conference) change.patches) }
+        ensures bodies { IfOk result (λ change. Lengthens self.now.shape.place (layout self.now.shape self.now.conference) (layout change.base.shape change.base.conference) change.patches) }
         ensures intent { IfOk result (λ change. SuitsIntent self.now.shape.place (layout change.base.shape change.base.conference) change.patches) }
     {
         let Some(place) = self.shape().readers.position(user) else {

@@ -9,7 +9,7 @@ use Rattle.jam_base.specs.Slots.{any_due, slots_received}
 use Rattle.jam_base.specs.declared.change.BaseChange.{BaseChange}
 use Rattle.jam_base.proofs.BaseLaws.{received_threads}
 use Rattle.jam_base.proofs.ChangeClauses.{one_ok}
-use Rattle.jam_base.proofs.PointerPuts.{acknowledged_turns, acknowledged_suits}
+use Rattle.jam_base.proofs.PointerPuts.{acknowledged_turns, acknowledged_lengthens, acknowledged_suits}
 use Rattle.jam_base.proofs.ReadingLaws.{reading_made, received_to, slots_to, some_due}
 use Rattle.jam_base.proofs.SlotChanges.{received_is, received_length}
 use Rattle.jam_base.proofs.base.Base.acknowledged.Goals as goal
@@ -95,3 +95,22 @@ returns-clause-intent c =
     (λ change p. p ∙ (ap (λ (ps : List Patch). ps ++ pointer_patch c.in_ok-change.change.base c.in-Some.place c.args.upto ∷ []) c.in_ok-change.ensures.patches
     ∙ ap (λ (k : Contents). (c.in_ok-marks.marks ++ counts_put k.shape.place k.conference ∷ []) ++ pointer_patch c.in_ok-change.change.base c.in-Some.place c.args.upto ∷ []) (sym c.in_ok-change.ensures.base))) c.of_pointer.ensures.patches in
     acknowledged_suits base c.args.user c.args.name.now c.args.upto c.args.now c.in-Some.place c.in_ok-marks.marks c.in_ok-change.change.base c.of_pointer.result there c.shape.ensures.is_conference.pointers.all marks linked c.of_pointer.ensures.base puts
+
+pub returns-clause-bodies : goal.returns-clause-bodies
+returns-clause-bodies c =
+    let base : Contents = c.args.self.now in
+    let above : c.unwrap_or-above.result ≡ unwrap_or (pointer_of c.args.user base.shape.readers base.conference.pointers) 0 = c.unwrap_or-above.ensures ∙ ap (λ (p : Option ℕ). unwrap_or p 0) c.pointer.ensures in
+    let receipt : record { above = c.unwrap_or-above.result; upto = c.args.upto; now = c.args.now } ≡ receipt_to c.args.user c.args.upto c.args.now base = λ i. record { above = above i; upto = c.args.upto; now = c.args.now } in
+    let slots : c.in_ok-slots.slots ≡ slots_to base c.args.user c.args.name.now c.args.upto c.args.now = c.in_ok-slots.ensures ∙ (λ i. slots_received c.args.name.now (receipt i) 1 (c.slots-old.ensures.same i)) in
+    let there : reader_place c.args.user base.shape.readers ≡ Some c.in-Some.place = ap (λ (s : Shape). reader_place c.args.user s.readers) (sym c.shape.ensures.same) ∙ (sym c.position.ensures.place ∙ c.in-Some.is) in
+    let next : c.in_ok-next.next ≡ with_pointer c.args.user c.args.upto (received_to base c.args.user c.args.name.now c.args.upto c.args.now) =
+    reading_made base c.args.user c.args.name.now c.args.upto c.args.now c.in_ok-read.read c.in_ok-next.next c.in_ok-slots.slots c.in-Some.place c.in_ok-read.ensures slots c.in_ok-next.ensures there in
+    let linked : c.in_ok-change.change.base ≡ with_pointer c.args.user c.args.upto (received_to base c.args.user c.args.name.now c.args.upto c.args.now) = c.in_ok-change.ensures.base ∙ next in
+    let marks : c.in_ok-marks.marks ≡ receive_puts base.shape.kind base.shape.place c.args.name.now (receipt_to c.args.user c.args.upto c.args.now base) 1024 1 base.conference.slots =
+    c.in_ok-marks.ensures ∙ (λ i. receive_puts base.shape.kind base.shape.place c.args.name.now (receipt i) 1024 1 base.conference.slots) in
+    let puts : IfOk c.of_pointer.result (λ change. change.patches ≡ (c.in_ok-marks.marks ++ counts_put c.in_ok-change.change.base.shape.place c.in_ok-change.change.base.conference ∷ []) ++ pointer_patch c.in_ok-change.change.base c.in-Some.place c.args.upto ∷ []) =
+    one_ok (λ (change : BaseChange). change.patches ≡ c.in_ok-change.change.patches ++ pointer_patch c.in_ok-change.change.base c.in-Some.place c.args.upto ∷ [])
+    (λ (change : BaseChange). change.patches ≡ (c.in_ok-marks.marks ++ counts_put c.in_ok-change.change.base.shape.place c.in_ok-change.change.base.conference ∷ []) ++ pointer_patch c.in_ok-change.change.base c.in-Some.place c.args.upto ∷ []) c.of_pointer.result
+    (λ change p. p ∙ (ap (λ (ps : List Patch). ps ++ pointer_patch c.in_ok-change.change.base c.in-Some.place c.args.upto ∷ []) c.in_ok-change.ensures.patches
+    ∙ ap (λ (k : Contents). (c.in_ok-marks.marks ++ counts_put k.shape.place k.conference ∷ []) ++ pointer_patch c.in_ok-change.change.base c.in-Some.place c.args.upto ∷ []) (sym c.in_ok-change.ensures.base))) c.of_pointer.ensures.patches in
+    acknowledged_lengthens base c.args.user c.args.name.now c.args.upto c.args.now c.in-Some.place c.in_ok-marks.marks c.in_ok-change.change.base c.of_pointer.result there c.shape.ensures.is_conference.pointers.all marks linked c.of_pointer.ensures.base puts

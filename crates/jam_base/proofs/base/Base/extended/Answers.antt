@@ -10,7 +10,7 @@ use Rattle.jam_base.specs.Slots.{slots_with_all}
 use Rattle.jam_base.specs.declared.change.BaseChange.{BaseChange}
 use Rattle.jam_base.proofs.BaseLaws.{not_none, some_more}
 use Rattle.jam_base.proofs.ChangeClauses.{one_ok}
-use Rattle.jam_base.proofs.AppendClauses.{extended_turns, extended_suits, extended_costs}
+use Rattle.jam_base.proofs.AppendClauses.{extended_turns, extended_lengthens, extended_suits, extended_costs}
 use Rattle.jam_base.proofs.SlotChanges.{appended_is, length_all}
 use Rattle.jam_base.proofs.base.Base.extended.Goals as goal
 
@@ -72,3 +72,11 @@ returns-clause-costs c =
     let count : c.len.result ≡ length base.conference.slots = c.len.ensures.count ∙ ap length c.slots-old.ensures.same in
     let links : c.in_ok-threads.links ≡ link_puts base.shape.place base.conference.slots base.conference.slots c.args.messages = c.in_ok-threads.ensures.patches ∙ ap (link_puts base.shape.place base.conference.slots base.conference.slots) c.as_slice-2.ensures in
     extended_costs base c.in_ok-slots.slots c.args.messages c.in_ok-base.base c.len.result c.in_ok-threads.links c.of_appended.result slots c.in_ok-base.ensures count links c.of_appended.ensures.base c.of_appended.ensures.patches
+
+pub returns-clause-bodies : goal.returns-clause-bodies
+returns-clause-bodies c =
+    let base : Contents = c.args.self.now in
+    let slots : c.in_ok-slots.slots ≡ slots_with_all base.conference.slots c.args.messages = c.in_ok-slots.ensures ∙ ap (λ (xs : List Slot). slots_with_all xs c.args.messages) c.slots-old.ensures.same in
+    let count : c.len.result ≡ length base.conference.slots = c.len.ensures.count ∙ ap length c.slots-old.ensures.same in
+    let links : c.in_ok-threads.links ≡ link_puts base.shape.place base.conference.slots base.conference.slots c.args.messages = c.in_ok-threads.ensures.patches ∙ ap (link_puts base.shape.place base.conference.slots base.conference.slots) c.as_slice-2.ensures in
+    extended_lengthens base c.in_ok-slots.slots c.args.messages c.in_ok-base.base c.len.result c.in_ok-threads.links c.of_appended.result slots c.in_ok-base.ensures count links c.of_appended.ensures.base c.of_appended.ensures.patches

@@ -4,7 +4,7 @@ use Rattle.jam_base.specs.Slots.{has_live, slots_deleted}
 use Rattle.jam_base.specs.declared.change.BaseChange.{BaseChange}
 use Rattle.jam_base.proofs.BaseLaws.{deleted_threads}
 use Rattle.jam_base.proofs.SlotChanges.{live_above, live_within, deleted_is}
-use Rattle.jam_base.proofs.MarkClauses.{killed_turns, killed_suits, killed_costs}
+use Rattle.jam_base.proofs.MarkClauses.{killed_turns, killed_lengthens, killed_suits, killed_costs}
 use Rattle.jam_base.proofs.base.Base.killed.Goals as goal
 
 pub changed-requires-clause-conference : goal.changed-requires-clause-conference
@@ -56,3 +56,11 @@ returns-clause-costs c =
     let live : has_live c.args.number base.conference.slots ≡ true = sym (c.has_live.ensures ∙ ap (has_live c.args.number) c.slots-old.ensures.same) ∙ c.if-not-has_live.false in
     let change : Result BaseChange ℕ = Ok c.in_ok-of_marks.field-0 in
     killed_costs base c.args.number c.in_ok-slots.slots c.in_ok-marks.marks c.in_ok-base.base change live slots c.in_ok-marks.ensures c.in_ok-base.ensures c.in_ok-of_marks.ensures.base c.in_ok-of_marks.ensures.patches
+
+pub returns-clause-bodies : goal.returns-clause-bodies
+returns-clause-bodies c =
+    let base : Contents = c.args.self.now in
+    let slots : c.in_ok-slots.slots ≡ slots_deleted c.args.number base.conference.slots = c.in_ok-slots.ensures ∙ ap (slots_deleted c.args.number) c.slots-old.ensures.same in
+    let live : has_live c.args.number base.conference.slots ≡ true = sym (c.has_live.ensures ∙ ap (has_live c.args.number) c.slots-old.ensures.same) ∙ c.if-not-has_live.false in
+    let change : Result BaseChange ℕ = Ok c.in_ok-of_marks.field-0 in
+    killed_lengthens base c.args.number c.in_ok-slots.slots c.in_ok-marks.marks c.in_ok-base.base change live slots c.in_ok-marks.ensures c.in_ok-base.ensures c.in_ok-of_marks.ensures.base c.in_ok-of_marks.ensures.patches
