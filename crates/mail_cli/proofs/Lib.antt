@@ -3,4 +3,5 @@ pub mod BoardEntries
 pub mod EntryLaws
 pub mod Histories
 pub mod Reading
+pub mod Staying
 pub mod Wrongs

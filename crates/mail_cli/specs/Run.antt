@@ -1,6 +1,6 @@
 -- What a run of the door promises.
-use Rattle.std.specs.Prelude.{◌≡◌, ◌⊎◌, ℕ, List, [], IsTrue, Result}
-use Rattle.door_outside.specs.Disk.{Disk}
+use Rattle.std.specs.Prelude.{◌≡◌, ◌⊎◌, ℕ, List, [], false, IsTrue, Result}
+use Rattle.door_outside.specs.Disk.{Disk, AllNow, Between}
 use Rattle.door_outside.specs.Shelf.{Files}
 use Rattle.entry_runs.specs.Door.{World, here, any_touches}
 use Rattle.entry_runs.specs.Entry as Owed
@@ -14,8 +14,9 @@ use Rattle.entry_runs.specs.declared.stop.Stop.{Stop}
 use Rattle.intent_journal.specs.Recovered.{recovered}
 use Rattle.board_commands.specs.Kept.{unread}
 use Rattle.board_commands.specs.State.{State, Stores, IsSpoiled}
-use Rattle.mail_cli.specs.Step.{act, does, door}
+use Rattle.mail_cli.specs.Step.{act, does, door, uses_shelf}
 use Rattle.door_commands.specs.Entries.{AreEntries, EntriesRead, HasWrong}
+use Rattle.door_commands.specs.Words.{CommandReads}
 use Rattle.door_commands.specs.declared.command.Command.{Command}
 use Rattle.door_commands.specs.declared.command.Command.TheVariants as command
 use Rattle.door_commands.specs.declared.entry.Entry.{Entry}
@@ -51,6 +52,12 @@ FromEntry old shelf P = (state : State) → Stores state (recovered old.files) �
 -- it ends as damaged only where the data files at entry are neither all empty nor a board
 abbrev pub DamagedOnlyIfSpoiled : Status → Disk → Files → Type 0
 DamagedOnlyIfSpoiled result old shelf = FromEntry old shelf (λ start. result ≡ status.Damaged → IsSpoiled start.state)
+
+-- Nothing was done to the data files: they read as before, and a crash, then or since, leaves them as it could have before.
+pub record LeavesFiles (old new : Disk) : Type 0 where
+  pub files : new.files ≡ old.files
+  pub moments : Between old new (Promise.AsThen old)
+  pub now : AllNow new (Promise.AsThen old)
 
 -- in each world that stands at entry, this is what the command did, before its reply is said
 abbrev pub CommandWorks : ℕ → Command → Disk → Disk → Files → Files → Result Reply Stop → Type 0
@@ -91,6 +98,18 @@ module _ (now : ℕ) (words : List (List ℕ)) where
       (result ≡ status.OutOfMemory)
       ⊎ ((entries : List Entry) × EntriesRead words shelf entries × Promise.IsWhole (door now) result start entries old new later))
 
+  -- none of the entries that were read touches the board
+  abbrev pub LeaveBoard : Files → Type 0
+  LeaveBoard shelf = (entries : List Entry) → EntriesRead words shelf entries → any_touches (door now) entries ≡ false
+
+  -- none of those that the words are does, whatever is read of a batch
+  abbrev pub AlwaysLeaveBoard : Type 0
+  AlwaysLeaveBoard = (entries : List Entry) → AreEntries words entries → any_touches (door now) entries ≡ false
+
+  -- of the entries that were read one touches the board
+  abbrev pub ReadTouching : Files → Type 0
+  ReadTouching shelf = (entries : List Entry) × EntriesRead words shelf entries × IsTrue (any_touches (door now) entries)
+
   -- an entry of the words touches the board, whatever was read of a batch
   abbrev pub TouchBoard : Type 0
   TouchBoard = (entries : List Entry) × AreEntries words entries × IsTrue (any_touches (door now) entries)
@@ -98,3 +117,11 @@ module _ (now : ℕ) (words : List (List ℕ)) where
 -- words, or a line of the batch that they are, are no command, whatever was read of it
 abbrev pub HaveWrong : List (List ℕ) → Type 0
 HaveWrong words = (entries : List Entry) × AreEntries words entries × HasWrong entries
+
+-- of the words, or of the lines that were read of the batch that they are, some are no command
+abbrev pub ReadWrong : List (List ℕ) → Files → Type 0
+ReadWrong words shelf = (entries : List Entry) × EntriesRead words shelf entries × HasWrong entries
+
+-- the words are no command that names a file of the shelf
+abbrev pub NameNoFile : List (List ℕ) → Type 0
+NameNoFile words = (c : Command) → CommandReads words c → uses_shelf c ≡ false

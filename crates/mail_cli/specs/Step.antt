@@ -1,5 +1,6 @@
 -- What an entry does.
-use Rattle.std.specs.Prelude.{◌≡◌, ℕ}
+use Rattle.std.specs.Prelude.{◌≡◌, ℕ, Bool, true, false, List}
+use Rattle.std.specs.List.{list_any}
 use Rattle.entry_runs.specs.Door.{Act, Door}
 use Rattle.entry_runs.specs.Entry.{Reply, ShelfAct, on_shelf, looks}
 use Rattle.board_commands.specs.Check.{checks}
@@ -58,3 +59,31 @@ act now (Refuse why) = on_shelf (says (refused why))
 
 abbrev pub door : ℕ → Door State Entry
 door now = record { Stores = Stores; act = act now }
+
+-- the command names a file or a folder of the shelf: only such a one reads or writes any
+abbrev pub uses_shelf : Command → Bool
+uses_shelf (command.Ack user packet) = false
+uses_shelf (command.Batch file) = true
+uses_shelf command.Check = false
+uses_shelf (command.Compose folder conference sheet rep) = true
+uses_shelf (command.Enroll name flags conferences) = false
+uses_shelf (command.Export user limit folder) = true
+uses_shelf (command.Import conference file) = true
+uses_shelf (command.Init file) = true
+uses_shelf (command.Kill conference number) = false
+uses_shelf (command.List file) = true
+uses_shelf (command.Read folder) = true
+uses_shelf (command.Reply folder place text rep) = true
+uses_shelf (command.Sample seed count) = false
+uses_shelf (command.Show folder place) = true
+uses_shelf (command.Scan file) = true
+uses_shelf (command.Upload user file) = true
+
+abbrev pub entry_uses_shelf : Entry → Bool
+entry_uses_shelf (Run command) = uses_shelf command
+entry_uses_shelf (Wrong which) = false
+entry_uses_shelf (Refuse why) = false
+
+-- one of the entries does
+abbrev pub any_uses_shelf : List Entry → Bool
+any_uses_shelf entries = list_any entry_uses_shelf entries

@@ -1,12 +1,12 @@
 //! A run over a list of entries.
-ghost use Rattle.std.specs.Prelude.{◌≡◌, IsTrue, All};
+ghost use Rattle.std.specs.Prelude.{◌≡◌, false, IsTrue, All};
 ghost use Rattle.entry_runs.specs.Door.{any_touches};
 ghost use Rattle.entry_runs.specs.Promise.{counts, HasCauses};
 ghost use Rattle.board_commands.specs.Kept.{AreSure, IsKept};
 ghost use Rattle.intent_journal.specs.Hosts.{IsSettled};
 ghost use Rattle.door_commands.specs.Entries.{EntryCanRun, HasWrong, BeginsWrong};
-ghost use Rattle.mail_cli.specs.Run.{EntriesLeave, EntriesSurvive, DamagedOnlyIfSpoiled, AnswersUsage};
-ghost use Rattle.mail_cli.specs.Step.{door};
+ghost use Rattle.mail_cli.specs.Run.{EntriesLeave, EntriesSurvive, DamagedOnlyIfSpoiled, AnswersUsage, LeavesFiles};
+ghost use Rattle.mail_cli.specs.Step.{any_uses_shelf, door};
 
 use crate::perform::perform;
 use door_commands::Entry;
@@ -37,6 +37,9 @@ fn carry_on<H: Host, S: Shelf>(
     ensures causes { HasCauses (counts (H.disk_faults host.old) (H.voice_faults host.old) (S.faults shelf.old)) (counts (H.disk_faults host.new) (H.voice_faults host.new) (S.faults shelf.new)) result }
     ensures usage { result ≡ Status.Usage → HasWrong entries.now }
     ensures wrong { BeginsWrong entries.now → AnswersUsage result }
+    ensures files_stay { any_touches (door now) entries.now ≡ false → IsTrue H.tells → LeavesFiles (H.disk host.old) (H.disk host.new) }
+    ensures disk_faults_stay { any_touches (door now) entries.now ≡ false → H.disk_faults host.new ≡ H.disk_faults host.old }
+    ensures shelf_stays { any_uses_shelf entries.now ≡ false → shelf.new ≡ shelf.old }
 {
     let mut status = Status::Done;
     for entry in entries {
@@ -70,6 +73,9 @@ pub fn run_entries<H: Host, S: Shelf>(
     ensures causes { HasCauses (counts (H.disk_faults host.old) (H.voice_faults host.old) (S.faults shelf.old)) (counts (H.disk_faults host.new) (H.voice_faults host.new) (S.faults shelf.new)) result }
     ensures usage { result ≡ Status.Usage → HasWrong entries.now }
     ensures wrong { BeginsWrong entries.now → AnswersUsage result }
+    ensures files_stay { any_touches (door now) entries.now ≡ false → IsTrue H.tells → LeavesFiles (H.disk host.old) (H.disk host.new) }
+    ensures disk_faults_stay { any_touches (door now) entries.now ≡ false → H.disk_faults host.new ≡ H.disk_faults host.old }
+    ensures shelf_stays { any_uses_shelf entries.now ≡ false → shelf.new ≡ shelf.old }
 {
     let mut kept = None;
     carry_on(alloc, entries, host, shelf, &mut kept, now)

@@ -1,5 +1,5 @@
 //! One entry of a run.
-ghost use Rattle.std.specs.Prelude.{◌≡◌, ◌≢◌, ◌↔◌, IsTrue, IfOk, IfErr};
+ghost use Rattle.std.specs.Prelude.{◌≡◌, ◌≢◌, ◌↔◌, false, IsTrue, IfOk, IfErr};
 ghost use Rattle.door_outside.specs.Name.{HasParts};
 ghost use Rattle.entry_runs.specs.Door.{touches};
 ghost use Rattle.entry_runs.specs.Entry.{Serves};
@@ -9,8 +9,8 @@ ghost use Rattle.reply_commands.specs.Compose.{composes};
 ghost use Rattle.reply_commands.specs.Reply.{replies};
 ghost use Rattle.mail_cli.specs.Answers.{answered, reply_of, StopCauses};
 ghost use Rattle.door_commands.specs.Entries.{CanRun, EntryCanRun, IsWrong};
-ghost use Rattle.mail_cli.specs.Run.{CommandWorks, IsForCaller, Performs};
-ghost use Rattle.mail_cli.specs.Step.{does, door};
+ghost use Rattle.mail_cli.specs.Run.{CommandWorks, IsForCaller, LeavesFiles, Performs};
+ghost use Rattle.mail_cli.specs.Step.{does, door, entry_uses_shelf, uses_shelf};
 ghost use Rattle.door_commands.specs.declared.entry.Entry.TheVariants.{Run};
 
 use crate::answer::Answer;
@@ -92,6 +92,7 @@ fn carry_out_for_caller<H: Host, S: Shelf>(
     ensures kept { IsTrue H.tells → IsKept kept.new (H.disk host.new) }
     ensures causes { HasCauses (counts (H.disk_faults host.old) (H.voice_faults host.old) (S.faults shelf.old)) (counts (H.disk_faults host.new) (H.voice_faults host.new) (S.faults shelf.new)) (ended result) }
     ensures damaged { IfOk result (λ answer. (reply_of answer).class ≡ Class.Damaged → IsTrue (does now command.now).reach.board) }
+    ensures shelf_stays { uses_shelf command.now ≡ false → shelf.new ≡ shelf.old }
 {
     match command {
         Command::Ack { user, packet } => Answer::of_acknowledged(
@@ -143,6 +144,7 @@ fn carry_out_on_board<H: Host, S: Shelf>(
     ensures kept { IsTrue H.tells → IsKept kept.new (H.disk host.new) }
     ensures causes { HasCauses (counts (H.disk_faults host.old) (H.voice_faults host.old) (S.faults shelf.old)) (counts (H.disk_faults host.new) (H.voice_faults host.new) (S.faults shelf.new)) (ended result) }
     ensures damaged { IfOk result (λ answer. (reply_of answer).class ≡ Class.Damaged → IsTrue (does now command.now).reach.board) }
+    ensures shelf_stays { uses_shelf command.now ≡ false → shelf.new ≡ shelf.old }
 {
     match command {
         Command::Ack { .. } | Command::Export { .. } | Command::Upload { .. } => {
@@ -195,6 +197,8 @@ fn carry_out<H: Host, S: Shelf>(
     ensures kept { IsTrue H.tells → IsKept kept.new (H.disk host.new) }
     ensures causes { HasCauses (counts (H.disk_faults host.old) (H.voice_faults host.old) (S.faults shelf.old)) (counts (H.disk_faults host.new) (H.voice_faults host.new) (S.faults shelf.new)) (ended result) }
     ensures damaged { IfOk result (λ answer. (reply_of answer).class ≡ Class.Damaged → IsTrue (does now command.now).reach.board) }
+    ensures host_stays { (does now command.now).reach.board ≡ false → host.new ≡ host.old }
+    ensures shelf_stays { uses_shelf command.now ≡ false → shelf.new ≡ shelf.old }
 {
     match command {
         Command::Compose {
@@ -244,6 +248,9 @@ fn perform_command<H: Host, S: Shelf>(
     ensures causes { HasCauses (counts (H.disk_faults host.old) (H.voice_faults host.old) (S.faults shelf.old)) (counts (H.disk_faults host.new) (H.voice_faults host.new) (S.faults shelf.new)) (ended result) }
     ensures usage { IfOk result (λ class. class ≢ Class.Usage) }
     ensures damaged { IfOk result (λ class. class ≡ Class.Damaged → IsTrue (does now command.now).reach.board) }
+    ensures files_stay { (does now command.now).reach.board ≡ false → IsTrue H.tells → LeavesFiles (H.disk host.old) (H.disk host.new) }
+    ensures disk_faults_stay { (does now command.now).reach.board ≡ false → H.disk_faults host.new ≡ H.disk_faults host.old }
+    ensures shelf_stays { uses_shelf command.now ≡ false → shelf.new ≡ shelf.old }
 {
     let answer = carry_out(alloc, host, shelf, kept, command, now)?;
     answer.class().once_said(answer.say(host))
@@ -268,6 +275,9 @@ pub fn perform<H: Host, S: Shelf>(
     ensures usage { IfOk result (λ class. (class ≡ Class.Usage) ↔ IsWrong entry.now) }
     ensures wrong { IsWrong entry.now → IfErr result (λ stop. stop ≡ Stop.VoiceFault) }
     ensures damaged { IfOk result (λ class. class ≡ Class.Damaged → IsTrue (touches (door now) entry.now)) }
+    ensures files_stay { touches (door now) entry.now ≡ false → IsTrue H.tells → LeavesFiles (H.disk host.old) (H.disk host.new) }
+    ensures disk_faults_stay { touches (door now) entry.now ≡ false → H.disk_faults host.new ≡ H.disk_faults host.old }
+    ensures shelf_stays { entry_uses_shelf entry.now ≡ false → shelf.new ≡ shelf.old }
 {
     match entry {
         Entry::Run(command) => perform_command(alloc, host, shelf, kept, command, now),

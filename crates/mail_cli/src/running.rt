@@ -3,8 +3,9 @@ ghost use Rattle.std.specs.Prelude.{◌≡◌, ◌≢◌, ◌⊎◌, ◌≤◌, 
 ghost use Rattle.door_commands.specs.Words.{IsNoCommand};
 ghost use Rattle.door_outside.specs.Cause.{Rose};
 ghost use Rattle.entry_runs.specs.Promise.{counts};
-ghost use Rattle.intent_journal.specs.Hosts.{IsSettled};
-ghost use Rattle.mail_cli.specs.Run.{RunLeaves, RunSurvives, RunCompletes, DamagedOnlyIfSpoiled, HaveWrong, TouchBoard, AnswersUsage};
+ghost use Rattle.intent_journal.specs.Hosts.{IsFirm, IsSettled};
+ghost use Rattle.mail_cli.specs.Histories.{RunContinues};
+ghost use Rattle.mail_cli.specs.Run.{RunLeaves, RunSurvives, RunCompletes, DamagedOnlyIfSpoiled, HaveWrong, TouchBoard, AnswersUsage, AlwaysLeaveBoard, LeaveBoard, LeavesFiles, NameNoFile, ReadTouching, ReadWrong};
 
 use crate::entries::run_entries;
 use door_commands::{Unread, Words, entries_of};
@@ -33,6 +34,13 @@ pub fn run<H: Host, S: Shelf>(
     ensures survives { IsTrue H.tells → IsTrue S.tells → RunSurvives now words.now (H.disk host.old) (H.disk host.new) (S.files shelf.old) }
     ensures settled { IsTrue H.tells → IsSettled (H.disk host.new) }
 
+    // A host that is firm at entry is firm at exit, unless the disk failed.
+    ensures firm { IsTrue H.tells → IsTrue S.tells → result ≢ Status.DiskFault → IsFirm (H.disk host.old) → IsFirm (H.disk host.new) }
+
+    // Behind a history that leads to the board at entry, what it leaves and what a crash leaves of it is that history with
+    // some of its entries more.
+    ensures continues { IsTrue H.tells → IsTrue S.tells → RunContinues now words.now (H.disk host.old) (H.disk host.new) (S.files shelf.old) }
+
     // Where no count rose, the whole was done, or memory ran out.
     ensures completes { IsTrue H.tells → IsTrue S.tells → RunCompletes now words.now
         (counts (H.disk_faults host.old) (H.voice_faults host.old) (S.faults shelf.old)) (counts (H.disk_faults host.new) (H.voice_faults host.new) (S.faults shelf.new))
@@ -50,14 +58,26 @@ pub fn run<H: Host, S: Shelf>(
     ensures shelf_later { S.faults shelf.old ≤ S.faults shelf.new }
     ensures voice_later { H.voice_faults host.old ≤ H.voice_faults host.new }
 
+    // Where no entry touches the board, the data files stay byte for byte, nothing of them could be left otherwise, and no
+    // call of the disk fails: whatever is read of a batch, or as the shelf tells it.
+    ensures files_stay { AlwaysLeaveBoard now words.now → IsTrue H.tells → LeavesFiles (H.disk host.old) (H.disk host.new) }
+    ensures disk_faults_stay { AlwaysLeaveBoard now words.now → H.disk_faults host.new ≡ H.disk_faults host.old }
+    ensures read_files_stay { IsTrue S.tells → LeaveBoard now words.now (S.files shelf.old) → IsTrue H.tells → LeavesFiles (H.disk host.old) (H.disk host.new) }
+    ensures read_disk_faults_stay { IsTrue S.tells → LeaveBoard now words.now (S.files shelf.old) → H.disk_faults host.new ≡ H.disk_faults host.old }
+
+    // A command that names no file of the shelf leaves the shelf and its count of faults, and so does no command.
+    ensures shelf_stays { NameNoFile words.now → shelf.new ≡ shelf.old }
+
     // Words that are no command are answered so, and no others: those of the program, or of a line of a batch.
     ensures usage { result ≡ Status.Usage → HaveWrong words.now }
+    ensures read_usage { IsTrue S.tells → result ≡ Status.Usage → ReadWrong words.now (S.files shelf.old) }
     ensures no_command { IsNoCommand words.now → AnswersUsage result }
 
     // It ends as damaged only where an entry touches the board, and the data files at entry are neither all empty
     // nor a board.
     ensures damaged { IsTrue H.tells → IsTrue S.tells → DamagedOnlyIfSpoiled result (H.disk host.old) (S.files shelf.old) }
     ensures touched { result ≡ Status.Damaged → TouchBoard now words.now }
+    ensures read_touched { IsTrue S.tells → result ≡ Status.Damaged → ReadTouching now words.now (S.files shelf.old) }
 {
     let entries = match entries_of(alloc, words, shelf) {
         Ok(entries) => entries,

@@ -7,8 +7,9 @@ use Rattle.entry_runs.specs.Door.{touches}
 use Rattle.entry_runs.specs.Runs.{with_class}
 use Rattle.entry_runs.specs.declared.class.Class.TheVariants.{Done}
 use Rattle.board_commands.specs.State.{IsSpoiled}
-use Rattle.mail_cli.specs.Step.{door}
+use Rattle.mail_cli.specs.Step.{door, entry_uses_shelf}
 use Rattle.mail_cli.proofs.EntryLaws.{lawful, only_spoiled, still_spoiled}
+use Rattle.mail_cli.proofs.Staying.{and_on, none_at, nothing_done}
 use Rattle.mail_cli.proofs.Wrongs.{wrong_head, not_begun, has_wrong, some_from, ends_usage, ends_damaged, quiet_usage, quiet_damaged, stopped_usage, stopped_damaged, unsaid_usage, goes_right}
 use Rattle.mail_cli.proofs.entries.carry_on.Goals as goal
 
@@ -23,6 +24,9 @@ loop-entry-init g c = record {
   causes = search rules;
   quiet = inl refl;
   first = λ below. absurd (omega (arith, below));
+  files = λ none tells. nothing_done (g.H.Host.disk c.args.host.now);
+  disk_faults = λ none. refl;
+  shelf = λ none. refl;
 }
 
 pub returns-in-Err-clause-leaves : goal.returns-in-Err-clause-leaves
@@ -53,6 +57,21 @@ pub returns-in-Err-clause-wrong : goal.returns-in-Err-clause-wrong
 returns-in-Err-clause-wrong g c begins =
     let more = next_entry c.args.entries.now c.loop-entry.entry-index c.entry-item.result (omega arith) c.entry-item.is in
     unsaid_usage c.in-Err.stop c.status.result c.status.ensures (c.in-Err.ensures.wrong (wrong_head c.loop-entry.entry-index more c.loop-entry.invariant.first begins))
+
+pub returns-in-Err-clause-files_stay : goal.returns-in-Err-clause-files_stay
+returns-in-Err-clause-files_stay g c none tells =
+    let more = next_entry c.args.entries.now c.loop-entry.entry-index c.entry-item.result (omega arith) c.entry-item.is in
+    and_on (c.loop-entry.invariant.files none tells) (c.perform.ensures.files_stay (none_at (touches (door c.args.now)) c.args.entries.now _ c.entry-item.result c.loop-entry.entry-index more none) tells)
+
+pub returns-in-Err-clause-disk_faults_stay : goal.returns-in-Err-clause-disk_faults_stay
+returns-in-Err-clause-disk_faults_stay g c none =
+    let more = next_entry c.args.entries.now c.loop-entry.entry-index c.entry-item.result (omega arith) c.entry-item.is in
+    c.perform.ensures.disk_faults_stay (none_at (touches (door c.args.now)) c.args.entries.now _ c.entry-item.result c.loop-entry.entry-index more none) ∙ c.loop-entry.invariant.disk_faults none
+
+pub returns-in-Err-clause-shelf_stays : goal.returns-in-Err-clause-shelf_stays
+returns-in-Err-clause-shelf_stays g c none =
+    let more = next_entry c.args.entries.now c.loop-entry.entry-index c.entry-item.result (omega arith) c.entry-item.is in
+    c.perform.ensures.shelf_stays (none_at entry_uses_shelf c.args.entries.now _ c.entry-item.result c.loop-entry.entry-index more none) ∙ c.loop-entry.invariant.shelf none
 
 pub returns-then-is_last-clause-leaves : goal.returns-then-is_last-clause-leaves
 returns-then-is_last-clause-leaves g c tells shelf_tells state stores =
@@ -92,6 +111,21 @@ returns-then-is_last-clause-wrong g c begins =
     let more = next_entry c.args.entries.now c.loop-entry.entry-index c.entry-item.result (omega arith) c.entry-item.is in
     inl (c.after-status.ensures ∙ ap (with_class c.loop-entry.status) (c.in-Ok.ensures.usage.1 (wrong_head c.loop-entry.entry-index more c.loop-entry.invariant.first begins)))
 
+pub returns-then-is_last-clause-files_stay : goal.returns-then-is_last-clause-files_stay
+returns-then-is_last-clause-files_stay g c none tells =
+    let more = next_entry c.args.entries.now c.loop-entry.entry-index c.entry-item.result (omega arith) c.entry-item.is in
+    and_on (c.loop-entry.invariant.files none tells) (c.perform.ensures.files_stay (none_at (touches (door c.args.now)) c.args.entries.now _ c.entry-item.result c.loop-entry.entry-index more none) tells)
+
+pub returns-then-is_last-clause-disk_faults_stay : goal.returns-then-is_last-clause-disk_faults_stay
+returns-then-is_last-clause-disk_faults_stay g c none =
+    let more = next_entry c.args.entries.now c.loop-entry.entry-index c.entry-item.result (omega arith) c.entry-item.is in
+    c.perform.ensures.disk_faults_stay (none_at (touches (door c.args.now)) c.args.entries.now _ c.entry-item.result c.loop-entry.entry-index more none) ∙ c.loop-entry.invariant.disk_faults none
+
+pub returns-then-is_last-clause-shelf_stays : goal.returns-then-is_last-clause-shelf_stays
+returns-then-is_last-clause-shelf_stays g c none =
+    let more = next_entry c.args.entries.now c.loop-entry.entry-index c.entry-item.result (omega arith) c.entry-item.is in
+    c.perform.ensures.shelf_stays (none_at entry_uses_shelf c.args.entries.now _ c.entry-item.result c.loop-entry.entry-index more none) ∙ c.loop-entry.invariant.shelf none
+
 pub returns-clause-leaves : goal.returns-clause-leaves
 returns-clause-leaves g c tells shelf_tells state stores =
     inl (ends (door c.args.now) (lawful c.args.now) (drop_all c.loop-entry.entry-index c.args.entries.now (omega arith)) (c.loop-entry.invariant.running tells shelf_tells state stores))
@@ -115,6 +149,15 @@ returns-clause-usage g c is = quiet_usage c.loop-entry.invariant.quiet is
 pub returns-clause-wrong : goal.returns-clause-wrong
 returns-clause-wrong g c begins = absurd (c.loop-entry.invariant.first (omega (arith, ap length begins.3)) begins)
 
+pub returns-clause-files_stay : goal.returns-clause-files_stay
+returns-clause-files_stay g c none tells = c.loop-entry.invariant.files none tells
+
+pub returns-clause-disk_faults_stay : goal.returns-clause-disk_faults_stay
+returns-clause-disk_faults_stay g c none = c.loop-entry.invariant.disk_faults none
+
+pub returns-clause-shelf_stays : goal.returns-clause-shelf_stays
+returns-clause-shelf_stays g c none = c.loop-entry.invariant.shelf none
+
 pub loop-entry-preserved : goal.loop-entry-preserved
 loop-entry-preserved g c = record {
   sure = c.perform.ensures.sure;
@@ -129,4 +172,13 @@ loop-entry-preserved g c = record {
       let more = next_entry c.args.entries.now c.loop-entry.entry-index c.entry-item.result (omega arith) c.entry-item.is in
       not_begun c.loop-entry.entry-index more c.loop-entry.invariant.first
       (goes_right c.in-Ok.class c.entry-item.result c.in-Ok.ensures.usage.1 (sym c.is_last.ensures ∙ c.if-is_last.false));
+  files = λ none tells.
+      let more = next_entry c.args.entries.now c.loop-entry.entry-index c.entry-item.result (omega arith) c.entry-item.is in
+      and_on (c.loop-entry.invariant.files none tells) (c.perform.ensures.files_stay (none_at (touches (door c.args.now)) c.args.entries.now _ c.entry-item.result c.loop-entry.entry-index more none) tells);
+  disk_faults = λ none.
+      let more = next_entry c.args.entries.now c.loop-entry.entry-index c.entry-item.result (omega arith) c.entry-item.is in
+      c.perform.ensures.disk_faults_stay (none_at (touches (door c.args.now)) c.args.entries.now _ c.entry-item.result c.loop-entry.entry-index more none) ∙ c.loop-entry.invariant.disk_faults none;
+  shelf = λ none.
+      let more = next_entry c.args.entries.now c.loop-entry.entry-index c.entry-item.result (omega arith) c.entry-item.is in
+      c.perform.ensures.shelf_stays (none_at entry_uses_shelf c.args.entries.now _ c.entry-item.result c.loop-entry.entry-index more none) ∙ c.loop-entry.invariant.shelf none;
 }

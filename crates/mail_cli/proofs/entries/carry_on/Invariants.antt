@@ -1,13 +1,14 @@
-use Rattle.std.proofs.Common.{◌≡◌, ◌⊎◌, ◌<◌, drop, IsTrue}
+use Rattle.std.proofs.Common.{◌≡◌, ◌⊎◌, ◌<◌, false, drop, IsTrue}
 use Rattle.entry_runs.proofs.Running.{Running}
-use Rattle.entry_runs.specs.Door.{here}
+use Rattle.entry_runs.specs.Door.{any_touches, here}
 use Rattle.entry_runs.specs.Promise.{counts, HasCauses}
 use Rattle.entry_runs.specs.declared.status.Status.TheVariants as status
 use Rattle.intent_journal.specs.Recovered.{recovered}
 use Rattle.board_commands.specs.Kept.{AreSure, IsKept, unread}
 use Rattle.board_commands.specs.State.{State, Stores}
 use Rattle.door_commands.specs.Entries.{BeginsWrong}
-use Rattle.mail_cli.specs.Step.{door}
+use Rattle.mail_cli.specs.Run.{LeavesFiles}
+use Rattle.mail_cli.specs.Step.{any_uses_shelf, door}
 use Rattle.mail_cli.proofs.entries.carry_on.Given as goal
 
 abbrev pub invariant-loop-entry : goal.invariant-loop-entry
@@ -20,4 +21,7 @@ invariant-loop-entry g l = record {
       (counts (g.H.Host.disk_faults l.host) (g.H.Host.voice_faults l.host) (g.S.Shelf.faults l.shelf)) status.Done;
   quiet : (l.status ≡ status.Done) ⊎ (l.status ≡ status.Refused);
   first : 0 < l.entry-index → ¬ BeginsWrong l.entries;
+  files : any_touches (door l.now) l.entries ≡ false → IsTrue g.H.Host.tells → LeavesFiles (g.H.Host.disk l.fn.host) (g.H.Host.disk l.host);
+  disk_faults : any_touches (door l.now) l.entries ≡ false → g.H.Host.disk_faults l.host ≡ g.H.Host.disk_faults l.fn.host;
+  shelf : any_uses_shelf l.entries ≡ false → l.shelf ≡ l.fn.shelf;
 }

@@ -5,6 +5,7 @@ use Rattle.entry_runs.specs.Entry.{on_shelf}
 use Rattle.shelf_files.specs.Halts.{refused}
 use Rattle.door_commands.specs.Answers.{usage}
 use Rattle.board_commands.specs.State.{Stores}
+use Rattle.mail_cli.proofs.Staying.{said_only}
 use Rattle.mail_cli.specs.Step.{says}
 use Rattle.mail_cli.proofs.perform.perform.Goals as goal
 
@@ -19,3 +20,9 @@ returns-in-Refuse-clause-performs g c tells shelf_tells world at =
     let reply = refused c.in-Refuse.refusal in
     rw c.in-Refuse.is (rw c.once_said-in-Refuse.ensures
     (performs_spoken Stores (on_shelf (says reply)) (serves Stores (says reply) at (Ok reply) (refl, refl)) c.say-in-Refuse.result (c.say-in-Refuse.ensures.voiced tells)))
+
+pub returns-in-Wrong-clause-files_stay : goal.returns-in-Wrong-clause-files_stay
+returns-in-Wrong-clause-files_stay g c off tells = said_only (c.say.ensures.voiced tells)
+
+pub returns-in-Refuse-clause-files_stay : goal.returns-in-Refuse-clause-files_stay
+returns-in-Refuse-clause-files_stay g c off tells = said_only (c.say-in-Refuse.ensures.voiced tells)

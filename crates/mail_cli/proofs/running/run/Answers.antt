@@ -1,7 +1,12 @@
-use Rattle.std.proofs.Common.{rules, ◌≡◌, sym, subst}
+use Rattle.std.proofs.Common.{rules, ◌≡◌, inl, inr, refl, sym, ◌∙◌, subst}
 use Rattle.door_commands.proofs.Entering.{begins_wrong}
-use Rattle.door_commands.specs.Entries.{BeginsWrong, EntriesRead}
-use Rattle.mail_cli.proofs.Reading.{read_causes, read_completes, read_kept, read_leaves, read_survives, unread_survives}
+use Rattle.door_commands.specs.Entries.{AreEntries, BeginsWrong, EntriesRead}
+use Rattle.entry_runs.specs.declared.status.Status.TheVariants as status
+use Rattle.entry_runs.specs.declared.stop.Stop.TheVariants as stop
+use Rattle.mail_cli.proofs.Histories.{run_continues}
+use Rattle.mail_cli.proofs.Reading.{read_causes, read_completes, read_kept, read_leaves, read_survives, stays_firm, unread_leaves, unread_survives}
+use Rattle.mail_cli.proofs.Staying.{names_no_batch, none_uses_shelf, nothing_done}
+use Rattle.mail_cli.specs.Step.{any_uses_shelf}
 use Rattle.mail_cli.proofs.running.run.Goals as goal
 
 -- ---- the entries weren't read
@@ -10,6 +15,44 @@ returns-in-Err-ShelfFault-clause-survives g c tells shelf_tells = unread_survive
 
 pub returns-in-Err-OutOfMemory-clause-survives : goal.returns-in-Err-OutOfMemory-clause-survives
 returns-in-Err-OutOfMemory-clause-survives g c tells shelf_tells = unread_survives c.args.now c.args.words.now _ _ (c.requires tells)
+
+pub returns-in-Err-ShelfFault-clause-continues : goal.returns-in-Err-ShelfFault-clause-continues
+returns-in-Err-ShelfFault-clause-continues g c tells shelf_tells =
+    run_continues c.args.now c.args.words.now status.ShelfFault _ _ _ _
+    (unread_leaves c.args.now c.args.words.now stop.ShelfFault status.ShelfFault (g.H.Host.disk c.args.host.now) (g.S.Shelf.files c.args.shelf.now) (g.S.Shelf.files c.entries_of.new.shelf)
+    (inl refl) refl (c.entries_of.ensures.unchanged shelf_tells))
+    (unread_survives c.args.now c.args.words.now (g.H.Host.disk c.args.host.now) (g.S.Shelf.files c.args.shelf.now) (c.requires tells))
+
+pub returns-in-Err-OutOfMemory-clause-continues : goal.returns-in-Err-OutOfMemory-clause-continues
+returns-in-Err-OutOfMemory-clause-continues g c tells shelf_tells =
+    run_continues c.args.now c.args.words.now status.OutOfMemory _ _ _ _
+    (unread_leaves c.args.now c.args.words.now stop.OutOfMemory status.OutOfMemory (g.H.Host.disk c.args.host.now) (g.S.Shelf.files c.args.shelf.now) (g.S.Shelf.files c.entries_of.new.shelf)
+    (inr refl) refl (c.entries_of.ensures.unchanged shelf_tells))
+    (unread_survives c.args.now c.args.words.now (g.H.Host.disk c.args.host.now) (g.S.Shelf.files c.args.shelf.now) (c.requires tells))
+
+pub returns-in-Err-ShelfFault-clause-files_stay : goal.returns-in-Err-ShelfFault-clause-files_stay
+returns-in-Err-ShelfFault-clause-files_stay g c none tells = nothing_done (g.H.Host.disk c.args.host.now)
+
+pub returns-in-Err-ShelfFault-clause-read_files_stay : goal.returns-in-Err-ShelfFault-clause-read_files_stay
+returns-in-Err-ShelfFault-clause-read_files_stay g c shelf_tells none tells = nothing_done (g.H.Host.disk c.args.host.now)
+
+pub returns-in-Err-ShelfFault-clause-shelf_stays : goal.returns-in-Err-ShelfFault-clause-shelf_stays
+returns-in-Err-ShelfFault-clause-shelf_stays g c none = c.entries_of.ensures.no_batch (names_no_batch c.args.words.now none)
+
+pub returns-in-Err-OutOfMemory-clause-files_stay : goal.returns-in-Err-OutOfMemory-clause-files_stay
+returns-in-Err-OutOfMemory-clause-files_stay g c none tells = nothing_done (g.H.Host.disk c.args.host.now)
+
+pub returns-in-Err-OutOfMemory-clause-read_files_stay : goal.returns-in-Err-OutOfMemory-clause-read_files_stay
+returns-in-Err-OutOfMemory-clause-read_files_stay g c shelf_tells none tells = nothing_done (g.H.Host.disk c.args.host.now)
+
+pub returns-in-Err-OutOfMemory-clause-shelf_stays : goal.returns-in-Err-OutOfMemory-clause-shelf_stays
+returns-in-Err-OutOfMemory-clause-shelf_stays g c none = c.entries_of.ensures.no_batch (names_no_batch c.args.words.now none)
+
+pub returns-in-Err-ShelfFault-clause-firm : goal.returns-in-Err-ShelfFault-clause-firm
+returns-in-Err-ShelfFault-clause-firm g c tells shelf_tells sound firm = firm
+
+pub returns-in-Err-OutOfMemory-clause-firm : goal.returns-in-Err-OutOfMemory-clause-firm
+returns-in-Err-OutOfMemory-clause-firm g c tells shelf_tells sound firm = firm
 
 -- ---- they were
 pub returns-clause-leaves : goal.returns-clause-leaves
@@ -39,3 +82,67 @@ pub returns-clause-no_command : goal.returns-clause-no_command
 returns-clause-no_command g c none =
     let same : c.as_slice.result.now ≡ c.in-Ok.entries = search rules in
     c.run_entries.ensures.wrong (subst BeginsWrong (sym same) (begins_wrong c.args.words.now c.in-Ok.entries c.in-Ok.ensures.some none))
+
+pub returns-clause-continues : goal.returns-clause-continues
+returns-clause-continues g c tells shelf_tells =
+    let same : c.as_slice.result.now ≡ c.in-Ok.entries = search rules in
+    let reads = subst (EntriesRead c.args.words.now (g.S.Shelf.files c.args.shelf.now)) (sym same) (c.in-Ok.ensures.reads shelf_tells) in
+    run_continues c.args.now c.args.words.now c.run_entries.result (g.H.Host.disk c.args.host.now) (g.H.Host.disk c.run_entries.new.host) (g.S.Shelf.files c.args.shelf.now) (g.S.Shelf.files c.run_entries.new.shelf)
+    (read_leaves c.args.now c.args.words.now c.as_slice.result.now (g.H.Host.disk c.args.host.now) (g.H.Host.disk c.run_entries.new.host) (g.S.Shelf.files c.args.shelf.now) (g.S.Shelf.files c.entries_of.new.shelf)
+    (c.entries_of.ensures.unchanged shelf_tells) reads c.run_entries.result (g.S.Shelf.files c.run_entries.new.shelf) (c.run_entries.ensures.leaves tells shelf_tells))
+    (read_survives c.args.now c.args.words.now c.as_slice.result.now (g.H.Host.disk c.args.host.now) (g.H.Host.disk c.run_entries.new.host) (g.S.Shelf.files c.args.shelf.now) (g.S.Shelf.files c.entries_of.new.shelf)
+    (c.entries_of.ensures.unchanged shelf_tells) reads (c.run_entries.ensures.survives tells shelf_tells))
+
+pub returns-clause-firm : goal.returns-clause-firm
+returns-clause-firm g c tells shelf_tells sound firm =
+    let same : c.as_slice.result.now ≡ c.in-Ok.entries = search rules in
+    let reads = subst (EntriesRead c.args.words.now (g.S.Shelf.files c.args.shelf.now)) (sym same) (c.in-Ok.ensures.reads shelf_tells) in
+    stays_firm c.args.now c.args.words.now c.run_entries.result (g.H.Host.disk c.args.host.now) (g.H.Host.disk c.run_entries.new.host) (g.S.Shelf.files c.args.shelf.now) (g.S.Shelf.files c.run_entries.new.shelf)
+    (read_leaves c.args.now c.args.words.now c.as_slice.result.now (g.H.Host.disk c.args.host.now) (g.H.Host.disk c.run_entries.new.host) (g.S.Shelf.files c.args.shelf.now) (g.S.Shelf.files c.entries_of.new.shelf)
+    (c.entries_of.ensures.unchanged shelf_tells) reads c.run_entries.result (g.S.Shelf.files c.run_entries.new.shelf) (c.run_entries.ensures.leaves tells shelf_tells))
+    sound firm
+
+-- ---- what stays
+pub returns-clause-files_stay : goal.returns-clause-files_stay
+returns-clause-files_stay g c none tells =
+    let same : c.as_slice.result.now ≡ c.in-Ok.entries = search rules in
+    let some = subst (AreEntries c.args.words.now) (sym same) c.in-Ok.ensures.some in
+    c.run_entries.ensures.files_stay (none c.as_slice.result.now some) tells
+
+pub returns-clause-disk_faults_stay : goal.returns-clause-disk_faults_stay
+returns-clause-disk_faults_stay g c none =
+    let same : c.as_slice.result.now ≡ c.in-Ok.entries = search rules in
+    let some = subst (AreEntries c.args.words.now) (sym same) c.in-Ok.ensures.some in
+    c.run_entries.ensures.disk_faults_stay (none c.as_slice.result.now some)
+
+pub returns-clause-read_files_stay : goal.returns-clause-read_files_stay
+returns-clause-read_files_stay g c shelf_tells none tells =
+    let same : c.as_slice.result.now ≡ c.in-Ok.entries = search rules in
+    let reads = subst (EntriesRead c.args.words.now (g.S.Shelf.files c.args.shelf.now)) (sym same) (c.in-Ok.ensures.reads shelf_tells) in
+    c.run_entries.ensures.files_stay (none c.as_slice.result.now reads) tells
+
+pub returns-clause-read_disk_faults_stay : goal.returns-clause-read_disk_faults_stay
+returns-clause-read_disk_faults_stay g c shelf_tells none =
+    let same : c.as_slice.result.now ≡ c.in-Ok.entries = search rules in
+    let reads = subst (EntriesRead c.args.words.now (g.S.Shelf.files c.args.shelf.now)) (sym same) (c.in-Ok.ensures.reads shelf_tells) in
+    c.run_entries.ensures.disk_faults_stay (none c.as_slice.result.now reads)
+
+pub returns-clause-shelf_stays : goal.returns-clause-shelf_stays
+returns-clause-shelf_stays g c none =
+    let same : c.as_slice.result.now ≡ c.in-Ok.entries = search rules in
+    let some = subst (AreEntries c.args.words.now) (sym same) c.in-Ok.ensures.some in
+    c.run_entries.ensures.shelf_stays (none_uses_shelf c.args.words.now c.as_slice.result.now none some)
+    ∙ c.entries_of.ensures.no_batch (names_no_batch c.args.words.now none)
+
+-- ---- by what was read
+pub returns-clause-read_usage : goal.returns-clause-read_usage
+returns-clause-read_usage g c shelf_tells is =
+    let same : c.as_slice.result.now ≡ c.in-Ok.entries = search rules in
+    let reads = subst (EntriesRead c.args.words.now (g.S.Shelf.files c.args.shelf.now)) (sym same) (c.in-Ok.ensures.reads shelf_tells) in
+    (c.as_slice.result.now, reads, c.run_entries.ensures.usage is)
+
+pub returns-clause-read_touched : goal.returns-clause-read_touched
+returns-clause-read_touched g c shelf_tells is =
+    let same : c.as_slice.result.now ≡ c.in-Ok.entries = search rules in
+    let reads = subst (EntriesRead c.args.words.now (g.S.Shelf.files c.args.shelf.now)) (sym same) (c.in-Ok.ensures.reads shelf_tells) in
+    (c.as_slice.result.now, reads, c.run_entries.ensures.touched is)
