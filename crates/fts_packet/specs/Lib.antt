@@ -1,0 +1,9 @@
+pub mod RuleWord
+pub mod Text
+pub mod Packet
+pub mod Fault
+pub mod Answer
+pub mod Date
+pub mod Lines
+pub mod Draft
+pub mod Tossed
