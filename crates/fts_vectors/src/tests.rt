@@ -1,0 +1,4 @@
+mod drafts;
+mod faults;
+mod packets;
+mod samples;
