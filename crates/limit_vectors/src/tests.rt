@@ -1,0 +1,11 @@
+mod batches;
+mod boards;
+mod control;
+mod exports;
+mod fields;
+mod numbered;
+mod packets;
+mod recovery;
+mod slots;
+mod uploads;
+mod users;

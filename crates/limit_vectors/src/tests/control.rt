@@ -1,0 +1,77 @@
+//! CONTROL.DAT of as many conferences as it may have, and as long as it may be.
+use super::numbered::played_numbered;
+use byte_lists::Bytes;
+use example_runs::{Miss, expect_transcript, file_of};
+use qwk_control::{Control, read_control, write_control};
+use std::alloc::Global;
+
+/// A file of 65,536 conferences, and the same with one more.
+const MANY: &str = r#"
+* put big/CONTROL.DAT Test Board\r\nSpringfield\r\n555-0100\r\nSam Sysop\r\n12345,TESTBBS\r\n09-09-2001,01:46:40\r\nANN LEE\r\n\r\n0\r\n0\r\n65535\r\n[[0 65535 #\r\nNAME\r\n]]WELCOME\r\nNEWS\r\nGOODBYE\r\n
+* blocks big/MESSAGES.DAT
+Produced by qwkdoor, packet 1
+* put more/CONTROL.DAT Test Board\r\nSpringfield\r\n555-0100\r\nSam Sysop\r\n12345,TESTBBS\r\n09-09-2001,01:46:40\r\nANN LEE\r\n\r\n0\r\n0\r\n65536\r\n[[0 65535 #\r\nNAME\r\n]]0\r\nNAME\r\n
+* put sheet From: Ann Lee\nTo: Bob Ray\nSubject: Hello\n\nHi\n.\n
+> read big
+board Test Board
+user ANN LEE
+0 messages
+> compose big 65535 sheet R.MSG
+composed 1, 1 in R.MSG
+> compose big 65536 sheet R.MSG
+refused noconference
+> read more
+refused control number 11
+* packet R.MSG
+TESTBBS
+ 65535  09-09-0101:46Bob Ray                  ANN LEE                  Hello                                0       2     \xE1\xFF\xFF\x01\0
+Hi\xE3
+"#;
+
+/// Looks whether a file is written as it was read.
+fn expect_written(alloc: Global, control: &Control, file: &Bytes) -> Result<(), Miss> {
+    if !control.writable() {
+        return Err(Miss::Broken("it can't be written"));
+    }
+    let text = write_control(alloc, control)?;
+    if text.as_slice() != file.as_slice() {
+        return Err(Miss::Broken("it is written otherwise"));
+    }
+    Ok(())
+}
+
+/// Looks whether a file that is read is written so.
+fn expect_read(alloc: Global, file: &Bytes) -> Result<(), Miss> {
+    match read_control(alloc, file.as_slice()) {
+        Ok(control) => expect_written(alloc, &control, file),
+        Err(_) => Err(Miss::Broken("it isn't read")),
+    }
+}
+
+#[test]
+fn a_packet_names_65536_conferences(rt: HostRuntime) -> Result<(), Miss> {
+    let alloc = rt.alloc();
+    let stage = played_numbered(alloc, MANY)?;
+    let file = file_of(alloc, &stage.shelf, "big/CONTROL.DAT")?;
+    expect_read(alloc, &file)
+}
+
+/// A file with lines behind the last that is looked at, as long as it may be, and then a byte longer.
+const LONG: &str = r#"
+* folders
+* add out/CONTROL.DAT 4194145 \n
+* length out/CONTROL.DAT 4194304
+> read out
+board Test Board
+user ANN LEE
+1 0/1 public BOB RAY > ALL: Hello [1]
+1 messages
+* add out/CONTROL.DAT 1 \n
+> read out
+refused toolarge out/CONTROL.DAT
+"#;
+
+#[test]
+fn a_control_file_has_4194304_bytes(rt: HostRuntime) -> Result<(), Miss> {
+    expect_transcript(rt.alloc(), LONG)
+}
