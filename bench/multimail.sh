@@ -154,7 +154,7 @@ cp -- "$top/crates/qwkdoor/data/shelf/setup.txt" "$shelf/" || exit 1
     printf 'From: Bob Ray\nTo: All\nSubject: Hello\n\nFirst line of the first message\n.\n'
     printf 'From: Cy Day\nTo: Ann Lee\nSubject: The boat\n\nIs the boat still for sale?\n\n..It needs paint.\n.\n'
     printf 'From: Bob Ray\nTo: Ann Lee\nSubject: For you alone\nPrivate: yes\n\nThe key lies under the stone\n.\n'
-    printf 'From: Bob Ray\nTo: All\nSubject: Twelve lines\n\n'
+    printf 'From: Bob Ray\nTo: All\nSubject: Twelve lines about the boat that is for sale\n\n'
     for line in 1 2 3 4 5 6 7 8 9 10 11 12; do
         printf 'This is line %s of the twelve\n' "$line"
     done
@@ -211,7 +211,7 @@ say 'MultiMail opened it: Test Board, Sam Sysop, GENERAL, NETMAIL, NEWS'
 
 keys Home Down Down Enter
 await 'All in GENERAL' '1  BOB RAY          ALL             Hello' '2  CY DAY           ANN LEE         The boat' \
-    '3  BOB RAY          ANN LEE         For you alone' '4  BOB RAY          ALL             Twelve lines'
+    '3  BOB RAY          ANN LEE         For you alone' '4  BOB RAY          ALL             Twelve lines about the bo'
 say 'GENERAL lists its 4 messages'
 keys Enter
 message '1 (1 of 4)' 'BOB RAY' 'ALL' 'Hello' 'First line of the first message'
@@ -228,7 +228,13 @@ I have found it
 TEXT
 await 'Msg#: 3 (3 of 4)' 'The key lies under the stone'
 keys Enter
-message '4 (4 of 4)' 'BOB RAY' 'ALL' 'Twelve lines' 'This is line 1 of the twelve' 'This is line 12 of the twelve'
+message '4 (4 of 4)' 'BOB RAY' 'ALL' 'Twelve lines about the boat that is for sale' \
+    'This is line 1 of the twelve' 'This is line 12 of the twelve'
+# The field of a long subject shows its end, and MultiMail puts no `Re: ` before it.
+reply No 'BOB RAY' 'the boat that is for sale' <<'TEXT'
+I would like to see it
+TEXT
+await 'Msg#: 4 (4 of 4)'
 keys q
 await 'All in GENERAL'
 compose 'Cy Day' 'Paint' <<'TEXT'
@@ -269,7 +275,7 @@ This conference is read-only
 TEXT
 await 'All in NEWS'
 keys q
-await '7  NEWS' 'REPLY  Letters written by you                                6'
+await '7  NEWS' 'REPLY  Letters written by you                                7'
 keys q
 await 'Welcome to MultiMail' 'TESTBBS'
 keys q
@@ -277,7 +283,7 @@ await 'Do you really want to quit?'
 keys Enter
 await_file "$work/ended" 'MultiMail did not end'
 [ "$(cat "$work/ended")" = 0 ] || fail "MultiMail ends with status $(cat "$work/ended")"
-say 'MultiMail counted 6 replies, and ended with status 0'
+say 'MultiMail counted 7 replies, and ended with status 0'
 
 # The way back.
 [ -f "$up/testbbs.rep" ] || fail "there is no testbbs.rep, but: $(ls "$up")"
@@ -290,12 +296,12 @@ upload "Ann Lee" TESTBBS.MSG
 ack "Ann Lee" 1
 export "Ann Lee" 2000 mine
 read mine
-read mine 4
+read mine 5
 export "Bob Ray" 2000 bob
 read bob
 read bob 5
 read bob 6
-read bob 7
+read bob 8
 BATCH
 say 'uploaded it twice, acknowledged packet 1, exported packet 2 of Ann Lee and packet 1 of Bob Ray, and read them:'
 cat "$work/said"
@@ -303,20 +309,22 @@ wants <<'REPLY'
 1 posted 0 5
 2 posted 0 6
 3 posted 0 7
-4 refused address
-5 posted 1 2
-6 refused readonly
-posted 4 refused 2
-again posted 4 refused 2
+4 posted 0 8
+5 refused address
+6 posted 1 2
+7 refused readonly
+posted 5 refused 2
+again posted 5 refused 2
 acknowledged 1
-packet 2: 4 messages
+packet 2: 5 messages
 board Test Board
 user ANN LEE
 1 0/5 public ANN LEE > BOB RAY: Re: Hello [6]
 2 0/6 private ANN LEE > BOB RAY: Re: For you alone [6]
-3 0/7 public ANN LEE > CY DAY: Paint [3]
-4 1/2 private ANN LEE > DEE FAR: Greetings [3]
-4 messages
+3 0/7 public ANN LEE > BOB RAY: Twelve lines about the boat that is for sale [17]
+4 0/8 public ANN LEE > CY DAY: Paint [3]
+5 1/2 private ANN LEE > DEE FAR: Greetings [3]
+5 messages
 From: ANN LEE
 To: DEE FAR
 Subject: Greetings
@@ -327,17 +335,18 @@ Reference: 0
 They have come over the net
 _
 --- MultiMail
-packet 1: 7 messages
+packet 1: 8 messages
 board Test Board
 user BOB RAY
 1 0/1 public BOB RAY > ALL: Hello [1]
 2 0/2 public CY DAY > ANN LEE: The boat [3]
 3 0/3 private BOB RAY > ANN LEE: For you alone [1]
-4 0/4 public BOB RAY > ALL: Twelve lines [12]
+4 0/4 public BOB RAY > ALL: Twelve lines about the boat that is for sale [12]
 5 0/5 public ANN LEE > BOB RAY: Re: Hello [6]
 6 0/6 private ANN LEE > BOB RAY: Re: For you alone [6]
-7 0/7 public ANN LEE > CY DAY: Paint [3]
-7 messages
+7 0/7 public ANN LEE > BOB RAY: Twelve lines about the boat that is for sale [17]
+8 0/8 public ANN LEE > CY DAY: Paint [3]
+8 messages
 From: ANN LEE
 To: BOB RAY
 Subject: Re: Hello
@@ -368,7 +377,7 @@ From: ANN LEE
 To: CY DAY
 Subject: Paint
 Conference: 0
-Number: 7
+Number: 8
 Reference: 0
 
 Which colour would you like?
