@@ -1,1 +1,0 @@
-mod batch_runs;

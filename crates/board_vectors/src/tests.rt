@@ -1,3 +1,0 @@
-mod board_runs;
-mod damage_runs;
-mod import_runs;

@@ -1,2 +1,0 @@
-mod export_runs;
-mod faults;

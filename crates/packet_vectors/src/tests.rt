@@ -1,2 +1,0 @@
-mod packet_runs;
-mod reply_runs;

@@ -1,4 +1,0 @@
-mod faults;
-mod four;
-mod refusals;
-mod upload_runs;
