@@ -1,4 +1,4 @@
-ghost use Rattle.std.specs.Prelude.{◌≡◌, IfOk};
+ghost use Rattle.std.specs.Prelude.{◌≡◌, IfOk, IfErr};
 
 use byte_lists::Duplicate;
 use std::alloc::{AllocError, Global};
@@ -47,6 +47,17 @@ impl<T: Drop> Shared<T> {
         Ok(Shared {
             value: self.value.clone()?,
         })
+    }
+
+    /// The value, which is moved, or the handle again where it is shared.
+    pub fn into_value(self) -> Result<T, Shared<T>>
+        ensures ok { IfOk result (λ value. value ≡ self) }
+        ensures err { IfErr result (λ shared. shared ≡ self) }
+    {
+        match Rc::try_unwrap(self.value) {
+            Ok(value) => Ok(value),
+            Err(value) => Err(Shared { value }),
+        }
     }
 }
 
