@@ -2,4 +2,5 @@ pub mod ChildrenLemmas
 pub mod ChainLemmas
 pub mod ChangeLemmas
 pub mod FirstLemmas
+pub mod FirstLoop
 pub mod LookUpLemmas

@@ -1,6 +1,7 @@
 pub mod Chains
 pub mod Children
 pub mod FirstNumbers
+pub mod IdNumbers
 pub mod LinkChanges
 pub mod Links
 pub mod Threading

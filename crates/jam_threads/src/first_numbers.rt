@@ -1,14 +1,100 @@
-ghost use Rattle.std.specs.Prelude.{◌≡◌, ℕ, List, length, ◌==◌, ◌&&◌, if◌then◌else◌, IfOk, OnOk};
+ghost use Rattle.std.specs.Prelude.{◌≡◌, ℕ, List, length, fold, ◌==◌, ◌&&◌, if◌then◌else◌, IfOk, OnOk};
 ghost use Rattle.std.specs.Str.{bytes_eq};
-ghost use Rattle.jam_threads.specs.FirstNumbers.{kept_number};
+ghost use Rattle.jam_threads.specs.FirstNumbers.{kept_number, number_or, older_number as number_among};
+ghost use Rattle.jam_threads.specs.IdNumbers.{mapped_number};
 
+use crate::id_numbers::IdNumbers;
+use byte_lists::{Bytes, Duplicate, List as Items};
+use shared_lists::Shared;
 use std::alloc::{AllocError, Global};
-use std::collections::BTreeMap;
+use std::mem;
 
-/// The number of the first message of each id.
+/// How many ids a copy copies at most. When there are more, they come to the older ones, which copies share.
+const NEWER_LIMIT: usize = 64;
+
+/// An id, and the number of its first message.
+#[derive(Debug, Drop)]
+pub(crate) struct IdNumber {
+    id: Shared<Bytes>,
+    number: u32,
+}
+
+impl Duplicate for IdNumber {
+    fn duplicate(&self, _alloc: Global) -> Result<IdNumber, AllocError> {
+        Ok(IdNumber {
+            id: self.id.share()?,
+            number: self.number,
+        })
+    }
+}
+
+/// The number of the first message of each id. Copies share all but the ids that were added last.
 #[derive(Debug, Drop)]
 pub(crate) struct FirstNumbers {
-    numbers: BTreeMap<Vec<u8>, u32>,
+    /// Those of the older ids.
+    older: Option<Shared<IdNumbers>>,
+    /// The ids that were added last, in order.
+    newer: Items<IdNumber>,
+}
+
+/// The number of an id among the older ones, or 0.
+fn older_number(older: &Option<Shared<IdNumbers>>, id: &[u8]) -> u32
+    ensures { result ≡ number_among older.now id.now }
+{
+    match older {
+        None => 0,
+        Some(numbers) => numbers.get().number(id),
+    }
+}
+
+/// What was found for an id, or else the number of one id more, where that is the same.
+fn number_with(found: u32, one: &IdNumber, id: &[u8]) -> u32
+    ensures { result ≡ number_or id.now found one.now }
+{
+    if found == 0 && one.id.get().as_slice() == id {
+        one.number
+    } else {
+        found
+    }
+}
+
+/// What was found for an id, or else its number among newer ones, or 0.
+fn newer_number(found: u32, newer: &[IdNumber], id: &[u8]) -> u32
+    ensures { result ≡ fold (number_or id.now) found newer.now }
+{
+    let mut number = found;
+    for one in newer {
+        number = number_with(number, one, id);
+    }
+    number
+}
+
+/// A map of the older ids, which isn't copied where no other has it.
+fn owned(alloc: Global, older: Option<Shared<IdNumbers>>) -> Result<IdNumbers, AllocError>
+    ensures { IfOk result (λ numbers. (id : List ℕ) → mapped_number numbers id ≡ number_among older id) }
+{
+    let Some(shared) = older else {
+        return Ok(IdNumbers::new(alloc));
+    };
+    match shared.into_value() {
+        Ok(numbers) => Ok(numbers),
+        Err(shared) => shared.get().copy(),
+    }
+}
+
+/// A map of the older ids and the newer ones.
+fn together(
+    alloc: Global,
+    older: Option<Shared<IdNumbers>>,
+    newer: &[IdNumber],
+) -> Result<IdNumbers, AllocError>
+    ensures { IfOk result (λ numbers. (id : List ℕ) → mapped_number numbers id ≡ fold (number_or id) (number_among older id) newer.now) }
+{
+    let mut numbers = owned(alloc, older)?;
+    for one in newer {
+        numbers.add(alloc, one.id.get().as_slice(), one.number)?;
+    }
+    Ok(numbers)
 }
 
 impl FirstNumbers {
@@ -18,7 +104,8 @@ impl FirstNumbers {
         ensures { (id : List ℕ) → kept_number result id ≡ 0 }
     {
         FirstNumbers {
-            numbers: BTreeMap::new(alloc),
+            older: None,
+            newer: Items::new(alloc),
         }
     }
 
@@ -27,7 +114,7 @@ impl FirstNumbers {
     fn number(&self, id: &[u8]) -> u32
         ensures { result ≡ kept_number self.now id.now }
     {
-        self.numbers.get(id).copied().unwrap_or(0)
+        newer_number(older_number(&self.older, id), self.newer.as_slice(), id)
     }
 
     /// The original of a message that answers this id and stands behind the others, or 0.
@@ -40,22 +127,55 @@ impl FirstNumbers {
         self.number(replyid)
     }
 
+    /// Makes the newer ids older ones.
+    #[tactic(auto, unfolding(crate::specs::FirstNumbers::kept_number))]
+    fn settle(&mut self, alloc: Global) -> Result<(), AllocError>
+        ensures { OnOk result ((id : List ℕ) → kept_number self.new id ≡ kept_number self.old id) }
+    {
+        let older = mem::replace(&mut self.older, None);
+        let numbers = together(alloc, older, self.newer.as_slice())?;
+        self.older = Some(Shared::new(alloc, numbers)?);
+        self.newer = Items::new(alloc);
+        Ok(())
+    }
+
+    /// Makes the newer ids older ones, where there are many.
+    fn make_room(&mut self, alloc: Global) -> Result<(), AllocError>
+        ensures { OnOk result ((id : List ℕ) → kept_number self.new id ≡ kept_number self.old id) }
+    {
+        if self.newer.len() < NEWER_LIMIT {
+            return Ok(());
+        }
+        self.settle(alloc)
+    }
+
+    /// Adds an id that isn't there behind the others.
+    fn push(&mut self, alloc: Global, id: &[u8], number: u32) -> Result<(), AllocError>
+        ensures { OnOk result ((other : List ℕ) → kept_number self.new other ≡ (if kept_number self.old other == 0 && bytes_eq id.now other then number else kept_number self.old other)) }
+    {
+        let id = Shared::new(alloc, Bytes::from_slice(alloc, id)?)?;
+        self.newer.add(IdNumber { id, number })
+    }
+
     /// Adds a message behind the others.
     pub(crate) fn add(&mut self, alloc: Global, id: &[u8], number: u32) -> Result<(), AllocError>
         ensures { OnOk result ((other : List ℕ) → kept_number self.new other ≡ (if kept_number self.old other == 0 && bytes_eq id.now other then number else kept_number self.old other)) }
     {
-        if self.number(id) == 0 {
-            self.numbers.insert(Vec::from_slice(alloc, id)?, number)?;
+        if self.number(id) != 0 {
+            return Ok(());
         }
-        Ok(())
+        self.make_room(alloc)?;
+        self.push(alloc, id, number)
     }
 
     /// The same numbers.
-    pub(crate) fn copy(&self) -> Result<FirstNumbers, AllocError>
+    #[tactic(auto, unfolding(crate::specs::FirstNumbers::kept_number))]
+    pub(crate) fn copy(&self, alloc: Global) -> Result<FirstNumbers, AllocError>
         ensures { IfOk result (λ copy. (id : List ℕ) → kept_number copy id ≡ kept_number self.now id) }
     {
         Ok(FirstNumbers {
-            numbers: self.numbers.clone()?,
+            older: self.older.duplicate(alloc)?,
+            newer: self.newer.copy(alloc)?,
         })
     }
 }

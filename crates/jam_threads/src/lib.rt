@@ -3,6 +3,7 @@
 #![tactic(auto)]
 
 mod first_numbers;
+mod id_numbers;
 pub mod laws;
 mod link;
 mod linking;

@@ -203,7 +203,7 @@ impl Threads {
     {
         Ok(Threads {
             alloc,
-            firsts: self.firsts.copy()?,
+            firsts: self.firsts.copy(alloc)?,
             links: Vec::from_slice(alloc, self.links.as_slice())?,
             last_answers: Vec::from_slice(alloc, self.last_answers.as_slice())?,
         })
