@@ -21,3 +21,4 @@ pub mod MarkClauses
 pub mod PointerPuts
 pub mod BaseLaws
 pub mod ReceivedLoop
+pub mod DueRange

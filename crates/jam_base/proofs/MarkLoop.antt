@@ -1,5 +1,5 @@
 -- The loop over slots that marks messages read.
-use Rattle.std.proofs.Common.{◌≡◌, ℕ, ◌+◌, ◌<◌, ◌≤◌, List, [], ◌∷◌, ◌++◌, length, drop, get_or, refl, sym, ap, ◌∙◌, arith, append_assoc, append-nil}
+use Rattle.std.proofs.Common.{◌≡◌, ℕ, ◌+◌, ◌<◌, ◌≤◌, List, [], ◌∷◌, ◌++◌, length, drop, get_or, sym, ap, ◌∙◌, arith, append_assoc, append-nil}
 use Rattle.std.specs.Prelude.{sum_by}
 use Rattle.std.proofs.lemmas.List.{drop_all, drop_more}
 use Rattle.std.proofs.lemmas.List.Sums.{sum_by-cons}
@@ -24,9 +24,6 @@ left slots index s within item = drop_more slots index s within ∙ ap (λ (x : 
 
 left_sum : (slots : List Slot) (index : ℕ) (s : Slot) → index < length slots → s ≡ get_or slots index s → sum_by slot_header (drop index slots) ≡ slot_header s + sum_by slot_header (drop (index + 1) slots)
 left_sum slots index s within item = ap (sum_by slot_header) (left slots index s within item) ∙ sum_by-cons slot_header s (drop (index + 1) slots)
-
-pub marks_begin : (kind : Kind) (place : ℕ) (name : List ℕ) (r : Receipt) (slots : List Slot) (patches : List Patch) → patches ≡ [] → MarksSoFar kind place name r slots 0 1024 patches
-marks_begin kind place name r slots patches none = record { so_far = ap (λ (ps : List Patch). ps ++ receive_puts kind place name r 1024 1 slots) none; at_is = refl }
 
 pub mark_fits : (kind : Kind) (place : ℕ) (name : List ℕ) (r : Receipt) (slots : List Slot) (index at most : ℕ) (patches : List Patch) (s : Slot) → index < length slots → s ≡ get_or slots index s → 1024 + sum_by slot_header slots < most → MarksSoFar kind place name r slots index at patches → at + slot_header s < most
 mark_fits kind place name r slots index at most patches s within item small so_far = omega (arith, so_far.at_is, left_sum slots index s within item, small)

@@ -8,7 +8,7 @@ use Rattle.jam_base.specs.Slots.{slot_received, slots_received}
 use Rattle.jam_base.specs.declared.receipt.Receipt.{Receipt}
 use Rattle.jam_base.proofs.SlotChanges.{received_length}
 
-received_append : (name : List ℕ) (r : Receipt) (n : ℕ) (slots more : List Slot) → slots_received name r n (slots ++ more) ≡ slots_received name r n slots ++ slots_received name r (n + length slots) more
+pub received_append : (name : List ℕ) (r : Receipt) (n : ℕ) (slots more : List Slot) → slots_received name r n (slots ++ more) ≡ slots_received name r n slots ++ slots_received name r (n + length slots) more
 received_append name r n [] more = let e : n ≡ n + 0 = omega arith in ap (λ (k : ℕ). slots_received name r k more) e
 received_append name r n (s ∷ slots) more =
     let e : (n + 1) + length slots ≡ n + suc (length slots) = omega arith in
@@ -17,9 +17,6 @@ received_append name r n (s ∷ slots) more =
 -- those before the place are received, and the others aren't yet
 pub record ReceivedSoFar (name : List ℕ) (r : Receipt) (slots : List Slot) (place : ℕ) (new : List Slot) : Type 0 where
   pub so_far : new ≡ slots_received name r 1 (take place slots) ++ drop place slots
-
-pub received_begin : (name : List ℕ) (r : Receipt) (slots new : List Slot) → new ≡ slots → ReceivedSoFar name r slots 0 new
-received_begin name r slots new is = record { so_far = is }
 
 pub received_count : (name : List ℕ) (r : Receipt) (slots : List Slot) (place : ℕ) (new : List Slot) → place < length slots → ReceivedSoFar name r slots place new → length new ≡ length slots
 received_count name r slots place new within so_far =

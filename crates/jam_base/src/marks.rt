@@ -1,6 +1,5 @@
 // Patches of the marks of messages in their headers.
-ghost use Rattle.std.specs.Prelude.{◌≡◌, ◌+◌, ◌≤◌, ◌<◌, ◌++◌, ◌^◌, length, sum_by, IfOk, OnOk};
-ghost use Rattle.jam_layout.specs.Sizes.{slot_header};
+ghost use Rattle.std.specs.Prelude.{◌≡◌, ◌+◌, ◌≤◌, ◌<◌, ◌++◌, ◌^◌, length, IfOk, OnOk};
 ghost use Rattle.jam_base.specs.MarkPuts.{marks_text, marks_put, delete_puts, receive_put, receive_puts};
 ghost use Rattle.jam_base.specs.Slots.{numbered};
 
@@ -130,14 +129,15 @@ pub fn receive_patches(
     receipt: Receipt,
     slots: &SharedSlots,
 ) -> Result<Patches, AllocError>
-    requires place { place < 64 }
-    requires few { length slots.now ≤ 9999 }
-    requires small { 1024 + sum_by slot_header slots.now < 2 ^ 31 }
+    requires { place < 64 }
     ensures { IfOk result (λ patches. patches ≡ receive_puts kind place name.now receipt 1024 1 slots.now) }
 {
     let mut patches = Patches::new(alloc);
-    let mut at = 1024;
-    for index in 0..slots.len() {
+    let count = slots.len();
+    let first = receipt.start(count);
+    let last = receipt.end(count);
+    let mut at = slots.header_place(first);
+    for index in first..last {
         let number = index as u32 + 1;
         let slot = slots.at(index);
         add_receipt(

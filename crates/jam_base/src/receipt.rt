@@ -1,4 +1,4 @@
-ghost use Rattle.std.specs.Prelude.{◌≡◌, ◌+◌, ◌<◌, ◌≤◌, length, slice_index_or, slice_set, unwrap_or, IfOk};
+ghost use Rattle.std.specs.Prelude.{◌≡◌, ◌+◌, ◌<◌, ◌≤◌, min, length, slice_index_or, slice_set, unwrap_or, IfOk};
 ghost use Rattle.jam_base.specs.Slots.{is_due as is_due_of, has_due as has_due_of, any_due as any_due_of, slot_received, slots_received as received_of};
 
 use byte_lists::Duplicate;
@@ -15,6 +15,22 @@ pub struct Receipt {
     pub upto: u32,
     /// The moment, in Unix seconds.
     pub now: u32,
+}
+
+impl Receipt {
+    /// The place, from 0, of the first of so many slots whose number is above the one bound, or how many there are.
+    pub(crate) fn start(self, count: usize) -> usize
+        ensures { result ≡ min self.above count }
+    {
+        (self.above as usize).min(count)
+    }
+
+    /// The place, from 0, behind the last of so many slots whose number is at most the other bound.
+    pub(crate) fn end(self, count: usize) -> usize
+        ensures { result ≡ min self.upto count }
+    {
+        (self.upto as usize).min(count)
+    }
 }
 
 /// Whether the message of a number is to the name, isn't deleted, isn't read and is within the bounds.
@@ -40,7 +56,10 @@ fn has_due(name: &[u8], receipt: Receipt, number: u32, slot: &Slot) -> bool
 pub fn any_due(name: &[u8], receipt: Receipt, slots: &SharedSlots) -> bool
     ensures { result ≡ any_due_of name.now receipt 1 slots.now }
 {
-    for place in 0..slots.len() {
+    let count = slots.len();
+    let first = receipt.start(count);
+    let last = receipt.end(count);
+    for place in first..last {
         if has_due(name, receipt, place as u32 + 1, slots.at(place)) {
             return true;
         }
@@ -97,8 +116,11 @@ pub fn slots_received(
 ) -> Result<SharedSlots, AllocError>
     ensures { IfOk result (λ new. new ≡ received_of name.now receipt 1 slots.now) }
 {
+    let count = slots.len();
+    let first = receipt.start(count);
+    let last = receipt.end(count);
     let mut new = slots.copy(alloc)?;
-    for place in 0..slots.len() {
+    for place in first..last {
         new = received_at(alloc, name, receipt, place, new)?;
     }
     Ok(new)
