@@ -16,7 +16,7 @@ use Rattle.jam_layout.specs.Valid.{IsShape, IsConference}
 use Rattle.jam_layout.specs.declared.conference.Conference.{Conference}
 use Rattle.jam_layout.specs.declared.shape.Shape.{Shape}
 use Rattle.jam_layout.proofs.SlotSizes.{size_is}
-use Rattle.shared_slots.specs.Bodies.{body_size}
+use Rattle.jam_layout.specs.Bodies.{body_size}
 use Rattle.jam_base.specs.Contents.{Contents, with_messages, with_slots}
 use Rattle.jam_base.specs.Slots.{slot_deleted, slots_deleted, slots_received, slots_with_all}
 use Rattle.jam_base.specs.declared.receipt.Receipt.{Receipt}

@@ -22,3 +22,5 @@ pub mod PointerPuts
 pub mod BaseLaws
 pub mod ReceivedLoop
 pub mod DueRange
+pub mod OutlineTurns
+pub mod OutlineChanges

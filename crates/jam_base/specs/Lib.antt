@@ -3,6 +3,7 @@ pub mod Change
 pub mod Contents
 pub mod MarkPuts
 pub mod OneAppend
+pub mod Outlined
 pub mod Places
 pub mod Puts
 pub mod Slots

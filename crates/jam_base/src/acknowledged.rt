@@ -3,6 +3,7 @@ ghost use Rattle.std.specs.Prelude.{◌≡◌, ◌≤◌, ◌<◌, length, IfOk,
 ghost use Rattle.jam_base.specs.Bodies.{Lengthens};
 ghost use Rattle.jam_base.specs.Change.{Turns, SuitsIntent};
 ghost use Rattle.jam_base.specs.Contents.{reader_place, with_acknowledged};
+ghost use Rattle.jam_base.specs.Outlined.{TurnsEach};
 ghost use Rattle.jam_layout.specs.Layout.{layout};
 
 use crate::base::Base;
@@ -31,6 +32,7 @@ impl Base {
         ensures base { IfOk result (λ change. change.base ≡ with_acknowledged user name.now upto now self.now) }
         ensures files { IfOk result (λ change. Turns self.now.shape.place (layout self.now.shape self.now.conference) (layout change.base.shape change.base.conference) change.patches) }
         ensures bodies { IfOk result (λ change. Lengthens self.now.shape.place (layout self.now.shape self.now.conference) (layout change.base.shape change.base.conference) change.patches) }
+        ensures each { IfOk result (λ change. TurnsEach self.now (with_acknowledged user name.now upto now) change.patches) }
         ensures intent { IfOk result (λ change. SuitsIntent self.now.shape.place (layout change.base.shape change.base.conference) change.patches) }
     {
         let above = self.pointer(user).unwrap_or(0);

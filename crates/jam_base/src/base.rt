@@ -4,6 +4,7 @@ ghost use Rattle.jam_threads.specs.Children.{original};
 ghost use Rattle.jam_layout.specs.Layout.{layout, files_size};
 ghost use Rattle.jam_base.specs.Bodies.{Lengthens};
 ghost use Rattle.jam_base.specs.Change.{Turns, SuitsIntent};
+ghost use Rattle.jam_base.specs.Outlined.{TurnsEach};
 ghost use Rattle.jam_base.specs.Contents.{reader_place, pointer_of, no_slots, with_reader, with_slots, with_messages as with_messages_of, with_deleted as with_deleted_of, with_received, with_pointer};
 ghost use Rattle.jam_base.specs.Puts.{counts_put, last_headers as last_headers_of, last_bodies as last_bodies_of, last_records as last_records_of, link_puts, Costs};
 ghost use Rattle.jam_base.specs.Slots.{has_live as has_live_of, numbered, slots_with_all};
@@ -335,6 +336,7 @@ impl Base {
         ensures base { IfOk result (λ change. change.base ≡ with_reader user name.now self.now) }
         ensures files { IfOk result (λ change. Turns self.now.shape.place (layout self.now.shape self.now.conference) (layout change.base.shape change.base.conference) change.patches) }
         ensures bodies { IfOk result (λ change. Lengthens self.now.shape.place (layout self.now.shape self.now.conference) (layout change.base.shape change.base.conference) change.patches) }
+        ensures each { IfOk result (λ change. TurnsEach self.now (with_reader user name.now) change.patches) }
         ensures intent { IfOk result (λ change. SuitsIntent self.now.shape.place (layout change.base.shape change.base.conference) change.patches) }
     {
         let mut shape = self.shape().duplicate(alloc)?;
@@ -358,6 +360,7 @@ impl Base {
         ensures costs { IfOk result (λ change. Costs (length messages.now) (layout self.now.shape self.now.conference) (layout change.base.shape change.base.conference) change.patches) }
         ensures files { IfOk result (λ change. Turns self.now.shape.place (layout self.now.shape self.now.conference) (layout change.base.shape change.base.conference) change.patches) }
         ensures bodies { IfOk result (λ change. Lengthens self.now.shape.place (layout self.now.shape self.now.conference) (layout change.base.shape change.base.conference) change.patches) }
+        ensures each { IfOk result (λ change. TurnsEach self.now (with_messages_of messages.now) change.patches) }
         ensures intent { IfOk result (λ change. SuitsIntent self.now.shape.place (layout change.base.shape change.base.conference) change.patches) }
         ensures slots { (s : ℕ) → (result ≡ Err (AppendRefusal.Slots s)) ↔ ((s ≡ length self.now.conference.slots + length messages.now) × (9999 < s)) }
     {
@@ -379,6 +382,7 @@ impl Base {
         ensures costs { IfOk result (λ change. Costs (length messages) (layout self.now.shape self.now.conference) (layout change.base.shape change.base.conference) change.patches) }
         ensures files { IfOk result (λ change. Turns self.now.shape.place (layout self.now.shape self.now.conference) (layout change.base.shape change.base.conference) change.patches) }
         ensures bodies { IfOk result (λ change. Lengthens self.now.shape.place (layout self.now.shape self.now.conference) (layout change.base.shape change.base.conference) change.patches) }
+        ensures each { IfOk result (λ change. TurnsEach self.now (with_messages_of messages) change.patches) }
         ensures intent { IfOk result (λ change. SuitsIntent self.now.shape.place (layout change.base.shape change.base.conference) change.patches) }
     {
         if messages.as_slice().is_empty() {
@@ -401,6 +405,7 @@ impl Base {
         ensures costs { IfOk result (λ change. (length change.patches ≤ 2) × (byte_count change.patches ≤ 24)) }
         ensures files { IfOk result (λ change. Turns self.now.shape.place (layout self.now.shape self.now.conference) (layout change.base.shape change.base.conference) change.patches) }
         ensures bodies { IfOk result (λ change. Lengthens self.now.shape.place (layout self.now.shape self.now.conference) (layout change.base.shape change.base.conference) change.patches) }
+        ensures each { IfOk result (λ change. TurnsEach self.now (with_deleted_of number) change.patches) }
         ensures intent { IfOk result (λ change. SuitsIntent self.now.shape.place (layout change.base.shape change.base.conference) change.patches) }
         ensures none { (result ≡ Err KillRefusal.NoMessage) ↔ ¬ IsTrue (has_live_of number self.now.conference.slots) }
     {
@@ -431,6 +436,7 @@ impl Base {
         ensures base { IfOk result (λ change. change.base ≡ with_received name.now (record { above = above; upto = upto; now = now }) self.now) }
         ensures files { IfOk result (λ change. Turns self.now.shape.place (layout self.now.shape self.now.conference) (layout change.base.shape change.base.conference) change.patches) }
         ensures bodies { IfOk result (λ change. Lengthens self.now.shape.place (layout self.now.shape self.now.conference) (layout change.base.shape change.base.conference) change.patches) }
+        ensures each { IfOk result (λ change. TurnsEach self.now (with_received name.now (record { above = above; upto = upto; now = now })) change.patches) }
         ensures intent { IfOk result (λ change. SuitsIntent self.now.shape.place (layout change.base.shape change.base.conference) change.patches) }
     {
         let receipt = Receipt { above, upto, now };
@@ -453,6 +459,7 @@ impl Base {
         ensures base { IfOk result (λ change. change.base ≡ with_pointer user number self.now) }
         ensures files { IfOk result (λ change. Turns self.now.shape.place (layout self.now.shape self.now.conference) (layout change.base.shape change.base.conference) change.patches) }
         ensures bodies { IfOk result (λ change. Lengthens self.now.shape.place (layout self.now.shape self.now.conference) (layout change.base.shape change.base.conference) change.patches) }
+        ensures each { IfOk result (λ change. TurnsEach self.now (with_pointer user number) change.patches) }
         ensures intent { IfOk result (λ change. SuitsIntent self.now.shape.place (layout change.base.shape change.base.conference) change.patches) }
     {
         let Some(place) = self.shape().readers.position(user) else {

@@ -4,7 +4,7 @@ ghost use Rattle.jam_layout.specs.declared.conference.Conference.{Conference};
 ghost use Rattle.jam_layout.specs.declared.shape.Shape.{Shape};
 ghost use Rattle.jam_base.specs.OneAppend.{OneAppend};
 
-pub use jam_layout::laws::{rising_subfields, unique_conference};
+pub use jam_layout::laws::{outlines, rising_subfields, unique_conference};
 
 /// With one message more, .JHR is the old one with ActiveMsgs and at most one link number of an older header
 /// replaced, and the new header with its subfields at the end. .JDT and .JDX have the new body and the new

@@ -1,7 +1,7 @@
 // The slots of a conference after a change of them.
 ghost use Rattle.std.specs.Prelude.{◌≡◌, ◌+◌, ◌≤◌, ◌<◌, ◌==◌, ◌^◌, length, sum_by, IfOk};
 ghost use Rattle.jam_layout.specs.Sizes.{slot_header};
-ghost use Rattle.shared_slots.specs.Bodies.{body_size};
+ghost use Rattle.jam_layout.specs.Bodies.{body_size};
 ghost use Rattle.jam_base.specs.Slots.{slots_with_all, has_live as has_live_of, slot_deleted, slots_deleted};
 
 use byte_lists::Duplicate;

@@ -21,6 +21,7 @@ use Rattle.damage_rules.specs.Walk.{walk}
 use Rattle.jam_layout.specs.Headers.{header_at, entries_at, headers_text, start}
 use Rattle.jam_layout.specs.SecondPass.{slots_of, active_in, links_at, second_pass}
 use Rattle.jam_layout.specs.Bodies.{bodies_at, bodies_text}
+use Rattle.jam_layout.specs.Outlines.{slot_bare}
 use Rattle.jam_layout.specs.Index.{Pending, slot_at, slots_at, index_records}
 use Rattle.jam_layout.specs.Readers.{pointers_at}
 use Rattle.jam_layout.specs.Conference.{is_live, live_count}
@@ -36,7 +37,7 @@ use Rattle.jam_layout.proofs.EntryLaws.{HeadersFit, headers_take, headers_again}
 use Rattle.jam_layout.proofs.BodyLaws.{bare, BodiesFit, bodies_take, bodies_again}
 use Rattle.jam_layout.proofs.PointerLaws.{pointers_take, pointers_again}
 use Rattle.jam_layout.proofs.IndexLaws.{Linked, RoomFor, slots_take, slots_again}
-use Rattle.jam_layout.proofs.LinkLaws.{strip, slots_bare, LinksFit, links_same, links_move, links_take, links_again, below_all, active_is}
+use Rattle.jam_layout.proofs.LinkLaws.{slots_bare, LinksFit, links_same, links_move, links_take, links_again, below_all, active_is}
 use Rattle.jam_layout.proofs.LinkBounds.{LinkBound, link_bound}
 use Rattle.jam_layout.proofs.BaseLaws.{base_length, header_of, base_takes, BaseAgain, base_again}
 use Rattle.jam_layout.proofs.LayoutBounds.{layout_fits}
@@ -112,7 +113,7 @@ pub links_agree : (links : ℕ → Link) (slots : List Slot) (hs es : List Entry
 links_agree links slots hs es is heads n within =
     let from : map bare (entries_of links 1 slots) ≡ hs = ap (map bare) is ∙ heads in
     let len : length (slots_of 1 hs) ≡ length (slots_of 1 (entries_of links 1 slots)) =
-    ap (λ (xs : List Entry). length (slots_of 1 xs)) (sym from) ∙ (ap length (slots_bare 1 (entries_of links 1 slots)) ∙ length-map (slots_of 1 (entries_of links 1 slots)) strip) in
+    ap (λ (xs : List Entry). length (slots_of 1 xs)) (sym from) ∙ (ap length (slots_bare 1 (entries_of links 1 slots)) ∙ length-map (slots_of 1 (entries_of links 1 slots)) slot_bare) in
     ap (λ (xs : List Entry). link_of (slots_of 1 xs) (suc n)) (sym from) ∙ links_same links slots n (omega (arith, len, within))
 
 -- ---- the four files

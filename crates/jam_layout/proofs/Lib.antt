@@ -30,3 +30,4 @@ pub mod AddressLaws
 pub mod SizeLaws
 pub mod ReadingSteps
 pub mod SlotSizes
+pub mod OutlineLaws

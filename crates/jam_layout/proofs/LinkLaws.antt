@@ -16,7 +16,7 @@ use Rattle.jam_threads.proofs.ChildrenLemmas.{link_same}
 use Rattle.damage_rules.specs.Rules.{by_rules, ◌>>=◌}
 use Rattle.door_outside.specs.File.{jhr_file}
 use Rattle.jam_layout.specs.Layout.{entries_of}
-use Rattle.jam_layout.specs.Bodies.{message_with}
+use Rattle.jam_layout.specs.Outlines.{slot_bare}
 use Rattle.jam_layout.specs.Conference.{is_live, live_count}
 use Rattle.jam_layout.specs.SecondPass.{slots_of, active_in, same_link, links_at}
 use Rattle.jam_layout.specs.declared.entry.Entry.{Entry}
@@ -26,56 +26,53 @@ use Rattle.jam_layout.proofs.IndexLaws.{first_number}
 use Rattle.jam_layout.proofs.BoolTests.{not_not}
 
 -- ---- slots without their bodies
-abbrev pub strip : Slot → Slot
-strip Gone = Gone
-strip (Held m) = Held (message_with m [])
 
-has_strip : (id : List ℕ) (s : Slot) → has_msgid id (strip s) ≡ has_msgid id s
-has_strip id Gone = refl
-has_strip id (Held m) = refl
+has_bare : (id : List ℕ) (s : Slot) → has_msgid id (slot_bare s) ≡ has_msgid id s
+has_bare id Gone = refl
+has_bare id (Held m) = refl
 
-prefix_strip : (id : List ℕ) (slots : List Slot) → prefix_len (λ x. not (has_msgid id x)) (map strip slots) ≡ prefix_len (λ x. not (has_msgid id x)) slots
-prefix_strip id [] = refl
-prefix_strip id (s ∷ slots) =
-    ap (λ b. cond (not b) (1 + prefix_len (λ x. not (has_msgid id x)) (map strip slots)) 0) (has_strip id s)
-    ∙ ap (λ r. cond (not (has_msgid id s)) (1 + r) 0) (prefix_strip id slots)
+prefix_bare : (id : List ℕ) (slots : List Slot) → prefix_len (λ x. not (has_msgid id x)) (map slot_bare slots) ≡ prefix_len (λ x. not (has_msgid id x)) slots
+prefix_bare id [] = refl
+prefix_bare id (s ∷ slots) =
+    ap (λ b. cond (not b) (1 + prefix_len (λ x. not (has_msgid id x)) (map slot_bare slots)) 0) (has_bare id s)
+    ∙ ap (λ r. cond (not (has_msgid id s)) (1 + r) 0) (prefix_bare id slots)
 
 place_of : ℕ → ℕ → Option ℕ
 place_of i n = cond (ltb i n) (Some i) None
 
-position_strip : (id : List ℕ) (slots : List Slot) → position (has_msgid id) (map strip slots) ≡ position (has_msgid id) slots
+position_bare : (id : List ℕ) (slots : List Slot) → position (has_msgid id) (map slot_bare slots) ≡ position (has_msgid id) slots
 unfolding place_of
-position_strip id slots = ap (λ i. place_of i (length (map strip slots))) (prefix_strip id slots) ∙ ap (place_of (prefix_len (λ x. not (has_msgid id x)) slots)) (length-map slots strip)
+position_bare id slots = ap (λ i. place_of i (length (map slot_bare slots))) (prefix_bare id slots) ∙ ap (place_of (prefix_len (λ x. not (has_msgid id x)) slots)) (length-map slots slot_bare)
 
-first_strip : (id : List ℕ) (slots : List Slot) → first_of_id (map strip slots) id ≡ first_of_id slots id
-first_strip id slots = ap number_at (position_strip id slots)
+first_bare : (id : List ℕ) (slots : List Slot) → first_of_id (map slot_bare slots) id ≡ first_of_id slots id
+first_bare id slots = ap number_at (position_bare id slots)
 
-behind_strip : (before : List Slot) (id : List ℕ) → original_behind (map strip before) id ≡ original_behind before id
-behind_strip before [] = refl
-behind_strip before (b ∷ id) = first_strip (b ∷ id) before
+behind_bare : (before : List Slot) (id : List ℕ) → original_behind (map slot_bare before) id ≡ original_behind before id
+behind_bare before [] = refl
+behind_bare before (b ∷ id) = first_bare (b ∷ id) before
 
-slot_strip : (before : List Slot) (s : Option Slot) → slot_original (map strip before) (option_map strip s) ≡ slot_original before s
-slot_strip before None = refl
-slot_strip before (Some Gone) = refl
-slot_strip before (Some (Held m)) = behind_strip before m.replyid
+found_bare : (before : List Slot) (s : Option Slot) → slot_original (map slot_bare before) (option_map slot_bare s) ≡ slot_original before s
+found_bare before None = refl
+found_bare before (Some Gone) = refl
+found_bare before (Some (Held m)) = behind_bare before m.replyid
 
-original_strip : (slots : List Slot) (k : ℕ) → original (map strip slots) k ≡ original slots k
+original_bare : (slots : List Slot) (k : ℕ) → original (map slot_bare slots) k ≡ original slots k
 unfolding original
-original_strip slots zero = refl
-original_strip slots (suc place) =
-    ap (λ (xs : List Slot). slot_original xs (slice_get (map strip slots) place)) (take-map strip place slots)
-    ∙ (ap (λ (x : Option Slot). slot_original (map strip (take place slots)) x) (slice_get-map strip slots place) ∙ slot_strip (take place slots) (slice_get slots place))
+original_bare slots zero = refl
+original_bare slots (suc place) =
+    ap (λ (xs : List Slot). slot_original xs (slice_get (map slot_bare slots) place)) (take-map slot_bare place slots)
+    ∙ (ap (λ (x : Option Slot). slot_original (map slot_bare (take place slots)) x) (slice_get-map slot_bare slots place) ∙ found_bare (take place slots) (slice_get slots place))
 
-children_strip : (slots : List Slot) (n : ℕ) → children (map strip slots) n ≡ children slots n
+children_bare : (slots : List Slot) (n : ℕ) → children (map slot_bare slots) n ≡ children slots n
 unfolding children
-children_strip slots n = λ i. filter (λ k. eqb (original_strip slots k i) n) (numbers_to (length-map slots strip i))
+children_bare slots n = λ i. filter (λ k. eqb (original_bare slots k i) n) (numbers_to (length-map slots slot_bare i))
 
-pub link_strip : (slots : List Slot) (n : ℕ) → link_of (map strip slots) n ≡ link_of slots n
+pub link_bare : (slots : List Slot) (n : ℕ) → link_of (map slot_bare slots) n ≡ link_of slots n
 unfolding link_of
-link_strip slots n = λ i. record {
-  to = original_strip slots n i;
-  first = first_in (children_strip slots n i);
-  next = cond (eqb (original_strip slots n i) 0) 0 (following n (children_strip slots (original_strip slots n i) i));
+link_bare slots n = λ i. record {
+  to = original_bare slots n i;
+  first = first_in (children_bare slots n i);
+  next = cond (eqb (original_bare slots n i) 0) 0 (following n (children_bare slots (original_bare slots n i) i));
 }
 
 -- ---- slots without a message at the end
@@ -103,14 +100,14 @@ slots_back links n (Held m ∷ slots) =
     let none : n - n ≡ 0 = omega arith in
     (r.0, ap (λ (xs : List Slot). Held m ∷ xs) r.1 ∙ ap (λ c. (replicate c Gone ++ rest) ++ replicate r.0 Gone) (sym none))
 
-map_gone : (k : ℕ) (xs : List Slot) → map strip (replicate k Gone ++ xs) ≡ replicate k Gone ++ map strip xs
+map_gone : (k : ℕ) (xs : List Slot) → map slot_bare (replicate k Gone ++ xs) ≡ replicate k Gone ++ map slot_bare xs
 map_gone zero xs = refl
 map_gone (suc k) xs = ap (λ (ys : List Slot). Gone ∷ ys) (map_gone k xs)
 
-pub slots_bare : (n : ℕ) (es : List Entry) → slots_of n (map bare es) ≡ map strip (slots_of n es)
+pub slots_bare : (n : ℕ) (es : List Entry) → slots_of n (map bare es) ≡ map slot_bare (slots_of n es)
 slots_bare n [] = refl
 slots_bare n (e ∷ es) =
-    ap (λ (xs : List Slot). replicate (e.number - n) Gone ++ strip (Held e.message) ∷ xs) (slots_bare (e.number + 1) es)
+    ap (λ (xs : List Slot). replicate (e.number - n) Gone ++ slot_bare (Held e.message) ∷ xs) (slots_bare (e.number + 1) es)
     ∙ sym (map_gone (e.number - n) (Held e.message ∷ slots_of (e.number + 1) es))
 
 -- the links of the headers are those of the slots
@@ -119,7 +116,7 @@ links_same links slots n within =
     let es : List Entry = entries_of links 1 slots in
     let back = slots_back links 1 slots in
     ap (λ (xs : List Slot). link_of xs (suc n)) (slots_bare 1 es)
-    ∙ (link_strip (slots_of 1 es) (suc n)
+    ∙ (link_bare (slots_of 1 es) (suc n)
     ∙ (sym (link_gone back.0 (slots_of 1 es) n within) ∙ ap (λ (xs : List Slot). link_of xs (suc n)) (sym back.1)))
 
 -- ---- each entry has the links of its number

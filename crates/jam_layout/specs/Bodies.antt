@@ -3,6 +3,8 @@ use Rattle.std.specs.Prelude.{ℕ, ◌+◌, ◌-◌, List, [], ◌∷◌, ◌++�
 use Rattle.jam_records.specs.declared.damage.Damage.{Damage}
 use Rattle.jam_records.specs.declared.damage.DamageRule.TheVariants.{Short, Line, Rest}
 use Rattle.jam_records.specs.declared.message.Message.{Message}
+use Rattle.jam_records.specs.declared.message.Slot.{Slot}
+use Rattle.jam_records.specs.declared.message.Slot.TheVariants.{Gone, Held}
 use Rattle.damage_rules.specs.Rules.{Rules, by_rules, ◌>>=◌}
 use Rattle.door_outside.specs.File.{jdt_file}
 use Rattle.jam_layout.specs.declared.entry.Entry.{Entry}
@@ -27,6 +29,14 @@ bodies_at place i (e ∷ entries) bytes = do
   body ← by_rules (jdt_file place) i (body_rules e.text_len bytes) (take e.text_len bytes)
   others ← bodies_at place (i + 1) entries (drop e.text_len bytes)
   Ok (with_body e body ∷ others)
+
+-- what a slot gives to .JDT: the body, and its length
+abbrev pub body_piece : Slot → List ℕ
+body_piece Gone = []
+body_piece (Held m) = m.body
+
+abbrev pub body_size : Slot → ℕ
+body_size slot = length (body_piece slot)
 
 -- all bodies in order
 abbrev pub bodies_text : List Entry → List ℕ

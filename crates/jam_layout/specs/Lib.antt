@@ -8,6 +8,7 @@ pub mod Index
 pub mod Layout
 pub mod Marks
 pub mod Messages
+pub mod Outlines
 pub mod Reader
 pub mod Readers
 pub mod Rules

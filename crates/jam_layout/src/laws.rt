@@ -6,6 +6,7 @@ ghost use Rattle.jam_records.specs.declared.subfield.Subfield.{Subfield};
 ghost use Rattle.jam_layout.specs.Layout.{layout, base_damage};
 ghost use Rattle.jam_layout.specs.Fields.{values_at};
 ghost use Rattle.jam_layout.specs.InOrder.{InOrder, FieldsFit, values_in};
+ghost use Rattle.jam_layout.specs.Outlines.{outline, SameButBodies};
 ghost use Rattle.jam_layout.specs.declared.conference.Conference.{Conference};
 ghost use Rattle.jam_layout.specs.Valid.{IsShape, ShapeFits, FilesFit, IsConference};
 ghost use Rattle.jam_layout.specs.declared.files.BaseFiles.{BaseFiles};
@@ -27,4 +28,13 @@ pub fn rising_subfields()
     ensures fill { (bytes : List ℕ) → All IsByte bytes → ((values_at bytes).left ≡ 0) ↔ ((fields : List Subfield) × InOrder fields × FieldsFit fields × (bytes ≡ subfields_text fields)) }
     ensures values { (fields : List Subfield) → InOrder fields → FieldsFit fields → values_at (subfields_text fields) ≡ values_in fields }
     ensures fit { (fields : List Subfield) → length (subfields_text fields) < 2 ^ 32 → FieldsFit fields }
+{}
+
+/// Two conferences have one outline exactly where they are the same but for bodies, and these are as long. The
+/// outline of a conference is one too. The files of both are the same but for .JDT, and that is as long.
+pub fn outlines()
+    ensures alike { (a b : Conference) → (outline a ≡ outline b) ↔ SameButBodies a b }
+    ensures conference { (shape : Shape) (c : Conference) → IsConference shape c → IsConference shape (outline c) }
+    ensures files { (shape : Shape) (c : Conference) → layout shape (outline c) ≡ record (layout shape c) { jdt = (layout shape (outline c)).jdt } }
+    ensures long { (shape : Shape) (c : Conference) → length (layout shape (outline c)).jdt ≡ length (layout shape c).jdt }
 {}

@@ -10,7 +10,7 @@ use Rattle.jam_layout.specs.Headers.{entry_text}
 use Rattle.jam_layout.specs.Index.{no_pair, pair_of}
 use Rattle.jam_layout.specs.declared.entry.Entry.{Entry}
 -- to .JDT: the body, and its length
-pub use Rattle.shared_slots.specs.Bodies.{body_piece, body_size}
+pub use Rattle.jam_layout.specs.Bodies.{body_piece, body_size}
 
 -- a message with its number and its links
 abbrev pub entry_with : ℕ → Link → Message → Entry

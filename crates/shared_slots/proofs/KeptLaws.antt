@@ -7,7 +7,7 @@ use Rattle.std.proofs.lemmas.List.Sums.{sum_by-set, sum_by-append, sum_by-cons, 
 use Rattle.jam_records.specs.declared.message.Slot.{Slot}
 use Rattle.jam_layout.specs.Conference.{live_count}
 use Rattle.jam_layout.specs.Sizes.{slot_header}
-use Rattle.shared_slots.specs.Bodies.{body_size}
+use Rattle.jam_layout.specs.Bodies.{body_size}
 use Rattle.shared_slots.specs.Kept.{AreKept, one_live}
 use Rattle.shared_slots.proofs.PlaceLaws.{places_more, places_set}
 

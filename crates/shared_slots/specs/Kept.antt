@@ -3,7 +3,7 @@ use Rattle.std.specs.Prelude.{◌≡◌, ℕ, ◌+◌, ◌≤◌, ◌<◌, ◌^�
 use Rattle.jam_records.specs.declared.message.Slot.{Slot}
 use Rattle.jam_layout.specs.Conference.{is_live, live_count}
 use Rattle.jam_layout.specs.Sizes.{slot_header}
-use Rattle.shared_slots.specs.Bodies.{body_size}
+use Rattle.jam_layout.specs.Bodies.{body_size}
 use Rattle.shared_slots.specs.PlacesFrom.{places_from}
 
 -- how many messages of a slot aren't deleted

@@ -1,7 +1,7 @@
 // What a slot has in the files of its conference.
 ghost use Rattle.std.specs.Prelude.{◌≡◌, ◌<◌, ◌^◌};
 ghost use Rattle.jam_layout.specs.Sizes.{slot_header};
-ghost use Rattle.shared_slots.specs.Bodies.{body_size};
+ghost use Rattle.jam_layout.specs.Bodies.{body_size};
 ghost use Rattle.shared_slots.specs.Kept.{one_live};
 
 use jam_layout::header_size;

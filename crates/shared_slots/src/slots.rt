@@ -2,7 +2,7 @@ ghost use Rattle.std.specs.Prelude.{◌≡◌, ◌+◌, ◌≤◌, ◌<◌, ◌^
 ghost use Rattle.std.specs.Option.{option_copied};
 ghost use Rattle.jam_layout.specs.Conference.{live_count};
 ghost use Rattle.jam_layout.specs.Sizes.{slot_header};
-ghost use Rattle.shared_slots.specs.Bodies.{body_size};
+ghost use Rattle.jam_layout.specs.Bodies.{body_size};
 
 use crate::sizes::{body_length, header_length, live_in};
 use byte_lists::Duplicate;

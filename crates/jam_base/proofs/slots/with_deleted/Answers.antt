@@ -3,7 +3,7 @@ use Rattle.std.proofs.Math.ListN.{set}
 use Rattle.jam_records.specs.declared.message.Slot.{Slot}
 use Rattle.jam_records.specs.declared.message.Slot.TheVariants.{Gone}
 use Rattle.jam_layout.specs.Sizes.{slot_header}
-use Rattle.shared_slots.specs.Bodies.{body_size}
+use Rattle.jam_layout.specs.Bodies.{body_size}
 use Rattle.shared_slots.proofs.KeptLaws.{same_item}
 use Rattle.jam_base.specs.Slots.{numbered, slot_deleted, slots_deleted}
 use Rattle.jam_base.proofs.ChangeClauses.{one_ok}

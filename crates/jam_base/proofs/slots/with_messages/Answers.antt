@@ -4,7 +4,7 @@ use Rattle.std.specs.Vec.Iter.{into_iter_items}
 use Rattle.jam_records.specs.declared.message.Message.{Message}
 use Rattle.jam_records.specs.declared.message.Slot.{Slot}
 use Rattle.jam_layout.specs.Sizes.{slot_header}
-use Rattle.shared_slots.specs.Bodies.{body_size}
+use Rattle.jam_layout.specs.Bodies.{body_size}
 use Rattle.jam_base.specs.Slots.{slots_with_all}
 use Rattle.jam_base.proofs.BaseLaws.{next_fits}
 use Rattle.jam_base.proofs.SlotChanges.{length_all}

@@ -1,6 +1,8 @@
-use Rattle.std.proofs.Common.{◌≡◌, ◌∙◌, ◌<◌, List, sym, ap, refl, length, arith}
+use Rattle.std.proofs.Common.{◌≡◌, ◌∙◌, ◌<◌, ◌==◌, true, List, sym, ap, refl, length, arith}
 use Rattle.std.specs.Prelude.{sum_by}
+use Rattle.jam_records.specs.declared.message.Message.{Message}
 use Rattle.jam_records.specs.declared.message.Slot.{Slot}
+use Rattle.jam_layout.specs.Layout.{layout}
 use Rattle.jam_layout.specs.Sizes.{slot_header}
 use Rattle.jam_writing.specs.Pieces.{body_size}
 use Rattle.jam_writing.proofs.PieceLaws.{headers_small, bodies_small}
@@ -9,9 +11,10 @@ use Rattle.jam_base.specs.Puts.{link_puts}
 use Rattle.jam_base.specs.Slots.{slots_with_all}
 use Rattle.jam_base.specs.declared.change.BaseChange.{BaseChange}
 use Rattle.jam_base.proofs.BaseLaws.{not_none, some_more}
-use Rattle.jam_base.proofs.ChangeClauses.{one_ok}
+use Rattle.jam_base.proofs.ChangeClauses.{no_change, one_ok}
 use Rattle.jam_base.proofs.AppendClauses.{extended_turns, extended_lengthens, extended_suits, extended_costs}
 use Rattle.jam_base.proofs.SlotChanges.{appended_is, length_all}
+use Rattle.jam_base.proofs.OutlineChanges.{appended_each, no_messages}
 use Rattle.jam_base.proofs.base.Base.extended.Goals as goal
 
 pub with_messages-requires-clause-few : goal.with_messages-requires-clause-few
@@ -80,3 +83,18 @@ returns-clause-bodies c =
     let count : c.len.result ≡ length base.conference.slots = c.len.ensures.count ∙ ap length c.slots-old.ensures.same in
     let links : c.in_ok-threads.links ≡ link_puts base.shape.place base.conference.slots base.conference.slots c.args.messages = c.in_ok-threads.ensures.patches ∙ ap (link_puts base.shape.place base.conference.slots base.conference.slots) c.as_slice-2.ensures in
     extended_lengthens base c.in_ok-slots.slots c.args.messages c.in_ok-base.base c.len.result c.in_ok-threads.links c.of_appended.result slots c.in_ok-base.ensures count links c.of_appended.ensures.base c.of_appended.ensures.patches
+
+pub returns-clause-each : goal.returns-clause-each
+returns-clause-each c =
+    let base : Contents = c.args.self.now in
+    let slots : c.in_ok-slots.slots ≡ slots_with_all base.conference.slots c.args.messages = c.in_ok-slots.ensures ∙ ap (λ (xs : List Slot). slots_with_all xs c.args.messages) c.slots-old.ensures.same in
+    let some : 0 < length c.args.messages = omega (arith, ap length c.as_slice.ensures, not_none (length c.as_slice.result.now) (sym c.is_empty.ensures ∙ c.if-is_empty.false)) in
+    let made : c.in_ok-base.base ≡ with_messages c.args.messages base = c.in_ok-base.ensures ∙ (ap (λ (xs : List Slot). with_slots xs base) slots ∙ sym (some_more c.args.messages base some)) in
+    appended_each base c.in_ok-base.base c.of_appended.result c.of_appended.ensures.base (returns-clause-files c) (returns-clause-bodies c) c.args.messages made
+
+pub returns-then-is_empty-clause-each : goal.returns-then-is_empty-clause-each
+returns-then-is_empty-clause-each c =
+    let base : Contents = c.args.self.now in
+    let none : (length c.args.messages == 0) ≡ true = ap (λ (ms : List Message). length ms == 0) (sym c.as_slice.ensures) ∙ (sym c.is_empty.ensures ∙ c.if-is_empty.true) in
+    let turns = no_change base.shape.place (layout base.shape base.conference) base base c.unchanged.result refl c.unchanged.ensures.base c.unchanged.ensures.patches in
+    appended_each base base c.unchanged.result c.unchanged.ensures.base turns c.unchanged.ensures.bodies c.args.messages (no_messages c.args.messages base none)

@@ -1,10 +1,12 @@
-use Rattle.std.proofs.Common.{◌≡◌, ◌∙◌, ℕ, true, Ok, Result, sym, ap}
-use Rattle.jam_base.specs.Contents.{Contents}
+use Rattle.std.proofs.Common.{◌≡◌, ◌∙◌, ℕ, true, List, Ok, Result, sym, ap}
+use Rattle.jam_records.specs.declared.message.Slot.{Slot}
+use Rattle.jam_base.specs.Contents.{Contents, with_slots}
 use Rattle.jam_base.specs.Slots.{has_live, slots_deleted}
 use Rattle.jam_base.specs.declared.change.BaseChange.{BaseChange}
 use Rattle.jam_base.proofs.BaseLaws.{deleted_threads}
 use Rattle.jam_base.proofs.SlotChanges.{live_above, live_within, deleted_is}
 use Rattle.jam_base.proofs.MarkClauses.{killed_turns, killed_lengthens, killed_suits, killed_costs}
+use Rattle.jam_base.proofs.OutlineChanges.{killed_each}
 use Rattle.jam_base.proofs.base.Base.killed.Goals as goal
 
 pub changed-requires-clause-conference : goal.changed-requires-clause-conference
@@ -64,3 +66,11 @@ returns-clause-bodies c =
     let live : has_live c.args.number base.conference.slots ≡ true = sym (c.has_live.ensures ∙ ap (has_live c.args.number) c.slots-old.ensures.same) ∙ c.if-not-has_live.false in
     let change : Result BaseChange ℕ = Ok c.in_ok-of_marks.field-0 in
     killed_lengthens base c.args.number c.in_ok-slots.slots c.in_ok-marks.marks c.in_ok-base.base change live slots c.in_ok-marks.ensures c.in_ok-base.ensures c.in_ok-of_marks.ensures.base c.in_ok-of_marks.ensures.patches
+
+pub returns-clause-each : goal.returns-clause-each
+returns-clause-each c =
+    let base : Contents = c.args.self.now in
+    let slots : c.in_ok-slots.slots ≡ slots_deleted c.args.number base.conference.slots = c.in_ok-slots.ensures ∙ ap (slots_deleted c.args.number) c.slots-old.ensures.same in
+    let live : has_live c.args.number base.conference.slots ≡ true = sym (c.has_live.ensures ∙ ap (has_live c.args.number) c.slots-old.ensures.same) ∙ c.if-not-has_live.false in
+    let change : Result BaseChange ℕ = Ok c.in_ok-of_marks.field-0 in
+    killed_each base c.in_ok-base.base change c.in_ok-of_marks.ensures.base (returns-clause-files c) (returns-clause-bodies c) c.args.number live (c.in_ok-base.ensures ∙ ap (λ (xs : List Slot). with_slots xs base) slots)

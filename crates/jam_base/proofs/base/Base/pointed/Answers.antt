@@ -7,6 +7,7 @@ use Rattle.jam_base.specs.declared.change.BaseChange.{BaseChange}
 use Rattle.jam_base.proofs.ChangeClauses.{one_ok}
 use Rattle.jam_base.proofs.PointerPuts.{pointed_turns, pointed_lengthens, pointed_suits}
 use Rattle.jam_base.proofs.ReadingLaws.{pointer_there}
+use Rattle.jam_base.proofs.OutlineChanges.{pointed_each}
 use Rattle.jam_base.proofs.base.Base.pointed.Goals as goal
 
 pub returns-clause-files : goal.returns-clause-files
@@ -46,3 +47,11 @@ returns-clause-bodies c =
     pointed_lengthens base c.args.user c.args.number c.in-Some.place c.in_ok-base.base c.of_pointer.result there c.shape.ensures.is_conference.pointers.all made c.of_pointer.ensures.base
     (one_ok (λ (change : BaseChange). change.patches ≡ c.new.result ++ pointer_patch c.in_ok-base.base c.in-Some.place c.args.number ∷ []) (λ (change : BaseChange). change.patches ≡ pointer_patch c.in_ok-base.base c.in-Some.place c.args.number ∷ []) c.of_pointer.result
     (λ change p. p ∙ ap (λ (ps : List Patch). ps ++ pointer_patch c.in_ok-base.base c.in-Some.place c.args.number ∷ []) c.new.ensures) c.of_pointer.ensures.patches)
+
+pub returns-clause-each : goal.returns-clause-each
+returns-clause-each c =
+    let base : Contents = c.args.self.now in
+    let found : reader_place c.args.user c.shape.result.now.readers ≡ Some c.in-Some.place = sym c.position.ensures.place ∙ c.in-Some.is in
+    let there : reader_place c.args.user base.shape.readers ≡ Some c.in-Some.place = ap (λ (s : Shape). reader_place c.args.user s.readers) (sym c.shape.ensures.same) ∙ found in
+    let made : c.in_ok-base.base ≡ with_pointer c.args.user c.args.number base = c.in_ok-base.ensures ∙ pointer_there base c.args.user c.args.number c.in-Some.place there in
+    pointed_each base c.in_ok-base.base c.of_pointer.result c.of_pointer.ensures.base (returns-clause-files c) (returns-clause-bodies c) c.args.user c.args.number made

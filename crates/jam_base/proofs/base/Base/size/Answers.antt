@@ -4,7 +4,7 @@ use Rattle.std.proofs.lemmas.List.{take_all}
 use Rattle.jam_records.specs.declared.message.Slot.{Slot}
 use Rattle.jam_layout.specs.Sizes.{slot_header}
 use Rattle.jam_layout.specs.Valid.{IsConference}
-use Rattle.shared_slots.specs.Bodies.{body_size}
+use Rattle.jam_layout.specs.Bodies.{body_size}
 use Rattle.jam_base.specs.Contents.{Contents}
 use Rattle.jam_base.proofs.BaseLaws.{size_apart}
 use Rattle.jam_base.proofs.base.Base.size.Goals as goal

@@ -1,7 +1,7 @@
 use Rattle.std.proofs.Common.{◌≡◌, ◌∙◌, ◌+◌, ◌≤◌, ℕ, List, length, take, get_or, ap, zero-add, arith}
 use Rattle.std.specs.Prelude.{sum_by}
 use Rattle.jam_records.specs.declared.message.Slot.{Slot}
-use Rattle.shared_slots.specs.Bodies.{body_size}
+use Rattle.jam_layout.specs.Bodies.{body_size}
 use Rattle.shared_slots.proofs.PlaceLaws.{places_length, place_at, sum_front}
 use Rattle.shared_slots.proofs.slots.SharedSlots.body_place.Goals as goal
 

@@ -2,7 +2,7 @@ use Rattle.std.proofs.Common.{◌≡◌, ◌∙◌, ◌<◌, ◌-◌, ℕ, List,
 use Rattle.std.proofs.Math.ListN.{set}
 use Rattle.jam_records.specs.declared.message.Slot.{Slot}
 use Rattle.jam_layout.specs.Sizes.{slot_header}
-use Rattle.shared_slots.specs.Bodies.{body_size}
+use Rattle.jam_layout.specs.Bodies.{body_size}
 use Rattle.shared_slots.specs.Kept.{one_live}
 use Rattle.shared_slots.proofs.KeptLaws.{kept_set, same_item}
 use Rattle.shared_slots.proofs.slots.SharedSlots.replaced.Goals as goal
