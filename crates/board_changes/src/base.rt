@@ -4,7 +4,6 @@ ghost use Rattle.board_changes.specs.Changed.{base_at, with_base as with_base_of
 ghost use Rattle.board_layout.specs.Valid.{IsBoard};
 
 use crate::change::BoardChange;
-use crate::copy::copy_of;
 use crate::gather::add_all;
 use board_layout::StoredBoard;
 use byte_lists::List;
@@ -39,13 +38,12 @@ pub fn with_base(
     ensures becomes { IfOk result (λ next. Becomes board.now (with_base_of place (Some change.base) board.now) next) }
     ensures patches { IfOk result (λ next. next.intent ≡ change.patches) }
 {
-    let ledger = board.ledger();
+    let _ledger = board.ledger();
     let mut intent = Intent::new(alloc);
     add_all(&mut intent, change.patches)?;
     let bases = only_in(alloc, place, change.base)?;
-    // The ledger is the dearest to drop, so it is copied where no exit follows.
     Ok(BoardChange {
-        ledger: copy_of(alloc, ledger)?,
+        ledger: None,
         bases,
         intent,
     })

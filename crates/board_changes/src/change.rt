@@ -6,8 +6,8 @@ use jam_base::Base;
 /// What a change of a board makes new, and the change of its files.
 #[derive(Drop)]
 pub struct BoardChange {
-    /// The next ledger.
-    pub ledger: Ledger,
+    /// The next ledger, or None where it stays.
+    pub ledger: Option<Ledger>,
     /// By place, the next base of each conference that changes, and None for the others.
     pub bases: List<Option<Base>>,
     /// What makes the data files of the next board of those before.

@@ -107,7 +107,7 @@ fn enrolled_as(alloc: Global, board: &StoredBoard, user: &User) -> Result<BoardC
     let mut intent = ledger_intent(alloc, &next)?;
     let bases = joined_bases(alloc, board, user, &mut intent)?;
     Ok(BoardChange {
-        ledger: next,
+        ledger: Some(next),
         bases,
         intent,
     })

@@ -1,4 +1,4 @@
-ghost use Rattle.std.specs.Prelude.{◌≡◌, ◌≤◌, ◌<◌, ◌^◌, map, sum_by, slice_get, MatchOption};
+ghost use Rattle.std.specs.Prelude.{◌≡◌, ◌≤◌, ◌<◌, ◌^◌, map, sum_by, slice_get, unwrap_or, MatchOption};
 ghost use Rattle.std.specs.Option.{option_copied, option_map};
 ghost use Rattle.board_layout.specs.Board.{board_with, conferences_in, shapes_in, shapes_of};
 ghost use Rattle.board_layout.specs.Layout.{base_size, board_size};
@@ -47,6 +47,15 @@ fn bases_size(bases: &[Base]) -> u64
         size += base.size();
     }
     size
+}
+
+/// Puts the next ledger in place of the old one, where there is one.
+fn renew_ledger(ledger: &mut Ledger, next: Option<Ledger>)
+    ensures { ledger.new ≡ unwrap_or next ledger.old }
+{
+    if let Some(next) = next {
+        *ledger = next;
+    }
 }
 
 /// Puts each new base in place of the old one.
@@ -112,14 +121,15 @@ impl StoredBoard {
         (self.ledger, List::from_vec(self.bases))
     }
 
-    /// Puts a ledger in place of its own, and each new conference in place of the old one. It takes no memory.
-    pub fn renew(&mut self, ledger: Ledger, bases: List<Option<Base>>)
-        requires board { IsBoard (board_with ledger (renewed (contents_of self.old) bases)) }
-        requires shapes { shapes_in (renewed (contents_of self.old) bases) ≡ shapes_of ledger }
-        ensures { self.new ≡ board_with ledger (renewed (contents_of self.old) bases) }
+    /// Puts a ledger in place of its own, where there is one, and each new conference in place of the old one. It
+    /// takes no memory.
+    pub fn renew(&mut self, ledger: Option<Ledger>, bases: List<Option<Base>>)
+        requires board { IsBoard (board_with (unwrap_or ledger self.old.ledger) (renewed (contents_of self.old) bases)) }
+        requires shapes { shapes_in (renewed (contents_of self.old) bases) ≡ shapes_of (unwrap_or ledger self.old.ledger) }
+        ensures { self.new ≡ board_with (unwrap_or ledger self.old.ledger) (renewed (contents_of self.old) bases) }
     {
         renew_bases(&mut self.bases, bases.into_vec());
-        self.ledger = ledger;
+        renew_ledger(&mut self.ledger, ledger);
     }
 
     /// How many bytes its data files have together, at most 33,554,432. It takes no memory.

@@ -42,7 +42,8 @@ impl Board {
     pub fn load<H: Host>(alloc: Global, host: &mut H) -> Result<Loaded, ReadError>
         requires { IsTrue H.tells → IsSettled (H.disk host.old) }
 
-        // A crash at any moment leaves what recovers to the same files.
+        // A crash at any moment leaves what recovers to the same files; or, from a host that is only settled, files as a
+        // crash at entry could have left them. From a firm host it is always the first.
         ensures moments { IsTrue H.tells → Between (H.disk host.old) (H.disk host.new) (Back (H.disk host.old)) }
         ensures now { IsTrue H.tells → IsFirm (H.disk host.old) → AllNow (H.disk host.new) (Back (H.disk host.old)) }
         ensures same { IsTrue H.tells → Back (H.disk host.old) (as_read (H.disk host.new)) }

@@ -128,7 +128,7 @@ pub fn acknowledged(
     let mut intent = ledger_intent(alloc, &ledger)?;
     let bases = bases_read(alloc, board, user, reader, now, &mut intent)?;
     Ok(BoardChange {
-        ledger,
+        ledger: Some(ledger),
         bases,
         intent,
     })

@@ -44,7 +44,7 @@ pub fn offered(
     let ledger = with_user(alloc, board.ledger(), user, next)?;
     let intent = ledger_intent(alloc, &ledger)?;
     Ok(BoardChange {
-        ledger,
+        ledger: Some(ledger),
         bases: List::new(alloc),
         intent,
     })

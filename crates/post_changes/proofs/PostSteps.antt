@@ -30,7 +30,7 @@ use Rattle.jam_records.specs.declared.message.Message.{Message}
 use Rattle.post_changes.proofs.PlacePosts.{count_posts}
 use Rattle.post_changes.proofs.PostLaws.{base_posted, contents_count, contents_places, shapes_places}
 use Rattle.post_changes.specs.Posted.{posted_in, posted_with, posts_in}
-use Rattle.post_changes.specs.Posting.{Posting, SpentSoFar, posts_before, size_before}
+use Rattle.post_changes.specs.Posting.{Posting, SpentSoFar, next_ledger, posts_before, size_before}
 
 -- ---- how many posts, and how many bytes
 before_here : (n place : ℕ) → cond (nat_lt n (place + 1)) 1 0 ≡ cond (nat_lt n place) 1 0 + cond (n == place) 1 0
@@ -80,12 +80,12 @@ no_files (f ∷ files) = refl
 pub spent_begun : (b : Board) (posts : List (ℕ × Message)) (l : Ledger) (patches : List Patch) → length patches ≤ 2 → length (ledger_text b.ledger) + byte_count patches ≤ length (ledger_text l) + 4 → SpentSoFar b posts 0 l patches
 spent_begun b posts l patches few grown = record { few = omega (arith, few); grown = omega (arith, grown, no_files (base_files b), no_files (base_files (posted_with l posts b))) }
 
-pub posting_begun : (b : Board) (posts : List (ℕ × Message)) (change : BoardChange) → shapes_of change.ledger ≡ shapes_of b.ledger → IsBoard (posted_with change.ledger posts b) → change.bases ≡ []
-    → Gathered (IsLayout b) (ledger_text change.ledger) (base_files b) (base_files (posted_with change.ledger posts b)) 0 change.intent → SpentSoFar b posts 0 change.ledger change.intent → Posting b posts 0 change
+pub posting_begun : (b : Board) (posts : List (ℕ × Message)) (change : BoardChange) → shapes_of (next_ledger b change) ≡ shapes_of b.ledger → IsBoard (posted_with (next_ledger b change) posts b) → change.bases ≡ []
+    → Gathered (IsLayout b) (ledger_text (next_ledger b change)) (base_files b) (base_files (posted_with (next_ledger b change) posts b)) 0 change.intent → SpentSoFar b posts 0 (next_ledger b change) change.intent → Posting b posts 0 change
 posting_begun b posts change shapes next none gathered spent = record {
   shapes = shapes;
   next = next;
-  bases = ap (renewed (take 0 (contents_of b))) none ∙ none_yet (contents_of b) (contents_of (posted_with change.ledger posts b));
+  bases = ap (renewed (take 0 (contents_of b))) none ∙ none_yet (contents_of b) (contents_of (posted_with (next_ledger b change) posts b));
   counted = ap length none;
   gathered = gathered;
   spent = spent;
@@ -95,17 +95,17 @@ posting_begun b posts change shapes next none gathered spent = record {
 module _ (b : Board) (posts : List (ℕ × Message)) (place : ℕ) (base : Contents) (change : BoardChange) (made : Option BaseChange) (ok : IsBoard b) (here : slice_get (contents_of b) place ≡ Some base)
     (is : base_after base made ≡ posted_in b posts place base) (changes : IfSome made (Changes base)) (so_far : Posting b posts place change) where
   abbrev next : Board
-  next = posted_with change.ledger posts b
+  next = posted_with (next_ledger b change) posts b
 
   there : slice_get (contents_of next) place ≡ Some (base_after base made)
-  there = base_posted b posts change.ledger ok so_far.shapes place base here ∙ ap Some (sym is)
+  there = base_posted b posts (next_ledger b change) ok so_far.shapes place base here ∙ ap Some (sym is)
 
   pub post_joins : IfSome made (λ c. Joins change.intent c.patches)
   post_joins = change_joins change.intent made
       (step_joins b next place base (base_after base made) change.intent (patches_of made) ok so_far.next here there so_far.gathered
       (change_turns base (base_after base made) made changes refl) (change_suits base (base_after base made) made changes refl))
 
-  spent_more : SpendsHere (length (posts_in place posts)) (files_in base) (files_in (base_after base made)) (patches_of made) → SpentSoFar b posts (place + 1) change.ledger (change.intent ++ patches_of made)
+  spent_more : SpendsHere (length (posts_in place posts)) (files_in base) (files_in (base_after base made)) (patches_of made) → SpentSoFar b posts (place + 1) (next_ledger b change) (change.intent ++ patches_of made)
   spent_more costs =
       let posts_more = before_more place posts in
       record {
@@ -138,27 +138,27 @@ module _ (b : Board) (posts : List (ℕ × Message)) (place : ℕ) (base : Conte
       subst (Posting b posts (place + 1)) (sym all) (one_more new costs same)
 
 -- ---- all places
-pub posts_become : (b : Board) (posts : List (ℕ × Message)) (count : ℕ) (change : BoardChange) → IsBoard b → count ≡ length (contents_of b) → Posting b posts count change → Becomes b (posted_with change.ledger posts b) change
+pub posts_become : (b : Board) (posts : List (ℕ × Message)) (count : ℕ) (change : BoardChange) → IsBoard b → count ≡ length (contents_of b) → Posting b posts count change → Becomes b (posted_with (next_ledger b change) posts b) change
 posts_become b posts count change ok all posting =
-    let next : Board = posted_with change.ledger posts b in
-    let places : length (contents_of b) ≡ length b.conferences = contents_places b posts change.ledger ok posting.shapes in
+    let next : Board = posted_with (next_ledger b change) posts b in
+    let places : length (contents_of b) ≡ length b.conferences = contents_places b posts (next_ledger b change) ok posting.shapes in
     let end : count ≡ length b.conferences = all ∙ places in
     record {
       ledger = refl;
       bases = ap (λ (xs : List Contents). renewed xs change.bases) (sym (take_all count (contents_of b) (omega (arith, all))))
-          ∙ (posting.bases ∙ take_all count (contents_of next) (omega (arith, all, contents_count b posts change.ledger ok posting.shapes)));
-      intent = leads_next b next change.intent ok posting.next (shapes_places change.ledger b.ledger posting.shapes) (subst (λ (k : ℕ). Gathered (IsLayout b) (ledger_text change.ledger) (base_files b) (base_files next) k change.intent) end posting.gathered);
+          ∙ (posting.bases ∙ take_all count (contents_of next) (omega (arith, all, contents_count b posts (next_ledger b change) ok posting.shapes)));
+      intent = leads_next b next change.intent ok posting.next (shapes_places (next_ledger b change) b.ledger posting.shapes) (subst (λ (k : ℕ). Gathered (IsLayout b) (ledger_text (next_ledger b change)) (base_files b) (base_files next) k change.intent) end posting.gathered);
     }
 
 -- the size of all data files
 size_all : (b : Board) (count : ℕ) → IsBoard b → count ≡ length b.ledger.setup.conferences → size_before count b ≡ board_size b
 size_all b count ok all = ap (λ (files : List BaseFiles). length (ledger_text b.ledger) + sum_by files_size files) (take_all count (base_files b) (omega (arith, all, files_count b ok)))
 
-pub posts_spend : (b : Board) (posts : List (ℕ × Message)) (count : ℕ) (change : BoardChange) → IsBoard b → count ≡ length (contents_of b) → Posting b posts count change → Spends (length posts) b (posted_with change.ledger posts b) change.intent
+pub posts_spend : (b : Board) (posts : List (ℕ × Message)) (count : ℕ) (change : BoardChange) → IsBoard b → count ≡ length (contents_of b) → Posting b posts count change → Spends (length posts) b (posted_with (next_ledger b change) posts b) change.intent
 posts_spend b posts count change ok all posting =
-    let next : Board = posted_with change.ledger posts b in
-    let places : count ≡ length b.ledger.setup.conferences = all ∙ (contents_places b posts change.ledger ok posting.shapes ∙ (places_count b ok ∙ files_count b ok)) in
-    let places_next : count ≡ length next.ledger.setup.conferences = places ∙ shapes_places change.ledger b.ledger posting.shapes in
+    let next : Board = posted_with (next_ledger b change) posts b in
+    let places : count ≡ length b.ledger.setup.conferences = all ∙ (contents_places b posts (next_ledger b change) ok posting.shapes ∙ (places_count b ok ∙ files_count b ok)) in
+    let places_next : count ≡ length next.ledger.setup.conferences = places ∙ shapes_places (next_ledger b change) b.ledger posting.shapes in
     let most : posts_before count posts ≤ length posts = count_by-le-length (λ (post : ℕ × Message). nat_lt post.0 count) posts in
     record {
       few = omega (arith, posting.spent.few, most);

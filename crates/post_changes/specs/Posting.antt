@@ -1,5 +1,5 @@
 -- A change of a board by posts, place by place.
-use Rattle.std.specs.Prelude.{◌≡◌, ℕ, ◌+◌, ◌*◌, ◌≤◌, List, length, take, count_by, nat_lt, sum_by}
+use Rattle.std.specs.Prelude.{◌≡◌, ℕ, ◌+◌, ◌*◌, ◌≤◌, List, length, take, count_by, nat_lt, sum_by, unwrap_or}
 use Rattle.board_changes.specs.Gathered.{Gathered}
 use Rattle.board_changes.specs.declared.change.BoardChange.{BoardChange}
 use Rattle.board_layout.specs.Board.{Board, shapes_of}
@@ -27,12 +27,16 @@ pub record SpentSoFar (b : Board) (posts : List (ℕ × Message)) (count : ℕ) 
   pub few : length patches ≤ 2 + 5 * posts_before count posts
   pub grown : size_before count b + byte_count patches ≤ size_before count (posted_with l posts b) + (4 + 12 * posts_before count posts)
 
--- the change has its ledger, by which the next board is valid and its conferences have the same shapes, and of the first
--- places the bases with their posts and the patches of their files
+-- the ledger behind a change of a board: that of the change, or where it has none, the board's
+abbrev pub next_ledger : Board → BoardChange → Ledger
+next_ledger b change = unwrap_or change.ledger b.ledger
+
+-- by the ledger behind the change the next board is valid, and its conferences have the same shapes; of the first places
+-- the change has the bases with their posts and the patches of their files
 pub record Posting (b : Board) (posts : List (ℕ × Message)) (count : ℕ) (change : BoardChange) : Type 0 where
-  pub shapes : shapes_of change.ledger ≡ shapes_of b.ledger
-  pub next : IsBoard (posted_with change.ledger posts b)
-  pub bases : renewed (take count (contents_of b)) change.bases ≡ take count (contents_of (posted_with change.ledger posts b))
+  pub shapes : shapes_of (next_ledger b change) ≡ shapes_of b.ledger
+  pub next : IsBoard (posted_with (next_ledger b change) posts b)
+  pub bases : renewed (take count (contents_of b)) change.bases ≡ take count (contents_of (posted_with (next_ledger b change) posts b))
   pub counted : length change.bases ≡ count
-  pub gathered : Gathered (IsLayout b) (ledger_text change.ledger) (base_files b) (base_files (posted_with change.ledger posts b)) count change.intent
-  pub spent : SpentSoFar b posts count change.ledger change.intent
+  pub gathered : Gathered (IsLayout b) (ledger_text (next_ledger b change)) (base_files b) (base_files (posted_with (next_ledger b change) posts b)) count change.intent
+  pub spent : SpentSoFar b posts count (next_ledger b change) change.intent

@@ -1,4 +1,4 @@
-ghost use Rattle.std.specs.Prelude.{◌≡◌, ◌+◌, Some, length, IfOk, OnOk};
+ghost use Rattle.std.specs.Prelude.{◌≡◌, ◌+◌, Some, length, unwrap_or, IfOk, OnOk};
 ghost use Rattle.board_changes.specs.Change.{Becomes};
 ghost use Rattle.board_changes.specs.Changed.{base_at};
 ghost use Rattle.board_changes.specs.Gathered.{Gathered};
@@ -8,10 +8,9 @@ ghost use Rattle.board_layout.specs.Layout.{IsLayout, base_files};
 ghost use Rattle.board_layout.specs.Valid.{IsBoard};
 ghost use Rattle.board_ledger.specs.Ledger.{ledger_text};
 ghost use Rattle.post_changes.specs.Posted.{ArePlaced, posted_with, spread as spread_of};
-ghost use Rattle.post_changes.specs.Posting.{Posting, SpentSoFar};
+ghost use Rattle.post_changes.specs.Posting.{Posting, SpentSoFar, next_ledger};
 
 use crate::place::place_posted;
-use crate::record::with_uploads;
 use board_changes::BoardChange;
 use board_layout::StoredBoard;
 use board_ledger::Ledger;
@@ -58,8 +57,8 @@ fn add_bases(
     change: &mut BoardChange,
 ) -> Result<(), AllocError>
     requires { Posting board.now posts.now 0 change.old }
-    ensures becomes { OnOk result (Becomes board.now (posted_with change.old.ledger posts.now board.now) change.new) }
-    ensures costs { OnOk result (Spends (length posts.now) board.now (posted_with change.old.ledger posts.now board.now) change.new.intent) }
+    ensures becomes { OnOk result (Becomes board.now (posted_with (next_ledger board.now change.old) posts.now board.now) change.new) }
+    ensures costs { OnOk result (Spends (length posts.now) board.now (posted_with (next_ledger board.now change.old) posts.now board.now) change.new.intent) }
 {
     for (place, base) in board.bases().iter().enumerate() {
         add_base(alloc, board, place as u8, base, posts, change)?;
@@ -67,21 +66,21 @@ fn add_bases(
     Ok(())
 }
 
-/// The change of a board to another ledger, whose file the intent makes, with posts at the ends of their
-/// conferences. The conferences have the same shapes by both ledgers, and the board that it makes is valid.
+/// The change of a board to another ledger, where there is one, whose file the intent makes, with posts at the ends of
+/// their conferences. The conferences have the same shapes by both ledgers, and the board that it makes is valid.
 pub(crate) fn posted(
     alloc: Global,
     board: &StoredBoard,
-    ledger: Ledger,
+    ledger: Option<Ledger>,
     intent: Intent,
     posts: &[Post],
 ) -> Result<BoardChange, AllocError>
-    requires shapes { shapes_of ledger ≡ shapes_of board.now.ledger }
-    requires next { IsBoard (posted_with ledger posts.now board.now) }
-    requires gathered { Gathered (IsLayout board.now) (ledger_text ledger) (base_files board.now) (base_files (posted_with ledger posts.now board.now)) 0 intent }
-    requires spent { SpentSoFar board.now posts.now 0 ledger intent }
-    ensures becomes { IfOk result (Becomes board.now (posted_with ledger posts.now board.now)) }
-    ensures costs { IfOk result (λ change. Spends (length posts.now) board.now (posted_with ledger posts.now board.now) change.intent) }
+    requires shapes { shapes_of (unwrap_or ledger board.now.ledger) ≡ shapes_of board.now.ledger }
+    requires next { IsBoard (posted_with (unwrap_or ledger board.now.ledger) posts.now board.now) }
+    requires gathered { Gathered (IsLayout board.now) (ledger_text (unwrap_or ledger board.now.ledger)) (base_files board.now) (base_files (posted_with (unwrap_or ledger board.now.ledger) posts.now board.now)) 0 intent }
+    requires spent { SpentSoFar board.now posts.now 0 (unwrap_or ledger board.now.ledger) intent }
+    ensures becomes { IfOk result (Becomes board.now (posted_with (unwrap_or ledger board.now.ledger) posts.now board.now)) }
+    ensures costs { IfOk result (λ change. Spends (length posts.now) board.now (posted_with (unwrap_or ledger board.now.ledger) posts.now board.now) change.intent) }
 {
     let mut change = BoardChange {
         ledger,
@@ -103,7 +102,5 @@ pub fn spread(alloc: Global, board: &StoredBoard, posts: &Posts) -> Result<Board
     ensures becomes { IfOk result (Becomes board.now (spread_of posts.now board.now)) }
     ensures costs { IfOk result (λ change. Spends (length posts.now) board.now (spread_of posts.now board.now) change.intent) }
 {
-    let old = board.ledger();
-    let ledger = with_uploads(alloc, old, old.uploads.copy(alloc)?)?;
-    posted(alloc, board, ledger, Intent::new(alloc), posts.as_slice())
+    posted(alloc, board, None, Intent::new(alloc), posts.as_slice())
 }

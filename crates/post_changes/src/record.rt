@@ -31,11 +31,7 @@ pub(crate) fn record_of(user: u32, digest: &[u8; 32], refused: u32, posts: &[Pos
 }
 
 /// The ledger with other upload records.
-pub(crate) fn with_uploads(
-    alloc: Global,
-    ledger: &Ledger,
-    uploads: Uploads,
-) -> Result<Ledger, AllocError>
+fn with_uploads(alloc: Global, ledger: &Ledger, uploads: Uploads) -> Result<Ledger, AllocError>
     ensures { IfOk result (λ next. next ≡ record ledger.now { uploads = uploads }) }
 {
     Ok(Ledger {

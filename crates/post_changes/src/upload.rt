@@ -54,5 +54,5 @@ pub fn uploaded(
     let upload = record_of(user, digest, refused, posts);
     let intent = upload_intent(alloc, old, &upload)?;
     let ledger = with_record(alloc, old, upload)?;
-    posted(alloc, board, ledger, intent, posts)
+    posted(alloc, board, Some(ledger), intent, posts)
 }

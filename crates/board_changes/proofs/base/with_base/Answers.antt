@@ -1,4 +1,4 @@
-use Rattle.std.proofs.Common.{◌≡◌, ◌++◌, List, Some, sym, ap, ◌∙◌, subst}
+use Rattle.std.proofs.Common.{◌≡◌, ◌++◌, List, Some, refl, sym, ap, ◌∙◌, subst}
 use Rattle.board_changes.specs.Change.{Leads}
 use Rattle.board_changes.specs.Changed.{base_at, with_base}
 use Rattle.board_changes.specs.Gathered.{Joins}
@@ -25,7 +25,7 @@ returns-clause-becomes c =
     let there = changed_there (base_at c.args.place b) c.args.change c.requires.change in
     let added : c.add_all.new.intent ≡ c.args.change.patches = c.in_ok-add_all.ensures ∙ ap (λ (intent : List Patch). intent ++ c.args.change.patches) c.new-intent.ensures in
     record {
-      ledger = c.in_ok-copy_of.ensures ∙ c.ledger-ledger.ensures.ledger;
+      ledger = refl;
       bases = ap (renewed (contents_of b)) c.in_ok-bases.ensures ∙ base_becomes b c.args.place there.0 c.args.change c.ledger-ledger.ensures.board there.1 there.2 c.requires.next;
       intent = subst (Leads (IsLayout b) (with_base c.args.place (Some c.args.change.base) b)) (sym added) (base_leads b c.args.place there.0 c.args.change c.ledger-ledger.ensures.board there.1 there.2 c.requires.next);
     }

@@ -5,11 +5,12 @@ use Rattle.board_layout.specs.Board.{Board}
 use Rattle.jam_base.specs.declared.change.BaseChange.{BaseChange}
 use Rattle.post_changes.proofs.PostLaws.{posted_there}
 use Rattle.post_changes.proofs.PostSteps.{post_joins, post_more}
+use Rattle.post_changes.specs.Posting.{next_ledger}
 use Rattle.post_changes.proofs.post.add_base.Goals as goal
 
 pub place_posted-requires-clause-next : goal.place_posted-requires-clause-next
 place_posted-requires-clause-next c =
-    posted_there c.args.board.now c.args.posts.now c.args.change.now.ledger c.requires.board c.requires.so_far.shapes c.requires.so_far.next c.args.place c.args.base.now c.requires.base
+    posted_there c.args.board.now c.args.posts.now (next_ledger c.args.board.now c.args.change.now) c.requires.board c.requires.so_far.shapes c.requires.so_far.next c.args.place c.args.base.now c.requires.base
 
 pub gather-requires : goal.gather-requires
 gather-requires c =

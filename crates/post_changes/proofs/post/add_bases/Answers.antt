@@ -1,4 +1,5 @@
-use Rattle.std.proofs.Common.{◌∙◌, length, subst, arith}
+use Rattle.std.proofs.Common.{◌∙◌, Option, length, subst, arith}
+use Rattle.std.specs.Prelude.{unwrap_or}
 use Rattle.board_changes.proofs.MemberLaws.{place_small}
 use Rattle.board_changes.specs.Change.{Becomes}
 use Rattle.board_changes.specs.Spending.{Spends}
@@ -26,11 +27,11 @@ pub returns-clause-becomes : goal.returns-clause-becomes
 returns-clause-becomes c =
     let b : Board = c.args.board.now in
     let v = c.loop-place.invariant in
-    subst (λ (l : Ledger). Becomes b (posted_with l c.args.posts.now b) c.loop-place.change) v.ledger (posts_become b c.args.posts.now c.loop-place.place c.loop-place.change c.bases-base-items.ensures.board (omega (arith, v.end)) v.so_far)
+    subst (λ (l : Option Ledger). Becomes b (posted_with (unwrap_or l b.ledger) c.args.posts.now b) c.loop-place.change) v.ledger (posts_become b c.args.posts.now c.loop-place.place c.loop-place.change c.bases-base-items.ensures.board (omega (arith, v.end)) v.so_far)
 
 pub returns-clause-costs : goal.returns-clause-costs
 returns-clause-costs c =
     let b : Board = c.args.board.now in
     let posts = c.args.posts.now in
     let v = c.loop-place.invariant in
-    subst (λ (l : Ledger). Spends (length posts) b (posted_with l posts b) c.loop-place.change.intent) v.ledger (posts_spend b posts c.loop-place.place c.loop-place.change c.bases-base-items.ensures.board (omega (arith, v.end)) v.so_far)
+    subst (λ (l : Option Ledger). Spends (length posts) b (posted_with (unwrap_or l b.ledger) posts b) c.loop-place.change.intent) v.ledger (posts_spend b posts c.loop-place.place c.loop-place.change c.bases-base-items.ensures.board (omega (arith, v.end)) v.so_far)

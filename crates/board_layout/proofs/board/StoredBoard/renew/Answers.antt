@@ -1,7 +1,9 @@
 use Rattle.std.proofs.Common.{◌≡◌, ◌∙◌, ◌++◌, List, length, take, drop, sym, ap, subst, arith}
 use Rattle.std.proofs.Math.Seq.{take-append_seam}
 use Rattle.jam_base.specs.Contents.{Contents}
-use Rattle.board_layout.specs.Board.{board_with, shapes_in, shapes_of}
+use Rattle.std.specs.Prelude.{unwrap_or}
+use Rattle.board_ledger.specs.declared.ledger.Ledger.{Ledger}
+use Rattle.board_layout.specs.Board.{Board, board_with, shapes_in, shapes_of}
 use Rattle.board_layout.specs.Renewed.{contents_of, renewed}
 use Rattle.board_layout.specs.Valid.{IsBoard}
 use Rattle.board_layout.proofs.RenewedBases.{contents_are, renewed_count}
@@ -17,7 +19,9 @@ invariant_of-self c =
     let count : c.self.inside.bases.len ≡ length new = omega (arith, ap length made, renewed_count (contents_of c.args.self.now) c.args.bases, ap length from, c.self.inside.bases.ok.0) in
     let taken : take c.self.inside.bases.len (new ++ drop (length new) old) ≡ renewed (contents_of c.args.self.now) c.args.bases =
     ap (λ n. take n (new ++ drop (length new) old)) count ∙ (take-append_seam new (drop (length new) old) ∙ made) in
-    subst (λ (xs : List Contents). IsBoard (board_with c.args.ledger xs) × (shapes_in xs ≡ shapes_of c.args.ledger)) (sym taken) (c.requires.board, c.requires.shapes)
+    let ledger : c.renew_ledger.new.ledger ≡ unwrap_or c.args.ledger c.args.self.now.ledger = c.renew_ledger.ensures ∙ ap (λ (b : Board). unwrap_or c.args.ledger b.ledger) c.self.view_is in
+    subst (λ (l : Ledger). IsBoard (board_with l (take c.self.inside.bases.len (new ++ drop (length new) old))) × (shapes_in (take c.self.inside.bases.len (new ++ drop (length new) old)) ≡ shapes_of l)) (sym ledger)
+    (subst (λ (xs : List Contents). IsBoard (board_with (unwrap_or c.args.ledger c.args.self.now.ledger) xs) × (shapes_in xs ≡ shapes_of (unwrap_or c.args.ledger c.args.self.now.ledger))) (sym taken) (c.requires.board, c.requires.shapes))
 
 pub returns : goal.returns
 returns c =
@@ -27,4 +31,6 @@ returns c =
     let made : new ≡ renewed (contents_of c.args.self.now) c.args.bases =
     c.renew_bases.ensures ∙ ((λ i. renewed (c.deref_mut.ensures.value i) (c.into_vec.ensures i)) ∙ ap (λ (xs : List Contents). renewed xs c.args.bases) (sym from)) in
     let count : c.self.inside.bases.len ≡ length new = omega (arith, ap length made, renewed_count (contents_of c.args.self.now) c.args.bases, ap length from, c.self.inside.bases.ok.0) in
-    ap (board_with c.args.ledger) (ap (λ n. take n (new ++ drop (length new) old)) count ∙ (take-append_seam new (drop (length new) old) ∙ made))
+    let ledger : c.renew_ledger.new.ledger ≡ unwrap_or c.args.ledger c.args.self.now.ledger = c.renew_ledger.ensures ∙ ap (λ (b : Board). unwrap_or c.args.ledger b.ledger) c.self.view_is in
+    let bases : take c.self.inside.bases.len (new ++ drop (length new) old) ≡ renewed (contents_of c.args.self.now) c.args.bases = ap (λ n. take n (new ++ drop (length new) old)) count ∙ (take-append_seam new (drop (length new) old) ∙ made) in
+    λ i. board_with (ledger i) (bases i)
