@@ -15,7 +15,8 @@ pub record Leads (P : Files → Type 0) (next : Board) (patches : List Patch) : 
   pub starts : (files : Files) → P files → IsTrue (are_within patches files)
   pub files : (files : Files) → P files → IsLayout next (patched patches files)
 
--- The new ledger, where there is one, and the new bases in place of the old ones make the next board of this one, and the intent its files.
+-- The new ledger, where there is one, and the new bases in place of the old ones make the next board of this one, and
+-- the intent its files.
 pub record Becomes (old next : Board) (change : BoardChange) : Type 0 where
   pub ledger : unwrap_or change.ledger old.ledger ≡ next.ledger
   pub bases : renewed (contents_of old) change.bases ≡ contents_of next

@@ -20,3 +20,4 @@ pub mod ReadingClauses
 pub mod LedgerBounds
 pub mod Writes
 pub mod UploadPutLaws
+pub mod UserPutLaws

@@ -16,7 +16,8 @@ use Rattle.board_ledger.specs.Conferences.{conference_text}
 use Rattle.board_ledger.specs.Ledger.{ledger_text}
 use Rattle.board_ledger.specs.Opening.{magic, fixed_text, setup_text, opening_text}
 use Rattle.board_ledger.specs.Uploads.{upload_text, IsUpload}
-use Rattle.board_ledger.specs.UploadPuts.{with_upload, upload_puts, TurnsFile}
+use Rattle.board_ledger.specs.OneFile.{TurnsFile}
+use Rattle.board_ledger.specs.UploadPuts.{with_upload, upload_puts}
 use Rattle.board_ledger.specs.Users.{user_text}
 use Rattle.board_ledger.specs.Valid.{IsLedger}
 use Rattle.board_ledger.specs.declared.ledger.Ledger.{Ledger}

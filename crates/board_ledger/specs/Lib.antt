@@ -8,4 +8,6 @@ pub mod Users
 pub mod Uploads
 pub mod Ledger
 pub mod Valid
+pub mod OneFile
 pub mod UploadPuts
+pub mod UserPuts

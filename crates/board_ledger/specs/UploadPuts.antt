@@ -1,6 +1,5 @@
 -- A ledger with one upload record more, and the patches that put it into the ledger's file.
-use Rattle.std.specs.Prelude.{◌≡◌, ◌≢◌, ℕ, ◌+◌, List, [], ◌∷◌, ◌++◌, length, IsTrue}
-use Rattle.intent_journal.specs.Patches.{Files, are_within, patched}
+use Rattle.std.specs.Prelude.{ℕ, ◌+◌, List, [], ◌∷◌, ◌++◌, length}
 use Rattle.intent_journal.specs.declared.patch.Patch.{Patch}
 use Rattle.intent_journal.specs.declared.patch.Patch.TheVariants.{Put}
 use Rattle.door_outside.specs.File.{ledger_file}
@@ -17,9 +16,3 @@ with_upload r l = record l { uploads = l.uploads ++ r ∷ [] }
 -- the count of upload records is replaced, and the record put at the end
 abbrev pub upload_puts : Ledger → UploadRecord → List Patch
 upload_puts l r = Put ledger_file 12 (u32_text (length l.uploads + 1)) ∷ Put ledger_file (length (ledger_text l)) (upload_text r) ∷ []
-
--- the patches make the new text of one file of its old one, begin within it, and leave every other file
-pub record TurnsFile (file : ℕ) (old new : List ℕ) (patches : List Patch) : Type 0 where
-  pub starts : (files : Files) → files file ≡ old → IsTrue (are_within patches files)
-  pub makes : (files : Files) → files file ≡ old → patched patches files file ≡ new
-  pub others : (files : Files) (other : ℕ) → other ≢ file → patched patches files other ≡ files other

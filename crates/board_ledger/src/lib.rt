@@ -16,6 +16,7 @@ mod upload;
 mod upload_puts;
 mod uploads;
 mod user;
+mod user_puts;
 mod users;
 mod write;
 
@@ -25,3 +26,4 @@ pub use setup_file::{Conference, Conferences, Setup, SetupError, SetupRule, Zone
 pub use upload::{Counts, UploadRecord, Uploads};
 pub use upload_puts::upload_patches;
 pub use user::{Highs, User, Users, are_members};
+pub use user_puts::user_patches;

@@ -1,9 +1,10 @@
 ghost use Rattle.std.specs.Prelude.{◌≡◌, ◌≤◌, ◌+◌, ◌*◌, length, All};
 ghost use Rattle.std.specs.List.{flat_map};
-ghost use Rattle.board_ledger.specs.Opening.{setup_text};
+ghost use Rattle.board_ledger.specs.Opening.{opening_text, setup_text};
 ghost use Rattle.board_ledger.specs.Conferences.{conference_text};
 ghost use Rattle.board_ledger.specs.Users.{user_text, IsUser};
 ghost use Rattle.board_ledger.specs.Ledger.{ledger_text as text_of};
+ghost use Rattle.board_ledger.specs.UserPuts.{user_place as user_place_of};
 ghost use Rattle.board_ledger.specs.Valid.{IsLedger};
 ghost use Rattle.setup_file.specs.Valid.{IsSetup, IsSetupConference};
 
@@ -62,13 +63,33 @@ fn users_size(conferences: u16, users: &[User]) -> usize
     size
 }
 
+/// How many bytes of the text of a ledger stand before the records of its users.
+fn opening_size(ledger: &Ledger) -> usize
+    requires { IsLedger ledger.now }
+    ensures size { result ≡ length (opening_text ledger.now) + length (flat_map conference_text ledger.now.setup.conferences) }
+    ensures small { result ≤ 2000 }
+{
+    let conferences = ledger.setup.conferences.as_slice();
+    24 + setup_size(&ledger.setup) + conferences_size(conferences)
+}
+
+/// Where the record of the user in a place, from 0, begins in the text of a ledger.
+pub(crate) fn user_place(ledger: &Ledger, place: usize) -> usize
+    requires ledger { IsLedger ledger.now }
+    requires within { place ≤ length ledger.now.users }
+    ensures place { result ≡ user_place_of place ledger.now }
+    ensures small { result ≤ 2000 + 400 * length ledger.now.users }
+{
+    let conferences = ledger.setup.conferences.len() as u16;
+    let before = &ledger.users.as_slice()[..place];
+    opening_size(ledger) + users_size(conferences, before)
+}
+
 /// How many bytes the text of a ledger has.
 pub(crate) fn ledger_size(ledger: &Ledger) -> u64
     requires { IsLedger ledger.now }
     ensures { result ≡ length (text_of ledger.now) }
 {
-    let conferences = ledger.setup.conferences.as_slice();
-    let users = users_size(conferences.len() as u16, ledger.users.as_slice());
-    let setup = setup_size(&ledger.setup) + conferences_size(conferences);
-    (24 + setup + users + UPLOAD * ledger.uploads.len()) as u64
+    let uploads = UPLOAD * ledger.uploads.len();
+    (user_place(ledger, ledger.users.len()) + uploads) as u64
 }

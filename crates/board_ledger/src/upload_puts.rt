@@ -5,7 +5,8 @@ ghost use Rattle.intent_journal.specs.declared.patch.Patch.{Patch};
 ghost use Rattle.intent_journal.specs.Patches.{byte_count};
 ghost use Rattle.door_outside.specs.File.{ledger_file};
 ghost use Rattle.board_ledger.specs.Ledger.{ledger_text};
-ghost use Rattle.board_ledger.specs.UploadPuts.{with_upload, upload_puts as puts_of, TurnsFile};
+ghost use Rattle.board_ledger.specs.OneFile.{TurnsFile};
+ghost use Rattle.board_ledger.specs.UploadPuts.{with_upload, upload_puts as puts_of};
 ghost use Rattle.board_ledger.specs.Valid.{IsLedger};
 
 use crate::ledger::Ledger;

@@ -13,14 +13,14 @@ use Rattle.board_layout.specs.Board.{Board, board_with, conferences_in, shapes_i
 use Rattle.board_layout.specs.Layout.{board_size}
 use Rattle.board_layout.specs.Renewed.{contents_of}
 use Rattle.board_layout.specs.Valid.{IsBoard, highs_fit}
-use Rattle.board_ledger.specs.Users.{IsUser, right_offer}
+use Rattle.board_ledger.specs.Users.{IsUser, right_offer, user_text}
 use Rattle.board_ledger.specs.declared.user.User.{User}
 use Rattle.jam_base.specs.Contents.{Contents}
 use Rattle.jam_layout.specs.Valid.{IsConference}
 use Rattle.jam_layout.specs.declared.conference.Conference.{Conference}
 use Rattle.jam_layout.specs.declared.shape.Shape.{Shape}
 use Rattle.record_numbers.specs.Numbers.{IsU32}
-use Rattle.offer_changes.proofs.LedgerLaws.{ledger_is, shapes_stay, text_stays, user_was}
+use Rattle.offer_changes.proofs.LedgerLaws.{ledger_is, same_text, shapes_stay, text_stays, user_was}
 use Rattle.offer_changes.proofs.ReadLaws.{all_bases, all_count, all_shapes, all_sizes, all_slots, read_at}
 use Rattle.offer_changes.proofs.UserLaws.{Alike, user_there}
 use Rattle.board_layout.specs.Lookups.{user_of}
@@ -89,6 +89,9 @@ module _ (b : Board) (id now : ℕ) (u : User) (here : slice_get b.ledger.users 
         text_stays b.ledger id u (without_offer u) here alike ok.ledger same_highs,
         all_sizes id u.name now (contents_of b) u.highs,
       )
+
+  pub read_room : length (user_text (without_offer u)) ≡ length (user_text u)
+  read_room = same_text b.ledger id u (without_offer u) here alike same_highs
 
   -- ---- validity
   pub read_is : now < 2 ^ 32 → IsBoard (read_by id now u b)

@@ -45,7 +45,7 @@ module _ (l : Ledger) (id : ℕ) (u v : User) (here : slice_get l.users (id - 1)
   user_is ok = all_at (IsUser (length l.setup.conferences)) (set l.users (id - 1) v) (id - 1) v (set_there l.users (id - 1) u v here) ok.users
 
   -- ---- how many bytes it has
-  same_text : length v.highs ≡ length u.highs → length (user_text v) ≡ length (user_text u)
+  pub same_text : length v.highs ≡ length u.highs → length (user_text v) ≡ length (user_text u)
   same_text highs = omega (arith, user_length v, user_length u, ap (length {A = ℕ}) alike.name, highs)
 
   pub text_stays : IsLedger l → length v.highs ≡ length u.highs → length (ledger_text (with_user id v l)) ≡ length (ledger_text l)

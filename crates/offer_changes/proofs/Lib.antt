@@ -1,5 +1,6 @@
 pub mod UserLaws
 pub mod LedgerLaws
+pub mod PutLaws
 pub mod OfferLaws
 pub mod ReadLaws
 pub mod AcknowledgeLaws

@@ -4,7 +4,7 @@ use Rattle.std.specs.Prelude.{All, slice_get, Option, None, Some, sum_by}
 use Rattle.std.specs.List.{AllZip}
 use Rattle.std.proofs.lemmas.Bool.{and_from, and_parts, eq-eqb, eqb-true, leb-true, ne_eqb}
 use Rattle.std.proofs.lemmas.List.Elements.{All-cons, All-nil, All-set}
-use Rattle.board_changes.proofs.GatherLaws.{gathered_none, gathered_rest}
+use Rattle.board_changes.proofs.GatherLaws.{gathered_rest}
 use Rattle.board_changes.proofs.LeadLaws.{leads_next, places_count}
 use Rattle.board_changes.proofs.OneBase.{all_at, set_there}
 use Rattle.board_changes.proofs.UserSizes.{conferences_count}
@@ -15,18 +15,18 @@ use Rattle.board_layout.specs.Layout.{IsLayout, base_files, board_size, layouts}
 use Rattle.board_layout.specs.Renewed.{contents, contents_of}
 use Rattle.board_layout.specs.Valid.{IsBoard, highs_fit}
 use Rattle.board_ledger.specs.Ledger.{ledger_text}
-use Rattle.board_ledger.specs.Users.{IsUser, is_member, right_highs, right_offer}
+use Rattle.board_ledger.specs.UserPuts.{user_puts}
+use Rattle.board_ledger.specs.Users.{IsUser, is_member, right_highs, right_offer, user_text}
 use Rattle.board_ledger.specs.declared.user.User.{User}
-use Rattle.door_outside.specs.File.{ledger_file}
 use Rattle.intent_journal.specs.declared.patch.Patch.{Patch}
-use Rattle.intent_journal.specs.declared.patch.Patch.TheVariants.{Whole}
 use Rattle.jam_layout.specs.Layout.{files_size}
 use Rattle.jam_layout.specs.Valid.{IsConference}
 use Rattle.jam_layout.specs.declared.conference.Conference.{Conference}
 use Rattle.jam_layout.specs.declared.files.BaseFiles.{BaseFiles}
 use Rattle.jam_layout.specs.declared.shape.Shape.{Shape}
 use Rattle.record_numbers.specs.Numbers.{IsU32}
-use Rattle.offer_changes.proofs.LedgerLaws.{ledger_is, shapes_stay, text_stays, user_is, user_was}
+use Rattle.offer_changes.proofs.LedgerLaws.{ledger_is, same_text, shapes_stay, text_stays, user_is, user_was}
+use Rattle.offer_changes.proofs.PutLaws.{gathered_user}
 use Rattle.offer_changes.proofs.UserLaws.{Alike, user_there}
 use Rattle.board_layout.specs.Lookups.{user_of}
 use Rattle.offer_changes.specs.Changed.{for_user, offered, offered_to, with_offer}
@@ -127,14 +127,20 @@ module _ (b : Board) (id : ℕ) (u : User) (highs : List ℕ) (here : slice_get 
       (offer_right (length b.ledger.setup.conferences) u highs user)
 
   -- ---- the patch of its ledger
-  pub offer_leads : IsBoard b → IsBoard (offered_to id highs u b) → Leads (IsLayout b) (offered_to id highs u b) (Whole ledger_file (ledger_text (offered_to id highs u b).ledger) ∷ [])
+  pub offer_room : IsBoard b → IsBoard (offered_to id highs u b) → length (user_text (with_offer highs u)) ≡ length (user_text u)
+  offer_room ok next =
+      let was = user_was b.ledger id u (with_offer highs u) here alike ok.ledger in
+      let is = user_is b.ledger id u (with_offer highs u) here alike next.ledger in
+      same_text b.ledger id u (with_offer highs u) here alike (omega (arith, was.one_high_each, is.one_high_each))
+
+  pub offer_leads : IsBoard b → IsBoard (offered_to id highs u b) → Leads (IsLayout b) (offered_to id highs u b) (user_puts (id - 1) (with_offer highs u) b.ledger)
   offer_leads ok next =
       let text : List ℕ = ledger_text (offered_to id highs u b).ledger in
-      let patches : List Patch = Whole ledger_file text ∷ [] in
+      let patches : List Patch = user_puts (id - 1) (with_offer highs u) b.ledger in
       let old : List BaseFiles = base_files b in
       let new : List BaseFiles = base_files (offered_to id highs u b) in
       let many = ok.ledger.setup.conferences.many in
-      let none = gathered_none (IsLayout b) text old new (λ files is. is.places) in
+      let none = gathered_user b.ledger id u (with_offer highs u) here (offer_room ok next) (IsLayout b) old new (λ files is. is.places) (λ files is. is.ledger) in
       let all = gathered_rest (IsLayout b) text old new patches 0 (length b.conferences) none (omega (arith, conferences_count b ok, many)) (omega (arith, places_count b ok, ap (length {A = BaseFiles}) files_stay))
       (λ k low high. ap (λ (files : List BaseFiles). at_place files k) (sym files_stay)) in
       leads_next b (offered_to id highs u b) patches ok next refl (subst (λ (k : ℕ). Gathered (IsLayout b) text old new k patches) (omega arith) all)

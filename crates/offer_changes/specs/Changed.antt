@@ -1,8 +1,9 @@
 -- Boards after the offer of a packet, and after its acknowledgement.
-use Rattle.std.specs.Prelude.{◌≢◌, ℕ, ◌+◌, ◌-◌, ◌<◌, List, [], ◌∷◌, length, replicate, slice_set, Option, Some, None, Bool, false, IsSome, IsSomeAnd, nat_lt, if◌then◌else◌}
+use Rattle.std.specs.Prelude.{◌≢◌, ℕ, ◌+◌, ◌-◌, ◌<◌, List, [], ◌∷◌, length, replicate, Option, Some, None, Bool, false, IsSome, IsSomeAnd, nat_lt, if◌then◌else◌}
 use Rattle.board_layout.specs.Board.{Board, board_with}
 use Rattle.board_layout.specs.Lookups.{user_of}
 use Rattle.board_layout.specs.Renewed.{contents_of}
+use Rattle.board_ledger.specs.UserPuts.{with_user_at}
 use Rattle.board_ledger.specs.declared.ledger.Ledger.{Ledger}
 use Rattle.board_ledger.specs.declared.user.User.{User}
 use Rattle.jam_base.specs.Contents.{Contents, pointer_of, with_acknowledged}
@@ -22,7 +23,7 @@ HasOffer id b = IsSomeAnd (user_of id b) (λ u. u.offered ≢ 0)
 
 -- another user in place of the one of an id
 abbrev pub with_user : ℕ → User → Ledger → Ledger
-with_user id u l = record l { users = slice_set l.users (id - 1) u }
+with_user id u l = with_user_at (id - 1) u l
 
 -- what is made of the user of an id, where there is one
 abbrev pub for_user : (User → Board → Board) → Option User → Board → Board

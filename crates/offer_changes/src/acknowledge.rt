@@ -8,8 +8,8 @@ ghost use Rattle.board_layout.specs.Lookups.{user_of as user_in};
 ghost use Rattle.offer_changes.specs.Changed.{acknowledged as acknowledged_of, read_by, read_up_to as read_of, without_offer as without_offer_of, HasUser};
 ghost use Rattle.offer_changes.specs.Steps.{base_after, patches_of};
 
-use crate::user::{user_of, with_user};
-use board_changes::{BoardChange, add_all, ledger_intent};
+use crate::user::{user_intent, user_of, with_user};
+use board_changes::{BoardChange, add_all};
 use board_layout::StoredBoard;
 use board_ledger::{Highs, User};
 use byte_lists::List;
@@ -123,10 +123,11 @@ pub fn acknowledged(
     ensures { IfOk result (λ change. Becomes board.now (acknowledged_of user now board.now) change) }
 {
     let reader = user_of(board, user);
+    let old = board.ledger();
     let next = without_offer(alloc, reader)?;
-    let ledger = with_user(alloc, board.ledger(), user, next)?;
-    let mut intent = ledger_intent(alloc, &ledger)?;
+    let mut intent = user_intent(alloc, old, user, &next)?;
     let bases = bases_read(alloc, board, user, reader, now, &mut intent)?;
+    let ledger = with_user(alloc, old, user, next)?;
     Ok(BoardChange {
         ledger: Some(ledger),
         bases,

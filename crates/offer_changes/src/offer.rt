@@ -3,8 +3,8 @@ ghost use Rattle.board_changes.specs.Change.{Becomes};
 ghost use Rattle.board_layout.specs.Valid.{IsBoard};
 ghost use Rattle.offer_changes.specs.Changed.{offered as offered_of, with_offer as with_offer_of, HasUser};
 
-use crate::user::{user_of, with_user};
-use board_changes::{BoardChange, ledger_intent};
+use crate::user::{user_intent, user_of, with_user};
+use board_changes::BoardChange;
 use board_layout::StoredBoard;
 use board_ledger::{Highs, User};
 use byte_lists::List;
@@ -40,9 +40,10 @@ pub fn offered(
     requires next { IsBoard (offered_of user highs.now board.now) }
     ensures { IfOk result (λ change. Becomes board.now (offered_of user highs.now board.now) change) }
 {
+    let old = board.ledger();
     let next = with_offer(alloc, user_of(board, user), highs)?;
-    let ledger = with_user(alloc, board.ledger(), user, next)?;
-    let intent = ledger_intent(alloc, &ledger)?;
+    let intent = user_intent(alloc, old, user, &next)?;
+    let ledger = with_user(alloc, old, user, next)?;
     Ok(BoardChange {
         ledger: Some(ledger),
         bases: List::new(alloc),

@@ -1,13 +1,17 @@
 // One of the users of a board.
-ghost use Rattle.std.specs.Prelude.{◌≡◌, ◌≤◌, ◌<◌, Some, length, IfOk};
+ghost use Rattle.std.specs.Prelude.{◌≡◌, ◌≤◌, ◌<◌, ◌-◌, Some, length, IfOk};
 ghost use Rattle.std.specs.Option.{option_copied};
 ghost use Rattle.board_layout.specs.Valid.{IsBoard};
 ghost use Rattle.board_layout.specs.Lookups.{user_of as user_in};
+ghost use Rattle.board_ledger.specs.UserPuts.{user_puts, IsAsLong};
+ghost use Rattle.board_ledger.specs.Valid.{IsLedger};
 ghost use Rattle.offer_changes.specs.Changed.{with_user as with_user_of, HasUser};
 
+use board_changes::add_all;
 use board_layout::StoredBoard;
-use board_ledger::{Ledger, User};
+use board_ledger::{Ledger, User, user_patches};
 use byte_lists::List;
+use intent_journal::Intent;
 use std::alloc::{AllocError, Global};
 
 /// The user of an id, from 1, or None where there is none.
@@ -53,4 +57,24 @@ pub(crate) fn with_user(
         users: List::from_vec(users),
         uploads: ledger.uploads.copy(alloc)?,
     })
+}
+
+/// The intent that puts the record of a user into the ledger's file, over that of the user of an id, which is as long,
+/// and changes no other file. Both ledgers are valid.
+pub(crate) fn user_intent(
+    alloc: Global,
+    ledger: &Ledger,
+    id: u32,
+    user: &User,
+) -> Result<Intent, AllocError>
+    requires above { 0 < id }
+    requires ledger { IsLedger ledger.now }
+    requires next { IsLedger (with_user_of id user.now ledger.now) }
+    requires room { IsAsLong (id - 1) user.now ledger.now }
+    ensures { IfOk result (λ intent. intent ≡ user_puts (id - 1) user.now ledger.now) }
+{
+    let patches = user_patches(alloc, ledger, id as usize - 1, user)?;
+    let mut intent = Intent::new(alloc);
+    add_all(&mut intent, patches)?;
+    Ok(intent)
 }

@@ -1,11 +1,11 @@
 -- The puts of an upload record begin the intent of an upload.
-use Rattle.std.proofs.Common.{◌≡◌, ◌≢◌, ℕ, ◌+◌, ◌<◌, ◌≤◌, ◌^◌, List, [], ◌∷◌, length, refl, sym, ◌∙◌, arith, length-append}
-use Rattle.std.specs.Prelude.{All, nat_lt}
-use Rattle.std.proofs.lemmas.Bool.{cond-false, le-ltb}
+use Rattle.std.proofs.Common.{◌≡◌, ◌≢◌, ℕ, ◌+◌, ◌<◌, ◌≤◌, ◌^◌, List, [], ◌∷◌, length, refl, arith, length-append}
+use Rattle.std.specs.Prelude.{All}
 use Rattle.std.proofs.lemmas.List.Elements.{All-cons, All-nil}
+use Rattle.board_changes.proofs.GatherLaws.{gathered_turned}
 use Rattle.board_changes.proofs.JoinLaws.{journal_length}
 use Rattle.board_changes.proofs.LedgerBounds.{ledger_at_most}
-use Rattle.board_changes.specs.Gathered.{at_place, Gathered, HasBases, Joins}
+use Rattle.board_changes.specs.Gathered.{Gathered, HasBases, Joins}
 use Rattle.board_ledger.proofs.SizeLaws.{ledger_length, upload_length}
 use Rattle.board_ledger.proofs.UploadPutLaws.{last_digest, upload_turns}
 use Rattle.board_ledger.specs.Ledger.{ledger_text}
@@ -14,12 +14,11 @@ use Rattle.board_ledger.specs.Uploads.{upload_text}
 use Rattle.board_ledger.specs.Valid.{IsLedger}
 use Rattle.board_ledger.specs.declared.ledger.Ledger.{Ledger}
 use Rattle.board_ledger.specs.declared.upload.UploadRecord.{UploadRecord}
-use Rattle.door_outside.specs.File.{ledger_file, journal_file, jhr_file, jdt_file, jdx_file, jlr_file}
+use Rattle.door_outside.specs.File.{ledger_file, journal_file}
 use Rattle.intent_journal.specs.Journal.{patches_text, patch_text}
-use Rattle.intent_journal.specs.Patches.{Files, bytes_of, file_of, patched, place_of}
+use Rattle.intent_journal.specs.Patches.{Files, bytes_of, file_of, place_of}
 use Rattle.intent_journal.specs.declared.patch.Patch.{Patch}
 use Rattle.intent_journal.specs.declared.patch.Patch.TheVariants.{Put}
-use Rattle.jam_base.specs.Change.{files_of_place}
 use Rattle.jam_layout.specs.declared.files.BaseFiles.{BaseFiles}
 use Rattle.post_changes.proofs.RecordLaws.{record_length}
 use Rattle.post_changes.specs.Posted.{with_record}
@@ -48,24 +47,8 @@ module _ (l : Ledger) (r : UploadRecord) (was : IsLedger l) (ok : IsLedger (with
     fits = omega (arith, journal_length (upload_puts l r), texts);
   }
 
-  -- they leave the files of each place
-  places_stay : (files : Files) (place : ℕ) → files_of_place place (patched (upload_puts l r) files) ≡ files_of_place place files
-  places_stay files place =
-      let other : (file : ℕ) → file ≢ ledger_file → patched (upload_puts l r) files file ≡ files file = λ file away. (upload_turns l r).others files file away in
-      let jhr = other (jhr_file place) (λ e. omega (arith, e)) in
-      let jdt = other (jdt_file place) (λ e. omega (arith, e)) in
-      let jdx = other (jdx_file place) (λ e. omega (arith, e)) in
-      let jlr = other (jlr_file place) (λ e. omega (arith, e)) in
-      λ i. record { jhr = jhr i; jdt = jdt i; jdx = jdx i; jlr = jlr i }
-
   pub gathered_upload : (P : Files → Type 0) (old new : List BaseFiles) → ((files : Files) → P files → HasBases old files) → ((files : Files) → P files → files ledger_file ≡ ledger_text l)
       → Gathered P (ledger_text (with_record r l)) old new 0 (upload_puts l r)
-  gathered_upload P old new has right = record {
-    starts = λ files here. (upload_turns l r).starts files (right files here);
-    ledger_is = λ files here. (upload_turns l r).makes files (right files here);
-    bases = λ files here place within. places_stay files place ∙ (has files here place within ∙ sym (cond-false (nat_lt place 0) (at_place new place) (at_place old place) (le-ltb place 0 (omega arith))));
-    no_journal = upload_joins.no_journal;
-    below = of_ledger (λ (p : Patch). file_of p < jhr_file 0) (λ at bytes ends. omega arith);
-    once = refl;
-    short = omega (arith, texts, record_length l r was digest, ledger_length l (λ k d within. (was.uploads k d within).digest));
-  }
+  gathered_upload P old new has right =
+      gathered_turned P (ledger_text l) (ledger_text (with_record r l)) old new (upload_puts l r) (upload_turns l r) (of_ledger (λ (p : Patch). file_of p ≡ ledger_file) (λ at bytes ends. refl)) refl
+      (omega (arith, texts, record_length l r was digest, ledger_length l (λ k d within. (was.uploads k d within).digest))) has right

@@ -2,7 +2,8 @@ use Rattle.std.proofs.Common.{◌≡◌, ◌∙◌, List, [], ◌∷◌, ◌++�
 use Rattle.intent_journal.specs.Patches.{byte_count}
 use Rattle.intent_journal.specs.declared.patch.Patch.{Patch}
 use Rattle.board_ledger.specs.Ledger.{ledger_text}
-use Rattle.board_ledger.specs.UploadPuts.{with_upload, upload_puts, TurnsFile}
+use Rattle.board_ledger.specs.OneFile.{TurnsFile}
+use Rattle.board_ledger.specs.UploadPuts.{with_upload, upload_puts}
 use Rattle.board_ledger.proofs.UploadPutLaws.{upload_turns, upload_bytes, last_digest, two_patches}
 use Rattle.board_ledger.proofs.upload_puts.upload_patches.Goals as goal
 

@@ -1,6 +1,6 @@
-use Rattle.std.proofs.Common.{◌≡◌, ℕ, ◌-◌, [], ◌∷◌, length, refl, sym, ap, ◌∙◌, subst, arith}
+use Rattle.std.proofs.Common.{◌≡◌, ℕ, ◌-◌, length, refl, sym, ap, ◌∙◌, subst, arith}
+use Rattle.std.specs.Prelude.{slice_get}
 use Rattle.std.proofs.lemmas.Option.{slice_get_within}
-use Rattle.board_changes.proofs.GatherLaws.{gathered_none}
 use Rattle.board_changes.proofs.LeadLaws.{leads_next}
 use Rattle.board_changes.specs.Change.{Leads}
 use Rattle.board_changes.specs.Gathered.{Gathered}
@@ -8,15 +8,34 @@ use Rattle.board_layout.specs.Board.{Board}
 use Rattle.board_layout.specs.Layout.{IsLayout, base_files}
 use Rattle.board_layout.specs.Renewed.{contents_of}
 use Rattle.board_ledger.specs.Ledger.{ledger_text}
+use Rattle.board_ledger.specs.UserPuts.{IsAsLong, user_puts}
 use Rattle.board_ledger.specs.Valid.{IsLedger}
 use Rattle.board_ledger.specs.declared.ledger.Ledger.{Ledger}
 use Rattle.board_ledger.specs.declared.user.User.{User}
-use Rattle.door_outside.specs.File.{ledger_file}
-use Rattle.intent_journal.specs.declared.patch.Patch.TheVariants.{Whole}
-use Rattle.offer_changes.proofs.AcknowledgeLaws.{read_is, read_there}
+use Rattle.offer_changes.proofs.AcknowledgeLaws.{read_is, read_room, read_there}
+use Rattle.offer_changes.proofs.PutLaws.{gathered_user, there_room}
 use Rattle.offer_changes.proofs.UserLaws.{id_above, user_there}
 use Rattle.offer_changes.specs.Changed.{read_by, with_user, without_offer}
 use Rattle.offer_changes.proofs.acknowledge.acknowledged.Goals as goal
+
+pub user_intent-requires-clause-above : goal.user_intent-requires-clause-above
+user_intent-requires-clause-above c = id_above c.args.board.now c.args.user c.user_of-reader.result.now c.user_of-reader.ensures.user
+
+pub user_intent-requires-clause-next : goal.user_intent-requires-clause-next
+user_intent-requires-clause-next c =
+    let b : Board = c.args.board.now in
+    let u : User = c.user_of-reader.result.now in
+    let next = read_is b c.args.user c.args.now u (user_there b c.args.user u c.user_of-reader.ensures.user) c.user_of-reader.ensures.board (omega arith) in
+    subst IsLedger (λ i. with_user c.args.user (sym c.in_ok-next.ensures i) (sym c.ledger-old.ensures.ledger i)) next.ledger
+
+pub user_intent-requires-clause-room : goal.user_intent-requires-clause-room
+user_intent-requires-clause-room c =
+    let b : Board = c.args.board.now in
+    let u : User = c.user_of-reader.result.now in
+    let here = user_there b c.args.user u c.user_of-reader.ensures.user in
+    let room = read_room b c.args.user c.args.now u here c.user_of-reader.ensures.board in
+    let is : IsAsLong (c.args.user - 1) (without_offer u) b.ledger = there_room (slice_get b.ledger.users (c.args.user - 1)) u (without_offer u) here room in
+    subst (λ (l : Ledger). IsAsLong (c.args.user - 1) c.in_ok-next.next l) (sym c.ledger-old.ensures.ledger) (subst (λ (v : User). IsAsLong (c.args.user - 1) v b.ledger) (sym c.in_ok-next.ensures) is)
 
 pub with_user-requires-clause-above : goal.with_user-requires-clause-above
 with_user-requires-clause-above c = id_above c.args.board.now c.args.user c.user_of-reader.result.now c.user_of-reader.ensures.user
@@ -26,27 +45,22 @@ with_user-requires-clause-within c =
     let b : Board = c.args.board.now in
     let u : User = c.user_of-reader.result.now in
     let within = slice_get_within b.ledger.users (c.args.user - 1) u (user_there b c.args.user u c.user_of-reader.ensures.user) in
-    omega (arith, within, ap (λ (l : Ledger). length l.users) c.ledger.ensures.ledger)
+    omega (arith, within, ap (λ (l : Ledger). length l.users) c.ledger-old.ensures.ledger)
 
 -- the ledger that is made is that of the next board
 made : (b : Board) (id now : ℕ) (u next : User) (was ledger : Ledger) → ledger ≡ with_user id next was → was ≡ b.ledger → next ≡ without_offer u → ledger ≡ (read_by id now u b).ledger
 made b id now u next was ledger is same new = is ∙ (λ i. with_user id (new i) (same i))
-
-pub ledger_intent-requires : goal.ledger_intent-requires
-ledger_intent-requires c =
-    let b : Board = c.args.board.now in
-    let u : User = c.user_of-reader.result.now in
-    let next = read_is b c.args.user c.args.now u (user_there b c.args.user u c.user_of-reader.ensures.user) c.user_of-reader.ensures.board (omega arith) in
-    subst IsLedger (sym (made b c.args.user c.args.now u c.in_ok-next.next c.ledger.result.now c.in_ok-ledger.ledger c.in_ok-ledger.ensures c.ledger.ensures.ledger c.in_ok-next.ensures)) next.ledger
 
 pub bases_read-requires-clause-gathered : goal.bases_read-requires-clause-gathered
 bases_read-requires-clause-gathered c =
     let b : Board = c.args.board.now in
     let u : User = c.user_of-reader.result.now in
     let next : Board = read_by c.args.user c.args.now u b in
-    let ledger = made b c.args.user c.args.now u c.in_ok-next.next c.ledger.result.now c.in_ok-ledger.ledger c.in_ok-ledger.ensures c.ledger.ensures.ledger c.in_ok-next.ensures in
-    let intent : c.in_ok-intent.intent ≡ Whole ledger_file (ledger_text next.ledger) ∷ [] = c.in_ok-intent.ensures ∙ ap (λ (l : Ledger). Whole ledger_file (ledger_text l) ∷ []) ledger in
-    subst (Gathered (IsLayout b) (ledger_text next.ledger) (base_files b) (base_files next) 0) (sym intent) (gathered_none (IsLayout b) (ledger_text next.ledger) (base_files b) (base_files next) (λ files is. is.places))
+    let here = user_there b c.args.user u c.user_of-reader.ensures.user in
+    let intent : c.in_ok-intent.intent ≡ user_puts (c.args.user - 1) (without_offer u) b.ledger =
+    c.in_ok-intent.ensures ∙ (λ i. user_puts (c.args.user - 1) (c.in_ok-next.ensures i) (c.ledger-old.ensures.ledger i)) in
+    subst (Gathered (IsLayout b) (ledger_text next.ledger) (base_files b) (base_files next) 0) (sym intent)
+    (gathered_user b.ledger c.args.user u (without_offer u) here (read_room b c.args.user c.args.now u here c.user_of-reader.ensures.board) (IsLayout b) (base_files b) (base_files next) (λ files is. is.places) (λ files is. is.ledger))
 
 pub returns : goal.returns
 returns c =
@@ -55,7 +69,7 @@ returns c =
     let next : Board = read_by c.args.user c.args.now u b in
     let there = read_there b c.args.user c.args.now u c.user_of-reader.ensures.user in
     let ok = read_is b c.args.user c.args.now u (user_there b c.args.user u c.user_of-reader.ensures.user) c.user_of-reader.ensures.board (omega arith) in
-    let ledger = made b c.args.user c.args.now u c.in_ok-next.next c.ledger.result.now c.in_ok-ledger.ledger c.in_ok-ledger.ensures c.ledger.ensures.ledger c.in_ok-next.ensures in
+    let ledger = made b c.args.user c.args.now u c.in_ok-next.next c.ledger-old.result.now c.in_ok-ledger.ledger c.in_ok-ledger.ensures c.ledger-old.ensures.ledger c.in_ok-next.ensures in
     record {
       ledger = ledger ∙ ap (λ (d : Board). d.ledger) (sym there);
       bases = c.in_ok-bases.ensures.bases ∙ ap contents_of (sym there);

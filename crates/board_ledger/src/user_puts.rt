@@ -1,0 +1,41 @@
+ghost use Rattle.std.specs.Prelude.{◌≡◌, ◌≤◌, length, IfOk};
+ghost use Rattle.door_outside.specs.File.{ledger_file};
+ghost use Rattle.intent_journal.specs.Patches.{byte_count};
+ghost use Rattle.board_ledger.specs.Ledger.{ledger_text};
+ghost use Rattle.board_ledger.specs.OneFile.{TurnsFile};
+ghost use Rattle.board_ledger.specs.UserPuts.{with_user_at, user_puts as puts_of, IsAsLong};
+ghost use Rattle.board_ledger.specs.Valid.{IsLedger};
+
+use crate::ledger::Ledger;
+use crate::size::user_place;
+use crate::user::User;
+use byte_lists::Bytes;
+use door_outside::FileId;
+use intent_journal::{Patch, Patches};
+use std::alloc::{AllocError, Global};
+
+/// The patches that turn the file of this ledger into that of the ledger with this user in a place, from 0, whose
+/// record is as long as that of the user there. Both ledgers are valid.
+///
+/// The error comes where there is no memory.
+pub fn user_patches(
+    alloc: Global,
+    ledger: &Ledger,
+    place: usize,
+    user: &User,
+) -> Result<Patches, AllocError>
+    requires ledger { IsLedger ledger.now }
+    requires next { IsLedger (with_user_at place user.now ledger.now) }
+    requires room { IsAsLong place user.now ledger.now }
+    ensures puts { IfOk result (λ patches. patches ≡ puts_of place user.now ledger.now) }
+    ensures files { IfOk result (λ patches. TurnsFile ledger_file (ledger_text ledger.now) (ledger_text (with_user_at place user.now ledger.now)) patches) }
+    ensures costs { IfOk result (λ patches. (length patches ≡ 1) × (byte_count patches ≤ 300)) }
+{
+    let mut bytes = Bytes::new(alloc);
+    user.write(&mut bytes)?;
+    let file = FileId::ledger();
+    let at = user_place(ledger, place) as u32;
+    let mut patches = Patches::new(alloc);
+    patches.add(Patch::Put { file, at, bytes })?;
+    Ok(patches)
+}
