@@ -5,3 +5,4 @@ pub mod Histories
 pub mod Reading
 pub mod Staying
 pub mod Wrongs
+pub mod SomeOutcomes

@@ -6,6 +6,8 @@ ghost use Rattle.entry_runs.specs.Runs.{Outcome, Runs, Stepped};
 ghost use Rattle.intent_journal.specs.Patches.{Files};
 ghost use Rattle.board_commands.specs.State.{State, NotMade, Stores};
 ghost use Rattle.board_laws.specs.History.{Deed, IsHistory};
+ghost use Rattle.board_layout.specs.Layout.{AreBytes};
+ghost use Rattle.door_commands.specs.Entries.{EntryCanRun};
 ghost use Rattle.board_laws.specs.Kept.{StaysMade, StaysOffered};
 ghost use Rattle.board_laws.specs.Once.{ChangesOnce, SaysAgain};
 ghost use Rattle.board_laws.specs.Passed.{IsPassed, PacketsRise};
@@ -17,6 +19,13 @@ ghost use Rattle.door_commands.specs.declared.entry.Entry.{Entry};
 /// From a world at a moment an entry does one thing at most: one world after it, one reply and one class.
 pub fn one_outcome()
     ensures { (now : ℕ) (world : World State) (entry : Entry) (a b : Stepped (World State)) → (act now entry).Step world a → (act now entry).Step world b → a ≡ b }
+{}
+
+/// An entry that can run does one thing at least, from each world for whose state files of bytes stand: so from there it
+/// does exactly one thing, and no case was left to want of memory.
+pub fn some_outcome()
+    ensures { (now : ℕ) (entry : Entry) → EntryCanRun entry → (files : Files) → AreBytes files → (world : World State) → Stores world.state files
+        → (stepped : Stepped (World State)) × (act now entry).Step world stepped }
 {}
 
 /// Every entry is lawful: where it doesn't touch the board it leaves it, it writes no names on the shelf but those
