@@ -1,6 +1,7 @@
 -- The commands that touch the board are lawful, and answer damage only on files that are no board's.
 use Rattle.std.proofs.Common.{◌≡◌, ◌≢◌, ℕ, List, [], Option, Some, None, Result, Ok, Err, Bool, refl, sym, ◌∙◌, ap, subst}
 use Rattle.std.proofs.lemmas.Bool.{true≢false}
+use Rattle.std.specs.Prelude.{◌↔◌}
 use Rattle.std.specs.Str.Lines.{lines}
 use Rattle.door_outside.specs.Shelf as Shelf
 use Rattle.entry_runs.specs.Door.{World, Act, IsLawful}
@@ -24,7 +25,7 @@ use Rattle.board_commands.specs.Check.{checked}
 use Rattle.board_commands.specs.Damages.{damaged}
 use Rattle.board_commands.specs.Enroll.{Enrolls, is_net, enroll_refusals, enroll_turn, enrolling, first_refusal}
 use Rattle.board_commands.specs.Init.{Inits, BreaksSetup, made_of, SetupOf}
-use Rattle.board_commands.specs.State.{State, NotMade, Made, Spoiled, IsSpoiled, state_of}
+use Rattle.board_commands.specs.State.{State, NotMade, Made, Old, Spoiled, IsSpoiled, migrated, state_of}
 use Rattle.board_commands.specs.Turns.{Turn, OnState, SaysDamage, on_board}
 
 -- what the turns of a command give, for it to be lawful
@@ -38,6 +39,17 @@ pub record AreTurns (turns : Shelf.Files → Option Board → Turn → Type 0) :
 pub record KeepsState (act : Act State) : Type 0 where
   pub only_spoiled : (world : World State) (stepped : Stepped (World State)) → act.Step world stepped → stepped.class ≡ class.Damaged → IsSpoiled world.state
   pub still_spoiled : (world : World State) (stepped : Stepped (World State)) → act.Step world stepped → IsSpoiled stepped.world.state → IsSpoiled world.state
+
+pub migrated_once : (s : State) → migrated (migrated s) ≡ migrated s
+migrated_once NotMade = refl
+migrated_once (Made b) = refl
+migrated_once (Old b) = refl
+migrated_once (Spoiled held) = refl
+
+-- what is made is in files of today's version
+pub made_migrated : (board : Option Board) → migrated (state_of board) ≡ state_of board
+made_migrated None = refl
+made_migrated (Some b) = refl
 
 made_unspoiled : {P : Type 0} (board : Option Board) → IsSpoiled (state_of board) → P
 made_unspoiled None spoiled = absurd spoiled
@@ -53,35 +65,53 @@ module _ (turns : Shelf.Files → Option Board → Turn → Type 0) (laws : AreT
   says : (shelf : Shelf.Files) (s next : State) (reply : Reply) → OnState (turns shelf) s next reply → reply.text ≢ []
   says shelf NotMade next reply step none = laws.says shelf None step.0 step.1 (ap (λ (r : Reply). r.text) (sym step.3) ∙ none)
   says shelf (Made b) next reply step none = laws.says shelf (Some b) step.0 step.1 (ap (λ (r : Reply). r.text) (sym step.3) ∙ none)
+  says shelf (Old b) next reply step none = laws.says shelf (Some b) step.0 step.1 (ap (λ (r : Reply). r.text) (sym step.3) ∙ none)
   says shelf (Spoiled held) next reply step none = let text : (damaged step.1.0).text ≡ [] = ap (λ (r : Reply). r.text) (sym step.1.2) ∙ none in absurd (cc text)
 
-  refused : (shelf : Shelf.Files) (s next : State) (reply : Reply) → OnState (turns shelf) s next reply → reply.class ≡ class.Refused → next ≡ s
+  refused : (shelf : Shelf.Files) (s next : State) (reply : Reply) → OnState (turns shelf) s next reply → reply.class ≡ class.Refused → next ≡ migrated s
   refused shelf NotMade next reply step is = step.2 ∙ ap state_of (laws.refused shelf None step.0 step.1 (ap (λ (r : Reply). r.class) (sym step.3) ∙ is))
   refused shelf (Made b) next reply step is = step.2 ∙ ap state_of (laws.refused shelf (Some b) step.0 step.1 (ap (λ (r : Reply). r.class) (sym step.3) ∙ is))
+  refused shelf (Old b) next reply step is = step.2 ∙ ap state_of (laws.refused shelf (Some b) step.0 step.1 (ap (λ (r : Reply). r.class) (sym step.3) ∙ is))
   refused shelf (Spoiled held) next reply step is = step.0
 
   spoiled_only : (shelf : Shelf.Files) (s next : State) (reply : Reply) → OnState (turns shelf) s next reply → reply.class ≡ class.Damaged → IsSpoiled s
   spoiled_only shelf NotMade next reply step is = absurd (laws.undamaged shelf None step.0 step.1 (ap (λ (r : Reply). r.class) (sym step.3) ∙ is))
   spoiled_only shelf (Made b) next reply step is = absurd (laws.undamaged shelf (Some b) step.0 step.1 (ap (λ (r : Reply). r.class) (sym step.3) ∙ is))
+  spoiled_only shelf (Old b) next reply step is = absurd (laws.undamaged shelf (Some b) step.0 step.1 (ap (λ (r : Reply). r.class) (sym step.3) ∙ is))
   spoiled_only shelf (Spoiled held) next reply step is = tt
 
   spoiled_still : (shelf : Shelf.Files) (s next : State) (reply : Reply) → OnState (turns shelf) s next reply → IsSpoiled next → IsSpoiled s
   spoiled_still shelf NotMade next reply step spoiled = made_unspoiled step.0.board (subst IsSpoiled step.2 spoiled)
   spoiled_still shelf (Made b) next reply step spoiled = made_unspoiled step.0.board (subst IsSpoiled step.2 spoiled)
+  spoiled_still shelf (Old b) next reply step spoiled = made_unspoiled step.0.board (subst IsSpoiled step.2 spoiled)
   spoiled_still shelf (Spoiled held) next reply step spoiled = tt
 
   next_is : (shelf : Shelf.Files) (s one other : State) (r q : Reply) → OnState (turns shelf) s one r → OnState (turns shelf) s other q → one ≡ other
   next_is shelf NotMade one other r q first second = first.2 ∙ (ap (λ (t : Turn). state_of t.board) (laws.one_turn shelf None first.0 second.0 first.1 second.1) ∙ sym second.2)
   next_is shelf (Made b) one other r q first second = first.2 ∙ (ap (λ (t : Turn). state_of t.board) (laws.one_turn shelf (Some b) first.0 second.0 first.1 second.1) ∙ sym second.2)
+  next_is shelf (Old b) one other r q first second = first.2 ∙ (ap (λ (t : Turn). state_of t.board) (laws.one_turn shelf (Some b) first.0 second.0 first.1 second.1) ∙ sym second.2)
   next_is shelf (Spoiled held) one other r q first second = first.0 ∙ sym second.0
 
   reply_is : (shelf : Shelf.Files) (s one other : State) (r q : Reply) → OnState (turns shelf) s one r → OnState (turns shelf) s other q → r ≡ q
   reply_is shelf NotMade one other r q first second = first.3 ∙ (ap (λ (t : Turn). t.reply) (laws.one_turn shelf None first.0 second.0 first.1 second.1) ∙ sym second.3)
   reply_is shelf (Made b) one other r q first second = first.3 ∙ (ap (λ (t : Turn). t.reply) (laws.one_turn shelf (Some b) first.0 second.0 first.1 second.1) ∙ sym second.3)
+  reply_is shelf (Old b) one other r q first second = first.3 ∙ (ap (λ (t : Turn). t.reply) (laws.one_turn shelf (Some b) first.0 second.0 first.1 second.1) ∙ sym second.3)
   reply_is shelf (Spoiled held) one other r q first second = damage_is held r q first.1 second.1
 
   abbrev reply_in : Stepped (World State) → Reply
   reply_in stepped = record { text = stepped.reply; class = stepped.class }
+
+  same_migrated : (shelf : Shelf.Files) (s next : State) (reply : Reply) → OnState (turns shelf) (migrated s) next reply ↔ OnState (turns shelf) s next reply
+  same_migrated shelf NotMade next reply = ((λ step. step), (λ step. step))
+  same_migrated shelf (Made b) next reply = ((λ step. step), (λ step. step))
+  same_migrated shelf (Old b) next reply = ((λ step. step), (λ step. step))
+  same_migrated shelf (Spoiled held) next reply = ((λ step. step), (λ step. step))
+
+  left_migrated : (shelf : Shelf.Files) (s next : State) (reply : Reply) → OnState (turns shelf) s next reply → migrated next ≡ next
+  left_migrated shelf NotMade next reply step = subst (λ (n : State). migrated n ≡ n) (sym step.2) (made_migrated step.0.board)
+  left_migrated shelf (Made b) next reply step = subst (λ (n : State). migrated n ≡ n) (sym step.2) (made_migrated step.0.board)
+  left_migrated shelf (Old b) next reply step = subst (λ (n : State). migrated n ≡ n) (sym step.2) (made_migrated step.0.board)
+  left_migrated shelf (Spoiled held) next reply step = subst (λ (n : State). migrated n ≡ n) (sym step.0) refl
 
   pub lawful_on_board : IsLawful (on_board turns)
   lawful_on_board = record {
@@ -92,6 +122,11 @@ module _ (turns : Shelf.Files → Option Board → Turn → Type 0) (laws : AreT
       state = refused world.shelf world.state stepped.world.state (reply_in stepped) step.1 is i;
       shelf = step.0 i;
     };
+    same_migrated = λ world stepped.
+        let same = same_migrated world.shelf world.state stepped.world.state (reply_in stepped) in
+        ((λ step. (step.0, same.0 step.1)), (λ step. (step.0, same.1 step.1)));
+    migrated_once = migrated_once;
+    leaves_migrated = λ touched world stepped step. left_migrated world.shelf world.state stepped.world.state (reply_in stepped) step.1;
     damage_of_board = λ world stepped step is. refl;
     one_outcome = λ world one other first second.
         let shelf : one.world.shelf ≡ other.world.shelf = first.0 ∙ sym second.0 in

@@ -13,7 +13,7 @@ use Rattle.board_commands.specs.Enroll.{Enrolls, enrolled_line, enrolls}
 use Rattle.board_commands.specs.Enrolling.{MayEnroll}
 use Rattle.board_commands.specs.Halts.{told, of_journal}
 use Rattle.board_commands.specs.Kept.{unread}
-use Rattle.board_commands.specs.State.{State, Made, Stores, state_of}
+use Rattle.board_commands.specs.State.{State, Made, Stores, migrated, state_of}
 use Rattle.board_commands.specs.Turns.{Turn, refuses}
 use Rattle.board_commands.specs.declared.enrollment.Enrolling.{Enrolling}
 use Rattle.board_commands.specs.declared.halt.BoardHalt.{BoardHalt}
@@ -21,7 +21,7 @@ use Rattle.board_commands.specs.declared.halt.BoardHalt.TheVariants.{Refused, Da
 use Rattle.board_commands.proofs.Exits.{answered, starved, turned, unturned}
 
 module _ (name flags conferences : List ℕ) {world : World State} {old mid : Disk} {shelf : Shelf.Files} (at : IsAt Stores unread world old shelf) (board : Option Board)
-    (finds : Finds Stores unread world.state old mid (Ok (tt {0}))) (is : world.state ≡ state_of board) where
+    (finds : Finds Stores unread world.state (migrated world.state) old mid (Ok (tt {0}))) (is : migrated world.state ≡ state_of board) where
   pub unprepared : (e : BoardHalt) → MayEnroll name flags conferences board (Err e) → Works Stores (enrolls name flags conferences) unread world old mid shelf (told enrolled_line (Err e))
   unprepared (Refused why) may = answered (λ files. Enrolls name flags conferences) at {board = board} finds is (refuses why board) may refl
   unprepared OutOfMemory may = starved (λ files. Enrolls name flags conferences) at finds
@@ -30,7 +30,7 @@ module _ (name flags conferences : List ℕ) {world : World State} {old mid : Di
   unprepared ShelfFault may = absurd may
 
   module _ (e : Enrolling) (may : MayEnroll name flags conferences board (Ok e)) where
-    state_is : world.state ≡ Made may.0
+    state_is : migrated world.state ≡ Made may.0
     state_is = is ∙ ap state_of may.1
 
     turn : Turn

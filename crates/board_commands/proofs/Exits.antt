@@ -5,7 +5,7 @@ use Rattle.door_outside.specs.Disk.{Disk, Unchanged}
 use Rattle.door_outside.specs.Shelf as Shelf
 use Rattle.entry_runs.proofs.Boards.{found_still}
 use Rattle.entry_runs.proofs.Commands.{answers, change_fails, changes_board, halts, not_found}
-use Rattle.entry_runs.specs.Door.{World, here}
+use Rattle.entry_runs.specs.Door.{World, here, migrated_world}
 use Rattle.entry_runs.specs.Entry.{Changes, Finds, IsAt, Reply, Works}
 use Rattle.entry_runs.specs.Runs.{Stepped}
 use Rattle.entry_runs.specs.declared.stop.Stop.TheVariants as stop
@@ -20,7 +20,7 @@ use Rattle.mail_board.specs.declared.loading.Loaded.{Loaded}
 use Rattle.board_commands.specs.Damages.{damaged}
 use Rattle.board_commands.specs.Halts.{told, of_read, of_journal}
 use Rattle.board_commands.specs.Kept.{IsFound, found, unread}
-use Rattle.board_commands.specs.State.{State, Spoiled, Stores, state_of}
+use Rattle.board_commands.specs.State.{State, NotMade, Made, Old, Spoiled, Stores, migrated, state_of}
 use Rattle.board_commands.specs.Turns.{Turn, OnState, on_board}
 
 abbrev stepped_to : World State → Reply → Stepped (World State)
@@ -32,21 +32,29 @@ module _ (turns : Shelf.Files → Option Board → Turn → Type 0) {world : Wor
   turns_to None turn takes = (turn, takes, refl, refl)
   turns_to (Some b) turn takes = (turn, takes, refl, refl)
 
-  pub step_to : (board : Option Board) (turn : Turn) → world.state ≡ state_of board → turns world.shelf board turn → (on_board turns).Step world (stepped_to (here (state_of turn.board) world.shelf) turn.reply)
-  step_to board turn is takes = (refl, subst (λ (s : State). OnState (turns world.shelf) s (state_of turn.board) turn.reply) (sym is) (turns_to board turn takes))
+  -- from the migrated board, and so from the board
+  unmigrated : (s next : State) (reply : Reply) → OnState (turns world.shelf) (migrated s) next reply → OnState (turns world.shelf) s next reply
+  unmigrated NotMade next reply step = step
+  unmigrated (Made b) next reply step = step
+  unmigrated (Old b) next reply step = step
+  unmigrated (Spoiled held) next reply step = step
 
-  says_damage : (held : _) (d : Damage) → world.state ≡ Spoiled held → board_damage held ≡ Some d → (on_board turns).Step world (stepped_to world (damaged d))
-  says_damage held d is damage = (refl, subst (λ (s : State). OnState (turns world.shelf) s s (damaged d)) (sym is) (refl, (d, damage, refl)))
+  pub step_to : (board : Option Board) (turn : Turn) → migrated world.state ≡ state_of board → turns world.shelf board turn → (on_board turns).Step world (stepped_to (here (state_of turn.board) world.shelf) turn.reply)
+  step_to board turn is takes =
+      (refl, unmigrated world.state (state_of turn.board) turn.reply (subst (λ (s : State). OnState (turns world.shelf) s (state_of turn.board) turn.reply) (sym is) (turns_to board turn takes)))
+
+  says_damage : (held : _) (d : Damage) → world.state ≡ Spoiled held → board_damage held ≡ Some d → (on_board turns).Step world (stepped_to (migrated_world (on_board turns) world) (damaged d))
+  says_damage held d is damage = (refl, subst (λ (s : State). OnState (turns world.shelf) s (migrated s) (damaged d)) (sym is) (refl, (d, damage, refl)))
 
   -- ---- the board wasn't read, or there is damage
-  pub unfound : {Value : Type 0} {new : Disk} (text : Value → List ℕ) (kept : Option Loaded) (e : ReadError) → Finds Stores unread world.state old new (found (Err e)) → IsFound world.state kept (Err e)
+  pub unfound : {Value : Type 0} {new : Disk} (text : Value → List ℕ) (kept : Option Loaded) (e : ReadError) → Finds Stores unread world.state (migrated world.state) old new (found (Err e)) → IsFound world.state kept (Err e)
       → Works Stores (on_board turns) unread world old new shelf (told text (Err (of_read e)))
   unfound text kept (Damaged d) finds is = answers Stores (on_board turns) at refl finds (says_damage is.0 d is.1 is.2)
   unfound text kept DiskFault finds is = not_found Stores (on_board turns) at refl finds
   unfound text kept OutOfMemory finds is = not_found Stores (on_board turns) at refl finds
 
   -- ---- the board was found, or none, and then memory ran out or the shelf failed
-  module _ {mid : Disk} (finds : Finds Stores unread world.state old mid (Ok (tt {0}))) where
+  module _ {mid : Disk} (finds : Finds Stores unread world.state (migrated world.state) old mid (Ok (tt {0}))) where
     pub starved : Works Stores (on_board turns) unread world old mid shelf (Err stop.OutOfMemory)
     starved = halts Stores (on_board turns) at refl finds stop.OutOfMemory (λ never. absurd (cc never))
 
@@ -54,20 +62,20 @@ module _ (turns : Shelf.Files → Option Board → Turn → Type 0) {world : Wor
     shelf_fails = halts Stores (on_board turns) at refl finds stop.ShelfFault (λ never. absurd (cc never))
 
   -- ---- the board was found, or none
-  module _ {mid : Disk} {board : Option Board} (finds : Finds Stores unread world.state old mid (Ok (tt {0}))) (is : world.state ≡ state_of board) where
+  module _ {mid : Disk} {board : Option Board} (finds : Finds Stores unread world.state (migrated world.state) old mid (Ok (tt {0}))) (is : migrated world.state ≡ state_of board) where
     -- it changes nothing, and answers
     pub answered : (turn : Turn) → turns world.shelf board turn → turn.board ≡ board → Works Stores (on_board turns) unread world old mid shelf (Ok turn.reply)
     answered turn takes same =
-        let state : state_of turn.board ≡ world.state = ap state_of same ∙ sym is in
+        let state : state_of turn.board ≡ migrated world.state = ap state_of same ∙ sym is in
         answers Stores (on_board turns) at refl finds
         (subst (λ (s : State). (on_board turns).Step world (stepped_to (here s world.shelf) turn.reply)) state (step_to board turn is takes))
 
     -- it was to take a turn that changes the board
     module _ {new : Disk} (turn : Turn) (takes : turns world.shelf board turn) where
-      pub turned : {T E : Type 0} {value : T} → Changes Stores {E = E} unread world.state (state_of turn.board) mid new (Ok value) → Works Stores (on_board turns) unread world old new shelf (Ok turn.reply)
+      pub turned : {T E : Type 0} {value : T} → Changes Stores {E = E} unread (migrated world.state) (state_of turn.board) mid new (Ok value) → Works Stores (on_board turns) unread world old new shelf (Ok turn.reply)
       turned changes = changes_board Stores (on_board turns) at refl finds changes at.shelf_is (step_to board turn is takes)
 
-      pub unturned : {Value T : Type 0} (text : Value → List ℕ) (e : JournalError) → Changes Stores {T = T} unread world.state (state_of turn.board) mid new (Err e) → (e ≡ journal.OutOfMemory → Unchanged mid new)
+      pub unturned : {Value T : Type 0} (text : Value → List ℕ) (e : JournalError) → Changes Stores {T = T} unread (migrated world.state) (state_of turn.board) mid new (Err e) → (e ≡ journal.OutOfMemory → Unchanged mid new)
           → Works Stores (on_board turns) unread world old new shelf (told text (Err (of_journal e)))
       unturned text journal.DiskFault changes same = change_fails Stores (on_board turns) at refl finds changes (step_to board turn is takes)
       unturned text journal.OutOfMemory changes same =

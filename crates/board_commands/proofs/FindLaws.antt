@@ -1,11 +1,11 @@
 -- What was found of the board, by a load or before, stands for the state of the host's files.
-use Rattle.std.proofs.Common.{◌≡◌, Bool, true, false, cond, eqb, Option, Some, None, Result, Ok, Err, refl, sym, ◌∙◌, ap, subst}
-use Rattle.std.specs.Prelude.{IsErrOf, is_some}
+use Rattle.std.proofs.Common.{◌≡◌, ◌≢◌, ◌⊎◌, inl, Bool, true, false, cond, eqb, Option, Some, None, Result, Ok, Err, refl, sym, ◌∙◌, ap, subst}
+use Rattle.std.specs.Prelude.{is_some}
 use Rattle.std.proofs.lemmas.Bool.{cond-true, eq-eqb}
 use Rattle.damage_rules.specs.Rules.{damage_of}
 use Rattle.door_outside.specs.Disk.{Disk, Image, AllNow, Between, Unchanged, as_read}
-use Rattle.door_outside.proofs.Moments.{still, weaker}
-use Rattle.entry_runs.proofs.Boards.{recovered_finds}
+use Rattle.door_outside.proofs.Moments.{still}
+use Rattle.entry_runs.proofs.Boards.{opened_finds, opening_stops}
 use Rattle.entry_runs.specs.Entry.{Finds, HasBoard, Recovers}
 use Rattle.entry_runs.specs.declared.stop.Stop.{Stop}
 use Rattle.entry_runs.specs.declared.stop.Stop.TheVariants as stop
@@ -27,7 +27,7 @@ use Rattle.mail_board.specs.Loading.{IsTold, IsValid, StandsIn}
 use Rattle.mail_board.specs.declared.loading.Loaded.{Loaded}
 use Rattle.mail_board.specs.declared.loading.Loaded.TheVariants.{NotMade, Ready}
 use Rattle.board_commands.specs.Kept.{AreSure, IsFound, IsKept, found, kept_board, unread}
-use Rattle.board_commands.specs.State.{State, Made, Spoiled, Stores, state_of}
+use Rattle.board_commands.specs.State.{State, Made, Old, Spoiled, Stores, migrated, state_of}
 use Rattle.board_commands.specs.State as state
 use Rattle.board_commands.proofs.StateLaws.{one_state}
 
@@ -47,6 +47,18 @@ pub loaded_is : (loaded : Loaded) (old new : Disk) (s : State) → IsValid loade
     → s ≡ state_of (kept_board (Some loaded))
 loaded_is loaded old new s valid stands done stores =
     stands_for loaded (recovered old.files) s valid (stands_moves loaded new.files (recovered old.files) (done ∙ sym (recovered_data old.files)) stands) stores
+
+-- ---- a board in files of today's version is migrated as it is
+pub migrated_to : (board : Option Board) (s : State) → s ≡ state_of board → migrated s ≡ state_of board
+migrated_to None s is = ap migrated is
+migrated_to (Some b) s is = ap migrated is
+
+-- no files stand for a board in files of the first version, as yet
+pub not_old : (s : State) (files : Files) → Stores s files → s ≡ migrated s
+not_old state.NotMade files stores = refl
+not_old (Made b) files stores = refl
+not_old (Old b) files stores = absurd stores
+not_old (Spoiled held) files stores = refl
 
 -- what is kept
 kept_calm : (loaded : Loaded) (disk : Disk) → IsKept (Some loaded) disk → IsCalm disk
@@ -85,6 +97,7 @@ damage_is files (Made b) d same read stores =
     let none : damage_of (board_of files) ≡ None = ap damage_of (again b files stores.0 stores.1) in
     let never : None ≡ Some d = sym none ∙ some in
     absurd (cc never)
+damage_is files (Old b) d same read stores = absurd stores
 damage_is files (Spoiled held) d same read stores = (held, refl, ap board_damage (stores.0 ∙ same) ∙ damage_in (eqb (data_size files) 0) (board_of files) d read)
 
 -- ---- what was found
@@ -94,34 +107,30 @@ same_host disk = record { files = refl; said = refl; clock = refl; wrote = refl;
 has_board : {s : State} {disk : Disk} → IsSettled disk → Stores s (recovered disk.files) → HasBoard Stores unread s disk
 has_board settled stores = record { ready = record { settled = settled; calm = λ read. absurd (cc read) }; stores = stores; fits = tt }
 
+-- what a crash leaves recovers to what it recovered to before
+back : (old : Disk) (s : State) → Stores s (recovered old.files) → (image : Image) → Back old image → Recovers (λ files. Stores s files ⊎ Stores (migrated s) files) old.said image
+back old s stores image it = record { files = inl (subst (Stores s) (sym it.files) stores); said = it.said }
+
+as_migrated : (s : State) (files : Files) → Stores s files → Stores (migrated s) files
+as_migrated s files stores = subst (λ (m : State). Stores m files) (not_old s files stores) stores
+
 -- it was kept
-pub kept_finds : (loaded : Loaded) (disk : Disk) (s : State) → IsKept (Some loaded) disk → Stores s (recovered disk.files) → Finds Stores unread s disk disk (Ok (tt {0}))
+pub kept_finds : (loaded : Loaded) (disk : Disk) (s : State) → IsKept (Some loaded) disk → Stores s (recovered disk.files) → Finds Stores unread s (migrated s) disk disk (Ok (tt {0}))
 kept_finds loaded disk s kept stores =
     let calm = kept_calm loaded disk kept in
-    recovered_finds Stores (has_board (calm_is_settled disk calm) stores) (still disk _) (record { said = refl; files = refl }) calm (sym (calm_recovers disk calm)) (same_host disk) tt
+    opened_finds Stores (has_board (calm_is_settled disk calm) stores) (Back disk) (back disk s stores) (still disk (Back disk)) (record { said = refl; files = refl }) calm
+    (as_migrated s (data_files disk.files) (subst (Stores s) (calm_recovers disk calm) stores)) tt
 
 -- or a load gave it
 module _ {old new : Disk} {s : State} (before : IsSettled old) (moments : Between old new (Back old)) (now : IsFirm old → AllNow new (Back old)) (same : Back old (as_read new)) (settled : IsSettled new)
     (stores : Stores s (recovered old.files)) where
-  pub told_finds : IsCalm new → data_files new.files ≡ recovered old.files → Finds Stores unread s old new (Ok (tt {0}))
-  told_finds calm done = recovered_finds Stores (has_board before stores) moments same calm done (same_host new) tt
+  pub told_finds : IsCalm new → data_files new.files ≡ recovered old.files → Finds Stores unread s (migrated s) old new (Ok (tt {0}))
+  told_finds calm done = opened_finds Stores (has_board before stores) (Back old) (back old s stores) moments same calm (as_migrated s (data_files new.files) (subst (Stores s) (sym done) stores)) tt
 
-  stops : (e : Stop) → (IsErrOf {T = Unit {0}} (Err e) stop.VoiceFault → ⊥) → Finds Stores {T = Unit {0}} unread s old new (Err e)
-  stops e silent = record {
-    keeps = record {
-      moments = weaker moments back;
-      reads = back (as_read new) same;
-      settled = settled;
-    };
-    firm = λ was image left. (now was image left).files ∙ sym same.files;
-    silent = silent;
-    done = tt;
-  }
-    where
-      back : (image : Image) → Back old image → Recovers (Stores s) old.said image
-      back image it = record { files = subst (Stores s) (sym it.files) stores; said = it.said }
+  stops : (e : Stop) → e ≢ stop.VoiceFault → Finds Stores {T = Unit {0}} unread s (migrated s) old new (Err e)
+  stops e silent = opening_stops Stores (has_board before stores) (Back old) (back old s stores) moments same e silent settled (λ other was image left. (now was image left).files ∙ sym same.files)
 
-  pub load_finds : (e : ReadError) → (IsTold {T = Unit {0}} (Err e) → IsCalm new) → (IsTold {T = Unit {0}} (Err e) → data_files new.files ≡ recovered old.files) → Finds Stores unread s old new (found (Err e))
+  pub load_finds : (e : ReadError) → (IsTold {T = Unit {0}} (Err e) → IsCalm new) → (IsTold {T = Unit {0}} (Err e) → data_files new.files ≡ recovered old.files) → Finds Stores unread s (migrated s) old new (found (Err e))
   load_finds (Damaged d) calm done = told_finds (calm tt) (done tt)
   load_finds DiskFault calm done = stops stop.DiskFault (λ is. absurd (cc is))
   load_finds OutOfMemory calm done = stops stop.OutOfMemory (λ is. absurd (cc is))

@@ -16,11 +16,11 @@ use Rattle.shelf_files.specs.declared.refusal.Refusal.{Refusal}
 use Rattle.board_commands.specs.Halts.{told, of_journal, of_shelf}
 use Rattle.board_commands.specs.Init.{Inits, SetupOf, inits, made_line, made_of}
 use Rattle.board_commands.specs.Kept.{unread}
-use Rattle.board_commands.specs.State.{State, NotMade, Made, Stores}
+use Rattle.board_commands.specs.State.{State, NotMade, Made, Stores, migrated}
 use Rattle.board_commands.proofs.Exits.{answered, shelf_fails, starved, turned, unturned}
 
 module _ (file : List ℕ) (now : ℕ) {world : World State} {old mid : Disk} {shelf : Shelf.Files} (at : IsAt Stores unread world old shelf)
-    (finds : Finds Stores unread world.state old mid (Ok (tt {0}))) (is : world.state ≡ NotMade) where
+    (finds : Finds Stores unread world.state (migrated world.state) old mid (Ok (tt {0}))) (is : migrated world.state ≡ NotMade) where
   of_world : (read : Result Setup Refusal) → SetupOf shelf file read → SetupOf world.shelf file read
   of_world read setup = subst (λ (files : Shelf.Files). SetupOf files file read) at.shelf_is setup
 

@@ -12,18 +12,22 @@ use Rattle.board_layout.specs.Damage.{board_of}
 use Rattle.board_layout.specs.Layout.{AreBytes, AreEmpty, data_size}
 use Rattle.board_layout.proofs.BoardLaws.{again, laid_bytes, not_empty, takes, unique}
 use Rattle.board_layout.proofs.SizeLaws.{empty}
-use Rattle.board_commands.specs.State.{State, NotMade, Made, Spoiled, Stores}
+use Rattle.board_commands.specs.State.{State, NotMade, Made, Old, Spoiled, Stores}
 
 -- ---- one at most
 pub one_state : (files : Files) (a b : State) → Stores a files → Stores b files → a ≡ b
 one_state files NotMade NotMade x y = refl
 one_state files NotMade (Made b) x y = absurd (not_empty b files y.0 y.1 x)
+one_state files NotMade (Old b) x y = absurd y
 one_state files NotMade (Spoiled held) x y = absurd (y.1.some x)
 one_state files (Made a) NotMade x y = absurd (not_empty a files x.0 x.1 y)
 one_state files (Made a) (Made b) x y = ap Made (unique a b files x.0 y.0 x.1 y.1)
+one_state files (Made a) (Old b) x y = absurd y
 one_state files (Made a) (Spoiled held) x y = absurd (y.1.other a x.0 x.1)
+one_state files (Old a) other x y = absurd x
 one_state files (Spoiled held) NotMade x y = absurd (x.1.some y)
 one_state files (Spoiled held) (Made b) x y = absurd (x.1.other b y.0 y.1)
+one_state files (Spoiled held) (Old b) x y = absurd y
 one_state files (Spoiled held) (Spoiled other) x y = ap Spoiled (x.0 ∙ sym y.0)
 
 -- ---- one at least

@@ -53,9 +53,9 @@ found (Err (Damaged d)) = Ok (tt {0})
 found (Err DiskFault) = Err stop.DiskFault
 found (Err OutOfMemory) = Err stop.OutOfMemory
 
--- what was found stands for the state: the board, or none, or the damage of its files
+-- what was found stands for the state once that is migrated: the board, or none, or the damage of its files
 abbrev pub IsFound : State → Option Loaded → Result (Unit {0}) ReadError → Type 0
-IsFound s kept (Ok x) = s ≡ state.state_of (kept_board kept)
+IsFound s kept (Ok x) = state.migrated s ≡ state.state_of (kept_board kept)
 IsFound s kept (Err (Damaged d)) = (held : _) × (s ≡ Spoiled held) × (board_damage held ≡ Some d)
 IsFound s kept (Err DiskFault) = Unit {0}
 IsFound s kept (Err OutOfMemory) = Unit {0}

@@ -10,6 +10,8 @@ pub data State : Type 0 where
   NotMade : State
   -- this board
   Made : Board → State
+  -- this board, in files of the ledger's first version
+  Old : Board → State
   -- files that are no board's
   Spoiled : Files → State
 
@@ -22,12 +24,21 @@ pub record AreSpoiled (files : Files) : Type 0 where
 abbrev pub Stores : State → Files → Type 0
 Stores NotMade files = AreEmpty files
 Stores (Made b) files = IsBoard b × IsLayout b files
+Stores (Old b) files = ⊥
 Stores (Spoiled held) files = (held ≡ data_files files) × AreSpoiled files
 
 abbrev pub IsSpoiled : State → Type 0
 IsSpoiled NotMade = ⊥
 IsSpoiled (Made b) = ⊥
+IsSpoiled (Old b) = ⊥
 IsSpoiled (Spoiled held) = Unit {0}
+
+-- what a command that touches the board makes of it before all else: the same board in files of today's version
+abbrev pub migrated : State → State
+migrated NotMade = NotMade
+migrated (Made b) = Made b
+migrated (Old b) = Made b
+migrated (Spoiled held) = Spoiled held
 
 -- a board, or none
 abbrev pub state_of : Option Board → State

@@ -10,7 +10,7 @@ use Rattle.jam_records.specs.declared.damage.Damage.{Damage}
 use Rattle.shelf_files.specs.Halts.{refused}
 use Rattle.shelf_files.specs.declared.refusal.Refusal.{Refusal}
 use Rattle.board_commands.specs.Damages.{damaged}
-use Rattle.board_commands.specs.State.{State, NotMade, Made, Spoiled, state_of}
+use Rattle.board_commands.specs.State.{State, NotMade, Made, Old, Spoiled, migrated, state_of}
 
 -- the board after a command, where there is one, and what is to be said
 pub record Turn : Type 0 where
@@ -33,6 +33,7 @@ Takes turns board next reply = (turn : Turn) × turns board turn × (next ≡ st
 abbrev pub OnState : (Option Board → Turn → Type 0) → State → State → Reply → Type 0
 OnState turns NotMade next reply = Takes turns None next reply
 OnState turns (Made b) next reply = Takes turns (Some b) next reply
+OnState turns (Old b) next reply = Takes turns (Some b) next reply
 OnState turns (Spoiled held) next reply = (next ≡ Spoiled held) × SaysDamage held reply
 
 -- a command that may look at the shelf, and changes the board alone
@@ -42,4 +43,5 @@ on_board turns = record {
       (stepped.world.shelf ≡ world.shelf)
       × OnState (turns world.shelf) world.state stepped.world.state (record { text = stepped.reply; class = stepped.class });
   reach = board_only;
+  migrated = migrated;
 }

@@ -4,7 +4,7 @@ ghost use Rattle.board_layout.specs.Rules.{HasReadCause};
 ghost use Rattle.entry_runs.specs.Entry.{Finds};
 ghost use Rattle.intent_journal.specs.Recovered.{recovered};
 ghost use Rattle.board_commands.specs.Kept.{AreSure, IsFound, IsKept, IsRead, found, unread};
-ghost use Rattle.board_commands.specs.State.{State, Stores};
+ghost use Rattle.board_commands.specs.State.{State, Stores, migrated};
 
 use door_outside::Host;
 use mail_board::{Board, LoadError, Loaded};
@@ -19,7 +19,7 @@ pub fn find<H: Host>(
 ) -> Result<(), LoadError>
     requires sure { AreSure kept.old }
     requires kept { IsTrue H.tells → IsKept kept.old (H.disk host.old) }
-    ensures finds { IsTrue H.tells → (state : State) → Stores state (recovered (H.disk host.old).files) → Finds Stores unread state (H.disk host.old) (H.disk host.new) (found result) }
+    ensures finds { IsTrue H.tells → (state : State) → Stores state (recovered (H.disk host.old).files) → Finds Stores unread state (migrated state) (H.disk host.old) (H.disk host.new) (found result) }
     ensures state { IsTrue H.tells → (state : State) → Stores state (recovered (H.disk host.old).files) → IsFound state kept.new result }
     ensures kept { IsTrue H.tells → IsKept kept.new (H.disk host.new) }
     ensures sure { AreSure kept.new }

@@ -1,12 +1,15 @@
--- A board that was just made: it has a conference for each of the setup, and no users.
+-- A board with which a history begins has a conference for each of the setup, and pointers for its members; one that was
+-- just made has no users.
 use Rattle.std.proofs.Common.{◌≡◌, ℕ, zero, suc, Bool, true, false, cond, eqb, List, [], ◌∷◌, length, Option, Some, None, refl, sym, ap, ◌∙◌, subst}
+use Rattle.std.specs.List.{AllZip}
 use Rattle.std.specs.Prelude.{option_and_then, slice_get}
 use Rattle.std.proofs.Math.ListN.{length-replicate}
 use Rattle.std.proofs.lemmas.Option.{none-some, same_Some}
 use Rattle.board_changes.proofs.MemberLaws.{readers_at}
 use Rattle.board_changes.specs.Changed.{empty_conferences, made, new_ledger}
 use Rattle.board_layout.proofs.BasePlaces.{shapes_count}
-use Rattle.board_layout.specs.Board.{shapes_of}
+use Rattle.board_layout.specs.Board.{Board, shapes_of}
+use Rattle.board_layout.specs.Valid.{IsBoard}
 use Rattle.board_layout.specs.Lookups.{pointer_at, user_of}
 use Rattle.board_layout.specs.Renewed.{contents, contents_of}
 use Rattle.board_laws.proofs.Bases.{IsEven, pointer_in}
@@ -14,6 +17,8 @@ use Rattle.board_laws.proofs.Grown.{IsWhole}
 use Rattle.board_laws.proofs.Readers.{no_pointer}
 use Rattle.board_ledger.specs.declared.user.User.{User}
 use Rattle.jam_base.specs.Contents.{Contents, pointer_of}
+use Rattle.jam_layout.specs.Valid.{IsConference}
+use Rattle.jam_layout.specs.declared.conference.Conference.{Conference}
 use Rattle.jam_layout.specs.declared.reader.Reader.{Reader}
 use Rattle.jam_layout.specs.declared.shape.Shape.{Shape}
 use Rattle.setup_file.specs.declared.setup.Setup.{Setup}
@@ -27,6 +32,26 @@ empty_even [] place base here = absurd (none-some base here)
 empty_even (s ∷ shapes) zero base here = subst IsEven (same_Some _ base here) (length-replicate {A = ℕ} (length s.readers) 0)
 empty_even (s ∷ shapes) (suc place) base here = empty_even shapes place base here
 
+-- ---- a valid board
+all_even : (shapes : List Shape) (conferences : List Conference) → AllZip IsConference shapes conferences → (place : ℕ) (base : Contents) → slice_get (contents shapes conferences) place ≡ Some base → IsEven base
+all_even [] conferences all place base here = absurd (none-some base here)
+all_even (s ∷ shapes) [] all place base here = absurd all
+all_even (s ∷ shapes) (c ∷ conferences) all zero base here = subst IsEven (same_Some _ base here) all.0.pointers.all
+all_even (s ∷ shapes) (c ∷ conferences) all (suc place) base here = all_even shapes conferences all.1 place base here
+
+zip_count : (shapes : List Shape) (conferences : List Conference) → AllZip IsConference shapes conferences → length conferences ≡ length shapes
+zip_count [] [] all = refl
+zip_count [] (c ∷ conferences) all = absurd all
+zip_count (s ∷ shapes) [] all = absurd all
+zip_count (s ∷ shapes) (c ∷ conferences) all = ap suc (zip_count shapes conferences all.1)
+
+pub board_whole : (b : Board) → IsBoard b → IsWhole b
+board_whole b ok = record {
+  count = zip_count (shapes_of b.ledger) b.conferences ok.conferences ∙ shapes_count b.ledger 0 b.ledger.setup.conferences;
+  even = all_even (shapes_of b.ledger) b.conferences ok.conferences;
+}
+
+-- ---- a fresh board
 module _ (setup : Setup) (now : ℕ) where
   pub fresh_whole : IsWhole (made setup now)
   fresh_whole = record {

@@ -3,20 +3,20 @@ use Rattle.std.proofs.Common.{◌≡◌, inl, inr, ℕ, suc, ◌<◌, ◌≤◌,
 use Rattle.std.specs.Prelude.{slice_get}
 use Rattle.std.proofs.lemmas.Bool.{and_from, and_parts}
 use Rattle.std.proofs.lemmas.Option.{none-some}
-use Rattle.board_commands.specs.State.{Made}
+use Rattle.board_commands.specs.State.{State, Made}
 use Rattle.board_layout.specs.Board.{Board}
 use Rattle.board_layout.specs.Lookups.{pointer_at, user_of}
 use Rattle.board_laws.proofs.Changing.{AcksBy, bases_grow, pointers_follow, setup_stays, whole_next}
-use Rattle.board_laws.proofs.Fresh.{fresh_whole}
+use Rattle.board_laws.proofs.Fresh.{board_whole, fresh_whole}
 use Rattle.board_laws.proofs.Grown.{IsWhole}
 use Rattle.board_laws.proofs.Offers.{IsNew, all_offered, offered_new}
 use Rattle.board_laws.proofs.Readers.{PointerFollows}
-use Rattle.board_laws.proofs.Sequences.{AreCommands, everywhere, onward}
+use Rattle.board_laws.proofs.Sequences.{AreCommands, everywhere, onward, same_made}
 use Rattle.board_laws.proofs.Turns.{Because}
 use Rattle.board_laws.proofs.Users.{user_follows}
 use Rattle.board_laws.proofs.Views.{allowed_on, slots_follow}
 use Rattle.board_laws.specs.BoardCommand.{BoardCommand}
-use Rattle.board_laws.specs.History.{IsHistory, Deed, Steps, after}
+use Rattle.board_laws.specs.History.{IsBeginning, IsHistory, Deed, LeadsTo, Steps}
 use Rattle.board_laws.specs.Kept.{IsAck, IsLive, NoAckBetween, StaysMade, StaysOffered}
 use Rattle.jam_base.specs.Slots.{has_live}
 use Rattle.mail_board.specs.Changes.{changed}
@@ -58,13 +58,13 @@ ahead_next b user m change ahead apart =
     stays (inl same) = same ∙ ahead.there
     stays (inr (none, first, nobody)) = absurd (none-some ahead.pointer (sym none ∙ ahead.there))
 
-module _ {Entry : Type 0} (command_of : Entry → BoardCommand) (Step : Steps Entry) (commands : AreCommands command_of Step) (deeds : List (Deed Entry)) (are : IsHistory Step deeds) where
-  pub all_whole : (n : ℕ) (b : Board) → after deeds n ≡ Made b → IsWhole b
-  all_whole = everywhere command_of Step commands deeds are (λ n b. IsWhole b) (λ n setup now. fresh_whole setup now) (λ n d b change is board because whole. whole_next b whole change) (λ n b whole. whole)
+module _ {Entry : Type 0} (command_of : Entry → BoardCommand) (Step : Steps Entry) (commands : AreCommands command_of Step) (start : State) (deeds : List (Deed Entry)) (are : IsHistory Step start deeds) where
+  pub all_whole : IsBeginning start → (n : ℕ) (b : Board) → LeadsTo start deeds n b → IsWhole b
+  all_whole begins = everywhere command_of Step commands start deeds are (λ n b. IsWhole b) begins (λ b ok is. board_whole b ok) (λ n setup now. fresh_whole setup now) (λ n d b change is board because whole. whole_next b whole change) (λ n b whole. whole)
 
   -- an acknowledgement of the user is a deed of his
-  pub acks_at : (n : ℕ) (d : Deed Entry) (b : Board) (whole : IsWhole b) (user : ℕ) (change : Change) → slice_get deeds n ≡ Some d → after deeds n ≡ Made b → Because d.now b (command_of d.entry) d.stepped.class change → AcksBy b whole user change
-      → (packet : ℕ) × IsAck command_of deeds n user packet
+  pub acks_at : (n : ℕ) (d : Deed Entry) (b : Board) (whole : IsWhole b) (user : ℕ) (change : Change) → slice_get deeds n ≡ Some d → LeadsTo start deeds n b → Because d.now b (command_of d.entry) d.stepped.class change → AcksBy b whole user change
+      → (packet : ℕ) × IsAck command_of start deeds n user packet
   acks_at n d b whole user (Enroll name net members) is board because own = absurd own
   acks_at n d b whole user (Append place messages) is board because own = absurd own
   acks_at n d b whole user (Spread posts) is board because own = absurd own
@@ -83,34 +83,31 @@ module _ {Entry : Type 0} (command_of : Entry → BoardCommand) (Step : Steps En
   )
   acks_at n d b whole user (Upload other digest refused posts) is board because own = absurd own
 
-  module _ (i j : ℕ) (user : ℕ) (none : NoAckBetween command_of deeds i j user) (m : OfferedMessage) where
+  module _ (i j : ℕ) (user : ℕ) (none : NoAckBetween command_of start deeds i j user) (m : OfferedMessage) where
     abbrev StaysAhead : ℕ → Board → Type 0
     StaysAhead n b = n ≤ j → IsAhead b user m
 
-    next : (n : ℕ) (d : Deed Entry) (b : Board) (change : Change) → i ≤ n → slice_get deeds n ≡ Some d → after deeds n ≡ Made b → Because d.now b (command_of d.entry) d.stepped.class change → StaysAhead n b → StaysAhead (suc n) (changed change b)
+    next : (n : ℕ) (d : Deed Entry) (b : Board) (change : Change) → i ≤ n → slice_get deeds n ≡ Some d → LeadsTo start deeds n b → Because d.now b (command_of d.entry) d.stepped.class change → StaysAhead n b → StaysAhead (suc n) (changed change b)
     next n d b change from is board because stays upto =
         let ahead : IsAhead b user m = stays (omega (arith, upto)) in
         ahead_next b user m change ahead (λ own. let ack = acks_at n d b ahead.whole user change is board because own in none n ack.0 from (omega (arith, upto)) ack.1)
 
-    pub still_ahead : i ≤ j → (b c : Board) → after deeds i ≡ Made b → after deeds j ≡ Made c → IsAhead b user m → IsAhead c user m
+    pub still_ahead : i ≤ j → (b c : Board) → LeadsTo start deeds i b → LeadsTo start deeds j c → IsAhead b user m → IsAhead c user m
     still_ahead order b c first last ahead =
-        let reached = onward command_of Step commands deeds are StaysAhead i next (λ n b stays upto. stays (omega (arith, upto))) j order (b, first, λ upto. ahead) in
+        let reached = onward command_of Step commands start deeds are StaysAhead i next (λ n b stays upto. stays (omega (arith, upto))) j order (b, first, λ upto. ahead) in
         let same : Made reached.0 ≡ Made c = sym reached.1 ∙ last in
         subst (λ (b : Board). IsAhead b user m) (same_made reached.0 c same) (reached.2 (omega arith))
-      where
-        same_made : (b c : Board) → Made b ≡ Made c → b ≡ c
-        same_made b c same = cc
 
 -- ---- the laws
 module _ {Entry : Type 0} (command_of : Entry → BoardCommand) (Step : Steps Entry) (commands : AreCommands command_of Step) where
   pub stays_made : StaysMade command_of Step
-  stays_made deeds are i j order b board =
-      let reached = onward command_of Step commands deeds are (λ n b. Unit {0}) i (λ n d b change from is board because holds. tt) (λ n b holds. tt) j order (b, board, tt) in
+  stays_made start deeds are i j order b board =
+      let reached = onward command_of Step commands start deeds are (λ n b. Unit {0}) i (λ n d b change from is board because holds. tt) (λ n b holds. tt) j order (b, board, tt) in
       (reached.0, reached.1)
 
   pub stays_offered : StaysOffered command_of Step
-  stays_offered deeds are i j order b c first last user none limit m has live most enough =
+  stays_offered start begins deeds are i j order b c first last user none limit m has live most enough =
       let new : IsNew b user m = offered_new b user limit m has in
-      let ahead : IsAhead c user m = still_ahead command_of Step commands deeds are i j user none m order b c first last
-      (record { whole = all_whole command_of Step commands deeds are i b first; pointer = new.pointer; there = new.there; above = new.above; may = may_see_new b user m new.seen }) in
+      let ahead : IsAhead c user m = still_ahead command_of Step commands start deeds are i j user none m order b c first last
+      (record { whole = all_whole command_of Step commands start deeds are begins i b first; pointer = new.pointer; there = new.there; above = new.above; may = may_see_new b user m new.seen }) in
       all_offered c user most m (record { pointer = ahead.pointer; there = ahead.there; above = ahead.above; seen = sees_live c user m live ahead.may }) enough

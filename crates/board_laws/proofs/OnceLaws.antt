@@ -7,16 +7,16 @@ use Rattle.std.proofs.lemmas.Bool.{and_from, cases_eq, cases_lt, cond-true, eq-e
 use Rattle.std.proofs.lemmas.List.{append-nil}
 use Rattle.std.proofs.lemmas.Option.{none-some, same_Some}
 use Rattle.std.proofs.lemmas.Slice.Eq.{bytes_eq-Decides}
-use Rattle.board_commands.specs.State.{Made, state_of}
+use Rattle.board_commands.specs.State.{State, Made, migrated, state_of}
 use Rattle.board_commands.specs.Turns.{Turn}
 use Rattle.board_layout.specs.Board.{Board}
 use Rattle.board_layout.specs.Lookups.{user_of}
-use Rattle.board_laws.proofs.Sequences.{AreCommands, after_one, does_on, onward}
+use Rattle.board_laws.proofs.Sequences.{AreCommands, IsOfBoard, after_one, does_made, onward, same_made}
 use Rattle.board_laws.proofs.Uploads.{UploadTurns, WasJudged, counts_of, same_counts, upload_turns}
 use Rattle.board_laws.proofs.Users.{same_ledger}
 use Rattle.board_laws.specs.BoardCommand.{BoardCommand, does}
 use Rattle.board_laws.specs.BoardCommand as command
-use Rattle.board_laws.specs.History.{ChangesBoard, Deed, Steps, IsHistory, after}
+use Rattle.board_laws.specs.History.{ChangesBoard, Deed, Steps, IsHistory, LeadsTo, after}
 use Rattle.board_laws.specs.Once.{ChangesOnce, HasItsCounts, IsUpload, SaysAgain}
 use Rattle.board_ledger.specs.declared.ledger.Ledger.{Ledger}
 use Rattle.board_ledger.specs.declared.upload.Counts.{Counts}
@@ -107,12 +107,13 @@ recorded user digest refused posts b new =
     own = and_from (eqb user user) (bytes_eq digest digest) (eq-eqb user user refl) ((bytes_eq-Decides digest digest).1 refl)
 
 -- ---- one upload
-module _ {Entry : Type 0} (command_of : Entry → BoardCommand) (Step : Steps Entry) (commands : AreCommands command_of Step) (deeds : List (Deed Entry)) (are : IsHistory Step deeds) where
+module _ {Entry : Type 0} (command_of : Entry → BoardCommand) (Step : Steps Entry) (commands : AreCommands command_of Step) (start : State) (deeds : List (Deed Entry)) (are : IsHistory Step start deeds) where
   -- what it makes of its board
-  turns : (n user : ℕ) (digest : List ℕ) (up : IsUpload command_of deeds n user digest) → UploadTurns up.deed.now up.board user digest up.deed.stepped.world.state (record { text = up.deed.stepped.reply; class = up.deed.stepped.class })
+  turns : (n user : ℕ) (digest : List ℕ) (up : IsUpload command_of start deeds n user digest) → UploadTurns up.deed.now up.board user digest up.deed.stepped.world.state (record { text = up.deed.stepped.reply; class = up.deed.stepped.class })
   turns n user digest up =
       let step : does up.deed.now (command.Upload up.name up.file) (here (Made up.board) up.deed.shelf) up.deed.stepped =
-      subst (λ (c : BoardCommand). does up.deed.now c (here (Made up.board) up.deed.shelf) up.deed.stepped) up.command (does_on command_of Step commands deeds are n up.deed (Made up.board) up.there up.board_is) in
+      subst (λ (c : BoardCommand). does up.deed.now c (here (Made up.board) up.deed.shelf) up.deed.stepped) up.command
+      (does_made command_of Step commands start deeds are n up.deed up.board (subst IsOfBoard (sym up.command) tt) up.there up.board_is) in
       subst (λ (d : List ℕ). UploadTurns up.deed.now up.board user d up.deed.stepped.world.state (record { text = up.deed.stepped.reply; class = up.deed.stepped.class })) up.digest_is (by step)
     where
       told : Reply
@@ -127,11 +128,11 @@ module _ {Entry : Type 0} (command_of : Entry → BoardCommand) (Step : Steps En
           by_bytes turn (subst (λ (read : Result (List ℕ) Refusal). UploadsRead user up.deed.now up.board read turn) up.read of_user) next reply
 
   -- one that changes the board was judged
-  judged_where : (n user : ℕ) (digest : List ℕ) (up : IsUpload command_of deeds n user digest) → ChangesBoard deeds n → WasJudged up.deed.now up.board user digest up.deed.stepped.world.state (record { text = up.deed.stepped.reply; class = up.deed.stepped.class })
+  judged_where : (n user : ℕ) (digest : List ℕ) (up : IsUpload command_of start deeds n user digest) → ChangesBoard start deeds n → WasJudged up.deed.now up.board user digest up.deed.stepped.world.state (record { text = up.deed.stepped.reply; class = up.deed.stepped.class })
   judged_where n user digest up changes = by (turns n user digest up)
     where
       stays : up.deed.stepped.world.state ≡ Made up.board → ⊥
-      stays same = changes (after_one command_of Step commands deeds are n up.deed up.there ∙ (same ∙ sym up.board_is))
+      stays same = changes (ap migrated (after_one command_of Step commands start deeds are n up.deed up.there ∙ same) ∙ sym up.board_is)
 
       by : UploadTurns up.deed.now up.board user digest up.deed.stepped.world.state (record { text = up.deed.stepped.reply; class = up.deed.stepped.class })
           → WasJudged up.deed.now up.board user digest up.deed.stepped.world.state (record { text = up.deed.stepped.reply; class = up.deed.stepped.class })
@@ -140,7 +141,7 @@ module _ {Entry : Type 0} (command_of : Entry → BoardCommand) (Step : Steps En
       by (inr (inr judgement)) = judgement
 
   -- ---- the record that it leaves
-  module _ (user : ℕ) (digest : List ℕ) (i : ℕ) (up : IsUpload command_of deeds i user digest) (changes : ChangesBoard deeds i) where
+  module _ (user : ℕ) (digest : List ℕ) (i : ℕ) (up : IsUpload command_of start deeds i user digest) (changes : ChangesBoard start deeds i) where
     judgement : WasJudged up.deed.now up.board user digest up.deed.stepped.world.state (record { text = up.deed.stepped.reply; class = up.deed.stepped.class })
     judgement = judged_where i user digest up changes
 
@@ -150,40 +151,37 @@ module _ {Entry : Type 0} (command_of : Entry → BoardCommand) (Step : Steps En
     abbrev IsKnown : ℕ → Board → Type 0
     IsKnown n b = upload_of user digest b ≡ Some counts
 
-    first_board : (b : Board) × (after deeds (suc i) ≡ Made b) × IsKnown (suc i) b
+    first_board : (b : Board) × LeadsTo start deeds (suc i) b × IsKnown (suc i) b
     unfolding counts
     first_board =
         let made : Change = Upload user digest (refused_count (judged up.board user up.deed.now judgement.messages).0) (judged up.board user up.deed.now judgement.messages).1 in
         let posts = (judged up.board user up.deed.now judgement.messages).1 in
-        (changed made up.board, after_one command_of Step commands deeds are i up.deed up.there ∙ judgement.made, recorded user digest (refused_count (judged up.board user up.deed.now judgement.messages).0) posts up.board judgement.new)
+        (changed made up.board, ap migrated (after_one command_of Step commands start deeds are i up.deed up.there ∙ judgement.made), recorded user digest (refused_count (judged up.board user up.deed.now judgement.messages).0) posts up.board judgement.new)
 
-    known_at : (j : ℕ) → i < j → (b : Board) × (after deeds j ≡ Made b) × IsKnown j b
+    known_at : (j : ℕ) → i < j → (b : Board) × LeadsTo start deeds j b × IsKnown j b
     known_at j order =
-        onward command_of Step commands deeds are IsKnown (suc i) (λ n d b change from is board because known. known_stays change b user digest counts known) (λ n b known. known) j (omega (arith, order)) first_board
+        onward command_of Step commands start deeds are IsKnown (suc i) (λ n d b change from is board because known. known_stays change b user digest counts known) (λ n b known. known) j (omega (arith, order)) first_board
 
-    known_then : (j : ℕ) → i < j → (later : IsUpload command_of deeds j user digest) → upload_of user digest later.board ≡ Some counts
+    known_then : (j : ℕ) → i < j → (later : IsUpload command_of start deeds j user digest) → upload_of user digest later.board ≡ Some counts
     known_then j order later =
         let reached = known_at j order in
         let same : Made reached.0 ≡ Made later.board = sym reached.1 ∙ later.board_is in
         subst (λ (b : Board). upload_of user digest b ≡ Some counts) (same_made reached.0 later.board same) reached.2
-      where
-        same_made : (b c : Board) → Made b ≡ Made c → b ≡ c
-        same_made b c same = cc
 
     -- a later upload doesn't change the board
-    pub none_later : (j : ℕ) → i < j → IsUpload command_of deeds j user digest → ChangesBoard deeds j → ⊥
+    pub none_later : (j : ℕ) → i < j → IsUpload command_of start deeds j user digest → ChangesBoard start deeds j → ⊥
     none_later j order later too = let other = judged_where j user digest later too in none-some counts (sym other.new ∙ known_then j order later)
 
-    pub again_later : (j : ℕ) → i < j → (later : IsUpload command_of deeds j user digest) → later.deed.stepped.class ≡ class.Done → (after deeds (suc j) ≡ after deeds j) × HasItsCounts up.deed.stepped.reply later.deed.stepped.reply
+    pub again_later : (j : ℕ) → i < j → (later : IsUpload command_of start deeds j user digest) → later.deed.stepped.class ≡ class.Done → (migrated (after start deeds (suc j)) ≡ migrated (after start deeds j)) × HasItsCounts up.deed.stepped.reply later.deed.stepped.reply
     unfolding counts
     again_later j order later done = by (turns j user digest later)
       where
-        by : UploadTurns later.deed.now later.board user digest later.deed.stepped.world.state (record { text = later.deed.stepped.reply; class = later.deed.stepped.class }) → (after deeds (suc j) ≡ after deeds j) × HasItsCounts up.deed.stepped.reply later.deed.stepped.reply
+        by : UploadTurns later.deed.now later.board user digest later.deed.stepped.world.state (record { text = later.deed.stepped.reply; class = later.deed.stepped.class }) → (migrated (after start deeds (suc j)) ≡ migrated (after start deeds j)) × HasItsCounts up.deed.stepped.reply later.deed.stepped.reply
         by (inl refused) = absurd (cc (sym done ∙ refused.refused))
         by (inr (inr other)) = absurd (none-some counts (sym other.new ∙ known_then j order later))
         by (inr (inl again)) =
             let same : again.counts ≡ counts = same_Some again.counts counts (sym again.known ∙ known_then j order later) in (
-              after_one command_of Step commands deeds are j later.deed later.there ∙ (again.same ∙ sym later.board_is),
+              ap migrated (after_one command_of Step commands start deeds are j later.deed later.there ∙ again.same) ∙ sym later.board_is,
               record {
                 outcomes = (judged up.board user up.deed.now judgement.messages).0;
                 first_is = judgement.said;
@@ -194,10 +192,10 @@ module _ {Entry : Type 0} (command_of : Entry → BoardCommand) (Step : Steps En
 -- ---- the laws
 module _ {Entry : Type 0} (command_of : Entry → BoardCommand) (Step : Steps Entry) (commands : AreCommands command_of Step) where
   pub changes_once : ChangesOnce command_of Step
-  changes_once deeds are user digest i j one changes other too = ⊎_elim
-      (λ before. absurd (none_later command_of Step commands deeds are user digest i one changes j before other too))
-      (λ rest. ⊎_elim (λ same. sym same) (λ apart. absurd (none_later command_of Step commands deeds are user digest j other too i (omega (arith, rest, apart)) one changes)) (cases_eq j i))
+  changes_once start deeds are user digest i j one changes other too = ⊎_elim
+      (λ before. absurd (none_later command_of Step commands start deeds are user digest i one changes j before other too))
+      (λ rest. ⊎_elim (λ same. sym same) (λ apart. absurd (none_later command_of Step commands start deeds are user digest j other too i (omega (arith, rest, apart)) one changes)) (cases_eq j i))
       (cases_lt i j)
 
   pub says_again : SaysAgain command_of Step
-  says_again deeds are user digest i j order first changes later done = again_later command_of Step commands deeds are user digest i first changes j order later done
+  says_again start deeds are user digest i j order first changes later done = again_later command_of Step commands start deeds are user digest i first changes j order later done

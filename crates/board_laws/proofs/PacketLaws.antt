@@ -2,13 +2,13 @@
 use Rattle.std.proofs.Common.{◌≡◌, ℕ, suc, ◌+◌, ◌<◌, ◌≤◌, List, Option, Some, None, Ok, refl, sym, ap, ◌∙◌, subst, arith}
 use Rattle.std.specs.Prelude.{Result}
 use Rattle.std.proofs.lemmas.Option.{same_Some}
-use Rattle.board_commands.specs.State.{Made, state_of}
+use Rattle.board_commands.specs.State.{State, Made, migrated, state_of}
 use Rattle.board_layout.specs.Board.{Board}
 use Rattle.board_layout.specs.Lookups.{user_of}
-use Rattle.board_laws.proofs.Sequences.{AreCommands, after_one, does_on, onward}
+use Rattle.board_laws.proofs.Sequences.{AreCommands, IsOfBoard, after_one, does_made, onward, same_made}
 use Rattle.board_laws.proofs.Users.{offered_there, user_follows, user_still}
 use Rattle.board_laws.specs.BoardCommand.{BoardCommand, Export, does}
-use Rattle.board_laws.specs.History.{Deed, IsHistory, Steps, after}
+use Rattle.board_laws.specs.History.{Deed, IsHistory, LeadsTo, Steps}
 use Rattle.board_laws.specs.Passed.{IsExport, PacketsRise}
 use Rattle.board_ledger.specs.declared.user.User.{User}
 use Rattle.door_export.specs.Export.{ExportRefusal, Handout, export_as, export_of, export_to, packet_to, unless_refused, user_refusal}
@@ -38,7 +38,7 @@ module _ (name : List ℕ) (limit now : ℕ) (b : Board) (id : ℕ) (p : Handout
   handed : user_id name b ≡ Some id → export_of name limit now b ≡ Ok p → IsHanded
   handed user is = by_user (user_of id b) refl (sym (ap (export_as limit now b) user) ∙ is)
 
-module _ {Entry : Type 0} (command_of : Entry → BoardCommand) (Step : Steps Entry) (commands : AreCommands command_of Step) (deeds : List (Deed Entry)) (are : IsHistory Step deeds) (user : ℕ) where
+module _ {Entry : Type 0} (command_of : Entry → BoardCommand) (Step : Steps Entry) (commands : AreCommands command_of Step) (start : State) (deeds : List (Deed Entry)) (are : IsHistory Step start deeds) (user : ℕ) where
   -- the user is there, and his last packet isn't before this one
   abbrev HasPacket : ℕ → ℕ → Board → Type 0
   HasPacket packet n b = (u : User) × (user_of user b ≡ Some u) × (packet ≤ u.last)
@@ -49,7 +49,7 @@ module _ {Entry : Type 0} (command_of : Entry → BoardCommand) (Step : Steps En
       (v.0, v.1, omega (arith, least, v.2))
 
   -- ---- one export
-  module _ (n packet : ℕ) (e : IsExport command_of deeds n user packet) where
+  module _ (n packet : ℕ) (e : IsExport command_of start deeds n user packet) where
     out : (u : User) × (user_of user e.board ≡ Some u) × (e.handout ≡ packet_to e.limit e.deed.now e.board user u)
     out = handed e.name e.limit e.deed.now e.board user e.handout e.user_is e.export
 
@@ -58,30 +58,28 @@ module _ {Entry : Type 0} (command_of : Entry → BoardCommand) (Step : Steps En
 
     -- the board after it
     made : e.deed.stepped.world.state ≡ Made e.handout.board
-    made = by (subst (λ (c : BoardCommand). does e.deed.now c (here (Made e.board) e.deed.shelf) e.deed.stepped) e.command (does_on command_of Step commands deeds are n e.deed (Made e.board) e.carried.there e.carried.board_is))
+    made = by (subst (λ (c : BoardCommand). does e.deed.now c (here (Made e.board) e.deed.shelf) e.deed.stepped) e.command
+        (does_made command_of Step commands start deeds are n e.deed e.board (subst IsOfBoard (sym e.command) tt) e.carried.there e.carried.board_is))
       where
         by : does e.deed.now (Export e.name e.limit e.folder) (here (Made e.board) e.deed.shelf) e.deed.stepped → e.deed.stepped.world.state ≡ Made e.handout.board
         by (handing, is, next, new, reply) =
             next ∙ (ap (λ (h : Handing). state_of h.board) is ∙ ap (λ (r : Result Handout ExportRefusal). state_of (handing_of e.folder e.deed.shelf e.board r).board) e.export)
 
-    first : (b : Board) × (after deeds (suc n) ≡ Made b) × HasPacket packet (suc n) b
+    first : (b : Board) × LeadsTo start deeds (suc n) b × HasPacket packet (suc n) b
     first =
         let given : List ℕ = highs e.board (offered e.board user e.limit) in
         let u : User = number_is.0 in (
           changed (Offer user given) e.board,
-          after_one command_of Step commands deeds are n e.deed e.carried.there ∙ (made ∙ ap (λ (p : Handout). Made p.board) out.2),
+          ap migrated (after_one command_of Step commands start deeds are n e.deed e.carried.there ∙ (made ∙ ap (λ (p : Handout). Made p.board) out.2)),
           (with_offer given u, offered_there user e.board given u number_is.1, omega (arith, number_is.2)),
         )
 
-  pub rises : (i j packet later : ℕ) → i < j → IsExport command_of deeds i user packet → IsExport command_of deeds j user later → packet < later
+  pub rises : (i j packet later : ℕ) → i < j → IsExport command_of start deeds i user packet → IsExport command_of start deeds j user later → packet < later
   rises i j packet later order one other =
-      let reached = onward command_of Step commands deeds are (HasPacket packet) (suc i) (λ n d b change from is board because has. still_has packet n b change has) (λ n b has. has) j (omega (arith, order)) (first i packet one) in
+      let reached = onward command_of Step commands start deeds are (HasPacket packet) (suc i) (λ n d b change from is board because has. still_has packet n b change has) (λ n b has. has) j (omega (arith, order)) (first i packet one) in
       let same : Made reached.0 ≡ Made other.board = sym reached.1 ∙ other.carried.board_is in
       by (subst (HasPacket packet j) (same_made reached.0 other.board same) reached.2) (number_is j later other)
     where
-      same_made : (b c : Board) → Made b ≡ Made c → b ≡ c
-      same_made b c same = cc
-
       by : HasPacket packet j other.board → (u : User) × (user_of user other.board ≡ Some u) × (later ≡ u.last + 1) → packet < later
       by (u, there, least) (v, here, number) =
           let one_user : u ≡ v = same_user there here in
@@ -93,4 +91,4 @@ module _ {Entry : Type 0} (command_of : Entry → BoardCommand) (Step : Steps En
 -- ---- the law
 module _ {Entry : Type 0} (command_of : Entry → BoardCommand) (Step : Steps Entry) (commands : AreCommands command_of Step) where
   pub packets_rise : PacketsRise command_of Step
-  packets_rise deeds are user i j packet later order one other = rises command_of Step commands deeds are user i j packet later order one other
+  packets_rise start deeds are user i j packet later order one other = rises command_of Step commands start deeds are user i j packet later order one other

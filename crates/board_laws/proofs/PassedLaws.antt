@@ -4,7 +4,7 @@ use Rattle.std.specs.Prelude.{Contains, option_and_then, slice_get}
 use Rattle.std.proofs.lemmas.Bool.{cases_eq, cases_lt, eqb-false}
 use Rattle.std.proofs.lemmas.Option.{none-some, same_Some}
 use Rattle.board_changes.specs.Changed.{made}
-use Rattle.board_commands.specs.State.{Made}
+use Rattle.board_commands.specs.State.{State, NotMade}
 use Rattle.board_layout.specs.Board.{Board}
 use Rattle.board_layout.specs.Lookups.{pointer_at, user_of}
 use Rattle.board_laws.proofs.Changing.{AcksBy, Reads, bases_grow, known_user, pointers_follow, pointers_read, setup_stays, whole_next}
@@ -18,7 +18,7 @@ use Rattle.board_laws.proofs.Turns.{Because, Exporting}
 use Rattle.board_laws.proofs.Users.{OffersTo, acknowledged_there, offer_stays, offered_there, user_follows}
 use Rattle.board_laws.proofs.Views.{seen_user, seen_within, sees_back, slots_follow}
 use Rattle.board_laws.specs.BoardCommand.{BoardCommand}
-use Rattle.board_laws.specs.History.{Deed, Steps, after}
+use Rattle.board_laws.specs.History.{Deed, LeadsTo, Steps}
 use Rattle.board_laws.specs.Kept.{IsAck}
 use Rattle.board_laws.specs.Passed.{IsAcknowledged, IsExport, IsPassed}
 use Rattle.board_ledger.specs.declared.user.User.{User}
@@ -95,13 +95,13 @@ offer_there id b packet is = by (user_of id b) refl is
     by None none e = absurd (none-some packet e)
     by (Some u) there e = let parts = offered_is u packet e in (u, there, parts.0, parts.1)
 
-module _ {Entry : Type 0} (command_of : Entry → BoardCommand) (deeds : List (Deed Entry)) where
+module _ {Entry : Type 0} (command_of : Entry → BoardCommand) (start : State) (deeds : List (Deed Entry)) where
   -- Before place n the packet that is offered to a user was exported to him, with all that he sees between his pointers
   -- and its highs.
   record WasExported (n : ℕ) (b : Board) (id : ℕ) (u : User) : Type 0 where
     place : ℕ
     before : place < n
-    export : IsExport command_of deeds place id u.offered
+    export : IsExport command_of start deeds place id u.offered
     within : (k : ℕ) → get_or u.highs k 0 ≤ length (slots_in b k)
     has : (k number pointer : ℕ) → sees b id k number ≡ true → pointer_at k id b ≡ Some pointer → pointer < number → number ≤ get_or u.highs k 0 → Contains (offered export.board id export.limit) (record { place = k; number = number })
 
@@ -110,10 +110,10 @@ module _ {Entry : Type 0} (command_of : Entry → BoardCommand) (deeds : List (D
     whole : IsWhole b
     pointers : (id place pointer : ℕ) → pointer_at place id b ≡ Some pointer → pointer ≤ length (slots_in b place)
     offers : (id : ℕ) (u : User) → user_of id b ≡ Some u → (u.offered ≡ 0) ⊎ WasExported n b id u
-    passed : (id place number pointer : ℕ) → sees b id place number ≡ true → pointer_at place id b ≡ Some pointer → number ≤ pointer → IsAcknowledged command_of deeds n id (record { place = place; number = number })
+    passed : (id place number pointer : ℕ) → sees b id place number ≡ true → pointer_at place id b ≡ Some pointer → number ≤ pointer → IsAcknowledged command_of start deeds n id (record { place = place; number = number })
 
   -- ---- one deed more
-  acknowledged_more : (n id : ℕ) (m : OfferedMessage) → IsAcknowledged command_of deeds n id m → IsAcknowledged command_of deeds (suc n) id m
+  acknowledged_more : (n id : ℕ) (m : OfferedMessage) → IsAcknowledged command_of start deeds n id m → IsAcknowledged command_of start deeds (suc n) id m
   acknowledged_more n id m is = let before = is.before in record {
     exported = is.exported;
     acknowledged = is.acknowledged;
@@ -145,10 +145,10 @@ module _ {Entry : Type 0} (command_of : Entry → BoardCommand) (deeds : List (D
   }
 
   -- ---- a change
-  module _ (n : ℕ) (d : Deed Entry) (b : Board) (there : slice_get deeds n ≡ Some d) (board : after deeds n ≡ Made b) (holds : IsAccounted n b) where
+  module _ (n : ℕ) (d : Deed Entry) (b : Board) (there : slice_get deeds n ≡ Some d) (board : LeadsTo start deeds n b) (holds : IsAccounted n b) where
     -- what the user saw up to his pointer he acknowledged
     still_passed : (change : Change) (id place number pointer : ℕ) (u : User) → user_of id b ≡ Some u → sees (changed change b) id place number ≡ true → pointer_at place id b ≡ Some pointer → number ≤ pointer
-        → IsAcknowledged command_of deeds (suc n) id (record { place = place; number = number })
+        → IsAcknowledged command_of start deeds (suc n) id (record { place = place; number = number })
     still_passed change id place number pointer u user seen is upto =
         let within : number ≤ length (slots_in b place) = omega (arith, upto, holds.pointers id place pointer is) in
         acknowledged_more n id (record { place = place; number = number }) (holds.passed id place number pointer (saw b holds.whole change id place number u user within seen) is upto)
@@ -162,7 +162,7 @@ module _ {Entry : Type 0} (command_of : Entry → BoardCommand) (deeds : List (D
           by (inl same) = omega (arith, holds.pointers id place pointer (sym same ∙ is), more_slots b holds.whole change place)
           by (inr (none, first, nobody)) = omega (arith, same_Some 0 pointer (sym first ∙ is))
 
-      passed_apart : (place number pointer : ℕ) → sees (changed change b) id place number ≡ true → pointer_at place id (changed change b) ≡ Some pointer → number ≤ pointer → IsAcknowledged command_of deeds (suc n) id (record { place = place; number = number })
+      passed_apart : (place number pointer : ℕ) → sees (changed change b) id place number ≡ true → pointer_at place id (changed change b) ≡ Some pointer → number ≤ pointer → IsAcknowledged command_of start deeds (suc n) id (record { place = place; number = number })
       passed_apart place number pointer seen is upto =
           let some = (seen_within (changed change b) id place number seen).0 in
           let was : pointer_at place id b ≡ Some pointer = pointer_was b holds.whole change id place pointer apart (omega (arith, some, upto)) is in
@@ -222,7 +222,7 @@ module _ {Entry : Type 0} (command_of : Entry → BoardCommand) (deeds : List (D
           high k = ap (λ (hs : List ℕ). get_or hs k 0) because.highs_are
 
     -- ---- a packet acknowledged by the user
-    module _ (id now : ℕ) (packet : ℕ) (ack : IsAck command_of deeds n id packet) (offer : offer_of id b ≡ Some packet) where
+    module _ (id now : ℕ) (packet : ℕ) (ack : IsAck command_of start deeds n id packet) (offer : offer_of id b ≡ Some packet) where
       u : User
       u = (offer_there id b packet offer).0
 
@@ -245,7 +245,7 @@ module _ {Entry : Type 0} (command_of : Entry → BoardCommand) (deeds : List (D
           by (inl same) = omega (arith, holds.pointers id place pointer (sym same ∙ is), more_slots b holds.whole (Acknowledge id now) place)
           by (inr (q, old, new)) = omega (arith, same_Some (get_or u.highs place 0) pointer (sym new ∙ is), was.within place, more_slots b holds.whole (Acknowledge id now) place)
 
-      newly : (place number pointer : ℕ) → sees (changed (Acknowledge id now) b) id place number ≡ true → pointer_at place id b ≡ Some pointer → pointer < number → number ≤ get_or u.highs place 0 → IsAcknowledged command_of deeds (suc n) id (record { place = place; number = number })
+      newly : (place number pointer : ℕ) → sees (changed (Acknowledge id now) b) id place number ≡ true → pointer_at place id b ≡ Some pointer → pointer < number → number ≤ get_or u.highs place 0 → IsAcknowledged command_of start deeds (suc n) id (record { place = place; number = number })
       newly place number pointer seen is above upto =
           let within : number ≤ length (slots_in b place) = omega (arith, upto, was.within place) in
           record {
@@ -272,10 +272,10 @@ module _ {Entry : Type 0} (command_of : Entry → BoardCommand) (deeds : List (D
           }
 
       passed_own : (place number pointer : ℕ) → sees (changed (Acknowledge id now) b) id place number ≡ true → pointer_at place id (changed (Acknowledge id now) b) ≡ Some pointer → number ≤ pointer
-          → IsAcknowledged command_of deeds (suc n) id (record { place = place; number = number })
+          → IsAcknowledged command_of start deeds (suc n) id (record { place = place; number = number })
       passed_own place number pointer seen is upto = by (pointers_read b holds.whole id now u user place)
         where
-          by : Reads b holds.whole id (get_or u.highs place 0) (pointer_at place id b) (pointer_at place id (changed (Acknowledge id now) b)) → IsAcknowledged command_of deeds (suc n) id (record { place = place; number = number })
+          by : Reads b holds.whole id (get_or u.highs place 0) (pointer_at place id b) (pointer_at place id (changed (Acknowledge id now) b)) → IsAcknowledged command_of start deeds (suc n) id (record { place = place; number = number })
           by (inl same) = still_passed (Acknowledge id now) id place number pointer u user seen (sym same ∙ is) upto
           by (inr (q, old, new)) = ⊎_elim
               (λ above. newly place number q seen old above (omega (arith, upto, same_Some (get_or u.highs place 0) pointer (sym new ∙ is))))
@@ -290,12 +290,12 @@ module _ {Entry : Type 0} (command_of : Entry → BoardCommand) (deeds : List (D
     record Accounts (change : Change) (id : ℕ) : Type 0 where
       pointers : (place pointer : ℕ) → pointer_at place id (changed change b) ≡ Some pointer → pointer ≤ length (slots_in (changed change b) place)
       offers : (v : User) → user_of id (changed change b) ≡ Some v → (v.offered ≡ 0) ⊎ WasExported (suc n) (changed change b) id v
-      passed : (place number pointer : ℕ) → sees (changed change b) id place number ≡ true → pointer_at place id (changed change b) ≡ Some pointer → number ≤ pointer → IsAcknowledged command_of deeds (suc n) id (record { place = place; number = number })
+      passed : (place number pointer : ℕ) → sees (changed change b) id place number ≡ true → pointer_at place id (changed change b) ≡ Some pointer → number ≤ pointer → IsAcknowledged command_of start deeds (suc n) id (record { place = place; number = number })
 
     accounts_own : (id now : ℕ) → Because d.now b (command_of d.entry) d.stepped.class (Acknowledge id now) → Accounts (Acknowledge id now) id
     accounts_own id now because =
         let packet : ℕ = because.packet in
-        let ack : IsAck command_of deeds n id packet = record { deed = d; board = b; carried = record { there = there; board_is = board; done = because.done }; name = because.name; command = because.command; user_is = because.user_is } in
+        let ack : IsAck command_of start deeds n id packet = record { deed = d; board = b; carried = record { there = there; board_is = board; done = because.done }; name = because.name; command = because.command; user_is = because.user_is } in
         record { pointers = pointers_own id now packet ack because.offer; offers = offers_own id now packet ack because.offer; passed = passed_own id now packet ack because.offer }
 
     accounts_offer : (id : ℕ) (given : List ℕ) → Because d.now b (command_of d.entry) d.stepped.class (Offer id given) → Accounts (Offer id given) id
@@ -325,6 +325,6 @@ module _ {Entry : Type 0} (command_of : Entry → BoardCommand) (deeds : List (D
 module _ {Entry : Type 0} (command_of : Entry → BoardCommand) (Step : Steps Entry) (commands : AreCommands command_of Step) where
   pub is_passed : IsPassed command_of Step
   is_passed deeds are n b board user m seen pointer is upto =
-      let holds = everywhere command_of Step commands deeds are (IsAccounted command_of deeds) (fresh command_of deeds)
-      (λ k d c change there here because so_far. next command_of deeds k d c there here so_far change because) (idle command_of deeds) n b board in
+      let holds = everywhere command_of Step commands NotMade deeds are (IsAccounted command_of NotMade deeds) tt (λ c ok none. absurd (cc none)) (fresh command_of NotMade deeds)
+      (λ k d c change there here because so_far. next command_of NotMade deeds k d c there here so_far change because) (idle command_of NotMade deeds) n b board in
       holds.passed user m.place m.number pointer seen is upto

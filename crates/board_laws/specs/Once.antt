@@ -1,9 +1,9 @@
 -- Once: each packet that a user uploads changes the board once at most.
 use Rattle.std.specs.Prelude.{◌≡◌, ◌<◌, ℕ, suc, List, ◌++◌, codes, slice_get, Some, Ok}
-use Rattle.board_commands.specs.State.{Made}
+use Rattle.board_commands.specs.State.{State, migrated}
 use Rattle.board_layout.specs.Board.{Board}
 use Rattle.board_laws.specs.BoardCommand.{BoardCommand, Upload}
-use Rattle.board_laws.specs.History.{Deed, Steps, IsHistory, ChangesBoard, after}
+use Rattle.board_laws.specs.History.{Deed, Steps, IsHistory, ChangesBoard, LeadsTo, after}
 use Rattle.entry_runs.specs.declared.class.Class.TheVariants.{Done}
 use Rattle.mail_board.specs.Readers.{user_id}
 use Rattle.packet_verdicts.specs.declared.outcome.Outcome.{Outcome}
@@ -19,11 +19,11 @@ pub record HasItsCounts (first again : List ℕ) : Type 0 where
 
 module _ {Entry : Type 0} (command_of : Entry → BoardCommand) where
   -- The deed in a place is an upload of a packet with this digest by the user of this id.
-  pub record IsUpload (deeds : List (Deed Entry)) (n user : ℕ) (digest : List ℕ) : Type 0 where
+  pub record IsUpload (start : State) (deeds : List (Deed Entry)) (n user : ℕ) (digest : List ℕ) : Type 0 where
     pub deed : Deed Entry
     pub there : slice_get deeds n ≡ Some deed
     pub board : Board
-    pub board_is : after deeds n ≡ Made board
+    pub board_is : LeadsTo start deeds n board
     pub name : List ℕ
     pub file : List ℕ
     pub command : command_of deed.entry ≡ Upload name file
@@ -35,11 +35,11 @@ module _ {Entry : Type 0} (command_of : Entry → BoardCommand) where
   module _ (Step : Steps Entry) where
     -- For each user and digest at most one deed changes the board by an upload.
     abbrev pub ChangesOnce : Type 0
-    ChangesOnce = (deeds : List (Deed Entry)) → IsHistory Step deeds → (user : ℕ) (digest : List ℕ) (i j : ℕ)
-        → IsUpload deeds i user digest → ChangesBoard deeds i → IsUpload deeds j user digest → ChangesBoard deeds j → i ≡ j
+    ChangesOnce = (start : State) (deeds : List (Deed Entry)) → IsHistory Step start deeds → (user : ℕ) (digest : List ℕ) (i j : ℕ)
+        → IsUpload start deeds i user digest → ChangesBoard start deeds i → IsUpload start deeds j user digest → ChangesBoard start deeds j → i ≡ j
 
     -- Each later upload of them that isn't refused changes nothing, and has the counts of that one.
     abbrev pub SaysAgain : Type 0
-    SaysAgain = (deeds : List (Deed Entry)) → IsHistory Step deeds → (user : ℕ) (digest : List ℕ) (i j : ℕ) → i < j
-        → (first : IsUpload deeds i user digest) → ChangesBoard deeds i → (later : IsUpload deeds j user digest) → later.deed.stepped.class ≡ Done
-        → (after deeds (suc j) ≡ after deeds j) × HasItsCounts first.deed.stepped.reply later.deed.stepped.reply
+    SaysAgain = (start : State) (deeds : List (Deed Entry)) → IsHistory Step start deeds → (user : ℕ) (digest : List ℕ) (i j : ℕ) → i < j
+        → (first : IsUpload start deeds i user digest) → ChangesBoard start deeds i → (later : IsUpload start deeds j user digest) → later.deed.stepped.class ≡ Done
+        → (migrated (after start deeds (suc j)) ≡ migrated (after start deeds j)) × HasItsCounts first.deed.stepped.reply later.deed.stepped.reply

@@ -4,15 +4,16 @@ ghost use Rattle.board_laws.specs.Kept.{StaysMade, StaysOffered};
 ghost use Rattle.board_laws.specs.Once.{ChangesOnce, SaysAgain};
 ghost use Rattle.board_laws.specs.Passed.{IsPassed, PacketsRise};
 
-/// Once a board is made there is one after all further entries. What is offered to a user is offered again, in full,
-/// while it is live and he acknowledges no packet.
+/// From no board on, or from a valid one in files of either version: once a board is made there is one after all further
+/// entries. What is offered to a user is offered again, in full, while it is live and he acknowledges no packet.
 pub fn kept()
     ensures made { StaysMade (λ command. command) does }
     ensures offered { StaysOffered (λ command. command) does }
 {}
 
-/// Each live message that a user may see, with a number at most his pointer, was in the offered list of an export whose
-/// packet he acknowledged. A number is that of one packet of the user, since a later one has a greater number.
+/// From no board on, each live message that a user may see, with a number at most his pointer, was in the offered list of
+/// an export whose packet he acknowledged. In every list a number is that of one packet of the user, since a later one has
+/// a greater number.
 pub fn passed()
     ensures passed { IsPassed (λ command. command) does }
     ensures packets { PacketsRise (λ command. command) does }

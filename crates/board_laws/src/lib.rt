@@ -1,4 +1,4 @@
-//! Laws over the entries that a board was given, from no board on, over many runs and what crashes between them leave.
+//! Laws over the entries that a board was given, over many runs and what crashes between them leave.
 #![tactic(auto)]
 
 pub mod laws;

@@ -1,16 +1,16 @@
 -- From the journal's calls to what a crate says of its board.
-use Rattle.std.proofs.Common.{◌≡◌, ◌⊎◌, inl, inr, ⊎_elim, sym, ◌∙◌, ap, subst}
+use Rattle.std.proofs.Common.{◌≡◌, ◌≢◌, ◌⊎◌, inl, inr, ⊎_elim, sym, ◌∙◌, ap, subst}
 use Rattle.std.specs.Prelude.{List, Result, Ok, Err, OnOk, IsErrOf}
 use Rattle.door_outside.specs.Disk.{Disk, Image, AllNow, Between, Unchanged, as_read}
 use Rattle.door_outside.proofs.Moments.{joined, weaker, by_nothing, reads_have}
 use Rattle.intent_journal.specs.Hosts.{IsCalm, IsFirm, IsSettled}
 use Rattle.intent_journal.specs.Patches.{Files, patched, data_files}
-use Rattle.intent_journal.specs.Recovered.{recovered, Back, OldOrPatched}
+use Rattle.intent_journal.specs.Recovered.{recovered, OldOrPatched}
 use Rattle.intent_journal.specs.declared.patch.Patch.{Patch}
 use Rattle.intent_journal.proofs.Hosts.{calm_is_firm, calm_is_settled, calm_recovers, calm_unchanged, firm_unchanged, settled_unchanged}
 use Rattle.entry_runs.specs.declared.stop.Stop.{Stop}
-use Rattle.entry_runs.specs.declared.stop.Stop.TheVariants.{VoiceFault}
-use Rattle.entry_runs.specs.Entry.{Known, Recovers, HasBoard, Finds, Changes}
+use Rattle.entry_runs.specs.declared.stop.Stop.TheVariants.{DiskFault, VoiceFault}
+use Rattle.entry_runs.specs.Entry.{Known, Recovers, Keeps, HasBoard, Finds, Changes}
 
 module _ {State : Type 0} (Stores : State → Files → Type 0) {before : Known State} {state : State} {old : Disk} (board : HasBoard Stores before state old) where
   -- the data files of a host at rest
@@ -28,50 +28,57 @@ module _ {State : Type 0} (Stores : State → Files → Type 0) {before : Known 
     calm_is_firm new calm,
   )
 
-  -- The board was recovered, and then read.
-  pub recovered_finds : {after : Known State} {mid new : Disk} {T : Type 0} {value : T} → Between old mid (Back old) → Back old (as_read mid) → IsCalm mid
-      → data_files mid.files ≡ recovered old.files → Unchanged mid new → after.Fits state → Finds Stores after state old new (Ok value)
-  recovered_finds {after} {mid} {new} moments same calm done read fits =
-      let rests = calm_unchanged mid new calm read in
-      let files : data_files new.files ≡ recovered old.files = ap data_files read.files ∙ done in
-      record {
-        keeps = record {
-          moments = joined (weaker moments back) (by_nothing read);
-          reads = back (as_read new) (subst (Back old) (λ i. record { files = sym read.files i; said = sym read.said i }) same);
-          settled = calm_is_settled new rests;
-        };
-        firm = λ was. calm_is_firm new rests;
-        silent = λ is. absurd (cc is);
-        done = rests_at rests (subst (Stores state) (sym files) board.stores) fits;
-      }
-    where
-      back : (image : Image) → Back old image → Recovers (Stores state) old.said image
-      back image it = record { files = subst (Stores state) (sym it.files) board.stores; said = it.said }
+  -- A call looked for the board: what a crash in it leaves stands for the board, or for the migrated one.
+  module _ {next : State} {new : Disk} (Leaves : Image → Type 0) (each : (image : Image) → Leaves image → Recovers (λ files. Stores state files ⊎ Stores next files) old.said image)
+      (moments : Between old new Leaves) (same : Leaves (as_read new)) where
+    keeps_either : IsSettled new → Keeps (λ files. Stores state files ⊎ Stores next files) old new
+    keeps_either settled = record { moments = weaker moments each; reads = each (as_read new) same; settled = settled }
+
+    -- it found the migrated board
+    pub opened_finds : {after : Known State} {T : Type 0} {value : T} → IsCalm new → Stores next (data_files new.files) → after.Fits next → Finds Stores after state next old new (Ok value)
+    opened_finds calm stores fits = record {
+      keeps = keeps_either (calm_is_settled new calm);
+      firm = λ sound was. calm_is_firm new calm;
+      silent = λ is. absurd (cc is);
+      done = rests_at calm stores fits;
+    }
+
+    -- it was stopped
+    pub opening_stops : {after : Known State} {T : Type 0} (stop : Stop) → stop ≢ VoiceFault → IsSettled new → (stop ≢ DiskFault → IsFirm old → IsFirm new) → Finds Stores {T = T} after state next old new (Err stop)
+    opening_stops stop silent settled firm = record {
+      keeps = keeps_either settled;
+      firm = λ sound was. firm (λ is. sound (ap Err is)) was;
+      silent = λ is. let same : stop ≡ VoiceFault = cc in silent same;
+      done = tt;
+    }
 
   -- The board was found, and calls that change nothing went by, to their end or not.
-  pub found_still : {after : Known State} {mid new : Disk} {T U : Type 0} {value : T} (result : Result U Stop) → Finds Stores after state old mid (Ok value) → Unchanged mid new
-      → ¬ IsErrOf result VoiceFault → Finds Stores after state old new result
-  found_still {after} {mid} {new} {U = U} result finds same silent =
+  pub found_still : {after : Known State} {migrated : State} {mid new : Disk} {T U : Type 0} {value : T} (result : Result U Stop) → Finds Stores after state migrated old mid (Ok value) → Unchanged mid new
+      → ¬ IsErrOf result VoiceFault → Finds Stores after state migrated old new result
+  found_still {after} {migrated} {mid} {new} {U = U} result finds same silent =
       let files : new.files ≡ mid.files = same.files in
       let firm : IsFirm new = firm_unchanged mid new finds.done.1 same in
       record {
         keeps = record {
           moments = joined finds.keeps.moments (by_nothing same);
-          reads = record { files = subst (λ (f : Files). Stores state (recovered f)) (sym files) finds.keeps.reads.files; said = same.said ∙ finds.keeps.reads.said };
+          reads = record {
+            files = subst (λ (f : Files). Stores state (recovered f) ⊎ Stores migrated (recovered f)) (sym files) finds.keeps.reads.files;
+            said = same.said ∙ finds.keeps.reads.said;
+          };
           settled = settled_unchanged mid new finds.keeps.settled same;
         };
-        firm = λ was. firm;
+        firm = λ sound was. firm;
         silent = silent;
         done = on_ok result (still_has, firm);
       }
     where
-      still_has : HasBoard Stores after state new
+      still_has : HasBoard Stores after migrated new
       still_has = record {
         ready = record {
           settled = settled_unchanged mid new finds.done.0.ready.settled same;
           calm = λ read. calm_unchanged mid new (finds.done.0.ready.calm read) same;
         };
-        stores = subst (λ (f : Files). Stores state (recovered f)) (sym same.files) finds.done.0.stores;
+        stores = subst (λ (f : Files). Stores migrated (recovered f)) (sym same.files) finds.done.0.stores;
         fits = finds.done.0.fits;
       }
 

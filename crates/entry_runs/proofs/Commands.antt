@@ -1,14 +1,14 @@
 -- The exits of a command, one lemma each: from what the calls below it give to what its contract gives.
 use Rattle.std.proofs.Common.{◌≡◌, ◌≢◌, ◌⊎◌, inl, inr, ⊎_elim, ℕ, false, List, refl, sym, ◌∙◌, ap, subst, arith}
 use Rattle.std.proofs.lemmas.Bool.{true≢false}
-use Rattle.std.specs.Prelude.{Result, Ok, Err, IsTrue}
+use Rattle.std.specs.Prelude.{Result, Ok, Err, IsErrOf, IsTrue}
 use Rattle.door_outside.specs.Disk.{Disk}
 use Rattle.door_outside.specs.Shelf.{Files, held}
 use Rattle.intent_journal.specs.Patches as Data
-use Rattle.entry_runs.specs.Door.{World, here, Act, SameBut}
+use Rattle.entry_runs.specs.Door.{World, here, Act, SameBut, migrated_world}
 use Rattle.entry_runs.specs.Entry.{Known, Reply, Keeps, IsAt, Finds, Changes, ShelfAct, Serves, on_shelf, BeforeOrAfter, Works}
 use Rattle.door_outside.specs.Cause.{HasCause}
-use Rattle.entry_runs.specs.Promise.{After, Stopped, Counts, counts, ended, HasCauses}
+use Rattle.entry_runs.specs.Promise.{Before, After, Stopped, Counts, counts, ended, HasCauses}
 use Rattle.entry_runs.specs.Runs.{Stepped, once_said, with_class}
 use Rattle.entry_runs.specs.declared.class.Class.{Class}
 use Rattle.entry_runs.specs.declared.class.Class.TheVariants.{Done, Refused, Usage, Damaged}
@@ -31,36 +31,46 @@ module _ {State : Type 0} (Stores : State → Data.Files → Type 0) (act : Act 
     never : {P : Type 0} → act.reach.board ≡ false → P
     never off = absurd (true≢false (sym on ∙ off))
 
-    module _ {after : Known State} {new : Disk} {T : Type 0} {result : Result T Stop} (finds : Finds Stores after world.state old new result) where
+    -- the board as it was, or migrated
+    as_before : (files : Data.Files) → Stores world.state files ⊎ Stores (act.migrated world.state) files → Before Stores act world.state files
+    as_before files either = ⊎_elim (λ still. inl still) (λ migrated. inr (on, migrated)) either
+
+    module _ {after : Known State} {new : Disk} {T : Type 0} {result : Result T Stop} (finds : Finds Stores after world.state (act.migrated world.state) old new result) where
       found : Keeps (BeforeOrAfter Stores act world) old new
-      found = keeps_wider (λ files here. inl here) finds.keeps
+      found = keeps_wider (λ files either. inl (as_before files either)) finds.keeps
 
       -- it stopped before it changed anything
       stopped_early : (stop : Stop) → stop ≢ VoiceFault → Stopped Stores act stop world old.said new shelf
-      stopped_early DiskFault silent = (inl finds.keeps.reads.files, finds.keeps.reads.said, at.shelf_is)
-      stopped_early ShelfFault silent = (inl finds.keeps.reads.files, finds.keeps.reads.said, same_shelf act.reach.names)
-      stopped_early OutOfMemory silent = (finds.keeps.reads.files, finds.keeps.reads.said, at.shelf_is)
+      stopped_early DiskFault silent = (inl (as_before _ finds.keeps.reads.files), finds.keeps.reads.said, at.shelf_is)
+      stopped_early ShelfFault silent = (inl (as_before _ finds.keeps.reads.files), finds.keeps.reads.said, same_shelf act.reach.names)
+      stopped_early OutOfMemory silent = (as_before _ finds.keeps.reads.files, finds.keeps.reads.said, at.shelf_is)
       stopped_early VoiceFault silent = absurd (silent refl)
 
-      pub halts : {later : Known State} (stop : Stop) → stop ≢ VoiceFault → Works Stores act later world old new shelf (Err stop)
-      halts stop silent = record {
+      halted : {later : Known State} (stop : Stop) → stop ≢ VoiceFault → (stop ≢ DiskFault → ¬ IsErrOf result DiskFault) → Works Stores act later world old new shelf (Err stop)
+      halted stop silent sound = record {
         keeps = found;
         ends = record { silent = silent; stopped = stopped_early stop silent };
-        firm = λ none. finds.firm;
+        firm = λ none. finds.firm (sound (λ is. none (ap Err is)));
         off_board = λ off. never off;
       }
 
+    -- the board was found, and then it stopped before it changed anything
+    pub halts : {after later : Known State} {new : Disk} {T : Type 0} {value : T} → Finds Stores after world.state (act.migrated world.state) old new (Ok value)
+        → (stop : Stop) → stop ≢ VoiceFault → Works Stores act later world old new shelf (Err stop)
+    halts finds stop silent = halted finds stop silent (λ other is. absurd (cc is))
+
     -- the board wasn't found
-    pub not_found : {after later : Known State} {new : Disk} {T : Type 0} {stop : Stop} → Finds Stores {T = T} after world.state old new (Err stop) → Works Stores act later world old new shelf (Err stop)
-    not_found {stop = stop} finds = halts finds stop (λ is. finds.silent (ap Err is))
+    pub not_found : {after later : Known State} {new : Disk} {T : Type 0} {stop : Stop} → Finds Stores {T = T} after world.state (act.migrated world.state) old new (Err stop)
+        → Works Stores act later world old new shelf (Err stop)
+    not_found {stop = stop} finds = halted finds stop (λ is. finds.silent (ap Err is)) (λ other is. let same : stop ≡ DiskFault = cc in other same)
 
     -- it changed nothing, and answers
-    pub answers : {after : Known State} {new : Disk} {T : Type 0} {value : T} {reply : Reply} → Finds Stores after world.state old new (Ok value)
-        → act.Step world (stepped_to world reply) → Works Stores act after world old new shelf (Ok reply)
+    pub answers : {after : Known State} {new : Disk} {T : Type 0} {value : T} {reply : Reply} → Finds Stores after world.state (act.migrated world.state) old new (Ok value)
+        → act.Step world (stepped_to (migrated_world act world) reply) → Works Stores act after world old new shelf (Ok reply)
     answers {reply = reply} finds step = record {
       keeps = found finds;
       ends = record {
-        stepped = stepped_to world reply;
+        stepped = stepped_to (migrated_world act world) reply;
         step = step;
         text_is = refl;
         class_is = refl;
@@ -68,19 +78,19 @@ module _ {State : Type 0} (Stores : State → Data.Files → Type 0) (act : Act 
         at = record { board = finds.done.0; shelf_is = at.shelf_is };
         firm = λ touched. finds.done.1;
       };
-      firm = λ none. finds.firm;
+      firm = λ none. finds.firm (λ is. absurd (cc is));
       off_board = λ off. never off;
     }
 
     -- it was to change the board, and perhaps then the shelf
     module _ {known after : Known State} {mid new : Disk} {T U F : Type 0} {value : T} {result : Result U F} {next : State} {later : Files} {reply : Reply}
-        (finds : Finds Stores known world.state old mid (Ok value)) (changes : Changes Stores after world.state next mid new result)
+        (finds : Finds Stores known world.state (act.migrated world.state) old mid (Ok value)) (changes : Changes Stores after (act.migrated world.state) next mid new result)
         (step : act.Step world (stepped_to (here next later) reply)) where
       after_it : (files : Data.Files) → Stores next files → After Stores act world files
       after_it files stores = record { stepped = stepped_to (here next later) reply; step = step; stores = stores }
 
       changed : Keeps (BeforeOrAfter Stores act world) old new
-      changed = keeps_on (found finds) (keeps_wider (λ files either. ⊎_elim (λ still. inl still) (λ stores. inr (after_it files stores)) either) changes.keeps)
+      changed = keeps_on (found finds) (keeps_wider (λ files either. ⊎_elim (λ still. inl (as_before files (inr still))) (λ stores. inr (after_it files stores)) either) changes.keeps)
 
       -- the change failed
       pub change_fails : {known_after : Known State} → Works Stores act known_after world old new shelf (Err DiskFault)
@@ -92,7 +102,7 @@ module _ {State : Type 0} (Stores : State → Data.Files → Type 0) (act : Act 
       }
 
     module _ {known after : Known State} {mid new : Disk} {T U F : Type 0} {value : T} {done : U} {next : State} {reply : Reply}
-        (finds : Finds Stores known world.state old mid (Ok value)) (changes : Changes Stores {E = F} after world.state next mid new (Ok done)) where
+        (finds : Finds Stores known world.state (act.migrated world.state) old mid (Ok value)) (changes : Changes Stores {E = F} after (act.migrated world.state) next mid new (Ok done)) where
       -- the board was changed, and the shelf is as wanted
       pub changes_board : {wanted later : Files} → later ≡ wanted → act.Step world (stepped_to (here next wanted) reply) → Works Stores act after world old new later (Ok reply)
       changes_board {wanted = wanted} later_is step = record {
@@ -131,7 +141,7 @@ module _ {State : Type 0} (Stores : State → Data.Files → Type 0) (act : Act 
 module _ {State : Type 0} (Stores : State → Data.Files → Type 0) (act : ShelfAct) {before : Known State} {world : World State} {old : Disk} {shelf : Files}
     (at : IsAt Stores before world old shelf) where
   kept_still : Keeps (BeforeOrAfter Stores (on_shelf act) world) old old
-  kept_still = keeps_still (inl at.board.stores) at.board.ready.settled
+  kept_still = keeps_still (inl (inl at.board.stores)) at.board.ready.settled
 
   pub serves : {later : Files} (result : Result Reply Stop) → Serves act shelf later result → Works Stores (on_shelf act) before world old old later result
   serves {later = later} (Ok reply) served = record {
@@ -152,14 +162,14 @@ module _ {State : Type 0} (Stores : State → Data.Files → Type 0) (act : Shel
     keeps = kept_still;
     ends = record {
       silent = λ is. absurd (cc is);
-      stopped = (inl at.board.stores, refl, (λ name other. same name other ∙ ap (λ (files : Files). held files name) at.shelf_is));
+      stopped = (inl (inl at.board.stores), refl, (λ name other. same name other ∙ ap (λ (files : Files). held files name) at.shelf_is));
     };
     firm = λ sound firm. firm;
     off_board = λ off. as_now old;
   }
   serves {later = later} (Err OutOfMemory) same = record {
     keeps = kept_still;
-    ends = record { silent = λ is. absurd (cc is); stopped = (at.board.stores, refl, same ∙ at.shelf_is) };
+    ends = record { silent = λ is. absurd (cc is); stopped = (inl at.board.stores, refl, same ∙ at.shelf_is) };
     firm = λ sound firm. firm;
     off_board = λ off. as_now old;
   }

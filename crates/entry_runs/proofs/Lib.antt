@@ -1,6 +1,7 @@
 pub mod Boards
 pub mod Commands
 pub mod Entries
+pub mod Migrations
 pub mod Outcomes
 pub mod Running
 pub mod ShelfLaws

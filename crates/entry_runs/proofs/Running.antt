@@ -12,7 +12,7 @@ use Rattle.intent_journal.specs.Patches as Data
 use Rattle.intent_journal.specs.Recovered.{recovered}
 use Rattle.entry_runs.specs.Door.{World, Door, Step, touches, any_touches, AreLawful}
 use Rattle.entry_runs.specs.Entry.{Known, IsAt, Carried, InReply, OffBoard, InEntry, Performs}
-use Rattle.entry_runs.specs.Promise.{AsThen, AllSince, carried_out, Counts, HasCauses, After, Replies, Stopped, IsWhole, IsCutShort, Leaves, Completes, Heard, IsHeld, IsUntouched, Survives}
+use Rattle.entry_runs.specs.Promise.{AsThen, AllSince, carried_out, Counts, HasCauses, Before, After, Replies, Stopped, IsWhole, IsCutShort, Leaves, Completes, Heard, IsHeld, IsMigrating, IsUntouched, Survives}
 use Rattle.entry_runs.specs.Runs.{Stepped, Outcome, Runs, GoesOn, IsReached, AreTaken, is_last, with_class, status_after, status_of, stopped_status}
 use Rattle.entry_runs.specs.declared.class.Class.{Class}
 use Rattle.entry_runs.specs.declared.class.Class.TheVariants.{Done, Refused, Usage, Damaged}
@@ -165,7 +165,7 @@ module _ {State Entry : Type 0} (door : Door State Entry) where
         let same : recovered image.files ≡ recovered old.files = ap recovered then.files ∙ firm then.before then.could_be in
         record {
           reply = untouched.reply;
-          stores = stores_still start untouched.reply.front untouched.reply.outcome untouched.reply.runs untouched.off_board _ (subst (door.Stores start.state) (sym same) stores);
+          stores = inl (stores_still start untouched.reply.front untouched.reply.outcome untouched.reply.runs untouched.off_board _ (subst (door.Stores start.state) (sym same) stores));
         }
 
     at_entry : {start : World State} {entries : List Entry} {old : Disk} → (image : Image) → Now old image → InRun start entries old image
@@ -221,7 +221,14 @@ module _ {State Entry : Type 0} (door : Door State Entry) where
         said_is = reply.said_is ∙ ap (λ (l : List ℕ). l ++ reply.heard) running.said_is ∙ append_assoc old.said running.outcome.replies reply.heard;
       }
 
-      held_before : (image : Image) → door.Stores world.state (recovered image.files) → image.said ≡ mid.said → InRun start entries old image
+      -- the board, or what this entry migrates it to
+      before_it : (files : Data.Files) → Before door.Stores (door.act entry) world.state files → door.Stores world.state files ⊎ IsMigrating door running.outcome (entry ∷ back) files
+      before_it files either = ⊎_elim
+          (λ still. inl still)
+          (λ migrated. inr (record { goes_on = running.goes_on; next = entry; back = back; left_is = refl; touched = migrated.0; stores = migrated.1 }))
+          either
+
+      held_before : (image : Image) → Before door.Stores (door.act entry) world.state (recovered image.files) → image.said ≡ mid.said → InRun start entries old image
       held_before image stores said = inl (record {
         reply = record {
           front = running.done;
@@ -234,11 +241,11 @@ module _ {State Entry : Type 0} (door : Door State Entry) where
           part = record { unheard = []; whole = sym (append-nil running.outcome.replies) };
           said_is = said ∙ running.said_is;
         };
-        stores = stores;
+        stores = before_it (recovered image.files) stores;
       })
 
       held_after : (image : Image) → InReply door.Stores (door.act entry) world mid.said image → InRun start entries old image
-      held_after image it = inl (record { reply = heard_more it.reply; stores = it.stores })
+      held_after image it = inl (record { reply = heard_more it.reply; stores = inl it.stores })
 
       -- nothing of its reply was said
       unsaid : (image : Image) → After door.Stores (door.act entry) world (recovered image.files) → image.said ≡ mid.said → InReply door.Stores (door.act entry) world mid.said image
@@ -264,7 +271,7 @@ module _ {State Entry : Type 0} (door : Door State Entry) where
           let same : recovered image.files ≡ recovered mid.files = ap recovered it.files.files ∙ firm it.files.before it.files.could_be in
           inl (record {
             reply = heard_more it.reply;
-            stores = subst (λ (state : State). door.Stores state (recovered image.files)) (sym ((law entry).leaves_board it.off_board world it.reply.stepped it.reply.step)) (subst (door.Stores world.state) (sym same) running.at.board.stores);
+            stores = inl (subst (λ (state : State). door.Stores state (recovered image.files)) (sym ((law entry).leaves_board it.off_board world it.reply.stepped it.reply.step)) (subst (door.Stores world.state) (sym same) running.at.board.stores));
           }))
           running.phase
 

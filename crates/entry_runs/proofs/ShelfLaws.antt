@@ -1,5 +1,5 @@
 -- Laws of commands that reach the shelf alone.
-use Rattle.std.proofs.Common.{◌≡◌, ◌≢◌, ℕ, List, [], ◌∷◌, ◌++◌, sym, ◌∙◌, ap}
+use Rattle.std.proofs.Common.{◌≡◌, ◌≢◌, ℕ, List, [], ◌∷◌, ◌++◌, refl, sym, ◌∙◌, ap}
 use Rattle.door_outside.specs.Shelf.{Files, held}
 use Rattle.entry_runs.specs.Door.{World, IsLawful, SameBut}
 use Rattle.entry_runs.specs.Entry.{Reply, ShelfAct, on_shelf, looks}
@@ -27,6 +27,9 @@ lawful_on_shelf {State} act laws = record {
     state = step.1 i;
     shelf = laws.refused world.shelf stepped.world.shelf (reply_in stepped) step.0 refused i;
   };
+  same_migrated = λ world stepped. ((λ step. step), (λ step. step));
+  migrated_once = λ state. refl;
+  leaves_migrated = λ touched world stepped step. refl;
   damage_of_board = λ world stepped step damaged. absurd (laws.undamaged world.shelf stepped.world.shelf (reply_in stepped) step.0 damaged);
   one_outcome = λ world one other first second.
       let shelf = laws.one_shelf world.shelf one.world.shelf other.world.shelf (reply_in one) (reply_in other) first.0 second.0 in

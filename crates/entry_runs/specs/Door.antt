@@ -1,5 +1,5 @@
 -- What the entries of a run mean: what a crate with entries of its own gives to the promise of a run.
-use Rattle.std.specs.Prelude.{◌≡◌, ◌≢◌, ℕ, Bool, true, false, List, [], IsTrue}
+use Rattle.std.specs.Prelude.{◌≡◌, ◌≢◌, ◌↔◌, ℕ, Bool, true, false, List, [], IsTrue}
 use Rattle.std.specs.List.{Contains, list_any}
 use Rattle.door_outside.specs.Shelf as Shelf
 use Rattle.intent_journal.specs.Patches.{Files}
@@ -39,6 +39,13 @@ board_then_shelf names = record { board = true; exports = true; names = names }
 pub record Act (State : Type 0) : Type 1 where
   pub Step : World State → Stepped (World State) → Type 0
   pub reach : Reach
+  -- Where it touches the board, what it makes of that before all else: the same board in files of today's form. A
+  -- board in such files it leaves.
+  pub migrated : State → State
+
+-- the world in which an entry does what it does: the board was migrated
+abbrev pub migrated_world : {State : Type 0} → Act State → World State → World State
+migrated_world act world = here (act.migrated world.state) world.shelf
 
 -- the files of the shelf are as they were, but for these names
 abbrev pub SameBut : List (List ℕ) → Shelf.Files → Shelf.Files → Type 0
@@ -52,8 +59,13 @@ pub record IsLawful {State : Type 0} (act : Act State) : Type 0 where
   pub within_reach : (world : World State) (stepped : Stepped (World State)) → act.Step world stepped → SameBut act.reach.names world.shelf stepped.world.shelf
   -- it says something: so an entry whose whole reply was said is held after a crash
   pub says_something : (world : World State) (stepped : Stepped (World State)) → act.Step world stepped → stepped.reply ≢ []
-  -- where it is refused it changes neither board nor shelf
-  pub refusals_change_nothing : (world : World State) (stepped : Stepped (World State)) → act.Step world stepped → stepped.class ≡ Refused → stepped.world ≡ world
+  -- where it is refused it changes neither board nor shelf, but that the board is migrated
+  pub refusals_change_nothing : (world : World State) (stepped : Stepped (World State)) → act.Step world stepped → stepped.class ≡ Refused → stepped.world ≡ migrated_world act world
+  -- from the migrated board it does what it does from the board
+  pub same_migrated : (world : World State) (stepped : Stepped (World State)) → act.Step (migrated_world act world) stepped ↔ act.Step world stepped
+  -- what was migrated stays, and so does what an entry leaves that touches the board
+  pub migrated_once : (state : State) → act.migrated (act.migrated state) ≡ act.migrated state
+  pub leaves_migrated : IsTrue act.reach.board → (world : World State) (stepped : Stepped (World State)) → act.Step world stepped → act.migrated stepped.world.state ≡ stepped.world.state
   -- it answers damage only where it touches the board
   pub damage_of_board : (world : World State) (stepped : Stepped (World State)) → act.Step world stepped → stepped.class ≡ Damaged → IsTrue act.reach.board
   -- from a world it does one thing at most

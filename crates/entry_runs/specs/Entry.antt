@@ -7,7 +7,7 @@ use Rattle.intent_journal.specs.Hosts.{IsCalm, IsFirm, IsSettled}
 use Rattle.intent_journal.specs.Patches as Data
 use Rattle.intent_journal.specs.Recovered.{recovered}
 use Rattle.entry_runs.specs.Door.{World, Act, SameBut, shelf_only}
-use Rattle.entry_runs.specs.Promise.{AsThen, After, Replies, Stopped}
+use Rattle.entry_runs.specs.Promise.{AsThen, Before, After, Replies, Stopped}
 use Rattle.entry_runs.specs.Runs.{Stepped}
 use Rattle.entry_runs.specs.declared.class.Class.{Class}
 use Rattle.entry_runs.specs.declared.stop.Stop.{Stop}
@@ -59,6 +59,7 @@ abbrev pub on_shelf : {State : Type 0} → ShelfAct → Act State
 on_shelf act = record {
   Step = λ world stepped. act.step world.shelf stepped.world.shelf (record { text = stepped.reply; class = stepped.class }) × (stepped.world.state ≡ world.state);
   reach = shelf_only act.names;
+  migrated = λ state. state;
 }
 
 -- what is only looked up on the shelf
@@ -85,12 +86,13 @@ module _ {State : Type 0} (Stores : State → Data.Files → Type 0) where
     pub board : HasBoard known world.state disk
     pub shelf_is : shelf ≡ world.shelf
 
-  -- A call looked for the board: it is what it was at every moment, and a firm host stays firm.
-  pub record Finds {T : Type 0} (after : Known State) (state : State) (old new : Disk) (result : Result T Stop) : Type 0 where
-    pub keeps : Keeps (Stores state) old new
-    pub firm : IsFirm old → IsFirm new
+  -- A call looked for the board, and migrated it where it had to: it is what it was or the migrated one at every moment,
+  -- and the migrated one after Ok. A firm host stays firm, unless the disk failed.
+  pub record Finds {T : Type 0} (after : Known State) (state migrated : State) (old new : Disk) (result : Result T Stop) : Type 0 where
+    pub keeps : Keeps (λ files. Stores state files ⊎ Stores migrated files) old new
+    pub firm : ¬ IsErrOf result DiskFault → IsFirm old → IsFirm new
     pub silent : ¬ IsErrOf result VoiceFault
-    pub done : OnOk result (HasBoard after state new × IsFirm new)
+    pub done : OnOk result (HasBoard after migrated new × IsFirm new)
 
   -- A call changed the board: it is the old one or the next at every moment, and the next one after Ok.
   pub record Changes {T E : Type 0} (after : Known State) (state next : State) (old new : Disk) (result : Result T E) : Type 0 where
@@ -99,9 +101,9 @@ module _ {State : Type 0} (Stores : State → Data.Files → Type 0) where
 
 -- an entry that does this
 module _ {State : Type 0} (Stores : State → Data.Files → Type 0) (act : Act State) where
-  -- the files of a board, or those after the entry
+  -- the files of a board, migrated or not, or those after the entry
   abbrev pub BeforeOrAfter : World State → Data.Files → Type 0
-  BeforeOrAfter world files = Stores world.state files ⊎ After Stores act world files
+  BeforeOrAfter world files = Before Stores act world.state files ⊎ After Stores act world files
 
   -- a command was carried out, refused or answered, and its reply is to be said
   pub record Answered (known : Known State) (world : World State) (old new : Disk) (shelf : Files) (reply : Reply) : Type 0 where

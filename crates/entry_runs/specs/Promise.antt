@@ -6,7 +6,7 @@ use Rattle.door_outside.specs.Shelf.{Files}
 use Rattle.intent_journal.specs.Hosts.{IsFirm, IsSettled}
 use Rattle.intent_journal.specs.Patches as Data
 use Rattle.intent_journal.specs.Recovered.{recovered}
-use Rattle.entry_runs.specs.Door.{World, Act, Door, SameBut, Step, any_touches}
+use Rattle.entry_runs.specs.Door.{World, Act, Door, SameBut, Step, touches, any_touches}
 use Rattle.entry_runs.specs.Runs.{Stepped, Outcome, Runs, GoesOn, IsReached, AreTaken, status_of, stopped_status}
 use Rattle.entry_runs.specs.declared.status.Status.{Status}
 use Rattle.entry_runs.specs.declared.status.Status.TheVariants as status
@@ -78,6 +78,10 @@ pub record Replies {State : Type 0} (act : Act State) (world : World State) (so_
 
 -- what one entry leaves
 module _ {State : Type 0} (Stores : State → Data.Files → Type 0) (act : Act State) where
+  -- the data files are those of the board, or, where the entry touches it, those of the migrated board
+  abbrev pub Before : State → Data.Files → Type 0
+  Before state files = Stores state files ⊎ (IsTrue act.reach.board × Stores (act.migrated state) files)
+
   -- the data files are those of a board after the entry
   pub record After (world : World State) (files : Data.Files) : Type 0 where
     pub stepped : Stepped (World State)
@@ -87,11 +91,11 @@ module _ {State : Type 0} (Stores : State → Data.Files → Type 0) (act : Act 
   -- What stands where it was stopped, by the cause: what the files recover to, what was said, and the shelf.
   abbrev pub Stopped : Stop → World State → List ℕ → Disk → Files → Type 0
   Stopped DiskFault world so_far disk shelf =
-      (Stores world.state (recovered disk.files) ⊎ After world (recovered disk.files))
+      (Before world.state (recovered disk.files) ⊎ After world (recovered disk.files))
       × (disk.said ≡ so_far)
       × (shelf ≡ world.shelf)
   Stopped ShelfFault world so_far disk shelf =
-      (Stores world.state (recovered disk.files) ⊎ (IsTrue act.reach.exports × After world (recovered disk.files)))
+      (Before world.state (recovered disk.files) ⊎ (IsTrue act.reach.exports × After world (recovered disk.files)))
       × (disk.said ≡ so_far)
       × SameBut act.reach.names world.shelf shelf
   Stopped VoiceFault world so_far disk shelf =
@@ -99,7 +103,7 @@ module _ {State : Type 0} (Stores : State → Data.Files → Type 0) (act : Act 
       × Stores reply.stepped.world.state (recovered disk.files)
       × (shelf ≡ reply.stepped.world.shelf)
   Stopped OutOfMemory world so_far disk shelf =
-      Stores world.state (recovered disk.files)
+      Before world.state (recovered disk.files)
       × (disk.said ≡ so_far)
       × (shelf ≡ world.shelf)
 
@@ -165,10 +169,20 @@ module _ {State Entry : Type 0} (door : Door State Entry) where
     pub part : IsFront heard outcome.replies
     pub said_is : said ≡ so_far ++ heard
 
-  -- A crash leaves the board after some of the entries, and a front of these entries' replies was said.
+  -- The run goes on to an entry that touches the board, and the data files are those of the migrated board.
+  pub record IsMigrating (outcome : Outcome (World State)) (left : List Entry) (files : Data.Files) : Type 0 where
+    pub goes_on : GoesOn outcome.classes
+    pub next : Entry
+    pub back : List Entry
+    pub left_is : left ≡ next ∷ back
+    pub touched : IsTrue (touches door next)
+    pub stores : door.Stores ((door.act next).migrated outcome.world.state) files
+
+  -- A crash leaves the board after some of the entries, or that board migrated by the next, and a front of the replies of
+  -- the entries before that was said.
   pub record IsHeld (start : World State) (entries : List Entry) (old : Disk) (image : Image) : Type 0 where
     pub reply : Heard start entries old.said image.said
-    pub stores : door.Stores reply.outcome.world.state (recovered image.files)
+    pub stores : door.Stores reply.outcome.world.state (recovered image.files) ⊎ IsMigrating reply.outcome reply.back (recovered image.files)
 
   -- A crash leaves files as it could leave them at entry, and a front of the replies of entries before the first that
   -- touches the board was said.

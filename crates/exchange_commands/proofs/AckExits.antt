@@ -6,7 +6,7 @@ use Rattle.board_commands.proofs.ChangeLaws.{changes_to}
 use Rattle.board_commands.proofs.Exits.{answered, starved, turned, unturned}
 use Rattle.board_commands.specs.Halts.{told}
 use Rattle.board_commands.specs.Kept.{unread}
-use Rattle.board_commands.specs.State.{State, Made, Stores}
+use Rattle.board_commands.specs.State.{State, Made, Stores, migrated}
 use Rattle.board_commands.specs.Turns.{Turn, refuses}
 use Rattle.board_layout.specs.Board.{Board}
 use Rattle.board_layout.specs.Layout.{IsLayout}
@@ -50,15 +50,15 @@ module _ (name : List ℕ) (packet now : ℕ) (small : now < 2 ^ 32) (b : Board)
   takes : (files : Files) (r : Result Board AckRefusal) → ack_of name packet now b ≡ r → turns name packet now files (Some b) (turn_of packet b r)
   takes files r r_is = sym (ap (turn_of packet b) r_is)
 
-  module _ {world : World State} {old mid : Disk} {shelf : Files} (at : IsAt Stores unread world old shelf) (finds : Finds Stores unread world.state old mid (Ok (tt {0}))) (is : world.state ≡ Made b) where
+  module _ {world : World State} {old mid : Disk} {shelf : Files} (at : IsAt Stores unread world old shelf) (finds : Finds Stores unread world.state (migrated world.state) old mid (Ok (tt {0}))) (is : migrated world.state ≡ Made b) where
     changes : {new : Disk} (r : Result Board AckRefusal) → ack_of name packet now b ≡ r → (result : Result (Unit {0}) AckError) → Leaves b mid new r result
-        → {T E : Type 0} (part : Result T E) → OnOk part (Rests (board_after b r) new) → Changes Stores unread world.state (Made (board_after b r)) mid new part
+        → {T E : Type 0} (part : Result T E) → OnOk part (Rests (board_after b r) new) → Changes Stores unread (migrated world.state) (Made (board_after b r)) mid new part
     changes {new} r r_is result leaves part rests =
         subst (λ (s : State). Changes Stores unread s (Made (board_after b r)) mid new part) (sym is)
         (changes_to (Made b) (IsLayout b) (λ files laid. (ok, laid)) (board_after b r) (next_board r r_is) part leaves.moments leaves.now_is leaves.settled rests)
 
     -- nothing was changed
-    still : {new : Disk} → Unchanged mid new → Finds Stores unread world.state old new (Ok (tt {0}))
+    still : {new : Disk} → Unchanged mid new → Finds Stores unread world.state (migrated world.state) old new (Ok (tt {0}))
     still same = found_still Stores at.board (Ok (tt {0})) finds same (λ never. absurd (cc never))
 
     refused : {new : Disk} → Unchanged mid new → (reason : AckRefusal) → ack_of name packet now b ≡ Err reason → Works Stores (acknowledges name packet now) unread world old new shelf (Ok (says_refusal (refusal_of reason)))

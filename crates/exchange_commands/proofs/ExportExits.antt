@@ -5,7 +5,7 @@ use Rattle.std.specs.Result.{result_err, result_ok}
 use Rattle.board_commands.proofs.ChangeLaws.{changes_to}
 use Rattle.board_commands.specs.Halts.{told}
 use Rattle.board_commands.specs.Kept.{unread}
-use Rattle.board_commands.specs.State.{State, Made, Stores}
+use Rattle.board_commands.specs.State.{State, Made, Stores, migrated}
 use Rattle.board_layout.specs.Board.{Board}
 use Rattle.board_layout.specs.Layout.{IsLayout}
 use Rattle.board_layout.specs.Valid.{IsBoard}
@@ -57,15 +57,15 @@ module _ (name : List ℕ) (limit : ℕ) (folder : List ℕ) (now : ℕ) (b : Bo
   takes : (files : Files) (r : Result Handout ExportRefusal) → export_of name limit now b ≡ r → hands name limit folder now files (Some b) (handing_of folder files b r)
   takes files r r_is = sym (ap (handing_of folder files b) r_is)
 
-  module _ {world : World State} {old mid : Disk} {shelf : Files} (at : IsAt Stores unread world old shelf) (finds : Finds Stores unread world.state old mid (Ok (tt {0}))) (is : world.state ≡ Made b) where
+  module _ {world : World State} {old mid : Disk} {shelf : Files} (at : IsAt Stores unread world old shelf) (finds : Finds Stores unread world.state (migrated world.state) old mid (Ok (tt {0}))) (is : migrated world.state ≡ Made b) where
     changes : {new : Disk} {later : Files} (r : Result Handout ExportRefusal) → export_of name limit now b ≡ r → (result : Result Exported ExportError) → Leaves b folder mid new shelf later r result
-        → {T E : Type 0} (part : Result T E) → OnOk part (Rests (board_after b r) new) → Changes Stores unread world.state (Made (board_after b r)) mid new part
+        → {T E : Type 0} (part : Result T E) → OnOk part (Rests (board_after b r) new) → Changes Stores unread (migrated world.state) (Made (board_after b r)) mid new part
     changes {new} r r_is result leaves part rests =
         subst (λ (s : State). Changes Stores unread s (Made (board_after b r)) mid new part) (sym is)
         (changes_to (Made b) (IsLayout b) (λ files laid. (ok, laid)) (board_after b r) (next_board r r_is) part leaves.moments leaves.now_is leaves.settled rests)
 
     -- nothing was changed
-    still : {new : Disk} → Unchanged mid new → Finds Stores unread world.state old new (Ok (tt {0}))
+    still : {new : Disk} → Unchanged mid new → Finds Stores unread world.state (migrated world.state) old new (Ok (tt {0}))
     still same = found_still Stores at.board (Ok (tt {0})) finds same (λ never. absurd (cc never))
 
     refused : {new : Disk} {later : Files} → Unchanged mid new × (later ≡ shelf) → (reason : ExportRefusal) → export_of name limit now b ≡ Err reason

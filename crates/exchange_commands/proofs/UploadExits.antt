@@ -5,7 +5,7 @@ use Rattle.board_commands.proofs.ChangeLaws.{changes_to}
 use Rattle.board_commands.proofs.Exits.{answered, shelf_fails, starved, turned, unturned}
 use Rattle.board_commands.specs.Halts.{told, of_shelf}
 use Rattle.board_commands.specs.Kept.{unread}
-use Rattle.board_commands.specs.State.{State, Made, Stores}
+use Rattle.board_commands.specs.State.{State, Made, Stores, migrated}
 use Rattle.board_commands.specs.Turns.{Turn, refuses}
 use Rattle.board_commands.specs.declared.halt.BoardHalt.{BoardHalt}
 use Rattle.board_commands.specs.declared.halt.BoardHalt.TheVariants as board_halt
@@ -76,7 +76,7 @@ refusal_leaves upload.OtherBoard = tt
 refusal_leaves upload.Uploads = tt
 refusal_leaves (upload.Size bytes) = tt
 
-module _ (name file : List ℕ) (now : ℕ) (b : Board) {world : World State} {old mid : Disk} {shelf : Shelf.Files} (at : IsAt Stores unread world old shelf) (finds : Finds Stores unread world.state old mid (Ok (tt {0}))) (is : world.state ≡ Made b) where
+module _ (name file : List ℕ) (now : ℕ) (b : Board) {world : World State} {old mid : Disk} {shelf : Shelf.Files} (at : IsAt Stores unread world old shelf) (finds : Finds Stores unread world.state (migrated world.state) old mid (Ok (tt {0}))) (is : migrated world.state ≡ Made b) where
   takes_file : (o : Option ℕ) → user_id name b ≡ o → (turn : Turn) → UploadsFile file now shelf b o turn → Uploads name file now world.shelf (Some b) turn
   takes_file o o_is turn takes =
       subst (λ (files : Shelf.Files). Uploads name file now files (Some b) turn) at.shelf_is (subst (λ (found : Option ℕ). UploadsFile file now shelf b found turn) (sym o_is) takes)
@@ -99,7 +99,7 @@ module _ (name file : List ℕ) (now : ℕ) (b : Board) {world : World State} {o
     no_file halt.OutOfMemory comes = works_same Stores (uploads name file now) same_shelf (starved (Uploads name file now) at finds)
 
     -- nothing was changed
-    still : {new : Disk} → Unchanged mid new → Finds Stores unread world.state old new (Ok (tt {0}))
+    still : {new : Disk} → Unchanged mid new → Finds Stores unread world.state (migrated world.state) old new (Ok (tt {0}))
     still same = found_still Stores at.board (Ok (tt {0})) finds same (λ never. absurd (cc never))
 
     -- memory ran out
@@ -129,7 +129,7 @@ module _ (name file : List ℕ) (now : ℕ) (b : Board) {world : World State} {o
         next_board : (result ≡ Err OutOfMemory → ⊥) → IsBoard next
         next_board never = ⊎_elim (λ oom. absurd (never oom)) (λ valid. valid) (leaves.valid tt)
 
-        changes : {T E : Type 0} (part : Result T E) → IsBoard next → OnOk part (Rests next new) → Changes Stores unread world.state (Made next) mid new part
+        changes : {T E : Type 0} (part : Result T E) → IsBoard next → OnOk part (Rests next new) → Changes Stores unread (migrated world.state) (Made next) mid new part
         changes part valid rests =
             subst (λ (s : State). Changes Stores unread s (Made next) mid new part) (sym is)
             (changes_to (Made b) (IsLayout b) (λ files laid. (ok, laid)) next valid part leaves.moments leaves.now_is leaves.settled rests)

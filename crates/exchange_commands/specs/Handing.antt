@@ -1,6 +1,6 @@
 -- What a command does that changes the board, and then writes files of the shelf.
 use Rattle.std.specs.Prelude.{◌≡◌, ℕ, List, Option, Some, None}
-use Rattle.board_commands.specs.State.{State, NotMade, Made, Spoiled, state_of}
+use Rattle.board_commands.specs.State.{State, NotMade, Made, Old, Spoiled, migrated, state_of}
 use Rattle.board_commands.specs.Turns.{SaysDamage}
 use Rattle.board_layout.specs.Board.{Board}
 use Rattle.door_outside.specs.Shelf.{Files}
@@ -28,6 +28,7 @@ Hands hands board next shelf reply =
 abbrev pub OnState : (Option Board → Handing → Type 0) → State → Files → State → Files → Reply → Type 0
 OnState hands NotMade old next new reply = Hands hands None next new reply
 OnState hands (Made b) old next new reply = Hands hands (Some b) next new reply
+OnState hands (Old b) old next new reply = Hands hands (Some b) next new reply
 OnState hands (Spoiled held) old next new reply = (next ≡ Spoiled held) × (new ≡ old) × SaysDamage held reply
 
 -- a command that changes the board, and then writes these names
@@ -36,4 +37,5 @@ on_board_then_shelf names hands = record {
   Step = λ world stepped.
       OnState (hands world.shelf) world.state world.shelf stepped.world.state stepped.world.shelf (record { text = stepped.reply; class = stepped.class });
   reach = board_then_shelf names;
+  migrated = migrated;
 }

@@ -1,5 +1,6 @@
 -- Every entry is lawful, and none but files that are no board's are answered as damaged.
-use Rattle.std.proofs.Common.{◌≡◌, ◌≢◌, ℕ, [], sym, subst}
+use Rattle.std.proofs.Common.{◌≡◌, ◌≢◌, ℕ, [], refl, sym, subst}
+use Rattle.std.specs.Prelude.{IsTrue}
 use Rattle.std.proofs.lemmas.Bool.{true≢false}
 use Rattle.entry_runs.specs.Door.{World, AreLawful}
 use Rattle.entry_runs.specs.Runs.{Stepped}
@@ -21,7 +22,7 @@ use Rattle.shelf_files.specs.Halts.{refused}
 use Rattle.exchange_commands.proofs.UploadActs.{upload_turns}
 use Rattle.door_commands.specs.Answers.{usage, usage_line}
 use Rattle.board_commands.proofs.BoardActs.{KeepsState, check_turns, enroll_turns, init_turns, keeps_state, lawful_on_board}
-use Rattle.board_commands.specs.State.{State, IsSpoiled}
+use Rattle.board_commands.specs.State.{State, IsSpoiled, migrated}
 use Rattle.mail_cli.specs.Step.{act, says, door, nothing}
 use Rattle.door_commands.specs.declared.command.Command.TheVariants as command
 use Rattle.door_commands.specs.declared.entry.Entry.{Entry}
@@ -90,3 +91,24 @@ only_spoiled now world entry stepped step damaged = (keeps now entry).only_spoil
 
 pub still_spoiled : (now : ℕ) (world : World State) (entry : Entry) (stepped : Stepped (World State)) → (act now entry).Step world stepped → IsSpoiled stepped.world.state → IsSpoiled world.state
 still_spoiled now world entry stepped step spoiled = (keeps now entry).still_spoiled world stepped step spoiled
+
+-- every entry that touches the board migrates it in the one way, a line for each command
+pub one_migration : (now : ℕ) (entry : Entry) (state : State) → IsTrue (act now entry).reach.board → (act now entry).migrated state ≡ migrated state
+one_migration now (Run (command.Ack user packet)) state on = refl
+one_migration now (Run (command.Batch file)) state on = absurd (true≢false (sym on))
+one_migration now (Run command.Check) state on = refl
+one_migration now (Run (command.Compose folder conference sheet rep)) state on = absurd (true≢false (sym on))
+one_migration now (Run (command.Enroll name flags conferences)) state on = refl
+one_migration now (Run (command.Export user limit folder)) state on = refl
+one_migration now (Run (command.Import conference file)) state on = refl
+one_migration now (Run (command.Init file)) state on = refl
+one_migration now (Run (command.Kill conference number)) state on = refl
+one_migration now (Run (command.List file)) state on = absurd (true≢false (sym on))
+one_migration now (Run (command.Read folder)) state on = absurd (true≢false (sym on))
+one_migration now (Run (command.Reply folder place text rep)) state on = absurd (true≢false (sym on))
+one_migration now (Run (command.Sample seed count)) state on = refl
+one_migration now (Run (command.Show folder place)) state on = absurd (true≢false (sym on))
+one_migration now (Run (command.Scan file)) state on = absurd (true≢false (sym on))
+one_migration now (Run (command.Upload user file)) state on = refl
+one_migration now (Wrong which) state on = absurd (true≢false (sym on))
+one_migration now (Refuse why) state on = absurd (true≢false (sym on))

@@ -10,23 +10,25 @@ use Rattle.door_outside.specs.Disk.{Disk, Image}
 use Rattle.door_outside.specs.Shelf as Shelf
 use Rattle.entry_runs.specs.Door.{World, here, Step, any_touches, touches}
 use Rattle.entry_runs.specs.Runs.{Outcome, Runs, Stepped}
-use Rattle.entry_runs.specs.Promise.{IsUntouched, Leaves, Stopped}
+use Rattle.entry_runs.specs.Promise.{Before, IsHeld, IsUntouched, Leaves, Stopped}
 use Rattle.entry_runs.specs.declared.status.Status.{Status}
 use Rattle.entry_runs.specs.declared.stop.Stop.{Stop}
 use Rattle.entry_runs.specs.declared.stop.Stop.TheVariants.{DiskFault, ShelfFault, VoiceFault, OutOfMemory}
 use Rattle.intent_journal.specs.Patches.{Files}
 use Rattle.intent_journal.specs.Recovered.{recovered}
+use Rattle.board_commands.proofs.BoardActs.{migrated_once}
 use Rattle.board_commands.proofs.StateLaws.{one_state}
-use Rattle.board_commands.specs.State.{State, NotMade, Made, Stores}
+use Rattle.board_commands.specs.State.{State, Stores, migrated}
 use Rattle.board_laws.proofs.KeptLaws.{stays_offered}
 use Rattle.board_laws.proofs.OnceLaws.{changes_once}
-use Rattle.board_laws.specs.History.{Deed, IsHistory, after, left_by}
+use Rattle.board_laws.specs.History.{Deed, IsBeginning, IsHistory, after, left_by}
 use Rattle.door_commands.specs.declared.command.Command.TheVariants as command
 use Rattle.door_commands.specs.declared.entry.Entry.{Entry}
 use Rattle.door_commands.specs.declared.entry.Entry.TheVariants.{Run, Wrong, Refuse}
 use Rattle.mail_cli.proofs.BoardEntries.{are_commands}
+use Rattle.mail_cli.proofs.EntryLaws.{lawful, one_migration}
 use Rattle.mail_cli.specs.BoardEntry.{board_command, steps}
-use Rattle.mail_cli.specs.Histories.{AreDeedsOf, AreJoined, AreTold, Continues, HoldsAsThen, HoldsFront, KeepPromises, Passage, RunBreaksSo, RunContinues, RunEndsSo, left_behind, reached}
+use Rattle.mail_cli.specs.Histories.{AreDeedsOf, AreJoined, AreTold, Continues, HoldsAsThen, HoldsFront, KeepPromises, Passage, RunBreaksSo, RunContinues, RunEndsSo, StandFor, left_behind, reached}
 use Rattle.mail_cli.specs.Run.{RunLeaves, RunSurvives}
 use Rattle.mail_cli.specs.Step.{act, door}
 
@@ -40,69 +42,97 @@ at_end : {A : Type 0} (xs : List A) (y : A) → slice_get (xs ++ y ∷ []) (leng
 at_end [] y = refl
 at_end (x ∷ xs) y = at_end xs y
 
-after_front : (deeds more : List (Deed Entry)) (n : ℕ) → n ≤ length deeds → after (deeds ++ more) n ≡ after deeds n
-after_front deeds more zero within = refl
-after_front deeds more (suc n) within =
-    (λ i. left_by (after_front deeds more n (omega (arith, within)) i) (at_front deeds more n (omega (arith, within)) i))
+module _ (start : State) where
+  after_front : (deeds more : List (Deed Entry)) (n : ℕ) → n ≤ length deeds → after start (deeds ++ more) n ≡ after start deeds n
+  after_front deeds more zero within = refl
+  after_front deeds more (suc n) within =
+      (λ i. left_by (after_front deeds more n (omega (arith, within)) i) (at_front deeds more n (omega (arith, within)) i))
 
-one_reached : (deeds : List (Deed Entry)) (deed : Deed Entry) → reached (deeds ++ deed ∷ []) ≡ deed.stepped.world.state
-one_reached deeds deed =
-    let long : length (deeds ++ deed ∷ []) ≡ suc (length deeds) = omega (arith, length-append deeds (deed ∷ [])) in
-    ap (after (deeds ++ deed ∷ [])) long ∙ ap (left_by (after (deeds ++ deed ∷ []) (length deeds))) (at_end deeds deed)
+  one_reached : (deeds : List (Deed Entry)) (deed : Deed Entry) → reached start (deeds ++ deed ∷ []) ≡ deed.stepped.world.state
+  one_reached deeds deed =
+      let long : length (deeds ++ deed ∷ []) ≡ suc (length deeds) = omega (arith, length-append deeds (deed ∷ [])) in
+      ap (after start (deeds ++ deed ∷ [])) long ∙ ap (left_by (after start (deeds ++ deed ∷ []) (length deeds))) (at_end deeds deed)
 
--- a deed behind a history
-one_more : (deeds : List (Deed Entry)) (deed : Deed Entry) → IsHistory steps deeds → steps deed.now deed.entry (here (reached deeds) deed.shelf) deed.stepped → IsHistory steps (deeds ++ deed ∷ [])
-one_more deeds deed history step n d is = elim (cases_lt n (length deeds)) [
-  | inl before ↦
-      subst (λ (s : State). steps d.now d.entry (here s d.shelf) d.stepped) (sym (after_front deeds (deed ∷ []) n (omega arith)))
-      (history n d (sym (at_front deeds (deed ∷ []) n before) ∙ is))
-  | inr past ↦
-      let within = slice_get_within (deeds ++ deed ∷ []) n d is in
-      let at : n ≡ length deeds = omega (arith, within, past, length-append deeds (deed ∷ [])) in
-      let same : Some deed ≡ Some d = sym (at_end deeds deed) ∙ (ap (slice_get (deeds ++ deed ∷ [])) (sym at) ∙ is) in
-      let one : deed ≡ d = cc in
-      subst (λ (x : Deed Entry). steps x.now x.entry (here (after (deeds ++ deed ∷ []) n) x.shelf) x.stepped) one
-      (subst (λ (s : State). steps deed.now deed.entry (here s deed.shelf) deed.stepped)
-      (sym (ap (after (deeds ++ deed ∷ [])) at ∙ after_front deeds (deed ∷ []) (length deeds) (omega arith))) step)
-]
+  -- a deed behind a history
+  one_more : (deeds : List (Deed Entry)) (deed : Deed Entry) → IsHistory steps start deeds → steps deed.now deed.entry (here (reached start deeds) deed.shelf) deed.stepped → IsHistory steps start (deeds ++ deed ∷ [])
+  one_more deeds deed history step n d is = elim (cases_lt n (length deeds)) [
+    | inl before ↦
+        subst (λ (s : State). steps d.now d.entry (here s d.shelf) d.stepped) (sym (after_front deeds (deed ∷ []) n (omega arith)))
+        (history n d (sym (at_front deeds (deed ∷ []) n before) ∙ is))
+    | inr past ↦
+        let within = slice_get_within (deeds ++ deed ∷ []) n d is in
+        let at : n ≡ length deeds = omega (arith, within, past, length-append deeds (deed ∷ [])) in
+        let same : Some deed ≡ Some d = sym (at_end deeds deed) ∙ (ap (slice_get (deeds ++ deed ∷ [])) (sym at) ∙ is) in
+        let one : deed ≡ d = cc in
+        subst (λ (x : Deed Entry). steps x.now x.entry (here (after start (deeds ++ deed ∷ []) n) x.shelf) x.stepped) one
+        (subst (λ (s : State). steps deed.now deed.entry (here s deed.shelf) deed.stepped)
+        (sym (ap (after start (deeds ++ deed ∷ [])) at ∙ after_front deeds (deed ∷ []) (length deeds) (omega arith))) step)
+  ]
 
--- ---- some entries more
-none_more : (now : ℕ) (deeds : List (Deed Entry)) (state : State) → IsHistory steps deeds → reached deeds ≡ state → Continues now deeds [] state
-none_more now deeds state history leads = record {
-  more = [];
-  are = record { entries_are = refl; moments_are = All-nil (λ (deed : Deed Entry). deed.now ≡ now) };
-  history = subst (IsHistory steps) (sym (append-nil deeds)) history;
-  leads = ap reached (append-nil deeds) ∙ leads;
-}
+  -- ---- some entries more
+  none_more : (now : ℕ) (deeds : List (Deed Entry)) (state : State) → IsHistory steps start deeds → reached start deeds ≡ state → Continues now start deeds [] state
+  none_more now deeds state history leads = record {
+    more = [];
+    are = record { entries_are = refl; moments_are = All-nil (λ (deed : Deed Entry). deed.now ≡ now) };
+    history = subst (IsHistory steps start) (sym (append-nil deeds)) history;
+    leads = ap (reached start) (append-nil deeds) ∙ leads;
+  }
 
--- a deed, and others behind it
-and_more : (now : ℕ) (deeds : List (Deed Entry)) (deed : Deed Entry) (entries : List Entry) (state : State) → deed.now ≡ now → Continues now (deeds ++ deed ∷ []) entries state → Continues now deeds (deed.entry ∷ entries) state
-and_more now deeds deed entries state moment rest =
-    let same : (deeds ++ deed ∷ []) ++ rest.more ≡ deeds ++ deed ∷ rest.more = append_assoc deeds (deed ∷ []) rest.more in
-    record {
-      more = deed ∷ rest.more;
-      are = record {
-        entries_are = ap (λ (es : List Entry). deed.entry ∷ es) rest.are.entries_are;
-        moments_are = All-cons (λ (d : Deed Entry). d.now ≡ now) deed rest.more moment rest.are.moments_are;
-      };
-      history = subst (IsHistory steps) same rest.history;
-      leads = ap reached (sym same) ∙ rest.leads;
-    }
+  -- a deed, and others behind it
+  and_more : (now : ℕ) (deeds : List (Deed Entry)) (deed : Deed Entry) (entries : List Entry) (state : State) → deed.now ≡ now → Continues now start (deeds ++ deed ∷ []) entries state → Continues now start deeds (deed.entry ∷ entries) state
+  and_more now deeds deed entries state moment rest =
+      let same : (deeds ++ deed ∷ []) ++ rest.more ≡ deeds ++ deed ∷ rest.more = append_assoc deeds (deed ∷ []) rest.more in
+      record {
+        more = deed ∷ rest.more;
+        are = record {
+          entries_are = ap (λ (es : List Entry). deed.entry ∷ es) rest.are.entries_are;
+          moments_are = All-cons (λ (d : Deed Entry). d.now ≡ now) deed rest.more moment rest.are.moments_are;
+        };
+        history = subst (IsHistory steps start) same rest.history;
+        leads = ap (reached start) (sym same) ∙ rest.leads;
+      }
 
-to_state : {now : ℕ} {deeds : List (Deed Entry)} {entries : List Entry} {one other : State} → one ≡ other → Continues now deeds entries one → Continues now deeds entries other
-to_state {now} {deeds} {entries} same on = subst (Continues now deeds entries) same on
+  to_state : {now : ℕ} {deeds : List (Deed Entry)} {entries : List Entry} {one other : State} → one ≡ other → Continues now start deeds entries one → Continues now start deeds entries other
+  to_state {now} {deeds} {entries} same on = subst (Continues now start deeds entries) same on
 
-pub runs_continue : (now : ℕ) (deeds : List (Deed Entry)) → IsHistory steps deeds → (shelf : Shelf.Files) (entries : List Entry) (outcome : Outcome (World State))
-    → Runs (Step (door now)) (here (reached deeds) shelf) entries outcome → Continues now deeds entries outcome.world.state
-runs_continue now deeds history shelf [] outcome runs = none_more now deeds outcome.world.state history (sym (ap (λ (o : Outcome (World State)). o.world.state) runs))
-runs_continue now deeds history shelf (entry ∷ entries) outcome runs =
-    let stepped = runs.0 in
-    let deed : Deed Entry = record { entry = entry; now = now; shelf = shelf; stepped = stepped } in
-    let leads : reached (deeds ++ deed ∷ []) ≡ stepped.world.state = one_reached deeds deed in
-    to_state (sym (ap (λ (o : Outcome (World State)). o.world.state) runs.4))
-    (and_more now deeds deed entries runs.1.world.state refl
-    (runs_continue now (deeds ++ deed ∷ []) (one_more deeds deed history runs.2) stepped.world.shelf entries runs.1
-    (subst (λ (s : State). Runs (Step (door now)) (here s stepped.world.shelf) entries runs.1) (sym leads) runs.3)))
+  pub runs_continue : (now : ℕ) (deeds : List (Deed Entry)) → IsHistory steps start deeds → (shelf : Shelf.Files) (entries : List Entry) (outcome : Outcome (World State))
+      → Runs (Step (door now)) (here (reached start deeds) shelf) entries outcome → Continues now start deeds entries outcome.world.state
+  runs_continue now deeds history shelf [] outcome runs = none_more now deeds outcome.world.state history (sym (ap (λ (o : Outcome (World State)). o.world.state) runs))
+  runs_continue now deeds history shelf (entry ∷ entries) outcome runs =
+      let stepped = runs.0 in
+      let deed : Deed Entry = record { entry = entry; now = now; shelf = shelf; stepped = stepped } in
+      let leads : reached start (deeds ++ deed ∷ []) ≡ stepped.world.state = one_reached deeds deed in
+      to_state (sym (ap (λ (o : Outcome (World State)). o.world.state) runs.4))
+      (and_more now deeds deed entries runs.1.world.state refl
+      (runs_continue now (deeds ++ deed ∷ []) (one_more deeds deed history runs.2) stepped.world.shelf entries runs.1
+      (subst (λ (s : State). Runs (Step (door now)) (here s stepped.world.shelf) entries runs.1) (sym leads) runs.3)))
+
+-- ---- files of today's version
+-- an entry leaves a board in such files, where it found one in such
+next_migrated : (now : ℕ) (entry : Entry) (world : World State) (stepped : Stepped (World State)) → Step (door now) world entry stepped → migrated world.state ≡ world.state → migrated stepped.world.state ≡ stepped.world.state
+next_migrated now entry world stepped step was = by (touches (door now) entry) refl
+  where
+    by : (touched : Bool) → touches (door now) entry ≡ touched → migrated stepped.world.state ≡ stepped.world.state
+    by true on = sym (one_migration now entry stepped.world.state on) ∙ (lawful now entry).leaves_migrated on world stepped step
+    by false off = let same = (lawful now entry).leaves_board off world stepped step in ap migrated same ∙ (was ∙ sym same)
+
+-- so a history that begins with files of today's version never has others
+pub all_migrated : (start : State) → migrated start ≡ start → (deeds : List (Deed Entry)) → IsHistory steps start deeds → (n : ℕ) → migrated (after start deeds n) ≡ after start deeds n
+all_migrated start begins deeds history zero = begins
+all_migrated start begins deeds history (suc n) = by (all_migrated start begins deeds history n) (slice_get deeds n) refl
+  where
+    by : migrated (after start deeds n) ≡ after start deeds n → (o : Option (Deed Entry)) → slice_get deeds n ≡ o → migrated (left_by (after start deeds n) o) ≡ left_by (after start deeds n) o
+    by was None none = was
+    by was (Some d) is = next_migrated d.now d.entry (here (after start deeds n) d.shelf) d.stepped (history n d is) was
+
+-- a run leaves a board in such files, where it found one in such
+run_migrated : (now : ℕ) (entries : List Entry) (world : World State) (outcome : Outcome (World State)) → migrated world.state ≡ world.state → Runs (Step (door now)) world entries outcome → migrated outcome.world.state ≡ outcome.world.state
+run_migrated now [] world outcome was runs =
+    let same : outcome.world.state ≡ world.state = ap (λ (o : Outcome (World State)). o.world.state) runs in
+    ap migrated same ∙ (was ∙ sym same)
+run_migrated now (entry ∷ entries) world outcome was runs =
+    let same : outcome.world.state ≡ runs.1.world.state = ap (λ (o : Outcome (World State)). o.world.state) runs.4 in
+    ap migrated same ∙ (run_migrated now entries runs.0.world runs.1 (next_migrated now entry world runs.0 runs.2 was) runs.3 ∙ sym same)
 
 -- ---- one entry more
 longer : {World Entry : Type 0} (Does : World → Entry → Stepped World → Type 0) (start : World) (front : List Entry) (entry : Entry) (outcome : Outcome World) (stepped : Stepped World)
@@ -120,11 +150,12 @@ longer {World} Does start (e ∷ front) entry outcome stepped runs step =
       rest.2,
     )
 
-pub stopped_continues : (now : ℕ) (deeds : List (Deed Entry)) → IsHistory steps deeds → (shelf : Shelf.Files) (front : List Entry) (entry : Entry) (outcome : Outcome (World State)) (stepped : Stepped (World State))
-    → Runs (Step (door now)) (here (reached deeds) shelf) front outcome → Step (door now) outcome.world entry stepped → Continues now deeds (front ++ entry ∷ []) stepped.world.state
-stopped_continues now deeds history shelf front entry outcome stepped runs step =
-    let whole = longer (Step (door now)) (here (reached deeds) shelf) front entry outcome stepped runs step in
-    to_state (ap (λ (w : World State). w.state) whole.2) (runs_continue now deeds history shelf (front ++ entry ∷ []) whole.0 whole.1)
+module _ (start : State) where
+  pub stopped_continues : (now : ℕ) (deeds : List (Deed Entry)) → IsHistory steps start deeds → (shelf : Shelf.Files) (front : List Entry) (entry : Entry) (outcome : Outcome (World State)) (stepped : Stepped (World State))
+      → Runs (Step (door now)) (here (reached start deeds) shelf) front outcome → Step (door now) outcome.world entry stepped → Continues now start deeds (front ++ entry ∷ []) stepped.world.state
+  stopped_continues now deeds history shelf front entry outcome stepped runs step =
+      let whole = longer (Step (door now)) (here (reached start deeds) shelf) front entry outcome stepped runs step in
+      to_state start (ap (λ (w : World State). w.state) whole.2) (runs_continue start now deeds history shelf (front ++ entry ∷ []) whole.0 whole.1)
 
 -- ---- entries that don't touch the board
 -- what they do doesn't depend on it
@@ -165,130 +196,210 @@ all_moved now (entry ∷ entries) start outcome state off runs =
       rest.2,
     )
 
-pub untouched_continues : (now : ℕ) (deeds other : List (Deed Entry)) → IsHistory steps other → (shelf : Shelf.Files) (entries : List Entry) (outcome : Outcome (World State)) → any_touches (door now) entries ≡ false
-    → Runs (Step (door now)) (here (reached deeds) shelf) entries outcome → Continues now other entries (reached other)
-untouched_continues now deeds other history shelf entries outcome off runs =
-    let next = all_moved now entries (here (reached deeds) shelf) outcome (reached other) off runs in
-    to_state next.2 (runs_continue now other history shelf entries next.0 next.1)
+pub untouched_continues : (start : State) (now : ℕ) (deeds : List (Deed Entry)) → IsHistory steps start deeds → (state : State) (shelf : Shelf.Files) (entries : List Entry) (outcome : Outcome (World State)) → any_touches (door now) entries ≡ false
+    → Runs (Step (door now)) (here state shelf) entries outcome → Continues now start deeds entries (reached start deeds)
+untouched_continues start now deeds history state shelf entries outcome off runs =
+    let next = all_moved now entries (here state shelf) outcome (reached start deeds) off runs in
+    to_state start next.2 (runs_continue start now deeds history shelf entries next.0 next.1)
+
+-- ---- entries on the migrated board
+-- what they make of it they make of the board before
+all_unmigrated : (now : ℕ) (entries : List Entry) (state : State) (shelf : Shelf.Files) (outcome : Outcome (World State)) → Runs (Step (door now)) (here (migrated state) shelf) entries outcome
+    → (other : Outcome (World State)) × Runs (Step (door now)) (here state shelf) entries other × (migrated other.world.state ≡ outcome.world.state)
+all_unmigrated now [] state shelf outcome runs = (record { world = here state shelf; replies = []; classes = [] }, refl, sym (ap (λ (o : Outcome (World State)). o.world.state) runs))
+all_unmigrated now (entry ∷ entries) state shelf outcome runs = by (all_unmigrated now entries state) (touches (door now) entry) refl
+  where
+    last : runs.1.world.state ≡ outcome.world.state
+    last = sym (ap (λ (o : Outcome (World State)). o.world.state) runs.4)
+
+    by : ((later : Shelf.Files) (rest : Outcome (World State)) → Runs (Step (door now)) (here (migrated state) later) entries rest → (other : Outcome (World State)) × Runs (Step (door now)) (here state later) entries other × (migrated other.world.state ≡ rest.world.state))
+        → (touched : Bool) → touches (door now) entry ≡ touched
+        → (other : Outcome (World State)) × Runs (Step (door now)) (here state shelf) (entry ∷ entries) other × (migrated other.world.state ≡ outcome.world.state)
+    by rest true on =
+        let step : Step (door now) (here state shelf) entry runs.0 =
+        ((lawful now entry).same_migrated (here state shelf) runs.0).0 (subst (λ (s : State). Step (door now) (here s shelf) entry runs.0) (sym (one_migration now entry state on)) runs.2) in
+        let left : migrated runs.0.world.state ≡ runs.0.world.state = sym (one_migration now entry runs.0.world.state on) ∙ (lawful now entry).leaves_migrated on (here state shelf) runs.0 step in (
+          record { world = runs.1.world; replies = runs.0.reply ++ runs.1.replies; classes = runs.0.class ∷ runs.1.classes },
+          (runs.0, runs.1, step, runs.3, refl),
+          run_migrated now entries runs.0.world runs.1 left runs.3 ∙ last,
+        )
+    by rest false off =
+        let same : runs.0.world.state ≡ migrated state = (lawful now entry).leaves_board off (here (migrated state) shelf) runs.0 runs.2 in
+        let one : Stepped (World State) = record { world = here state runs.0.world.shelf; reply = runs.0.reply; class = runs.0.class } in
+        let more = rest runs.0.world.shelf runs.1 (subst (λ (s : State). Runs (Step (door now)) (here s runs.0.world.shelf) entries runs.1) same runs.3) in (
+          record { world = more.0.world; replies = one.reply ++ more.0.replies; classes = one.class ∷ more.0.classes },
+          (one, more.0, moved now entry (here (migrated state) shelf) runs.0 state off runs.2, more.1, refl),
+          more.2 ∙ last,
+        )
+
+pub migrated_continues : (start : State) (now : ℕ) (deeds : List (Deed Entry)) → IsHistory steps start deeds → (shelf : Shelf.Files) (entries : List Entry) (outcome : Outcome (World State))
+    → Runs (Step (door now)) (here (migrated (reached start deeds)) shelf) entries outcome → (state : State) × Continues now start deeds entries state × (migrated state ≡ outcome.world.state)
+migrated_continues start now deeds history shelf entries outcome runs =
+    let other = all_unmigrated now entries (reached start deeds) shelf outcome runs in
+    (other.0.world.state, runs_continue start now deeds history shelf entries other.0 other.1, other.2)
+
+-- ---- entries from the state that a history leads to, or from that migrated
+abbrev IsEither : State → State → Type 0
+IsEither state other = (other ≡ state) ⊎ (other ≡ migrated state)
+
+from_either : (start : State) (now : ℕ) (deeds : List (Deed Entry)) → IsHistory steps start deeds → (state : State) → IsEither (reached start deeds) state → (shelf : Shelf.Files) (entries : List Entry) (outcome : Outcome (World State))
+    → Runs (Step (door now)) (here state shelf) entries outcome → (other : State) × Continues now start deeds entries other × IsEither other outcome.world.state
+from_either start now deeds history state (inl same) shelf entries outcome runs =
+    (outcome.world.state, runs_continue start now deeds history shelf entries outcome (subst (λ (s : State). Runs (Step (door now)) (here s shelf) entries outcome) same runs), inl refl)
+from_either start now deeds history state (inr same) shelf entries outcome runs =
+    let more = migrated_continues start now deeds history shelf entries outcome (subst (λ (s : State). Runs (Step (door now)) (here s shelf) entries outcome) same runs) in
+    (more.0, more.1, inr (sym more.2))
+
+stand_for : (state other : State) (files : Files) → IsEither state other → StandFor other files → StandFor state files
+stand_for state other files (inl same) stands = subst (λ (s : State). StandFor s files) same stands
+stand_for state other files (inr same) stands = inr (⊎_elim
+    (λ still. subst (λ (s : State). Stores s files) same still)
+    (λ then. subst (λ (s : State). Stores s files) (ap migrated same ∙ migrated_once state) then)
+    stands)
 
 -- ---- one run
-module _ (now : ℕ) (deeds : List (Deed Entry)) (history : IsHistory steps deeds) (shelf : Shelf.Files) where
+module _ (now : ℕ) (start : State) (deeds : List (Deed Entry)) (history : IsHistory steps start deeds) (state : State) (is : IsEither (reached start deeds) state) (shelf : Shelf.Files) where
   holds_front : (front back entries : List Entry) (outcome : Outcome (World State)) (files : Files) → entries ≡ front ++ back
-      → Runs (Step (door now)) (here (reached deeds) shelf) front outcome → Stores outcome.world.state files → HoldsFront now deeds entries files
-  holds_front front back entries outcome files split runs stores = record {
-    front = front;
-    back = back;
-    split = split;
-    state = outcome.world.state;
-    continues = runs_continue now deeds history shelf front outcome runs;
-    stores = stores;
-  }
+      → Runs (Step (door now)) (here state shelf) front outcome → StandFor outcome.world.state files → HoldsFront now start deeds entries files
+  holds_front front back entries outcome files split runs stands =
+      let on = from_either start now deeds history state is shelf front outcome runs in
+      record {
+        front = front;
+        back = back;
+        split = split;
+        state = on.0;
+        continues = on.1;
+        stores = stand_for on.0 outcome.world.state files on.2 stands;
+      }
 
   -- and an entry more
   holds_stopped : (front back entries : List Entry) (entry : Entry) (outcome : Outcome (World State)) (stepped : Stepped (World State)) (files : Files) → entries ≡ front ++ entry ∷ back
-      → Runs (Step (door now)) (here (reached deeds) shelf) front outcome → Step (door now) outcome.world entry stepped → Stores stepped.world.state files → HoldsFront now deeds entries files
-  holds_stopped front back entries entry outcome stepped files split runs step stores = record {
-    front = front ++ entry ∷ [];
-    back = back;
-    split = split ∙ sym (append_assoc front (entry ∷ []) back);
-    state = stepped.world.state;
-    continues = stopped_continues now deeds history shelf front entry outcome stepped runs step;
-    stores = stores;
-  }
+      → Runs (Step (door now)) (here state shelf) front outcome → Step (door now) outcome.world entry stepped → Stores stepped.world.state files → HoldsFront now start deeds entries files
+  holds_stopped front back entries entry outcome stepped files split runs step stores =
+      let whole = longer (Step (door now)) (here state shelf) front entry outcome stepped runs step in
+      holds_front (front ++ entry ∷ []) back entries whole.0 files (split ∙ sym (append_assoc front (entry ∷ []) back)) whole.1
+      (inl (subst (λ (w : World State). Stores w.state files) (sym whole.2) stores))
+
+  -- it was stopped before an entry, which may have migrated the board
+  holds_before : (front back entries : List Entry) (entry : Entry) (outcome : Outcome (World State)) (files : Files) → entries ≡ front ++ entry ∷ back
+      → Runs (Step (door now)) (here state shelf) front outcome → Before Stores (act now entry) outcome.world.state files → HoldsFront now start deeds entries files
+  holds_before front back entries entry outcome files split runs before = holds_front front (entry ∷ back) entries outcome files split runs (⊎_elim
+      (λ still. inl still)
+      (λ moved_on. inr (subst (λ (s : State). Stores s files) (one_migration now entry outcome.world.state moved_on.0) moved_on.1))
+      before)
 
   cut_front : (front back entries : List Entry) (entry : Entry) (outcome : Outcome (World State)) (stop : Stop) (so_far : List ℕ) (disk : Disk) (later : Shelf.Files) → entries ≡ front ++ entry ∷ back
-      → Runs (Step (door now)) (here (reached deeds) shelf) front outcome → Stopped Stores (act now entry) stop outcome.world so_far disk later → HoldsFront now deeds entries (recovered disk.files)
+      → Runs (Step (door now)) (here state shelf) front outcome → Stopped Stores (act now entry) stop outcome.world so_far disk later → HoldsFront now start deeds entries (recovered disk.files)
   cut_front front back entries entry outcome DiskFault so_far disk later split runs stopped = ⊎_elim
-      (λ still. holds_front front (entry ∷ back) entries outcome (recovered disk.files) split runs still)
+      (λ still. holds_before front back entries entry outcome (recovered disk.files) split runs still)
       (λ then. holds_stopped front back entries entry outcome then.stepped (recovered disk.files) split runs then.step then.stores) stopped.0
   cut_front front back entries entry outcome ShelfFault so_far disk later split runs stopped = ⊎_elim
-      (λ still. holds_front front (entry ∷ back) entries outcome (recovered disk.files) split runs still)
+      (λ still. holds_before front back entries entry outcome (recovered disk.files) split runs still)
       (λ then. holds_stopped front back entries entry outcome then.1.stepped (recovered disk.files) split runs then.1.step then.1.stores) stopped.0
   cut_front front back entries entry outcome VoiceFault so_far disk later split runs stopped =
       holds_stopped front back entries entry outcome stopped.0.stepped (recovered disk.files) split runs stopped.0.step stopped.1
-  cut_front front back entries entry outcome OutOfMemory so_far disk later split runs stopped = holds_front front (entry ∷ back) entries outcome (recovered disk.files) split runs stopped.0
+  cut_front front back entries entry outcome OutOfMemory so_far disk later split runs stopped = holds_before front back entries entry outcome (recovered disk.files) split runs stopped.0
 
-  leaves_front : (result : Status) (entries : List Entry) (old new : Disk) (later : Shelf.Files) → Leaves (door now) result (here (reached deeds) shelf) entries old new later
-      → HoldsFront now deeds entries (recovered new.files)
-  leaves_front result entries old new later (inl whole) = holds_front whole.taken whole.left entries whole.outcome (recovered new.files) whole.split whole.runs whole.stores
+  leaves_front : (result : Status) (entries : List Entry) (old new : Disk) (later : Shelf.Files) → Leaves (door now) result (here state shelf) entries old new later → HoldsFront now start deeds entries (recovered new.files)
+  leaves_front result entries old new later (inl whole) = holds_front whole.taken whole.left entries whole.outcome (recovered new.files) whole.split whole.runs (inl whole.stores)
   leaves_front result entries old new later (inr cut) = cut_front cut.front cut.back entries cut.entry cut.outcome cut.stop (old.said ++ cut.outcome.replies) new later cut.split cut.runs cut.stopped
 
-untouched_holds : (now : ℕ) (deeds : List (Deed Entry)) (shelf : Shelf.Files) (entries : List Entry) (old : Disk) (image : Image) → IsUntouched (door now) (here (reached deeds) shelf) entries old image
-    → HoldsAsThen now entries old image
-untouched_holds now deeds shelf entries old image it = record {
+  held_front : (entries : List Entry) (old : Disk) (image : Image) → IsHeld (door now) (here state shelf) entries old image → HoldsFront now start deeds entries (recovered image.files)
+  held_front entries old image held = holds_front held.reply.front held.reply.back entries held.reply.outcome (recovered image.files) held.reply.split held.reply.runs (⊎_elim
+      (λ still. inl still)
+      (λ it. inr (subst (λ (s : State). Stores s (recovered image.files)) (one_migration now it.next held.reply.outcome.world.state it.touched) it.stores))
+      held.stores)
+
+untouched_holds : (now : ℕ) (state : State) (shelf : Shelf.Files) (entries : List Entry) (old : Disk) (image : Image) → IsUntouched (door now) (here state shelf) entries old image → HoldsAsThen now entries old image
+untouched_holds now state shelf entries old image it = record {
   before = it.files.before;
   could_be = it.files.could_be;
-  holds = λ other history stores. record {
+  holds = λ start deeds history stands. record {
     front = it.reply.front;
     back = it.reply.back;
     split = it.reply.split;
-    state = reached other;
-    continues = untouched_continues now deeds other history shelf it.reply.front it.reply.outcome it.off_board it.reply.runs;
-    stores = subst (λ (files : Files). Stores (reached other) (recovered files)) (sym it.files.files) stores;
+    state = reached start deeds;
+    continues = untouched_continues start now deeds history state shelf it.reply.front it.reply.outcome it.off_board it.reply.runs;
+    stores = subst (λ (files : Files). StandFor (reached start deeds) (recovered files)) (sym it.files.files) stands;
   };
 }
 
-module _ (now : ℕ) (words : List (List ℕ)) (old new : Disk) (shelf : Shelf.Files) (deeds : List (Deed Entry)) (history : IsHistory steps deeds) (stores : Stores (reached deeds) (recovered old.files)) where
-  ends_so : (result : Status) (later : Shelf.Files) → RunLeaves now words result old new shelf later → RunEndsSo now words deeds new shelf
+module _ (now : ℕ) (words : List (List ℕ)) (old new : Disk) (shelf : Shelf.Files) (start : State) (deeds : List (Deed Entry)) (history : IsHistory steps start deeds)
+    (state : State) (is : IsEither (reached start deeds) state) (stores : Stores state (recovered old.files)) where
+  ends_so : (result : Status) (later : Shelf.Files) → RunLeaves now words result old new shelf later → RunEndsSo now words start deeds new shelf
   ends_so result later leaves = ⊎_elim
-      (λ read. (read.0, inl read.1, leaves_front now deeds history shelf result read.0 old new later read.2))
+      (λ read. (read.0, inl read.1, leaves_front now start deeds history state is shelf result read.0 old new later read.2))
       (λ unread. (
         [],
         inr refl,
-        holds_front now deeds history shelf [] [] [] (record { world = here (reached deeds) shelf; replies = []; classes = [] }) (recovered new.files) refl refl unread.stores,
+        holds_front now start deeds history state is shelf [] [] [] (record { world = here state shelf; replies = []; classes = [] }) (recovered new.files) refl refl (inl unread.stores),
       ))
-      (leaves (reached deeds) stores)
+      (leaves state stores)
 
-  breaks_so : RunSurvives now words old new shelf → RunBreaksSo now words deeds old new shelf
+  breaks_so : RunSurvives now words old new shelf → RunBreaksSo now words start deeds old new shelf
   breaks_so survives =
-      let all = survives (reached deeds) stores in (
+      let all = survives state stores in (
         all.0,
         all.1,
         (λ image left. ⊎_elim
-            (λ held. inl (holds_front now deeds history shelf held.reply.front held.reply.back all.0 held.reply.outcome (recovered image.files) held.reply.split held.reply.runs held.stores))
-            (λ as_then. inr (untouched_holds now deeds shelf all.0 old image as_then))
+            (λ held. inl (held_front now start deeds history state is shelf all.0 old image held))
+            (λ as_then. inr (untouched_holds now state shelf all.0 old image as_then))
             (all.2.each image left)),
       )
 
 pub run_continues : (now : ℕ) (words : List (List ℕ)) (result : Status) (old new : Disk) (shelf later : Shelf.Files) → RunLeaves now words result old new shelf later → RunSurvives now words old new shelf
     → RunContinues now words old new shelf
-run_continues now words result old new shelf later leaves survives deeds history stores =
-    (ends_so now words old new shelf deeds history stores result later leaves, breaks_so now words old new shelf deeds history stores survives)
+run_continues now words result old new shelf later leaves survives start deeds history (inl stores) =
+    (ends_so now words old new shelf start deeds history (reached start deeds) (inl refl) stores result later leaves, breaks_so now words old new shelf start deeds history (reached start deeds) (inl refl) stores survives)
+run_continues now words result old new shelf later leaves survives start deeds history (inr stores) = (
+  ends_so now words old new shelf start deeds history (migrated (reached start deeds)) (inr refl) stores result later leaves,
+  breaks_so now words old new shelf start deeds history (migrated (reached start deeds)) (inr refl) stores survives,
+)
 
 -- ---- many runs
-told_behind : (deeds : List (Deed Entry)) (files : Files) (passages : List Passage) → IsHistory steps deeds → Stores (reached deeds) files → AreJoined files passages → AreTold deeds files passages
-told_behind deeds files [] history stores joined = record {
+-- the state that files stand for, where they stand for another or for that migrated
+which_is : (state other : State) (files : Files) → StandFor state files → Stores other files → IsEither state other
+which_is state other files (inl stores) stands = inl (one_state files other state stands stores)
+which_is state other files (inr stores) stands = inr (one_state files other (migrated state) stands stores)
+
+told_behind : (start : State) (deeds : List (Deed Entry)) (files : Files) (passages : List Passage) → IsHistory steps start deeds → StandFor (reached start deeds) files → AreJoined files passages → AreTold start deeds files passages
+told_behind start deeds files [] history stands joined = record {
   more = [];
   entries_are = refl;
-  history = subst (IsHistory steps) (sym (append-nil deeds)) history;
-  stores = subst (λ (ds : List (Deed Entry)). Stores (reached ds) files) (sym (append-nil deeds)) stores;
+  history = subst (IsHistory steps start) (sym (append-nil deeds)) history;
+  stores = subst (λ (ds : List (Deed Entry)). StandFor (reached start ds) files) (sym (append-nil deeds)) stands;
 }
-told_behind deeds files (p ∷ passages) history stores joined =
+told_behind start deeds files (p ∷ passages) history stands joined =
     let is = joined.1 in
-    let start : is.start ≡ reached deeds = one_state p.before is.start (reached deeds) is.stores (subst (Stores (reached deeds)) (sym joined.0) stores) in
-    let on = runs_continue p.now deeds history p.shelf p.entries p.outcome (subst (λ (s : State). Runs (Step (door p.now)) (here s p.shelf) p.entries p.outcome) start is.runs) in
-    let rest = told_behind (deeds ++ on.more) p.behind passages on.history (subst (λ (s : State). Stores s p.behind) (sym on.leads) is.leaves) joined.2 in
+    let one = which_is (reached start deeds) is.start p.before (subst (StandFor (reached start deeds)) (sym joined.0) stands) is.stores in
+    let next = from_either start p.now deeds history is.start one p.shelf p.entries p.outcome is.runs in
+    let on = next.1 in
+    let left = stand_for next.0 p.outcome.world.state p.behind next.2 is.leaves in
+    let rest = told_behind start (deeds ++ on.more) p.behind passages on.history (subst (λ (s : State). StandFor s p.behind) (sym on.leads) left) joined.2 in
     let same : (deeds ++ on.more) ++ rest.more ≡ deeds ++ (on.more ++ rest.more) = append_assoc deeds on.more rest.more in
     record {
       more = on.more ++ rest.more;
       entries_are = map-append (λ (deed : Deed Entry). deed.entry) on.more rest.more ∙ (λ i. on.are.entries_are i ++ rest.entries_are i);
-      history = subst (IsHistory steps) same rest.history;
-      stores = subst (λ (ds : List (Deed Entry)). Stores (reached ds) (left_behind p.behind passages)) same rest.stores;
+      history = subst (IsHistory steps start) same rest.history;
+      stores = subst (λ (ds : List (Deed Entry)). StandFor (reached start ds) (left_behind p.behind passages)) same rest.stores;
     }
 
-no_history : IsHistory steps []
-no_history n deed is = absurd (cc is)
+no_history : (start : State) → IsHistory steps start []
+no_history start n deed is = absurd (cc is)
 
-told : (files : Files) (passages : List Passage) → Stores NotMade files → AreJoined files passages → AreTold [] files passages
-told files passages none joined = told_behind [] files passages no_history none joined
+-- either is one board
+one_board : (state other : State) → IsEither state other → migrated state ≡ migrated other
+one_board state other (inl same) = ap migrated (sym same)
+one_board state other (inr same) = sym (ap migrated same ∙ migrated_once state)
 
-pub keep_promises : (files : Files) (passages : List Passage) → Stores NotMade files → AreJoined files passages → KeepPromises files passages
-keep_promises files passages none joined =
-    let all : AreTold [] files passages = told files passages none joined in
+pub keep_promises : (start : State) → IsBeginning start → (files : Files) (passages : List Passage) → Stores start files → AreJoined files passages → KeepPromises start files passages
+keep_promises start begins files passages stores joined =
+    let all : AreTold start [] files passages = told_behind start [] files passages (no_history start) (inl stores) joined in
     record {
       told = all;
-      offers = λ last stores i within then board user no_ack limit m offers live most enough.
-          stays_offered board_command steps are_commands all.more all.history i (length all.more) within then last board
-          (one_state (left_behind files passages) (reached all.more) (Made last) all.stores stores) user no_ack limit m offers live most enough;
-      posts = λ user digest i j first changed second again. changes_once board_command steps are_commands all.more all.history user digest i j first changed second again;
+      offers = λ state last stands made i within then board user no_ack limit m offers live most enough.
+          let one = which_is (reached start all.more) state (left_behind files passages) all.stores stands in
+          stays_offered board_command steps are_commands start begins all.more all.history i (length all.more) within then last board
+          (one_board (reached start all.more) state one ∙ made) user no_ack limit m offers live most enough;
+      posts = λ user digest i j first changed second again. changes_once board_command steps are_commands start all.more all.history user digest i j first changed second again;
     }

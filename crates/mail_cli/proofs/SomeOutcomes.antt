@@ -9,7 +9,7 @@ use Rattle.board_commands.specs.Check.{checked}
 use Rattle.board_commands.specs.Damages.{damaged}
 use Rattle.board_commands.specs.Enroll.{Enrolls, enroll_turn, is_net}
 use Rattle.board_commands.specs.Init.{BreaksSetup, Inits, SetupOf}
-use Rattle.board_commands.specs.State.{State, NotMade, Made, Spoiled, Stores, state_of}
+use Rattle.board_commands.specs.State.{State, NotMade, Made, Old, Spoiled, Stores, state_of}
 use Rattle.board_commands.specs.Turns.{Turn, on_board}
 use Rattle.board_layout.proofs.BoardLaws.{undamaged}
 use Rattle.board_layout.specs.Board.{Board}
@@ -259,6 +259,7 @@ some_write name Makes text some world =
 abbrev HasDamage : State → Type 0
 HasDamage NotMade = Unit {0}
 HasDamage (Made b) = Unit {0}
+HasDamage (Old b) = Unit {0}
 HasDamage (Spoiled files) = (d : Damage) × (board_damage files ≡ Some d)
 
 some_turn : (turns : Shelf.Files → Option Board → Turn → Type 0) → ((shelf : Shelf.Files) (board : Option Board) → (turn : Turn) × turns shelf board turn) → (state : State) (shelf : Shelf.Files) → HasDamage state
@@ -269,6 +270,9 @@ some_turn turns some NotMade shelf has =
 some_turn turns some (Made b) shelf has =
     let t : (turn : Turn) × turns shelf (Some b) turn = some shelf (Some b) in
     (stepped_to (here (state_of t.0.board) shelf) t.0.reply, (refl, (t.0, t.1, refl, refl)))
+some_turn turns some (Old b) shelf has =
+    let t : (turn : Turn) × turns shelf (Some b) turn = some shelf (Some b) in
+    (stepped_to (here (state_of t.0.board) shelf) t.0.reply, (refl, (t.0, t.1, refl, refl)))
 some_turn turns some (Spoiled files) shelf has = (stepped_to (here (Spoiled files) shelf) (damaged has.0), (refl, (refl, (has.0, has.1, refl))))
 
 some_handing : (names : List (List ℕ)) (hands : Shelf.Files → Option Board → Handing → Type 0) → ((shelf : Shelf.Files) (board : Option Board) → (handing : Handing) × hands shelf board handing)
@@ -277,6 +281,9 @@ some_handing names hands some NotMade shelf has =
     let h : (handing : Handing) × hands shelf None handing = some shelf None in
     (stepped_to (here (state_of h.0.board) h.0.shelf) h.0.reply, (h.0, h.1, refl, refl, refl))
 some_handing names hands some (Made b) shelf has =
+    let h : (handing : Handing) × hands shelf (Some b) handing = some shelf (Some b) in
+    (stepped_to (here (state_of h.0.board) h.0.shelf) h.0.reply, (h.0, h.1, refl, refl, refl))
+some_handing names hands some (Old b) shelf has =
     let h : (handing : Handing) × hands shelf (Some b) handing = some shelf (Some b) in
     (stepped_to (here (state_of h.0.board) h.0.shelf) h.0.reply, (h.0, h.1, refl, refl, refl))
 some_handing names hands some (Spoiled files) shelf has = (stepped_to (here (Spoiled files) shelf) (damaged has.0), (refl, refl, (has.0, has.1, refl)))
@@ -359,6 +366,7 @@ spoiled_damage files damaged_files bytes stores = by (board_damage (data_files f
 has_damage : (state : State) (files : Files) → AreBytes files → Stores state files → HasDamage state
 has_damage NotMade files bytes stores = tt
 has_damage (Made b) files bytes stores = tt
+has_damage (Old b) files bytes stores = tt
 has_damage (Spoiled damaged_files) files bytes stores = spoiled_damage files damaged_files bytes stores
 
 pub some_outcome : (now : ℕ) (entry : Entry) → EntryCanRun entry → (files : Files) → AreBytes files → (world : World State) → Stores world.state files → (stepped : Stepped (World State)) × (act now entry).Step world stepped

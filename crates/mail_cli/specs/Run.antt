@@ -86,8 +86,8 @@ module _ (now : ℕ) (words : List (List ℕ)) where
       ((entries : List Entry) × EntriesRead words shelf entries × Promise.Leaves (door now) result start entries old new later)
       ⊎ Promise.IsUnread (door now) result start old new later)
 
-  -- A crash at any moment leaves the board after some of the entries, and a front of these entries' replies said. Where
-  -- the entries couldn't be read, that is after none.
+  -- A crash at any moment leaves the board after some of the entries, or that board migrated by the next, and a front of
+  -- these entries' replies said. Where the entries couldn't be read, that is after none.
   abbrev pub RunSurvives : Disk → Disk → Files → Type 0
   RunSurvives old new shelf = FromEntry old shelf (λ start.
       (entries : List Entry) × (EntriesRead words shelf entries ⊎ (entries ≡ [])) × Promise.Survives (door now) start entries old new)

@@ -1,11 +1,12 @@
 //! Laws of entries.
-ghost use Rattle.std.specs.Prelude.{◌≡◌, ℕ, List, [], ◌∷◌, ◌++◌, false};
+ghost use Rattle.std.specs.Prelude.{◌≡◌, ℕ, List, [], ◌∷◌, ◌++◌, false, IsTrue};
 ghost use Rattle.door_outside.specs.Shelf as Shelf;
 ghost use Rattle.entry_runs.specs.Door.{World, AreLawful, Step, any_touches, here};
+ghost use Rattle.entry_runs.specs.Promise.{Before, IsMigrating};
 ghost use Rattle.entry_runs.specs.Runs.{Outcome, Runs, Stepped};
 ghost use Rattle.intent_journal.specs.Patches.{Files};
-ghost use Rattle.board_commands.specs.State.{State, NotMade, Stores};
-ghost use Rattle.board_laws.specs.History.{Deed, IsHistory};
+ghost use Rattle.board_commands.specs.State.{State, Stores, migrated};
+ghost use Rattle.board_laws.specs.History.{Deed, IsBeginning, IsHistory, after};
 ghost use Rattle.board_layout.specs.Layout.{AreBytes};
 ghost use Rattle.door_commands.specs.Entries.{EntryCanRun};
 ghost use Rattle.board_laws.specs.Kept.{StaysMade, StaysOffered};
@@ -29,9 +30,24 @@ pub fn some_outcome()
 {}
 
 /// Every entry is lawful: where it doesn't touch the board it leaves it, it writes no names on the shelf but those
-/// that it may, it says something, and where it is refused it changes neither board nor shelf.
+/// that it may, it says something, and where it is refused it changes neither board nor shelf, but that the board is
+/// then in files of today's version.
 pub fn lawful_entries()
     ensures { (now : ℕ) → AreLawful (door now) }
+{}
+
+/// Every entry that touches the board makes the same of it before all else: the board in files of today's version.
+pub fn one_migration()
+    ensures { (now : ℕ) (entry : Entry) (state : State) → IsTrue (act now entry).reach.board → (act now entry).migrated state ≡ migrated state }
+{}
+
+/// A board in files of today's version isn't migrated: where an entry was stopped before it changed the board, and where a
+/// crash came between two entries, the files stand for the board itself. And it stays in such files.
+pub fn today_stays()
+    ensures stopped { (now : ℕ) (entry : Entry) (state : State) (files : Files) → migrated state ≡ state → Before Stores (act now entry) state files → Stores state files }
+    ensures held { (now : ℕ) (outcome : Outcome (World State)) (left : List Entry) (files : Files) → migrated outcome.world.state ≡ outcome.world.state
+        → IsMigrating (door now) outcome left files → Stores outcome.world.state files }
+    ensures stays { (start : State) → migrated start ≡ start → (deeds : List (Deed Entry)) → IsHistory steps start deeds → (n : ℕ) → migrated (after start deeds n) ≡ after start deeds n }
 {}
 
 /// Any files stand for exactly one state of the board.
@@ -40,24 +56,26 @@ pub fn one_state()
     ensures one { (files : Files) (a b : State) → Stores a files → Stores b files → a ≡ b }
 {}
 
-/// For every list of entries from no board on, each with a moment and a shelf of its own, so that it may reach over many
-/// runs and what crashes between them leave: once a board is made there is one after all further entries, and what is
-/// offered to a user is offered again, in full, while it is live and he acknowledges no packet.
+/// For every list of entries, from no board on or from a valid one in files of either version, each with a moment and a
+/// shelf of its own, so that it may reach over many runs and what crashes between them leave: once a board is made there is
+/// one after all further entries, and what is offered to a user is offered again, in full, while it is live and he
+/// acknowledges no packet.
 pub fn kept()
     ensures made { StaysMade board_command steps }
     ensures offered { StaysOffered board_command steps }
 {}
 
-/// For every such list: each live message that a user may see, with a number at most his last-read pointer, was in the
-/// offered list of an export whose packet he acknowledged. A number is that of one packet of the user, since a later
-/// one has a greater number.
+/// For every such list from no board on: each live message that a user may see, with a number at most his last-read
+/// pointer, was in the offered list of an export whose packet he acknowledged. In every such list a number is that of one packet of the user,
+/// since a later one has a greater number.
 pub fn passed()
     ensures passed { IsPassed board_command steps }
     ensures packets { PacketsRise board_command steps }
 {}
 
 /// For every such list: for each user and SHA-256 at most one entry changes the board by an upload. Each later upload of
-/// them that isn't refused changes nothing, and has the counts of that one.
+/// them that isn't refused changes nothing, and has the counts of that one. To put a board into files of today's version
+/// is no change.
 pub fn once()
     ensures changes { ChangesOnce board_command steps }
     ensures again { SaysAgain board_command steps }
@@ -65,20 +83,24 @@ pub fn once()
 
 /// A history and what a run makes behind it are one history: with the entries that were carried out, from the state that it
 /// leads to, it leads to the state after them; so it does with the entry in which the run was stopped or a crash came,
-/// where that was carried out. Entries that touch no board go on so behind any history, whatever the state: so where a crash
-/// leaves files as it could have left them before the run, they go on behind the history of those.
+/// where that was carried out, and, but for the version of its files, from the migrated state. Entries that touch no board
+/// go on so behind any history, whatever the state: so where a crash leaves files as it could have left them before the
+/// run, they go on behind the history of those.
 pub fn runs_are_histories()
-    ensures runs { (now : ℕ) (deeds : List (Deed Entry)) → IsHistory steps deeds → (shelf : Shelf.Files) (entries : List Entry) (outcome : Outcome (World State))
-        → Runs (Step (door now)) (here (reached deeds) shelf) entries outcome → Continues now deeds entries outcome.world.state }
-    ensures stopped { (now : ℕ) (deeds : List (Deed Entry)) → IsHistory steps deeds → (shelf : Shelf.Files) (front : List Entry) (entry : Entry) (outcome : Outcome (World State)) (stepped : Stepped (World State))
-        → Runs (Step (door now)) (here (reached deeds) shelf) front outcome → Step (door now) outcome.world entry stepped → Continues now deeds (front ++ entry ∷ []) stepped.world.state }
-    ensures untouched { (now : ℕ) (deeds other : List (Deed Entry)) → IsHistory steps other → (shelf : Shelf.Files) (entries : List Entry) (outcome : Outcome (World State)) → any_touches (door now) entries ≡ false
-        → Runs (Step (door now)) (here (reached deeds) shelf) entries outcome → Continues now other entries (reached other) }
+    ensures runs { (start : State) (now : ℕ) (deeds : List (Deed Entry)) → IsHistory steps start deeds → (shelf : Shelf.Files) (entries : List Entry) (outcome : Outcome (World State))
+        → Runs (Step (door now)) (here (reached start deeds) shelf) entries outcome → Continues now start deeds entries outcome.world.state }
+    ensures stopped { (start : State) (now : ℕ) (deeds : List (Deed Entry)) → IsHistory steps start deeds → (shelf : Shelf.Files) (front : List Entry) (entry : Entry) (outcome : Outcome (World State)) (stepped : Stepped (World State))
+        → Runs (Step (door now)) (here (reached start deeds) shelf) front outcome → Step (door now) outcome.world entry stepped → Continues now start deeds (front ++ entry ∷ []) stepped.world.state }
+    ensures from_migrated { (start : State) (now : ℕ) (deeds : List (Deed Entry)) → IsHistory steps start deeds → (shelf : Shelf.Files) (entries : List Entry) (outcome : Outcome (World State))
+        → Runs (Step (door now)) (here (migrated (reached start deeds)) shelf) entries outcome → (state : State) × Continues now start deeds entries state × (migrated state ≡ outcome.world.state) }
+    ensures untouched { (start : State) (now : ℕ) (deeds : List (Deed Entry)) → IsHistory steps start deeds → (state : State) (shelf : Shelf.Files) (entries : List Entry) (outcome : Outcome (World State)) → any_touches (door now) entries ≡ false
+        → Runs (Step (door now)) (here state shelf) entries outcome → Continues now start deeds entries (reached start deeds) }
 {}
 
-/// For every list of runs and crashes from no board on, the last files stand for the board after one history, of all entries
-/// that were carried out, in order. On that board each message that was offered to a user is offered until he acknowledges a
-/// packet or it is deleted; and for each user and SHA-256 one upload at most changed the board.
+/// For every list of runs and crashes, from no board on or from files of a valid one, of either version, the last files
+/// stand for the board after one history, of all entries that were carried out, in order. On that board each message that
+/// was offered to a user is offered until he acknowledges a packet or it is deleted; and for each user and SHA-256 one
+/// upload at most changed the board.
 pub fn runs_and_crashes()
-    ensures { (files : Files) (passages : List Passage) → Stores NotMade files → AreJoined files passages → KeepPromises files passages }
+    ensures { (start : State) → IsBeginning start → (files : Files) (passages : List Passage) → Stores start files → AreJoined files passages → KeepPromises start files passages }
 {}

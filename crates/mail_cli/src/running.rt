@@ -30,7 +30,8 @@ pub fn run<H: Host, S: Shelf>(
     // The whole run, or the run cut short: what the files recover to, what was said, the shelf and the status.
     ensures leaves { IsTrue H.tells → IsTrue S.tells → RunLeaves now words.now result (H.disk host.old) (H.disk host.new) (S.files shelf.old) (S.files shelf.new) }
 
-    // A crash at any moment leaves the board after some of the entries, and a front of these entries' replies said.
+    // A crash at any moment leaves the board after some of the entries, or that board migrated by the next, and a front of
+    // these entries' replies said.
     ensures survives { IsTrue H.tells → IsTrue S.tells → RunSurvives now words.now (H.disk host.old) (H.disk host.new) (S.files shelf.old) }
     ensures settled { IsTrue H.tells → IsSettled (H.disk host.new) }
 

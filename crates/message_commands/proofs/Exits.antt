@@ -4,7 +4,7 @@ use Rattle.std.proofs.Common.{◌≡◌, List, ℕ, Option, Some, Ok, Err, refl,
 use Rattle.board_commands.proofs.Exits.{answered, turned, unturned}
 use Rattle.board_commands.specs.Halts.{told, of_journal}
 use Rattle.board_commands.specs.Kept.{unread}
-use Rattle.board_commands.specs.State.{State, Made, Stores, state_of}
+use Rattle.board_commands.specs.State.{State, Made, Stores, migrated, state_of}
 use Rattle.board_commands.specs.Turns.{Turn, refuses, on_board}
 use Rattle.board_commands.specs.declared.halt.BoardHalt.{BoardHalt}
 use Rattle.board_commands.specs.declared.halt.BoardHalt.TheVariants.{Refused}
@@ -25,7 +25,7 @@ abbrev pub carried : Change → Board → List ℕ → Turn
 carried change b text = record { board = Some (changed change b); reply = done text }
 
 module _ (turns : Shelf.Files → Option Board → Turn → Type 0) {world : World State} {old mid : Disk} {shelf : Shelf.Files} (at : IsAt Stores unread world old shelf) (board : Option Board)
-    (finds : Finds Stores unread world.state old mid (Ok (tt {0}))) (is : world.state ≡ state_of board) where
+    (finds : Finds Stores unread world.state (migrated world.state) old mid (Ok (tt {0}))) (is : migrated world.state ≡ state_of board) where
   of_world : (other : Option Board) (turn : Turn) → turns shelf other turn → turns world.shelf other turn
   of_world other turn takes = subst (λ (files : Shelf.Files). turns files other turn) at.shelf_is takes
 
@@ -38,7 +38,7 @@ module _ (turns : Shelf.Files → Option Board → Turn → Type 0) {world : Wor
 
   -- it was to make a change
   module _ (b : Board) (board_is : board ≡ Some b) (change : Change) (text : List ℕ) (takes : turns shelf (Some b) (carried change b text)) where
-    state_is : world.state ≡ Made b
+    state_is : migrated world.state ≡ Made b
     state_is = is ∙ ap state_of board_is
 
     pub changed_by : {new : Disk} {T E : Type 0} {value : T} → Changes Stores {E = E} unread (Made b) (Made (changed change b)) mid new (Ok value) → Works Stores (on_board turns) unread world old new shelf (Ok (done text))

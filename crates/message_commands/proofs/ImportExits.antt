@@ -3,7 +3,7 @@ use Rattle.std.proofs.Common.{◌≡◌, ℕ, List, Option, Some, None, Result, 
 use Rattle.board_commands.proofs.Exits.{shelf_fails, starved}
 use Rattle.board_commands.specs.Halts.{told, of_journal, of_shelf}
 use Rattle.board_commands.specs.Kept.{unread}
-use Rattle.board_commands.specs.State.{State, Made, Stores, state_of}
+use Rattle.board_commands.specs.State.{State, Made, Stores, migrated, state_of}
 use Rattle.board_commands.specs.Turns.{Turn, refuses}
 use Rattle.board_commands.specs.declared.halt.BoardHalt.{BoardHalt}
 use Rattle.board_commands.specs.declared.halt.BoardHalt.TheVariants as board_halt
@@ -39,7 +39,7 @@ module _ (conference : ℕ) (file : List ℕ) (now : ℕ) (shelf : Shelf.Files) 
   placed place is read reads turn turn_is = subst (λ (found : Option ℕ). ImportsAt conference file now shelf b found turn) (sym is) (read, reads, turn_is)
 
 module _ (conference : ℕ) (file : List ℕ) (now : ℕ) {world : World State} {old mid : Disk} {shelf later : Shelf.Files} (at : IsAt Stores unread world old shelf) (board : Option Board)
-    (finds : Finds Stores unread world.state old mid (Ok (tt {0}))) (is : world.state ≡ state_of board) (b : Board) (board_is : board ≡ Some b) (place : ℕ) (place_is : place_of conference b ≡ Some place) (same : later ≡ shelf) where
+    (finds : Finds Stores unread world.state (migrated world.state) old mid (Ok (tt {0}))) (is : migrated world.state ≡ state_of board) (b : Board) (board_is : board ≡ Some b) (place : ℕ) (place_is : place_of conference b ≡ Some place) (same : later ≡ shelf) where
   -- the sheet is refused, or couldn't be read
   pub no_sheet : (halt : Halt) → Comes {Value = List Sheet} (Err halt) (SheetOf shelf file) → Works Stores (imports conference file now) unread world old mid later (told (imported_line conference) (Err (of_shelf halt)))
   no_sheet (Refused why) comes = works_same Stores (imports conference file now) same

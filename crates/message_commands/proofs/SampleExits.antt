@@ -3,7 +3,7 @@ use Rattle.std.proofs.Common.{◌≡◌, ℕ, Option, Some, Ok, Err, refl, sym}
 use Rattle.board_commands.proofs.Exits.{starved}
 use Rattle.board_commands.specs.Halts.{told, of_journal}
 use Rattle.board_commands.specs.Kept.{unread}
-use Rattle.board_commands.specs.State.{State, Made, Stores, state_of}
+use Rattle.board_commands.specs.State.{State, Made, Stores, migrated, state_of}
 use Rattle.board_commands.specs.Turns.{Turn}
 use Rattle.board_commands.specs.declared.halt.BoardHalt.{BoardHalt}
 use Rattle.board_commands.specs.declared.halt.BoardHalt.TheVariants.{Refused, Damaged, DiskFault, ShelfFault, OutOfMemory}
@@ -27,8 +27,8 @@ use Rattle.shelf_files.specs.Halts.{done}
 abbrev pub Turns : ℕ → ℕ → ℕ → Shelf.Files → Option Board → Turn → Type 0
 Turns seed count now files board turn = turn ≡ sample_turn seed count now board
 
-module _ (seed count now : ℕ) {world : World State} {old mid : Disk} {shelf : Shelf.Files} (at : IsAt Stores unread world old shelf) (board : Option Board) (finds : Finds Stores unread world.state old mid (Ok (tt {0})))
-    (is : world.state ≡ state_of board) (b : Board) (board_is : board ≡ Some b) where
+module _ (seed count now : ℕ) {world : World State} {old mid : Disk} {shelf : Shelf.Files} (at : IsAt Stores unread world old shelf) (board : Option Board) (finds : Finds Stores unread world.state (migrated world.state) old mid (Ok (tt {0})))
+    (is : migrated world.state ≡ state_of board) (b : Board) (board_is : board ≡ Some b) where
   -- it is refused, or there is no memory for it
   pub unprepared : (e : BoardHalt) → MaySample seed count now b (Err e) → Works Stores (samples seed count now) unread world old mid shelf (told sampled_line (Err e))
   unprepared (Refused why) may = refused_by (Turns seed count now) at board finds is sampled_line (Some b) why (Refused why) board_is refl (sym may)

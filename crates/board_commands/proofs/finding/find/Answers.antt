@@ -1,11 +1,11 @@
-use Rattle.std.proofs.Common.{rules, ◌≡◌, Err, sym, subst}
+use Rattle.std.proofs.Common.{rules, ◌≡◌, Some, Err, sym, subst}
 use Rattle.board_layout.specs.Damage.{board_in}
 use Rattle.board_layout.specs.Rules.{told}
 use Rattle.board_layout.specs.declared.error.ReadError.{ReadError}
 use Rattle.damage_rules.specs.Rules.{Stops}
 use Rattle.intent_journal.specs.Recovered.{recovered}
-use Rattle.board_commands.specs.Kept.{IsFound}
-use Rattle.board_commands.proofs.FindLaws.{load_is_found, loaded_is, still_is}
+use Rattle.board_commands.specs.Kept.{IsFound, kept_board}
+use Rattle.board_commands.proofs.FindLaws.{load_is_found, loaded_is, migrated_to, still_is}
 use Rattle.board_commands.proofs.finding.find.Goals as goal
 
 pub returns-in_err-load-clause-state : goal.returns-in_err-load-clause-state
@@ -18,8 +18,8 @@ returns-in_err-load-clause-state g c tells s stores =
 
 pub returns-in_ok-load-clause-state : goal.returns-in_ok-load-clause-state
 returns-in_ok-load-clause-state g c tells s stores =
-    loaded_is c.in_ok-load.field-0 (g.H.Host.disk c.args.host.now) (g.H.Host.disk c.load.new.host) s c.in_ok-load.ensures.valid (c.in_ok-load.ensures.stands tells) (c.in_ok-load.ensures.done tt tells) stores
+    migrated_to (kept_board (Some c.in_ok-load.field-0)) s (loaded_is c.in_ok-load.field-0 (g.H.Host.disk c.args.host.now) (g.H.Host.disk c.load.new.host) s c.in_ok-load.ensures.valid (c.in_ok-load.ensures.stands tells) (c.in_ok-load.ensures.done tt tells) stores)
 
 pub returns-else-is_none-clause-state : goal.returns-else-is_none-clause-state
 returns-else-is_none-clause-state g c tells s stores =
-    still_is c.args.kept.now (g.H.Host.disk c.args.host.now) s c.if-is_none.ensures c.requires.sure (c.requires.kept tells) stores
+    migrated_to (kept_board c.args.kept.now) s (still_is c.args.kept.now (g.H.Host.disk c.args.host.now) s c.if-is_none.ensures c.requires.sure (c.requires.kept tells) stores)

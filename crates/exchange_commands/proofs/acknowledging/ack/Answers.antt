@@ -3,7 +3,7 @@ use Rattle.std.specs.Prelude.{Result}
 use Rattle.board_commands.proofs.FindLaws.{same_host}
 use Rattle.board_commands.specs.Halts.{told, of_read}
 use Rattle.board_commands.specs.Kept.{AreSure, IsKept, kept_board, unread}
-use Rattle.board_commands.specs.State.{Made, Stores, state_of}
+use Rattle.board_commands.specs.State.{Made, Stores, state_of, migrated}
 use Rattle.board_commands.specs.declared.halt.BoardHalt.{BoardHalt}
 use Rattle.door_outside.specs.Disk.{Unchanged}
 use Rattle.entry_runs.specs.Entry.{Works}
@@ -35,7 +35,7 @@ pub returns-in_err-board-clause-works : goal.returns-in_err-board-clause-works
 returns-in_err-board-clause-works g c tells world shelf at =
     let e : BoardHalt = c.in_err-board.field-0.0 in
     let is : c.from_residual-in_err-board.result ≡ Err e = search rules in
-    let none : world.state ≡ state_of None = c.in_ok-find.ensures.state tells world.state at.board.stores ∙ ap state_of c.in_err-board.ensures.none.1 in
+    let none : migrated world.state ≡ state_of None = c.in_ok-find.ensures.state tells world.state at.board.stores ∙ ap state_of c.in_err-board.ensures.none.1 in
     subst (λ (r : Result (Unit {0}) BoardHalt). Works Stores (acknowledges c.args.user.now c.args.packet c.args.now) unread world (g.H.Host.disk c.args.host.now) (g.H.Host.disk c.find.new.host) shelf (told (λ done. acknowledged_line c.args.packet) r)) (sym is)
     (subst (λ (halt : BoardHalt). Works Stores (acknowledges c.args.user.now c.args.packet c.args.now) unread world (g.H.Host.disk c.args.host.now) (g.H.Host.disk c.find.new.host) shelf (told (λ (done : Unit {0}). acknowledged_line c.args.packet) (Err halt))) (sym c.in_err-board.ensures.none.0)
     (answered (λ files board turn. turn ≡ ack_turn c.args.user.now c.args.packet c.args.now board) at {board = None} (c.in_ok-find.ensures.finds tells world.state at.board.stores) none (refuses NotMade None) refl refl))
@@ -45,7 +45,7 @@ returns-clause-works g c tells world shelf at =
     let held = c.in_ok-board.board in
     let here : c.find.new.kept ≡ _ = c.in_ok-board.ensures.board in
     let certain = subst AreSure here c.in_ok-find.ensures.sure in
-    let is : world.state ≡ Made held.board = c.in_ok-find.ensures.state tells world.state at.board.stores ∙ ap (λ (kept : Option Loaded). state_of (kept_board kept)) here in
+    let is : migrated world.state ≡ Made held.board = c.in_ok-find.ensures.state tells world.state at.board.stores ∙ ap (λ (kept : Option Loaded). state_of (kept_board kept)) here in
     let gives = c.acknowledge-acknowledged.ensures in
     subst (λ (r : Result (Unit {0}) BoardHalt). Works Stores (acknowledges c.args.user.now c.args.packet c.args.now) unread world (g.H.Host.disk c.args.host.now) (g.H.Host.disk c.acknowledge-acknowledged.new.host) shelf (told (λ done. acknowledged_line c.args.packet) r))
     (sym c.answered.ensures)

@@ -3,7 +3,7 @@ use Rattle.std.specs.Prelude.{Result}
 use Rattle.board_commands.proofs.FindLaws.{same_host}
 use Rattle.board_commands.specs.Halts.{told, of_read}
 use Rattle.board_commands.specs.Kept.{AreSure, IsKept, kept_board, unread}
-use Rattle.board_commands.specs.State.{Made, Stores, state_of}
+use Rattle.board_commands.specs.State.{Made, Stores, state_of, migrated}
 use Rattle.board_commands.specs.declared.halt.BoardHalt.{BoardHalt}
 use Rattle.door_outside.specs.Disk.{Unchanged}
 use Rattle.entry_runs.specs.Entry.{Works}
@@ -36,7 +36,7 @@ pub returns-in_err-board-clause-works : goal.returns-in_err-board-clause-works
 returns-in_err-board-clause-works g c tells shelf_tells world at =
     let e : BoardHalt = c.in_err-board.field-0.0 in
     let is : c.from_residual-in_err-board.result ≡ Err e = search rules in
-    let none : world.state ≡ state_of None = c.in_ok-find.ensures.state tells world.state at.board.stores ∙ ap state_of c.in_err-board.ensures.none.1 in
+    let none : migrated world.state ≡ state_of None = c.in_ok-find.ensures.state tells world.state at.board.stores ∙ ap state_of c.in_err-board.ensures.none.1 in
     subst (λ (r : Result Exported BoardHalt). Works Stores (exports c.args.user.now c.args.limit c.args.folder.now c.args.now) unread world (g.H.Host.disk c.args.host.now) (g.H.Host.disk c.find.new.host) (g.S.Shelf.files c.args.shelf.now) (told packet_line r)) (sym is)
     (subst (λ (halt : BoardHalt). Works Stores (exports c.args.user.now c.args.limit c.args.folder.now c.args.now) unread world (g.H.Host.disk c.args.host.now) (g.H.Host.disk c.find.new.host) (g.S.Shelf.files c.args.shelf.now) (told packet_line (Err halt))) (sym c.in_err-board.ensures.none.0)
     (answered (folder_names c.args.folder.now) (λ files board h. h ≡ export_handing c.args.user.now c.args.limit c.args.folder.now c.args.now files board) at {board = None} (c.in_ok-find.ensures.finds tells world.state at.board.stores) none (refuses NotMade world.shelf None) refl refl refl))
@@ -46,7 +46,7 @@ returns-clause-works g c tells shelf_tells world at =
     let held = c.in_ok-board.board in
     let here : c.find.new.kept ≡ _ = c.in_ok-board.ensures.board in
     let certain = subst AreSure here c.in_ok-find.ensures.sure in
-    let is : world.state ≡ Made held.board = c.in_ok-find.ensures.state tells world.state at.board.stores ∙ ap (λ (kept : Option Loaded). state_of (kept_board kept)) here in
+    let is : migrated world.state ≡ Made held.board = c.in_ok-find.ensures.state tells world.state at.board.stores ∙ ap (λ (kept : Option Loaded). state_of (kept_board kept)) here in
     let gives = c.export-exported.ensures in
     subst (λ (r : Result Exported BoardHalt). Works Stores (exports c.args.user.now c.args.limit c.args.folder.now c.args.now) unread world (g.H.Host.disk c.args.host.now) (g.H.Host.disk c.export-exported.new.host) (g.S.Shelf.files c.export-exported.new.shelf) (told packet_line r))
     (sym c.answered.ensures)

@@ -4,7 +4,7 @@ use Rattle.board_commands.proofs.Exits.{answered, unfound}
 use Rattle.board_commands.proofs.FindLaws.{same_host}
 use Rattle.board_commands.specs.Halts.{told, of_read, of_shelf}
 use Rattle.board_commands.specs.Kept.{AreSure, kept_board, unread}
-use Rattle.board_commands.specs.State.{Made, Stores, state_of}
+use Rattle.board_commands.specs.State.{Made, Stores, state_of, migrated}
 use Rattle.board_commands.specs.Turns.{refuses}
 use Rattle.board_commands.specs.declared.halt.BoardHalt.{BoardHalt}
 use Rattle.board_layout.specs.Board.{Board}
@@ -41,7 +41,7 @@ pub returns-in_err-look_for-clause-works : goal.returns-in_err-look_for-clause-w
 returns-in_err-look_for-clause-works g c tells shelf_tells world at =
     let b : Board = c.in_ok-board_in.field-0.now.board in
     let is : c.from_residual-in_err-look_for.result ≡ Err c.in_err-look_for.field-0.0 = search rules in
-    let state : world.state ≡ Made b = c.in_ok-find.ensures.state tells world.state at.board.stores ∙ ap state_of c.in_ok-board_in.ensures.board in
+    let state : migrated world.state ≡ Made b = c.in_ok-find.ensures.state tells world.state at.board.stores ∙ ap state_of c.in_ok-board_in.ensures.board in
     subst (λ (r : Result Uploaded BoardHalt). Works Stores (uploads c.args.user.now c.args.file.now c.args.now) unread world (g.H.Host.disk c.args.host.now) (g.H.Host.disk c.find.new.host) (g.S.Shelf.files c.args.shelf.now) (told uploaded_text r)) (sym is)
     (unknown c.args.user.now c.args.file.now c.args.now b at (c.in_ok-find.ensures.finds tells world.state at.board.stores) state c.in_err-look_for.ensures.0 c.in_err-look_for.ensures.1)
 
@@ -51,7 +51,7 @@ returns-in_err-bytes-clause-works g c tells shelf_tells world at =
     let halt = c.in_err-bytes.field-0.0 in
     let him = some_is (user_id c.args.user.now b) c.in_ok-look_for.ensures in
     let is : c.from_residual-in_err-bytes.result ≡ Err (of_shelf halt) = search rules in
-    let state : world.state ≡ Made b = c.in_ok-find.ensures.state tells world.state at.board.stores ∙ ap state_of c.in_ok-board_in.ensures.board in
+    let state : migrated world.state ≡ Made b = c.in_ok-find.ensures.state tells world.state at.board.stores ∙ ap state_of c.in_ok-board_in.ensures.board in
     subst (λ (r : Result Uploaded BoardHalt). Works Stores (uploads c.args.user.now c.args.file.now c.args.now) unread world (g.H.Host.disk c.args.host.now) (g.H.Host.disk c.find.new.host) (g.S.Shelf.files c.file_in.new.shelf) (told uploaded_text r)) (sym is)
     (no_file c.args.user.now c.args.file.now c.args.now b at (c.in_ok-find.ensures.finds tells world.state at.board.stores) state him.0 him.1 (c.in_err-bytes.ensures.unchanged shelf_tells) halt (c.in_err-bytes.ensures.file shelf_tells))
 
@@ -61,7 +61,7 @@ returns-clause-works g c tells shelf_tells world at =
     let held = c.in_ok-board.board in
     let here : c.find.new.kept ≡ _ = c.in_ok-board.ensures.board in
     let certain = subst AreSure here c.in_ok-find.ensures.sure in
-    let state : world.state ≡ Made held.board = c.in_ok-find.ensures.state tells world.state at.board.stores ∙ ap (λ (kept : Option Loaded). state_of (kept_board kept)) here in
+    let state : migrated world.state ≡ Made held.board = c.in_ok-find.ensures.state tells world.state at.board.stores ∙ ap (λ (kept : Option Loaded). state_of (kept_board kept)) here in
     let finds = c.in_ok-find.ensures.finds tells world.state at.board.stores in
     let looked : Some c.in_ok-board_in.field-0.now.board ≡ Some held.board = sym c.in_ok-board_in.ensures.board ∙ ap kept_board here in
     let one : c.in_ok-board_in.field-0.now.board ≡ held.board = cc looked in
