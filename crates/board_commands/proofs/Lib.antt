@@ -10,3 +10,4 @@ pub mod StateLaws
 pub mod TurnLaws
 pub mod KeptLaws
 pub mod CauseLaws
+pub mod WriteLaws

@@ -7,3 +7,4 @@ pub mod Init
 pub mod Kept
 pub mod State
 pub mod Turns
+pub mod WriteBound

@@ -1,7 +1,9 @@
 // The board that a host holds, read once in a run.
-ghost use Rattle.std.specs.Prelude.{◌≡◌, OnOk, IsTrue};
+ghost use Rattle.std.specs.Prelude.{◌≡◌, ◌+◌, ◌≤◌, OnOk, IsTrue};
 ghost use Rattle.board_layout.specs.Rules.{HasReadCause};
 ghost use Rattle.entry_runs.specs.Entry.{Finds};
+ghost use Rattle.intent_journal.specs.Journal.{intent_of};
+ghost use Rattle.intent_journal.specs.Patches.{byte_count};
 ghost use Rattle.intent_journal.specs.Recovered.{recovered};
 ghost use Rattle.board_commands.specs.Kept.{AreSure, IsFound, IsKept, IsRead, found, unread};
 ghost use Rattle.board_commands.specs.State.{State, Stores, migrated};
@@ -24,6 +26,7 @@ pub fn find<H: Host>(
     ensures kept { IsTrue H.tells → IsKept kept.new (H.disk host.new) }
     ensures sure { AreSure kept.new }
     ensures read { OnOk result (IsRead kept.new) }
+    ensures wrote { IsTrue H.tells → (H.disk host.new).wrote ≤ (H.disk host.old).wrote + byte_count (intent_of (H.disk host.old).files) + 1 }
     ensures cause { HasReadCause (H.disk_faults host.old) (H.disk_faults host.new) result }
     ensures voice { H.voice_faults host.new ≡ H.voice_faults host.old }
 {

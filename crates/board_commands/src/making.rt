@@ -5,6 +5,7 @@ ghost use Rattle.board_layout.specs.Board as Boards;
 ghost use Rattle.entry_runs.specs.Entry.{Changes};
 ghost use Rattle.mail_board.specs.Causes.{HasFault};
 ghost use Rattle.mail_board.specs.Changes.{changed, Fits};
+ghost use Rattle.mail_board.specs.Written.{WritesFew};
 ghost use Rattle.mail_board.specs.declared.loading.Loaded.TheVariants as loaded;
 ghost use Rattle.setup_file.specs.Valid.{IsSetup};
 ghost use Rattle.board_commands.specs.Kept.{AreSure, IsKept, kept_board, unread};
@@ -32,6 +33,7 @@ pub fn make_change<H: Host>(
     ensures kept { IsTrue H.tells → IsKept kept.new (H.disk host.new) }
     ensures sure { AreSure kept.new }
     ensures unchanged { IsErrOf result JournalError.OutOfMemory → host.new ≡ host.old }
+    ensures wrote { IsTrue H.tells → (b : Boards.Board) → kept_board kept.old ≡ Some b → WritesFew change.now b (H.disk host.old).wrote (H.disk host.new).wrote }
     ensures cause { HasFault JournalError.DiskFault (H.disk_faults host.old) (H.disk_faults host.new) result }
     ensures voice { H.voice_faults host.new ≡ H.voice_faults host.old }
 {

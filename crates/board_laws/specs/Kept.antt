@@ -1,18 +1,15 @@
 -- Kept: what is offered to a user is offered again until he acknowledges a packet.
-use Rattle.std.specs.Prelude.{◌≡◌, ◌≤◌, ◌<◌, ℕ, List, length, sum_by, Contains, IsTrue, Some}
+use Rattle.std.specs.Prelude.{◌≡◌, ◌≤◌, ◌<◌, ℕ, List, Contains, IsTrue, Some}
 use Rattle.board_commands.specs.State.{State}
 use Rattle.board_layout.specs.Board.{Board}
 use Rattle.board_laws.specs.BoardCommand.{BoardCommand, Ack}
 use Rattle.board_laws.specs.History.{Deed, Steps, IsBeginning, IsHistory, IsCarriedOut, LeadsTo}
 use Rattle.jam_base.specs.Slots.{has_live}
 use Rattle.mail_board.specs.Readers.{user_id}
+use Rattle.mail_board.specs.Written.{slot_total}
 use Rattle.offered_packets.specs.Offered.{offered}
 use Rattle.offered_packets.specs.Sees.{slots_in}
 use Rattle.offered_packets.specs.declared.offered_message.OfferedMessage.{OfferedMessage}
-
--- how many slots a board has
-abbrev pub slot_total : Board → ℕ
-slot_total b = sum_by (λ c. length c.slots) b.conferences
 
 -- the message is in a slot, and isn't deleted
 abbrev pub IsLive : Board → OfferedMessage → Type 0

@@ -1,6 +1,7 @@
 -- What an upload answers, by what was found and how the board's change ended.
 use Rattle.std.proofs.Common.{◌≡◌, ◌≢◌, ℕ, Bool, true, false, List, Result, Ok, Err, refl, sym, ap, ◌∙◌, subst, inl, inr}
 use Rattle.std.specs.Prelude.{◌⊎◌}
+use Rattle.board_layout.specs.Board.{Board}
 use Rattle.board_layout.specs.Valid.{IsBoard}
 use Rattle.board_ledger.specs.declared.upload.Counts.{Counts}
 use Rattle.door_upload.proofs.OneUpload.{one_upload}
@@ -12,8 +13,10 @@ use Rattle.door_upload.specs.declared.answer.Uploaded.TheVariants as answer
 use Rattle.door_upload.specs.declared.preparing.Uploading.{Uploading}
 use Rattle.door_upload.specs.declared.preparing.Uploading.TheVariants as found
 use Rattle.mail_board.proofs.NextLaws.{fits_board}
+use Rattle.mail_board.proofs.PostedSlots.{posting_keeps}
 use Rattle.mail_board.specs.Changes.{changed, Fits}
 use Rattle.mail_board.specs.Held.{HeldBoard}
+use Rattle.mail_board.specs.Written.{KeepsBoundOf, WritesFew}
 use Rattle.mail_board.specs.declared.change.Change.{Change}
 use Rattle.mail_board.specs.declared.change.ChangeError.{ChangeError}
 use Rattle.mail_board.specs.declared.change.ChangeError.TheVariants as change_error
@@ -143,6 +146,12 @@ module _ (name bytes : List ℕ) (now : ℕ) (h : HeldBoard) where
 
     pub new_board : (r : Result Upload UploadRefusal) → UploadGives name bytes now h.board r → changed change h.board ≡ board_after h.board r
     new_board r gives = ap (board_after h.board) (new_is r gives)
+
+    -- what it writes
+    pub new_kept : (before now_wrote : ℕ) → WritesFew change h.board before now_wrote → (r : Result Upload UploadRefusal) → UploadGives name bytes now h.board r → KeepsBoundOf h.board (board_after h.board r) before now_wrote
+    new_kept before now_wrote few r gives =
+        let is = (found_is (found.Judged change outcomes) finds given given_is).2 in
+        subst (λ (next : Board). KeepsBoundOf h.board next before now_wrote) (new_board r gives) (posting_keeps change h.board before now_wrote is.3 is.4 is.0 few)
 
     pub new_valid : (r : Result Upload UploadRefusal) → UploadGives name bytes now h.board r → IsBoard (board_after h.board r)
     new_valid r gives = subst IsBoard (new_board r gives) (fits_board change h.board new_fits)

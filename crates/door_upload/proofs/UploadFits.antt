@@ -62,4 +62,6 @@ upload_found h id now digest messages ok certain there new free few writable who
       subst (λ (n : ℕ). Fits (Upload id digest n posts) b) (sym refused_is) with_posts,
       (λ i. Judged (uploaded id digest (sym refused_is i) (sym posts_are i) b) (sym outcomes_are i)),
       certain,
+      tt,
+      ok,
     )

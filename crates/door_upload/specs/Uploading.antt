@@ -1,7 +1,9 @@
 -- What an upload answers.
 use Rattle.std.specs.Prelude.{◌≡◌, ◌⊎◌, ℕ, List, Bool, true, false, Result, Ok, Err}
+use Rattle.board_layout.specs.Valid.{IsBoard}
 use Rattle.mail_board.specs.Changes.{changed, Fits}
 use Rattle.mail_board.specs.Held.{HeldBoard}
+use Rattle.mail_board.specs.Written.{IsPosting}
 use Rattle.mail_board.specs.declared.change.ChangeError.{ChangeError}
 use Rattle.mail_board.specs.declared.change.ChangeError.TheVariants as change
 use Rattle.rep_packet.specs.declared.fault.RepError.{RepError}
@@ -38,10 +40,11 @@ of_change change.Doubt = Doubt
 of_change change.OutOfMemory = OutOfMemory
 
 -- ---- before the board is changed
--- what was found of a packet that isn't refused, of a board in no doubt
+-- what was found of a packet that isn't refused, of a board in no doubt: a change that posts its messages, on a valid board
 abbrev pub IsFound : HeldBoard → Uploading → Upload → Type 0
 IsFound h (found.Again counts) u = u ≡ upload.Again counts
-IsFound h (found.Judged change outcomes) u = Fits change h.board × (u ≡ upload.Judged (changed change h.board) outcomes) × (h.doubtful ≡ false)
+IsFound h (found.Judged change outcomes) u =
+    Fits change h.board × (u ≡ upload.Judged (changed change h.board) outcomes) × (h.doubtful ≡ false) × IsPosting change × IsBoard h.board
 
 -- the packet is a new one
 abbrev pub IsNew : Result Upload UploadRefusal → Type 0

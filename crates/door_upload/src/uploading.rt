@@ -7,6 +7,7 @@ ghost use Rattle.intent_journal.specs.Hosts.{IsSettled};
 ghost use Rattle.mail_board.specs.Causes.{HasFault};
 ghost use Rattle.mail_board.specs.Held.{BeforeOrNext, Rests};
 ghost use Rattle.mail_board.specs.Readers.{user_id};
+ghost use Rattle.mail_board.specs.Written.{KeepsBoundOf};
 ghost use Rattle.door_upload.specs.Upload.{UploadGives, board_after};
 ghost use Rattle.door_upload.specs.Uploading.{Answers, IsNew, LeavesAll};
 
@@ -52,6 +53,11 @@ pub fn upload<H: Host>(
     ensures rests { OnOk result (IsTrue H.tells → IsFalse board.old.doubtful → (r : _) → UploadGives user.now bytes.now now board.old.board r → Rests (board_after board.old.board r) (H.disk host.new)) }
     ensures valid { IsFalse board.old.doubtful → (r : _) → UploadGives user.now bytes.now now board.old.board r → IsNew r → IsErrOf result UploadError.OutOfMemory ⊎ IsBoard (board_after board.old.board r) }
     ensures fault { IsErrOf result UploadError.DiskFault → board.new ≡ record { board = board.old.board; doubtful = true } }
+
+    // Whatever it answers, it writes fewer bytes than twice those by which it enlarges the data files, and 400 for each
+    // message that it posts and once more.
+    ensures wrote { IsTrue H.tells → (r : _) → UploadGives user.now bytes.now now board.old.board r → KeepsBoundOf board.old.board (board_after board.old.board r) (H.disk host.old).wrote (H.disk host.new).wrote }
+
     ensures disk_cause { HasFault UploadError.DiskFault (H.disk_faults host.old) (H.disk_faults host.new) result }
     ensures voice { H.voice_faults host.new ≡ H.voice_faults host.old }
 {

@@ -58,11 +58,12 @@ told P (Err e) then tells = tt
 
 -- one call
 pub voiced_by_call : {T E tells : Type 0} {text : List ℕ} {old new : Disk} (result : Result T E) → tells → Passes (Says text) (Says text) old new → Says text (as_read old) (as_read new)
-    → OnOk result (tells → new.said ≡ old.said ++ text) → Voiced text old new result
-voiced_by_call {text = text} {old = old} {new = new} result tells call partly done = record {
+    → new.wrote ≡ old.wrote → OnOk result (tells → new.said ≡ old.said ++ text) → Voiced text old new result
+voiced_by_call {text = text} {old = old} {new = new} result tells call partly wrote done = record {
   moments = by_call call (says_in text old);
   now = λ image left. says_in text old image (call.now image left);
   files = partly.files;
+  wrote = wrote;
   done = told (new.said ≡ old.said ++ text) result done tells;
 }
 
@@ -85,6 +86,7 @@ voiced_front {a = a} b {old = old} {end = end} piece failed = record {
   moments = weaker piece.moments (in_longer a b old);
   now = λ image left. in_longer a b old image (piece.now image left);
   files = piece.files;
+  wrote = piece.wrote;
   done = never end _ failed;
 }
   where
@@ -99,6 +101,7 @@ voiced_on {a = a} {b = b} {old = old} {mid = mid} {new = new} {end = end} first 
   moments = joined (weaker first.moments (in_longer a b old)) (weaker second.moments further);
   now = λ image left. further image (second.now image left);
   files = second.files ∙ first.files;
+  wrote = second.wrote ∙ first.wrote;
   done = all end second.done;
 }
   where
@@ -125,6 +128,7 @@ voiced_none disk = record {
     said = disk.stays image left ∙ sym (append-nil disk.said);
   };
   files = refl;
+  wrote = refl;
   done = sym (append-nil disk.said);
 }
 
@@ -167,15 +171,16 @@ pub record SaidSoFar (front gathered : List ℕ) (old now : Disk) : Type 0 where
   pub moments : Between old now (SaysIn part old)
   pub images : AllNow now (SaysIn part old)
   pub files : now.files ≡ old.files
+  pub wrote : now.wrote ≡ old.wrote
 
 -- nothing was gathered yet
 pub said_none : (disk : Disk) → SaidSoFar [] [] disk disk
 said_none disk =
     let none = voiced_none {T = Unit {0}} {E = Unit {0}} {value = tt} disk in
-    record { part = []; whole = refl; said = none.done; moments = none.moments; images = none.now; files = none.files }
+    record { part = []; whole = refl; said = none.done; moments = none.moments; images = none.now; files = none.files; wrote = none.wrote }
 
 voiced_so_far : {front gathered : List ℕ} {old now : Disk} (so_far : SaidSoFar front gathered old now) → Voiced {T = Unit {0}} {E = Unit {0}} so_far.part old now (Ok tt)
-voiced_so_far so_far = record { moments = so_far.moments; now = so_far.images; files = so_far.files; done = so_far.said }
+voiced_so_far so_far = record { moments = so_far.moments; now = so_far.images; files = so_far.files; wrote = so_far.wrote; done = so_far.said }
 
 module _ {T E : Type 0} {front gathered : List ℕ} {old now : Disk} (so_far : SaidSoFar front gathered old now) where
   module _ {piece after : List ℕ} {new : Disk} {result : Result T E} (gathers : Gathers gathered piece after now new result) where
@@ -198,6 +203,7 @@ module _ {T E : Type 0} {front gathered : List ℕ} {old now : Disk} (so_far : S
     moments = (both gathers).moments;
     images = (both gathers).now;
     files = (both gathers).files;
+    wrote = (both gathers).wrote;
   }
 
   -- a piece more wasn't said whole, and nothing more is said of the text

@@ -21,6 +21,7 @@ pub record Voiced {T E : Type 0} (text : List ℕ) (old new : Disk) (result : Re
   pub moments : Between old new (SaysIn text old)
   pub now : AllNow new (SaysIn text old)
   pub files : new.files ≡ old.files
+  pub wrote : new.wrote ≡ old.wrote
   pub done : OnOk result (new.said ≡ old.said ++ text)
 
 -- To what was gathered a piece was added: a part of both was said, and the rest is gathered.

@@ -8,3 +8,4 @@ pub mod KeptExports
 pub mod OutcomeLines
 pub mod UploadActs
 pub mod UploadExits
+pub mod UploadBounds

@@ -30,7 +30,7 @@ module _ (outcomes items : List Outcome) (same : items ≡ outcomes) (index : �
   line_said voiced = record {
     front = said.front ++ outcome_line (index + 1) (get_or items index d);
     whole = next_line;
-    voiced = voiced_on said.voiced said.voiced.done (record { moments = voiced.moments; now = voiced.now; files = voiced.files; done = voiced.done });
+    voiced = voiced_on said.voiced said.voiced.done (record { moments = voiced.moments; now = voiced.now; files = voiced.files; wrote = voiced.wrote; done = voiced.done });
   }
 
   pub line_cut : {new : Disk} {E : Type 0} {fault : E} → Voiced {T = Unit {0}} (outcome_line (index + 1) (get_or items index d)) now new (Err fault) → Voiced {T = Unit {0}} (outcome_lines 1 outcomes) old new (Err fault)
@@ -39,4 +39,4 @@ module _ (outcomes items : List Outcome) (same : items ≡ outcomes) (index : �
 pub all_said : (outcomes : List Outcome) (index : ℕ) {old new : Disk} {E : Type 0} {value : Unit {0}} → LinesSaid outcomes index old new → drop index outcomes ≡ [] → Voiced {E = E} (outcome_lines 1 outcomes) old new (Ok value)
 all_said outcomes index said none =
     voiced_as (sym (said.whole ∙ (ap (λ (os : List Outcome). said.front ++ outcome_lines (index + 1) os) none ∙ append-nil said.front)))
-    (record { moments = said.voiced.moments; now = said.voiced.now; files = said.voiced.files; done = said.voiced.done })
+    (record { moments = said.voiced.moments; now = said.voiced.now; files = said.voiced.files; wrote = said.voiced.wrote; done = said.voiced.done })

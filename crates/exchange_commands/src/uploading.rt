@@ -3,11 +3,13 @@ ghost use Rattle.std.specs.Prelude.{◌≡◌, ◌≢◌, Err, IsSome, IsTrue, M
 ghost use Rattle.board_commands.specs.Halts.{told};
 ghost use Rattle.board_commands.specs.Kept.{AreSure, IsKept, unread};
 ghost use Rattle.board_commands.specs.State.{State, Stores};
+ghost use Rattle.board_commands.specs.WriteBound.{KeepsWriteBound};
 ghost use Rattle.board_commands.specs.declared.halt.BoardHalt.TheVariants.{Refused};
 ghost use Rattle.door_upload.specs.declared.answer.UploadError.TheVariants.{Doubt};
 ghost use Rattle.entry_runs.specs.Door.{World};
 ghost use Rattle.entry_runs.specs.Entry.{IsAt, Works};
 ghost use Rattle.entry_runs.specs.Promise.{counts, ended, HasCauses};
+ghost use Rattle.intent_journal.specs.Journal.{IsClosed};
 ghost use Rattle.mail_board.specs.Readers.{user_id};
 ghost use Rattle.shelf_files.specs.declared.refusal.Refusal.TheVariants as refusal;
 ghost use Rattle.exchange_commands.specs.Upload.{uploaded_text, uploads};
@@ -72,6 +74,7 @@ pub fn upload<H: Host, S: Shelf>(
     ensures works { IsTrue H.tells → IsTrue S.tells → (world : World State) → IsAt Stores unread world (H.disk host.old) (S.files shelf.old) → Works Stores (uploads user.now file.now now) unread world (H.disk host.old) (H.disk host.new) (S.files shelf.new) (told uploaded_text result) }
     ensures kept { IsTrue H.tells → IsKept kept.new (H.disk host.new) }
     ensures sure { AreSure kept.new }
+    ensures wrote { IsTrue H.tells → IsTrue S.tells → IsClosed ((H.disk host.old).files 1) → KeepsWriteBound (uploads user.now file.now now) (H.disk host.old) (H.disk host.new) (S.files shelf.old) }
     ensures causes { HasCauses (counts (H.disk_faults host.old) (H.voice_faults host.old) (S.faults shelf.old)) (counts (H.disk_faults host.new) (H.voice_faults host.new) (S.faults shelf.new)) (ended (told uploaded_text result)) }
 {
     find(alloc, host, kept)?;

@@ -3,3 +3,4 @@ pub mod DataReading
 pub mod CommitLaws
 pub mod NextLaws
 pub mod WriteBounds
+pub mod PostedSlots

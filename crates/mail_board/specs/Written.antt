@@ -1,5 +1,5 @@
 -- How much a change of a board writes.
-use Rattle.std.specs.Prelude.{ℕ, ◌+◌, ◌-◌, ◌*◌, ◌<◌, ◌≤◌, List, length}
+use Rattle.std.specs.Prelude.{ℕ, ◌+◌, ◌-◌, ◌*◌, ◌<◌, ◌≤◌, List, length, sum_by}
 use Rattle.board_changes.specs.Spending.{Spends}
 use Rattle.board_layout.specs.Board.{Board}
 use Rattle.board_layout.specs.Layout.{board_size}
@@ -16,6 +16,25 @@ growth change b = board_size (changed change b) - board_size b
 -- the bytes written so far rose by fewer than twice the growth, and 400 for each of so many messages and once more
 abbrev pub KeepsBound : ℕ → ℕ → ℕ → ℕ → Type 0
 KeepsBound count growth before now = now < before + 2 * (growth + 200 * (count + 1))
+
+-- how many slots a board has
+abbrev pub slot_total : Board → ℕ
+slot_total b = sum_by (λ c. length c.slots) b.conferences
+
+-- The bound of the messages by which one board has more slots than another, and of the bytes by which its data files are
+-- longer: a change that posts messages keeps it, since each of them is a slot more.
+abbrev pub KeepsBoundOf : Board → Board → ℕ → ℕ → Type 0
+KeepsBoundOf b next before now = KeepsBound (slot_total next - slot_total b) (board_size next - board_size b) before now
+
+-- the change posts messages
+abbrev pub IsPosting : Change → Type 0
+IsPosting (Enroll name net members) = ⊥
+IsPosting (Append place messages) = Unit {0}
+IsPosting (Spread posts) = Unit {0}
+IsPosting (Kill place number) = ⊥
+IsPosting (Offer user highs) = ⊥
+IsPosting (Acknowledge user moment) = ⊥
+IsPosting (Upload user digest refused posts) = Unit {0}
 
 -- Posting messages keeps the bound, and deleting one writes at most 200 bytes. Enrolling a user, or changing what one is
 -- offered, may write whole files.

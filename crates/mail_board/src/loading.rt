@@ -1,9 +1,10 @@
-ghost use Rattle.std.specs.Prelude.{◌≡◌, IfOk, IsErrOf, IsTrue};
+ghost use Rattle.std.specs.Prelude.{◌≡◌, ◌+◌, ◌≤◌, IfOk, IsErrOf, IsTrue};
 ghost use Rattle.board_layout.specs.Damage.{board_in};
 ghost use Rattle.board_layout.specs.Rules.{Gives, HasReadCause};
 ghost use Rattle.door_outside.specs.Disk.{Disk, AllNow, Between, as_read};
 ghost use Rattle.intent_journal.specs.Hosts.{IsCalm, IsFirm, IsSettled};
-ghost use Rattle.intent_journal.specs.Patches.{data_files};
+ghost use Rattle.intent_journal.specs.Journal.{intent_of};
+ghost use Rattle.intent_journal.specs.Patches.{byte_count, data_files};
 ghost use Rattle.intent_journal.specs.Recovered.{recovered, Back};
 ghost use Rattle.mail_board.specs.Loading.{loaded_board, recovery_error, IsSure, IsTold, IsValid, StandsIn};
 
@@ -57,6 +58,9 @@ impl Board {
         ensures stands { IsTrue H.tells → IfOk result (StandsIn (H.disk host.new).files) }
         ensures sure { IfOk result IsSure }
         ensures valid { IfOk result IsValid }
+
+        // At most what the patches of the intent put, and the gate.
+        ensures wrote { IsTrue H.tells → (H.disk host.new).wrote ≤ (H.disk host.old).wrote + byte_count (intent_of (H.disk host.old).files) + 1 }
 
         ensures cause { HasReadCause (H.disk_faults host.old) (H.disk_faults host.new) result }
         ensures voice { H.voice_faults host.new ≡ H.voice_faults host.old }

@@ -6,3 +6,4 @@ pub mod Reading
 pub mod Staying
 pub mod Wrongs
 pub mod SomeOutcomes
+pub mod CommandBounds

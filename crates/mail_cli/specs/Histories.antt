@@ -4,7 +4,7 @@ use Rattle.std.specs.List.{flat_map}
 use Rattle.board_commands.specs.State.{State, Stores, Made, migrated}
 use Rattle.board_layout.specs.Board.{Board}
 use Rattle.board_laws.specs.History.{Deed, IsHistory, ChangesBoard, LeadsTo, after}
-use Rattle.board_laws.specs.Kept.{IsLive, NoAckBetween, slot_total}
+use Rattle.board_laws.specs.Kept.{IsLive, NoAckBetween}
 use Rattle.board_laws.specs.Once.{IsUpload}
 use Rattle.door_commands.specs.Entries.{EntriesRead}
 use Rattle.door_commands.specs.declared.entry.Entry.{Entry}
@@ -14,6 +14,7 @@ use Rattle.entry_runs.specs.Door.{World, here, Step}
 use Rattle.entry_runs.specs.Runs.{Outcome, Runs}
 use Rattle.intent_journal.specs.Patches.{Files}
 use Rattle.intent_journal.specs.Recovered.{recovered}
+use Rattle.mail_board.specs.Written.{slot_total}
 use Rattle.offered_packets.specs.Offered.{offered}
 use Rattle.offered_packets.specs.declared.offered_message.OfferedMessage.{OfferedMessage}
 use Rattle.mail_cli.specs.BoardEntry.{board_command, steps}

@@ -3,3 +3,4 @@ pub mod Run
 pub mod Step
 pub mod BoardEntry
 pub mod Histories
+pub mod CommandBound

@@ -5,6 +5,7 @@ ghost use Rattle.entry_runs.specs.Promise.{counts, HasCauses};
 ghost use Rattle.board_commands.specs.Kept.{AreSure, IsKept};
 ghost use Rattle.intent_journal.specs.Hosts.{IsSettled};
 ghost use Rattle.door_commands.specs.Entries.{EntryCanRun, HasWrong, BeginsWrong};
+ghost use Rattle.mail_cli.specs.CommandBound.{OneKeepsBound};
 ghost use Rattle.mail_cli.specs.Run.{EntriesLeave, EntriesSurvive, DamagedOnlyIfSpoiled, AnswersUsage, LeavesFiles};
 ghost use Rattle.mail_cli.specs.Step.{any_uses_shelf, door};
 
@@ -40,6 +41,7 @@ fn carry_on<H: Host, S: Shelf>(
     ensures files_stay { any_touches (door now) entries.now ≡ false → IsTrue H.tells → LeavesFiles (H.disk host.old) (H.disk host.new) }
     ensures disk_faults_stay { any_touches (door now) entries.now ≡ false → H.disk_faults host.new ≡ H.disk_faults host.old }
     ensures shelf_stays { any_uses_shelf entries.now ≡ false → shelf.new ≡ shelf.old }
+    ensures wrote { IsTrue H.tells → IsTrue S.tells → OneKeepsBound now entries.now (H.disk host.old) (H.disk host.new) (S.files shelf.old) }
 {
     let mut status = Status::Done;
     for entry in entries {
@@ -76,6 +78,7 @@ pub fn run_entries<H: Host, S: Shelf>(
     ensures files_stay { any_touches (door now) entries.now ≡ false → IsTrue H.tells → LeavesFiles (H.disk host.old) (H.disk host.new) }
     ensures disk_faults_stay { any_touches (door now) entries.now ≡ false → H.disk_faults host.new ≡ H.disk_faults host.old }
     ensures shelf_stays { any_uses_shelf entries.now ≡ false → shelf.new ≡ shelf.old }
+    ensures wrote { IsTrue H.tells → IsTrue S.tells → OneKeepsBound now entries.now (H.disk host.old) (H.disk host.new) (S.files shelf.old) }
 {
     let mut kept = None;
     carry_on(alloc, entries, host, shelf, &mut kept, now)

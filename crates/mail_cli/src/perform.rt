@@ -9,6 +9,7 @@ ghost use Rattle.reply_commands.specs.Compose.{composes};
 ghost use Rattle.reply_commands.specs.Reply.{replies};
 ghost use Rattle.mail_cli.specs.Answers.{answered, reply_of, StopCauses};
 ghost use Rattle.door_commands.specs.Entries.{CanRun, EntryCanRun, IsWrong};
+ghost use Rattle.mail_cli.specs.CommandBound.{CommandKeepsBound, EntryKeepsBound};
 ghost use Rattle.mail_cli.specs.Run.{CommandWorks, IsForCaller, LeavesFiles, Performs};
 ghost use Rattle.mail_cli.specs.Step.{does, door, entry_uses_shelf, uses_shelf};
 ghost use Rattle.door_commands.specs.declared.entry.Entry.TheVariants.{Run};
@@ -93,6 +94,7 @@ fn carry_out_for_caller<H: Host, S: Shelf>(
     ensures causes { HasCauses (counts (H.disk_faults host.old) (H.voice_faults host.old) (S.faults shelf.old)) (counts (H.disk_faults host.new) (H.voice_faults host.new) (S.faults shelf.new)) (ended result) }
     ensures damaged { IfOk result (λ answer. (reply_of answer).class ≡ Class.Damaged → IsTrue (does now command.now).reach.board) }
     ensures shelf_stays { uses_shelf command.now ≡ false → shelf.new ≡ shelf.old }
+    ensures wrote { IsTrue H.tells → IsTrue S.tells → CommandKeepsBound now command.now (H.disk host.old) (H.disk host.new) (S.files shelf.old) }
 {
     match command {
         Command::Ack { user, packet } => Answer::of_acknowledged(
@@ -145,6 +147,7 @@ fn carry_out_on_board<H: Host, S: Shelf>(
     ensures causes { HasCauses (counts (H.disk_faults host.old) (H.voice_faults host.old) (S.faults shelf.old)) (counts (H.disk_faults host.new) (H.voice_faults host.new) (S.faults shelf.new)) (ended result) }
     ensures damaged { IfOk result (λ answer. (reply_of answer).class ≡ Class.Damaged → IsTrue (does now command.now).reach.board) }
     ensures shelf_stays { uses_shelf command.now ≡ false → shelf.new ≡ shelf.old }
+    ensures wrote { IsTrue H.tells → IsTrue S.tells → CommandKeepsBound now command.now (H.disk host.old) (H.disk host.new) (S.files shelf.old) }
 {
     match command {
         Command::Ack { .. } | Command::Export { .. } | Command::Upload { .. } => {
@@ -199,6 +202,7 @@ fn carry_out<H: Host, S: Shelf>(
     ensures damaged { IfOk result (λ answer. (reply_of answer).class ≡ Class.Damaged → IsTrue (does now command.now).reach.board) }
     ensures host_stays { (does now command.now).reach.board ≡ false → host.new ≡ host.old }
     ensures shelf_stays { uses_shelf command.now ≡ false → shelf.new ≡ shelf.old }
+    ensures wrote { IsTrue H.tells → IsTrue S.tells → CommandKeepsBound now command.now (H.disk host.old) (H.disk host.new) (S.files shelf.old) }
 {
     match command {
         Command::Compose {
@@ -251,6 +255,7 @@ fn perform_command<H: Host, S: Shelf>(
     ensures files_stay { (does now command.now).reach.board ≡ false → IsTrue H.tells → LeavesFiles (H.disk host.old) (H.disk host.new) }
     ensures disk_faults_stay { (does now command.now).reach.board ≡ false → H.disk_faults host.new ≡ H.disk_faults host.old }
     ensures shelf_stays { uses_shelf command.now ≡ false → shelf.new ≡ shelf.old }
+    ensures wrote { IsTrue H.tells → IsTrue S.tells → CommandKeepsBound now command.now (H.disk host.old) (H.disk host.new) (S.files shelf.old) }
 {
     let answer = carry_out(alloc, host, shelf, kept, command, now)?;
     answer.class().once_said(answer.say(host))
@@ -278,6 +283,7 @@ pub fn perform<H: Host, S: Shelf>(
     ensures files_stay { touches (door now) entry.now ≡ false → IsTrue H.tells → LeavesFiles (H.disk host.old) (H.disk host.new) }
     ensures disk_faults_stay { touches (door now) entry.now ≡ false → H.disk_faults host.new ≡ H.disk_faults host.old }
     ensures shelf_stays { entry_uses_shelf entry.now ≡ false → shelf.new ≡ shelf.old }
+    ensures wrote { IsTrue H.tells → IsTrue S.tells → EntryKeepsBound now entry.now (H.disk host.old) (H.disk host.new) (S.files shelf.old) }
 {
     match entry {
         Entry::Run(command) => perform_command(alloc, host, shelf, kept, command, now),

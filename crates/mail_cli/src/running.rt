@@ -4,6 +4,7 @@ ghost use Rattle.door_commands.specs.Words.{IsNoCommand};
 ghost use Rattle.door_outside.specs.Cause.{Rose};
 ghost use Rattle.entry_runs.specs.Promise.{counts};
 ghost use Rattle.intent_journal.specs.Hosts.{IsFirm, IsSettled};
+ghost use Rattle.mail_cli.specs.CommandBound.{RunKeepsBound};
 ghost use Rattle.mail_cli.specs.Histories.{RunContinues};
 ghost use Rattle.mail_cli.specs.Run.{RunLeaves, RunSurvives, RunCompletes, DamagedOnlyIfSpoiled, HaveWrong, TouchBoard, AnswersUsage, AlwaysLeaveBoard, LeaveBoard, LeavesFiles, NameNoFile, ReadTouching, ReadWrong};
 
@@ -68,6 +69,10 @@ pub fn run<H: Host, S: Shelf>(
 
     // A command that names no file of the shelf leaves the shelf and its count of faults, and so does no command.
     ensures shelf_stays { NameNoFile words.now → shelf.new ≡ shelf.old }
+
+    // Whatever it answers, an import, a sample or an upload writes at most twice the bytes by which it enlarges the data
+    // files, and 400 for each message that it posts and once more, where no change was under way at entry.
+    ensures wrote { IsTrue H.tells → IsTrue S.tells → RunKeepsBound now words.now (H.disk host.old) (H.disk host.new) (S.files shelf.old) }
 
     // Words that are no command are answered so, and no others: those of the program, or of a line of a batch.
     ensures usage { result ≡ Status.Usage → HaveWrong words.now }

@@ -35,7 +35,7 @@ module _ (conference : ℕ) (file : List ℕ) (now : ℕ) (shelf : Shelf.Files) 
   pub unplaced : place_of conference b ≡ None → Imports conference file now shelf (Some b) (refuses NoConference (Some b))
   unplaced none = subst (λ (place : Option ℕ). ImportsAt conference file now shelf b place (refuses NoConference (Some b))) (sym none) refl
 
-  placed : (place : ℕ) → place_of conference b ≡ Some place → (read : Result (List Sheet) Refusal) → SheetOf shelf file read → (turn : Turn) → turn ≡ sheet_turn conference now place b read → Imports conference file now shelf (Some b) turn
+  pub placed : (place : ℕ) → place_of conference b ≡ Some place → (read : Result (List Sheet) Refusal) → SheetOf shelf file read → (turn : Turn) → turn ≡ sheet_turn conference now place b read → Imports conference file now shelf (Some b) turn
   placed place is read reads turn turn_is = subst (λ (found : Option ℕ). ImportsAt conference file now shelf b found turn) (sym is) (read, reads, turn_is)
 
 module _ (conference : ℕ) (file : List ℕ) (now : ℕ) {world : World State} {old mid : Disk} {shelf later : Shelf.Files} (at : IsAt Stores unread world old shelf) (board : Option Board)

@@ -16,3 +16,4 @@ pub mod SampleLists
 pub mod SamplingLaws
 pub mod SlotCounts
 pub mod TurnLaws
+pub mod PostBounds

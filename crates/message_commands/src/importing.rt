@@ -4,10 +4,12 @@ ghost use Rattle.board_commands.specs.Enroll.{first_refusal};
 ghost use Rattle.board_commands.specs.Halts.{told};
 ghost use Rattle.board_commands.specs.Kept.{AreSure, IsKept, unread};
 ghost use Rattle.board_commands.specs.State.{State, Stores};
+ghost use Rattle.board_commands.specs.WriteBound.{KeepsWriteBound};
 ghost use Rattle.board_layout.specs.Valid.{IsBoard};
 ghost use Rattle.entry_runs.specs.Door.{World};
 ghost use Rattle.entry_runs.specs.Entry.{IsAt, Works};
 ghost use Rattle.entry_runs.specs.Promise.{counts, ended, HasCauses};
+ghost use Rattle.intent_journal.specs.Journal.{IsClosed};
 ghost use Rattle.shelf_files.specs.Sheets.{AreEntries};
 ghost use Rattle.shelf_files.specs.declared.refusal.Refusal.TheVariants.{Slots};
 ghost use Rattle.message_commands.specs.Import.{imported_line, imports, kind_of, slot_count};
@@ -103,6 +105,7 @@ pub fn import<H: Host, S: Shelf>(
     ensures works { IsTrue H.tells → IsTrue S.tells → (world : World State) → IsAt Stores unread world (H.disk host.old) (S.files shelf.old) → Works Stores (imports conference file.now now) unread world (H.disk host.old) (H.disk host.new) (S.files shelf.new) (told (imported_line conference) result) }
     ensures kept { IsTrue H.tells → IsKept kept.new (H.disk host.new) }
     ensures sure { AreSure kept.new }
+    ensures wrote { IsTrue H.tells → IsTrue S.tells → IsClosed ((H.disk host.old).files 1) → KeepsWriteBound (imports conference file.now now) (H.disk host.old) (H.disk host.new) (S.files shelf.old) }
     ensures causes { HasCauses (counts (H.disk_faults host.old) (H.voice_faults host.old) (S.faults shelf.old)) (counts (H.disk_faults host.new) (H.voice_faults host.new) (S.faults shelf.new)) (ended (told (imported_line conference) result)) }
 {
     find(alloc, host, kept)?;

@@ -4,11 +4,13 @@ ghost use Rattle.board_commands.specs.Enroll.{first_refusal};
 ghost use Rattle.board_commands.specs.Halts.{told};
 ghost use Rattle.board_commands.specs.Kept.{AreSure, IsKept, unread};
 ghost use Rattle.board_commands.specs.State.{State, Stores};
+ghost use Rattle.board_commands.specs.WriteBound.{KeepsWriteBound};
 ghost use Rattle.board_layout.specs.Valid.{IsBoard};
 ghost use Rattle.door_outside.specs.Shelf.{Files};
 ghost use Rattle.entry_runs.specs.Door.{World};
 ghost use Rattle.entry_runs.specs.Entry.{IsAt, Works};
 ghost use Rattle.entry_runs.specs.Promise.{counts, ended, HasCauses};
+ghost use Rattle.intent_journal.specs.Journal.{IsClosed};
 ghost use Rattle.post_changes.specs.Posted.{spread};
 ghost use Rattle.message_commands.specs.Sample.{sampled_line, samples, slot_counts, slots_case};
 ghost use Rattle.message_commands.specs.Sampling.{IsSampling, MaySample};
@@ -88,6 +90,7 @@ pub fn sample<H: Host>(
     ensures works { IsTrue H.tells → (world : World State) (shelf : Files) → IsAt Stores unread world (H.disk host.old) shelf → Works Stores (samples seed count now) unread world (H.disk host.old) (H.disk host.new) shelf (told sampled_line result) }
     ensures kept { IsTrue H.tells → IsKept kept.new (H.disk host.new) }
     ensures sure { AreSure kept.new }
+    ensures wrote { IsTrue H.tells → IsClosed ((H.disk host.old).files 1) → (shelf : Files) → KeepsWriteBound (samples seed count now) (H.disk host.old) (H.disk host.new) shelf }
     ensures causes { (shelf : _) → HasCauses (counts (H.disk_faults host.old) (H.voice_faults host.old) shelf) (counts (H.disk_faults host.new) (H.voice_faults host.new) shelf) (ended (told sampled_line result)) }
 {
     find(alloc, host, kept)?;

@@ -2,12 +2,13 @@ use Rattle.std.proofs.Common.{rules, ◌≡◌, ◌≢◌, true≢false, Ok, Err
 use Rattle.board_layout.specs.Board.{Board}
 use Rattle.board_layout.specs.Layout.{IsLayout}
 use Rattle.door_outside.specs.Disk.{AllNow, Between}
-use Rattle.door_upload.proofs.AnswerLaws.{again_answers, new_answers, new_board, new_certain, new_valid, unchanged_answers, unprepared_answers, unprepared_valid}
+use Rattle.door_upload.proofs.AnswerLaws.{again_answers, new_answers, new_board, new_certain, new_kept, new_valid, unchanged_answers, unprepared_answers, unprepared_valid}
 use Rattle.door_upload.specs.Upload.{board_after}
 use Rattle.door_upload.specs.Uploading.{Answers, FindsIn, of_change}
 use Rattle.door_upload.specs.declared.preparing.Uploading.{Uploading}
 use Rattle.mail_board.proofs.CommitLaws.{calm_now}
 use Rattle.mail_board.proofs.DataLaws.{layout_moves}
+use Rattle.mail_board.proofs.PostedSlots.{none_keeps}
 use Rattle.mail_board.specs.Held.{BeforeOrNext, Rests}
 use Rattle.mail_board.specs.declared.change.ChangeError.TheVariants.{Doubt}
 use Rattle.door_upload.proofs.uploading.upload.Goals as goal
@@ -103,3 +104,19 @@ pub returns-in_ok-change-in-Judged-clause-valid : goal.returns-in_ok-change-in-J
 returns-in_ok-change-in-Judged-clause-valid g c = λ certain r gives new.
     let finds = subst (λ (u : Uploading). FindsIn c.args.user.now c.args.bytes.now c.args.now c.args.board.now (Ok u)) c.in-Judged.is c.in_ok-counts.ensures.finds in
     inr (new_valid c.args.user.now c.args.bytes.now c.args.now c.args.board.now c.in-Judged.change c.in-Judged.outcomes finds r gives)
+
+pub returns-in_err-counts-clause-wrote : goal.returns-in_err-counts-clause-wrote
+returns-in_err-counts-clause-wrote g c = λ tells r gives. none_keeps c.args.board.now.board (board_after c.args.board.now.board r) (g.H.Host.disk c.args.host.now).wrote
+
+pub returns-in-Again-clause-wrote : goal.returns-in-Again-clause-wrote
+returns-in-Again-clause-wrote g c = λ tells r gives. none_keeps c.args.board.now.board (board_after c.args.board.now.board r) (g.H.Host.disk c.args.host.now).wrote
+
+pub returns-in_err-change-in-Judged-clause-wrote : goal.returns-in_err-change-in-Judged-clause-wrote
+returns-in_err-change-in-Judged-clause-wrote g c = λ tells r gives.
+    let finds = subst (λ (u : Uploading). FindsIn c.args.user.now c.args.bytes.now c.args.now c.args.board.now (Ok u)) c.in-Judged.is c.in_ok-counts.ensures.finds in
+    new_kept c.args.user.now c.args.bytes.now c.args.now c.args.board.now c.in-Judged.change c.in-Judged.outcomes finds (g.H.Host.disk c.args.host.now).wrote (g.H.Host.disk c.change.new.host).wrote (c.change.ensures.wrote tells) r gives
+
+pub returns-in_ok-change-in-Judged-clause-wrote : goal.returns-in_ok-change-in-Judged-clause-wrote
+returns-in_ok-change-in-Judged-clause-wrote g c = λ tells r gives.
+    let finds = subst (λ (u : Uploading). FindsIn c.args.user.now c.args.bytes.now c.args.now c.args.board.now (Ok u)) c.in-Judged.is c.in_ok-counts.ensures.finds in
+    new_kept c.args.user.now c.args.bytes.now c.args.now c.args.board.now c.in-Judged.change c.in-Judged.outcomes finds (g.H.Host.disk c.args.host.now).wrote (g.H.Host.disk c.change.new.host).wrote (c.change.ensures.wrote tells) r gives

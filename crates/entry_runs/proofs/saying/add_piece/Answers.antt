@@ -24,4 +24,4 @@ returns-clause-gathers g c tells =
     let said : c.as_slice.result.now ≡ c.args.gathered.now.items = search rules in
     let is : c.try_extend_from_slice-2.new.self.items ≡ [] = search rules in
     gathers_none is (voiced_as said (c.in_ok-say_gathered.ensures.voiced tells))
-    (voiced_by_call c.say.result tells (c.say.ensures.crash tells) (c.say.ensures.partly tells) c.say.ensures.done)
+    (voiced_by_call c.say.result tells (c.say.ensures.crash tells) (c.say.ensures.partly tells) (c.say.ensures.wrote tells) c.say.ensures.done)

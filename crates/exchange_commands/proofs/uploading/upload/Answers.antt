@@ -1,7 +1,8 @@
-use Rattle.std.proofs.Common.{rules, ◌≡◌, ℕ, Bool, Option, Some, None, Result, Ok, Err, refl, sym, ◌∙◌, ap, subst, ⊎_elim}
+use Rattle.std.proofs.Common.{rules, ◌≡◌, ℕ, ◌+◌, ◌≤◌, Bool, Option, Some, None, Result, Ok, Err, refl, sym, ◌∙◌, ap, subst, ⊎_elim}
 use Rattle.std.specs.Prelude.{IsSome}
 use Rattle.board_commands.proofs.Exits.{answered, unfound}
 use Rattle.board_commands.proofs.FindLaws.{same_host}
+use Rattle.board_commands.proofs.WriteLaws.{found_within}
 use Rattle.board_commands.specs.Halts.{told, of_read, of_shelf}
 use Rattle.board_commands.specs.Kept.{AreSure, kept_board, unread}
 use Rattle.board_commands.specs.State.{Made, Stores, state_of, migrated}
@@ -13,11 +14,14 @@ use Rattle.door_upload.specs.Upload.{UploadsAs}
 use Rattle.door_upload.specs.Uploading.{Answers, LeavesAll}
 use Rattle.door_upload.specs.declared.answer.Uploaded.{Uploaded}
 use Rattle.entry_runs.specs.Entry.{Works}
+use Rattle.intent_journal.specs.Journal.{intent_of}
+use Rattle.intent_journal.specs.Patches.{byte_count}
 use Rattle.mail_board.specs.Readers.{user_id}
 use Rattle.mail_board.specs.declared.loading.Loaded.{Loaded}
 use Rattle.shelf_files.specs.ShelfFile.{file_of}
 use Rattle.shelf_files.specs.declared.refusal.Refusal.TheVariants.{NotMade}
 use Rattle.exchange_commands.proofs.UploadExits.{no_file, on_ok, out_of_memory, some_is, unknown, works}
+use Rattle.exchange_commands.proofs.UploadBounds.{upload_within}
 use Rattle.exchange_commands.specs.Upload.{Uploads, rep_limit, uploaded_text, uploads}
 use Rattle.exchange_commands.proofs.uploading.upload.Goals as goal
 
@@ -86,3 +90,36 @@ returns-clause-works g c tells shelf_tells world at =
       valid = gives.valid certain.1 given.0 given.1;
     }))
     gives.gives)
+
+pub returns-in_err-find-clause-wrote : goal.returns-in_err-find-clause-wrote
+returns-in_err-find-clause-wrote g c tells shelf_tells closed = found_within (uploads c.args.user.now c.args.file.now c.args.now) (g.H.Host.disk c.args.host.now) (g.H.Host.disk c.find.new.host) (g.S.Shelf.files c.args.shelf.now) closed (c.find.ensures.wrote tells)
+
+pub returns-in_err-board_in-clause-wrote : goal.returns-in_err-board_in-clause-wrote
+returns-in_err-board_in-clause-wrote g c tells shelf_tells closed = found_within (uploads c.args.user.now c.args.file.now c.args.now) (g.H.Host.disk c.args.host.now) (g.H.Host.disk c.find.new.host) (g.S.Shelf.files c.args.shelf.now) closed (c.find.ensures.wrote tells)
+
+pub returns-in_err-look_for-clause-wrote : goal.returns-in_err-look_for-clause-wrote
+returns-in_err-look_for-clause-wrote g c tells shelf_tells closed = found_within (uploads c.args.user.now c.args.file.now c.args.now) (g.H.Host.disk c.args.host.now) (g.H.Host.disk c.find.new.host) (g.S.Shelf.files c.args.shelf.now) closed (c.find.ensures.wrote tells)
+
+pub returns-in_err-bytes-clause-wrote : goal.returns-in_err-bytes-clause-wrote
+returns-in_err-bytes-clause-wrote g c tells shelf_tells closed = found_within (uploads c.args.user.now c.args.file.now c.args.now) (g.H.Host.disk c.args.host.now) (g.H.Host.disk c.find.new.host) (g.S.Shelf.files c.args.shelf.now) closed (c.find.ensures.wrote tells)
+
+pub returns-clause-wrote : goal.returns-clause-wrote
+returns-clause-wrote g c tells shelf_tells closed =
+    let name = c.args.user.now in
+    let held = c.in_ok-board.board in
+    let here : c.find.new.kept ≡ _ = c.in_ok-board.ensures.board in
+    let looked : Some c.in_ok-board_in.field-0.now.board ≡ Some held.board = sym c.in_ok-board_in.ensures.board ∙ ap kept_board here in
+    let one : c.in_ok-board_in.field-0.now.board ≡ held.board = cc looked in
+    let him = some_is (user_id name held.board) (subst (λ (b : Board). IsSome (user_id name b)) one c.in_ok-look_for.ensures) in
+    let bytes = c.as_slice.result.now in
+    let read : file_of (g.S.Shelf.files c.args.shelf.now) c.args.file.now rep_limit ≡ Ok bytes = sym (c.in_ok-bytes.ensures.file shelf_tells) ∙ ap Ok (sym c.as_slice.ensures.same) in
+    let old = g.H.Host.disk c.args.host.now in
+    let mid = g.H.Host.disk c.find.new.host in
+    let new = g.H.Host.disk c.upload-uploaded.new.host in
+    let gives = c.upload-uploaded.ensures in
+    ⊎_elim
+    (λ starved. found_within (uploads name c.args.file.now c.args.now) old new (g.S.Shelf.files c.args.shelf.now) closed
+    (subst (λ host. (g.H.Host.disk host).wrote ≤ old.wrote + byte_count (intent_of old.files) + 1) (sym (gives.unchanged (subst LeavesAll (sym starved) tt)).1) (c.find.ensures.wrote tells)))
+    (λ given. upload_within name c.args.file.now c.args.now old mid new (g.S.Shelf.files c.args.shelf.now) closed (c.find.ensures.wrote tells) (kept_board c.find.new.kept) (c.in_ok-find.ensures.state tells) held.board (ap kept_board here) him.0 him.1 bytes read given.0
+    (subst (λ (o : Option ℕ). UploadsAs o bytes c.args.now held.board given.0) him.1 given.1) (gives.wrote tells given.0 given.1))
+    gives.gives

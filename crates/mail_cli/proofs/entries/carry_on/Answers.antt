@@ -9,6 +9,7 @@ use Rattle.entry_runs.specs.declared.class.Class.TheVariants.{Done}
 use Rattle.board_commands.specs.State.{IsSpoiled}
 use Rattle.mail_cli.specs.Step.{door, entry_uses_shelf}
 use Rattle.mail_cli.proofs.EntryLaws.{lawful, only_spoiled, still_spoiled}
+use Rattle.mail_cli.proofs.CommandBounds.{one_bound}
 use Rattle.mail_cli.proofs.Staying.{and_on, none_at, nothing_done}
 use Rattle.mail_cli.proofs.Wrongs.{wrong_head, not_begun, has_wrong, some_from, ends_usage, ends_damaged, quiet_usage, quiet_damaged, stopped_usage, stopped_damaged, unsaid_usage, goes_right}
 use Rattle.mail_cli.proofs.entries.carry_on.Goals as goal
@@ -27,6 +28,8 @@ loop-entry-init g c = record {
   files = λ none tells. nothing_done (g.H.Host.disk c.args.host.now);
   disk_faults = λ none. refl;
   shelf = λ none. refl;
+  unbegun = λ none. (refl, refl);
+  wrote = λ tells shelf_tells below. absurd (omega (arith, below));
 }
 
 pub returns-in-Err-clause-leaves : goal.returns-in-Err-clause-leaves
@@ -181,4 +184,21 @@ loop-entry-preserved g c = record {
   shelf = λ none.
       let more = next_entry c.args.entries.now c.loop-entry.entry-index c.entry-item.result (omega arith) c.entry-item.is in
       c.perform.ensures.shelf_stays (none_at entry_uses_shelf c.args.entries.now _ c.entry-item.result c.loop-entry.entry-index more none) ∙ c.loop-entry.invariant.shelf none;
+  unbegun = λ none. absurd (omega (arith, none));
+  wrote = λ tells shelf_tells below.
+      let more = next_entry c.args.entries.now c.loop-entry.entry-index c.entry-item.result (omega arith) c.entry-item.is in
+      one_bound c.args.now g.H.Host.disk g.S.Shelf.files c.args.entries.now _ c.entry-item.result c.loop-entry.entry-index more c.loop-entry.invariant.unbegun c.perform.new.host (c.perform.ensures.wrote tells shelf_tells);
 }
+
+pub returns-in-Err-clause-wrote : goal.returns-in-Err-clause-wrote
+returns-in-Err-clause-wrote g c tells shelf_tells =
+    let more = next_entry c.args.entries.now c.loop-entry.entry-index c.entry-item.result (omega arith) c.entry-item.is in
+    one_bound c.args.now g.H.Host.disk g.S.Shelf.files c.args.entries.now _ c.entry-item.result c.loop-entry.entry-index more c.loop-entry.invariant.unbegun c.perform.new.host (c.perform.ensures.wrote tells shelf_tells)
+
+pub returns-then-is_last-clause-wrote : goal.returns-then-is_last-clause-wrote
+returns-then-is_last-clause-wrote g c tells shelf_tells =
+    let more = next_entry c.args.entries.now c.loop-entry.entry-index c.entry-item.result (omega arith) c.entry-item.is in
+    one_bound c.args.now g.H.Host.disk g.S.Shelf.files c.args.entries.now _ c.entry-item.result c.loop-entry.entry-index more c.loop-entry.invariant.unbegun c.perform.new.host (c.perform.ensures.wrote tells shelf_tells)
+
+pub returns-clause-wrote : goal.returns-clause-wrote
+returns-clause-wrote g c tells shelf_tells = λ other is. c.loop-entry.invariant.wrote tells shelf_tells (omega (arith, ap length is)) other is

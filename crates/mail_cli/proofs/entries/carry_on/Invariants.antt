@@ -7,6 +7,7 @@ use Rattle.intent_journal.specs.Recovered.{recovered}
 use Rattle.board_commands.specs.Kept.{AreSure, IsKept, unread}
 use Rattle.board_commands.specs.State.{State, Stores}
 use Rattle.door_commands.specs.Entries.{BeginsWrong}
+use Rattle.mail_cli.specs.CommandBound.{OneKeepsBound}
 use Rattle.mail_cli.specs.Run.{LeavesFiles}
 use Rattle.mail_cli.specs.Step.{any_uses_shelf, door}
 use Rattle.mail_cli.proofs.entries.carry_on.Given as goal
@@ -24,4 +25,6 @@ invariant-loop-entry g l = record {
   files : any_touches (door l.now) l.entries ≡ false → IsTrue g.H.Host.tells → LeavesFiles (g.H.Host.disk l.fn.host) (g.H.Host.disk l.host);
   disk_faults : any_touches (door l.now) l.entries ≡ false → g.H.Host.disk_faults l.host ≡ g.H.Host.disk_faults l.fn.host;
   shelf : any_uses_shelf l.entries ≡ false → l.shelf ≡ l.fn.shelf;
+  unbegun : l.entry-index ≡ 0 → (l.host ≡ l.fn.host) × (l.shelf ≡ l.fn.shelf);
+  wrote : IsTrue g.H.Host.tells → IsTrue g.S.Shelf.tells → 0 < l.entry-index → OneKeepsBound l.now l.entries (g.H.Host.disk l.fn.host) (g.H.Host.disk l.host) (g.S.Shelf.files l.fn.shelf);
 }

@@ -61,3 +61,21 @@ returns-in-Reply-clause-causes g c = c.carry_out_reply.ensures.causes _ _
 
 pub returns-in-Reply-clause-damaged : goal.returns-in-Reply-clause-damaged
 returns-in-Reply-clause-damaged g c = never_damaged _ c.carry_out_reply.result c.carry_out_reply.ensures.undamaged
+
+pub returns-in-List-clause-wrote : goal.returns-in-List-clause-wrote
+returns-in-List-clause-wrote g c tells shelf_tells = rw c.in-List.is (λ posts closed. absurd posts)
+
+pub returns-in-Read-clause-wrote : goal.returns-in-Read-clause-wrote
+returns-in-Read-clause-wrote g c tells shelf_tells = rw c.in-Read.is (λ posts closed. absurd posts)
+
+pub returns-in-Show-clause-wrote : goal.returns-in-Show-clause-wrote
+returns-in-Show-clause-wrote g c tells shelf_tells = rw c.in-Show.is (λ posts closed. absurd posts)
+
+pub returns-in-Scan-clause-wrote : goal.returns-in-Scan-clause-wrote
+returns-in-Scan-clause-wrote g c tells shelf_tells = rw c.in-Scan.is (λ posts closed. absurd posts)
+
+pub returns-in-Compose-clause-wrote : goal.returns-in-Compose-clause-wrote
+returns-in-Compose-clause-wrote g c tells shelf_tells = rw c.in-Compose.is (λ posts closed. absurd posts)
+
+pub returns-in-Reply-clause-wrote : goal.returns-in-Reply-clause-wrote
+returns-in-Reply-clause-wrote g c tells shelf_tells = rw c.in-Reply.is (λ posts closed. absurd posts)

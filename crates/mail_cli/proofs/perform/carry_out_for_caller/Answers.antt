@@ -27,3 +27,12 @@ returns-in-Upload-clause-causes g c = causes_answered c.of_uploaded.result (rw c
 
 pub returns-in-Upload-clause-damaged : goal.returns-in-Upload-clause-damaged
 returns-in-Upload-clause-damaged g c = rw c.in-Upload.is (may_be_damaged c.of_uploaded.result)
+
+pub returns-in-Ack-clause-wrote : goal.returns-in-Ack-clause-wrote
+returns-in-Ack-clause-wrote g c tells shelf_tells = rw c.in-Ack.is (λ posts closed. absurd posts)
+
+pub returns-in-Export-clause-wrote : goal.returns-in-Export-clause-wrote
+returns-in-Export-clause-wrote g c tells shelf_tells = rw c.in-Export.is (λ posts closed. absurd posts)
+
+pub returns-in-Upload-clause-wrote : goal.returns-in-Upload-clause-wrote
+returns-in-Upload-clause-wrote g c tells shelf_tells = rw (c.in-Upload.is, ← c.as_slice-in-Upload.ensures.same) (λ posts closed. c.upload.ensures.wrote tells shelf_tells closed)

@@ -54,3 +54,21 @@ returns-in-Sample-clause-causes g c = causes_answered c.of_sampled.result (rw c.
 
 pub returns-in-Sample-clause-damaged : goal.returns-in-Sample-clause-damaged
 returns-in-Sample-clause-damaged g c = rw c.in-Sample.is (may_be_damaged c.of_sampled.result)
+
+pub returns-in-Check-clause-wrote : goal.returns-in-Check-clause-wrote
+returns-in-Check-clause-wrote g c tells shelf_tells = rw c.in-Check.is (λ posts closed. absurd posts)
+
+pub returns-in-Enroll-clause-wrote : goal.returns-in-Enroll-clause-wrote
+returns-in-Enroll-clause-wrote g c tells shelf_tells = rw c.in-Enroll.is (λ posts closed. absurd posts)
+
+pub returns-in-Init-clause-wrote : goal.returns-in-Init-clause-wrote
+returns-in-Init-clause-wrote g c tells shelf_tells = rw c.in-Init.is (λ posts closed. absurd posts)
+
+pub returns-in-Kill-clause-wrote : goal.returns-in-Kill-clause-wrote
+returns-in-Kill-clause-wrote g c tells shelf_tells = rw c.in-Kill.is (λ posts closed. absurd posts)
+
+pub returns-in-Import-clause-wrote : goal.returns-in-Import-clause-wrote
+returns-in-Import-clause-wrote g c tells shelf_tells = rw c.in-Import.is (λ posts closed. c.import.ensures.wrote tells shelf_tells closed)
+
+pub returns-in-Sample-clause-wrote : goal.returns-in-Sample-clause-wrote
+returns-in-Sample-clause-wrote g c tells shelf_tells = rw c.in-Sample.is (λ posts closed. c.sample.ensures.wrote tells closed _)

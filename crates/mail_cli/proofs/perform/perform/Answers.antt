@@ -5,6 +5,7 @@ use Rattle.entry_runs.specs.Entry.{on_shelf}
 use Rattle.shelf_files.specs.Halts.{refused}
 use Rattle.door_commands.specs.Answers.{usage}
 use Rattle.board_commands.specs.State.{Stores}
+use Rattle.mail_cli.proofs.CommandBounds.{command_bound}
 use Rattle.mail_cli.proofs.Staying.{said_only}
 use Rattle.mail_cli.specs.Step.{says}
 use Rattle.mail_cli.proofs.perform.perform.Goals as goal
@@ -26,3 +27,12 @@ returns-in-Wrong-clause-files_stay g c off tells = said_only (c.say.ensures.voic
 
 pub returns-in-Refuse-clause-files_stay : goal.returns-in-Refuse-clause-files_stay
 returns-in-Refuse-clause-files_stay g c off tells = said_only (c.say-in-Refuse.ensures.voiced tells)
+
+pub returns-in-Run-clause-wrote : goal.returns-in-Run-clause-wrote
+returns-in-Run-clause-wrote g c tells shelf_tells = rw c.in-Run.is (command_bound c.args.now c.in-Run.command (g.H.Host.disk c.args.host.now) (g.H.Host.disk c.perform_command.new.host) (g.S.Shelf.files c.args.shelf.now) (c.perform_command.ensures.wrote tells shelf_tells))
+
+pub returns-in-Wrong-clause-wrote : goal.returns-in-Wrong-clause-wrote
+returns-in-Wrong-clause-wrote g c tells shelf_tells = rw c.in-Wrong.is (λ other never. absurd (cc never))
+
+pub returns-in-Refuse-clause-wrote : goal.returns-in-Refuse-clause-wrote
+returns-in-Refuse-clause-wrote g c tells shelf_tells = rw c.in-Refuse.is (λ other never. absurd (cc never))

@@ -3,6 +3,7 @@ use Rattle.std.proofs.lemmas.Result.{err_from_is_err_and}
 use Rattle.entry_runs.proofs.Commands.{spoken_causes}
 use Rattle.entry_runs.proofs.Entries.{performs_spoken, performs_stopped}
 use Rattle.board_commands.specs.State.{Stores}
+use Rattle.mail_cli.proofs.CommandBounds.{said_bound}
 use Rattle.mail_cli.proofs.Staying.{said_there, still_there}
 use Rattle.mail_cli.specs.Step.{act}
 use Rattle.door_commands.specs.declared.entry.Entry.TheVariants.{Run}
@@ -38,3 +39,7 @@ returns-clause-files_stay g c off tells = said_there g.H.Host.disk (c.carry_out.
 
 pub returns-clause-disk_faults_stay : goal.returns-clause-disk_faults_stay
 returns-clause-disk_faults_stay g c off = c.say.ensures.disk ∙ ap g.H.Host.disk_faults (c.carry_out.ensures.host_stays off)
+
+-- ---- what is written
+pub returns-clause-wrote : goal.returns-clause-wrote
+returns-clause-wrote g c tells shelf_tells = said_bound c.args.now c.args.command.now (g.H.Host.disk c.args.host.now) (g.S.Shelf.files c.args.shelf.now) (c.say.ensures.voiced tells) (c.carry_out.ensures.wrote tells shelf_tells)

@@ -3,6 +3,7 @@ use Rattle.door_commands.proofs.Entering.{begins_wrong}
 use Rattle.door_commands.specs.Entries.{AreEntries, BeginsWrong, EntriesRead}
 use Rattle.entry_runs.specs.declared.status.Status.TheVariants as status
 use Rattle.entry_runs.specs.declared.stop.Stop.TheVariants as stop
+use Rattle.mail_cli.proofs.CommandBounds.{run_bound, unwritten}
 use Rattle.mail_cli.proofs.Histories.{run_continues}
 use Rattle.mail_cli.proofs.Reading.{read_causes, read_completes, read_kept, read_leaves, read_survives, stays_firm, unread_leaves, unread_survives}
 use Rattle.mail_cli.proofs.Staying.{names_no_batch, none_uses_shelf, nothing_done}
@@ -146,3 +147,17 @@ returns-clause-read_touched g c shelf_tells is =
     let same : c.as_slice.result.now ≡ c.in-Ok.entries = search rules in
     let reads = subst (EntriesRead c.args.words.now (g.S.Shelf.files c.args.shelf.now)) (sym same) (c.in-Ok.ensures.reads shelf_tells) in
     (c.as_slice.result.now, reads, c.run_entries.ensures.touched is)
+
+-- ---- what is written
+pub returns-in-Err-ShelfFault-clause-wrote : goal.returns-in-Err-ShelfFault-clause-wrote
+returns-in-Err-ShelfFault-clause-wrote g c tells shelf_tells = unwritten c.args.now c.args.words.now (g.H.Host.disk c.args.host.now) (g.S.Shelf.files c.args.shelf.now)
+
+pub returns-in-Err-OutOfMemory-clause-wrote : goal.returns-in-Err-OutOfMemory-clause-wrote
+returns-in-Err-OutOfMemory-clause-wrote g c tells shelf_tells = unwritten c.args.now c.args.words.now (g.H.Host.disk c.args.host.now) (g.S.Shelf.files c.args.shelf.now)
+
+pub returns-clause-wrote : goal.returns-clause-wrote
+returns-clause-wrote g c tells shelf_tells =
+    let same : c.as_slice.result.now ≡ c.in-Ok.entries = search rules in
+    let reads = subst (EntriesRead c.args.words.now (g.S.Shelf.files c.args.shelf.now)) (sym same) (c.in-Ok.ensures.reads shelf_tells) in
+    run_bound c.args.now c.args.words.now (g.H.Host.disk c.args.host.now) (g.H.Host.disk c.run_entries.new.host) (g.S.Shelf.files c.args.shelf.now) (g.S.Shelf.files c.entries_of.new.shelf) c.as_slice.result.now
+    (c.entries_of.ensures.unchanged shelf_tells) reads (c.run_entries.ensures.wrote tells shelf_tells)

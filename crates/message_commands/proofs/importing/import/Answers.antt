@@ -2,6 +2,7 @@ use Rattle.std.proofs.Common.{rules, ◌≡◌, ℕ, Some, None, Err, refl, sym,
 use Rattle.std.specs.Prelude.{Result}
 use Rattle.board_commands.proofs.Exits.{unfound}
 use Rattle.board_commands.proofs.FindLaws.{same_host}
+use Rattle.board_commands.proofs.WriteLaws.{found_within}
 use Rattle.board_commands.specs.Halts.{told, of_read, of_shelf, of_journal}
 use Rattle.board_commands.specs.Kept.{kept_board, unread}
 use Rattle.board_commands.specs.State.{Stores}
@@ -15,6 +16,7 @@ use Rattle.mail_board.specs.Changes.{Fits}
 use Rattle.shelf_files.specs.declared.refusal.Refusal.TheVariants.{NotMade, NoConference}
 use Rattle.message_commands.proofs.Exits.{refused_by}
 use Rattle.message_commands.proofs.ImportExits.{imported, no_fault, no_sheet, unimported, unplaced, unprepared}
+use Rattle.message_commands.proofs.PostBounds.{import_within}
 use Rattle.message_commands.specs.Import.{Imports, imported_line, imports}
 use Rattle.message_commands.proofs.importing.import.Goals as goal
 
@@ -95,3 +97,32 @@ returns-in_err-importing-clause-causes g c =
     let starved : HasCauses old new status.OutOfMemory = search rules in
     subst (λ (r : Result ℕ BoardHalt). HasCauses old new (ended (told (imported_line c.args.conference) r))) (sym is)
     (no_fault c.args.conference c.args.now c.in_ok-place.place c.in_ok-entries.entries c.in_ok-board.board.now.board e (c.in_err-importing.ensures c.args.conference) done starved)
+
+pub returns-in_err-find-clause-wrote : goal.returns-in_err-find-clause-wrote
+returns-in_err-find-clause-wrote g c tells shelf_tells closed = found_within (imports c.args.conference c.args.file.now c.args.now) (g.H.Host.disk c.args.host.now) (g.H.Host.disk c.find.new.host) (g.S.Shelf.files c.args.shelf.now) closed (c.find.ensures.wrote tells)
+
+pub returns-in_err-board-clause-wrote : goal.returns-in_err-board-clause-wrote
+returns-in_err-board-clause-wrote g c tells shelf_tells closed = found_within (imports c.args.conference c.args.file.now c.args.now) (g.H.Host.disk c.args.host.now) (g.H.Host.disk c.find.new.host) (g.S.Shelf.files c.args.shelf.now) closed (c.find.ensures.wrote tells)
+
+pub returns-in_err-place-clause-wrote : goal.returns-in_err-place-clause-wrote
+returns-in_err-place-clause-wrote g c tells shelf_tells closed = found_within (imports c.args.conference c.args.file.now c.args.now) (g.H.Host.disk c.args.host.now) (g.H.Host.disk c.find.new.host) (g.S.Shelf.files c.args.shelf.now) closed (c.find.ensures.wrote tells)
+
+pub returns-in_err-entries-clause-wrote : goal.returns-in_err-entries-clause-wrote
+returns-in_err-entries-clause-wrote g c tells shelf_tells closed = found_within (imports c.args.conference c.args.file.now c.args.now) (g.H.Host.disk c.args.host.now) (g.H.Host.disk c.find.new.host) (g.S.Shelf.files c.args.shelf.now) closed (c.find.ensures.wrote tells)
+
+pub returns-in_err-importing-clause-wrote : goal.returns-in_err-importing-clause-wrote
+returns-in_err-importing-clause-wrote g c tells shelf_tells closed = found_within (imports c.args.conference c.args.file.now c.args.now) (g.H.Host.disk c.args.host.now) (g.H.Host.disk c.find.new.host) (g.S.Shelf.files c.args.shelf.now) closed (c.find.ensures.wrote tells)
+
+pub returns-in_err-make_change-clause-wrote : goal.returns-in_err-make_change-clause-wrote
+returns-in_err-make_change-clause-wrote g c tells shelf_tells closed =
+    let b : Board = c.in_ok-board.board.now.board in
+    import_within (g.H.Host.disk c.args.host.now) (g.H.Host.disk c.find.new.host) (g.H.Host.disk c.make_change.new.host) (g.S.Shelf.files c.args.shelf.now) closed (c.find.ensures.wrote tells) (kept_board c.find.new.kept) (c.in_ok-find.ensures.state tells) b c.in_ok-board.ensures.board c.in_ok-board.ensures.valid c.args.conference c.args.file.now c.args.now
+    c.in_ok-place.place c.in_ok-place.ensures.place c.in_ok-entries.entries (c.in_ok-entries.ensures.sheet shelf_tells) c.in_ok-importing.importing (c.in_ok-importing.ensures c.args.conference)
+    (c.make_change.ensures.wrote tells b c.in_ok-board.ensures.board)
+
+pub returns-clause-wrote : goal.returns-clause-wrote
+returns-clause-wrote g c tells shelf_tells closed =
+    let b : Board = c.in_ok-board.board.now.board in
+    import_within (g.H.Host.disk c.args.host.now) (g.H.Host.disk c.find.new.host) (g.H.Host.disk c.make_change.new.host) (g.S.Shelf.files c.args.shelf.now) closed (c.find.ensures.wrote tells) (kept_board c.find.new.kept) (c.in_ok-find.ensures.state tells) b c.in_ok-board.ensures.board c.in_ok-board.ensures.valid c.args.conference c.args.file.now c.args.now
+    c.in_ok-place.place c.in_ok-place.ensures.place c.in_ok-entries.entries (c.in_ok-entries.ensures.sheet shelf_tells) c.in_ok-importing.importing (c.in_ok-importing.ensures c.args.conference)
+    (c.make_change.ensures.wrote tells b c.in_ok-board.ensures.board)

@@ -22,4 +22,5 @@ returns c conference =
     let short = sym c.size_refusal.ensures ∙ c.in_default-size_refusal.is in (
       import_fits c.args.now c.args.place b c.args.entries messages made c.requires.board c.requires.place c.requires.read c.in_ok-messages.ensures.typed few short,
       appends c.args.now c.args.place b c.args.entries messages made conference c.len-count.result c.len-count.ensures few short,
+      tt,
     )

@@ -60,4 +60,5 @@ returns c =
     let short = sym c.size_refusal.ensures ∙ c.in_default-size_refusal.is in (
       sample_fits c.args.seed c.args.now b c.requires small c.args.count c.if-count-gt-COUNT_LIMIT.false posts made c.in_ok-sampling.ensures.sampling.typed (slots_small b posts c.requires few) (size_small (spread posts b) short),
       appends c.args.seed c.args.count c.args.now b right posts made few short,
+      tt,
     )

@@ -2,6 +2,7 @@ use Rattle.std.proofs.Common.{rules, ◌≡◌, ℕ, Some, None, Err, refl, sym,
 use Rattle.std.specs.Prelude.{Result}
 use Rattle.board_commands.proofs.Exits.{unfound}
 use Rattle.board_commands.proofs.FindLaws.{same_host}
+use Rattle.board_commands.proofs.WriteLaws.{found_within}
 use Rattle.board_commands.specs.Halts.{told, of_read, of_journal}
 use Rattle.board_commands.specs.Kept.{kept_board, unread}
 use Rattle.board_commands.specs.State.{Stores}
@@ -13,6 +14,7 @@ use Rattle.entry_runs.specs.Promise.{Counts, HasCauses, counts, ended}
 use Rattle.entry_runs.specs.declared.status.Status.TheVariants as status
 use Rattle.mail_board.specs.Changes.{Fits}
 use Rattle.message_commands.proofs.Exits.{refused_by}
+use Rattle.message_commands.proofs.PostBounds.{sample_within}
 use Rattle.message_commands.proofs.SampleExits.{Turns, appended, no_fault, unappended, unprepared}
 use Rattle.message_commands.specs.Sample.{sampled_line, samples}
 use Rattle.shelf_files.specs.declared.refusal.Refusal.TheVariants.{NotMade}
@@ -73,3 +75,24 @@ returns-in_err-change-clause-causes g c shelf =
     let starved : HasCauses old new status.OutOfMemory = search rules in
     subst (λ (r : Result ℕ BoardHalt). HasCauses old new (ended (told sampled_line r))) (sym is)
     (no_fault c.args.seed c.args.count c.args.now c.in_ok-board.board.now.board e c.in_err-change.ensures done starved)
+
+pub returns-in_err-find-clause-wrote : goal.returns-in_err-find-clause-wrote
+returns-in_err-find-clause-wrote g c tells closed shelf = found_within (samples c.args.seed c.args.count c.args.now) (g.H.Host.disk c.args.host.now) (g.H.Host.disk c.find.new.host) shelf closed (c.find.ensures.wrote tells)
+
+pub returns-in_err-board-clause-wrote : goal.returns-in_err-board-clause-wrote
+returns-in_err-board-clause-wrote g c tells closed shelf = found_within (samples c.args.seed c.args.count c.args.now) (g.H.Host.disk c.args.host.now) (g.H.Host.disk c.find.new.host) shelf closed (c.find.ensures.wrote tells)
+
+pub returns-in_err-change-clause-wrote : goal.returns-in_err-change-clause-wrote
+returns-in_err-change-clause-wrote g c tells closed shelf = found_within (samples c.args.seed c.args.count c.args.now) (g.H.Host.disk c.args.host.now) (g.H.Host.disk c.find.new.host) shelf closed (c.find.ensures.wrote tells)
+
+pub returns-in_err-make_change-clause-wrote : goal.returns-in_err-make_change-clause-wrote
+returns-in_err-make_change-clause-wrote g c tells closed shelf =
+    let b : Board = c.in_ok-board.board.now.board in
+    sample_within (g.H.Host.disk c.args.host.now) (g.H.Host.disk c.find.new.host) (g.H.Host.disk c.make_change.new.host) shelf closed (c.find.ensures.wrote tells) (kept_board c.find.new.kept) (c.in_ok-find.ensures.state tells) b c.in_ok-board.ensures.board c.in_ok-board.ensures.valid c.args.seed c.args.count c.args.now
+    c.in_ok-change.change c.in_ok-change.ensures (c.make_change.ensures.wrote tells b c.in_ok-board.ensures.board)
+
+pub returns-clause-wrote : goal.returns-clause-wrote
+returns-clause-wrote g c tells closed shelf =
+    let b : Board = c.in_ok-board.board.now.board in
+    sample_within (g.H.Host.disk c.args.host.now) (g.H.Host.disk c.find.new.host) (g.H.Host.disk c.make_change.new.host) shelf closed (c.find.ensures.wrote tells) (kept_board c.find.new.kept) (c.in_ok-find.ensures.state tells) b c.in_ok-board.ensures.board c.in_ok-board.ensures.valid c.args.seed c.args.count c.args.now
+    c.in_ok-change.change c.in_ok-change.ensures (c.make_change.ensures.wrote tells b c.in_ok-board.ensures.board)

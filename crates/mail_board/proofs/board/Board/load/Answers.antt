@@ -1,4 +1,4 @@
-use Rattle.std.proofs.Common.{rules, ◌≡◌, Result, Ok, Err, sym, ap, ◌∙◌, subst}
+use Rattle.std.proofs.Common.{rules, arith, ◌≡◌, Result, Ok, Err, sym, ap, ◌∙◌, subst}
 use Rattle.board_layout.specs.Damage.{board_in}
 use Rattle.board_layout.specs.Rules.{Gives, told}
 use Rattle.board_layout.specs.declared.error.ReadError.{ReadError}
@@ -28,3 +28,12 @@ returns-in-None-clause-gives g c = λ tells.
 pub returns-in-Some-clause-gives : goal.returns-in-Some-clause-gives
 returns-in-Some-clause-gives g c = λ tells.
     recovered_reading (g.H.Host.disk c.args.host.now).files (g.H.Host.disk c.recover.new.host).files (search rules) ∙ (c.in_ok-read_board.ensures.gives tells ∙ ap Ok c.in-Some.is)
+
+pub returns-in_err-read_board-clause-wrote : goal.returns-in_err-read_board-clause-wrote
+returns-in_err-read_board-clause-wrote g c = λ tells. omega (arith, c.recover.ensures.wrote tells, (c.read_board.ensures.unchanged tells).wrote)
+
+pub returns-in-None-clause-wrote : goal.returns-in-None-clause-wrote
+returns-in-None-clause-wrote g c = λ tells. omega (arith, c.recover.ensures.wrote tells, (c.read_board.ensures.unchanged tells).wrote)
+
+pub returns-in-Some-clause-wrote : goal.returns-in-Some-clause-wrote
+returns-in-Some-clause-wrote g c = λ tells. omega (arith, c.recover.ensures.wrote tells, (c.read_board.ensures.unchanged tells).wrote)

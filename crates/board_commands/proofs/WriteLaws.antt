@@ -1,0 +1,59 @@
+-- A command that looks for the board and makes one change of it, which posts messages, writes no more than it may.
+use Rattle.std.proofs.Common.{◌≡◌, ◌≢◌, ℕ, ◌+◌, ◌≤◌, List, [], ◌∷◌, Option, Some, refl, sym, ◌∙◌, ap, subst, arith}
+use Rattle.std.specs.Prelude.{◌==◌, if◌then◌else◌}
+use Rattle.std.proofs.lemmas.Bool.{cond-false, ne_eqb}
+use Rattle.door_outside.specs.Disk.{Disk}
+use Rattle.door_outside.specs.Shelf as Shelf
+use Rattle.entry_runs.specs.Door.{Act, World, here}
+use Rattle.entry_runs.specs.Entry.{Reply}
+use Rattle.entry_runs.specs.Runs.{Stepped}
+use Rattle.intent_journal.specs.Journal.{IsClosed, intent_of, open_patches}
+use Rattle.intent_journal.specs.Patches.{Files, are_within, byte_count}
+use Rattle.intent_journal.specs.Recovered.{recovered}
+use Rattle.board_layout.specs.Board.{Board}
+use Rattle.mail_board.specs.Written.{KeepsBoundOf}
+use Rattle.board_commands.proofs.BoardActs.{AreTurns}
+use Rattle.board_commands.specs.State.{State, NotMade, Made, Old, Spoiled, Stores, migrated, state_of}
+use Rattle.board_commands.specs.Turns.{Turn, on_board}
+use Rattle.board_commands.specs.WriteBound.{KeepsWriteBound, WritesWithin}
+
+-- behind a closed gate there is nothing to carry out
+closed_patches : (journal : List ℕ) → IsClosed journal → open_patches journal ≡ []
+closed_patches [] closed = refl
+closed_patches (gate ∷ body) closed =
+    let shut : gate ≢ 79 = λ is. closed (ap (λ (x : ℕ). x ∷ []) is) in
+    cond-false (gate == 79) _ _ (ne_eqb gate 79 shut)
+
+intent_closed : (files : Files) → IsClosed (files 1) → intent_of files ≡ []
+intent_closed files closed = λ i. if are_within (closed_patches (files 1) closed i) files then closed_patches (files 1) closed i else []
+
+pub closed_found : (old : Disk) (now : ℕ) → IsClosed (old.files 1) → now ≤ old.wrote + byte_count (intent_of old.files) + 1 → now ≤ old.wrote + 1
+closed_found old now closed found = omega (arith, found, ap byte_count (intent_closed old.files closed))
+
+-- only the board was looked for
+pub found_within : (act : Act State) (old new : Disk) (shelf : Shelf.Files) → IsClosed (old.files 1) → new.wrote ≤ old.wrote + byte_count (intent_of old.files) + 1 → KeepsWriteBound act old new shelf
+found_within act old new shelf closed found state stores stepped step = omega (arith, closed_found old new.wrote closed found)
+
+-- files stand for a board in today's version alone
+stored_today : (state : State) (files : Files) → Stores state files → migrated state ≡ state
+stored_today NotMade files stores = refl
+stored_today (Made b) files stores = refl
+stored_today (Old b) files stores = absurd stores
+stored_today (Spoiled held) files stores = refl
+
+-- A turn was to make a change that keeps the bound of its board and the next.
+module _ (turns : Shelf.Files → Option Board → Turn → Type 0) (laws : AreTurns turns) (old mid new : Disk) (shelf : Shelf.Files) (closed : IsClosed (old.files 1)) (found : mid.wrote ≤ old.wrote + byte_count (intent_of old.files) + 1) where
+  next_is : (b next : Board) (turn : Turn) → turns shelf (Some b) turn → turn.board ≡ Some next → (stepped : Stepped (World State)) → (on_board turns).Step (here (Made b) shelf) stepped → stepped.world.state ≡ Made next
+  next_is b next turn takes is stepped step = step.1.2 ∙ ap state_of (ap (λ (t : Turn). t.board) (laws.one_turn shelf (Some b) step.1.0 turn step.1.1 takes) ∙ is)
+
+  of_made : (b next : Board) (turn : Turn) → turns shelf (Some b) turn → turn.board ≡ Some next → KeepsBoundOf b next mid.wrote new.wrote
+      → (stepped : Stepped (World State)) → (on_board turns).Step (here (Made b) shelf) stepped → WritesWithin (Made b) stepped.world.state old.wrote new.wrote
+  of_made b next turn takes is kept stepped step =
+      subst (λ (end : State). WritesWithin (Made b) end old.wrote new.wrote) (sym (next_is b next turn takes is stepped step)) (omega (arith, kept, closed_found old mid.wrote closed found))
+
+  pub turned_within : (board : Option Board) → ((state : State) → Stores state (recovered old.files) → migrated state ≡ state_of board) → (b next : Board) → board ≡ Some b → (turn : Turn) → turns shelf (Some b) turn → turn.board ≡ Some next
+      → KeepsBoundOf b next mid.wrote new.wrote → KeepsWriteBound (on_board turns) old new shelf
+  turned_within board stands b next board_is turn takes is kept state stores =
+      let made : state ≡ Made b = sym (stored_today state (recovered old.files) stores) ∙ stands state stores ∙ ap state_of board_is in
+      subst (λ (s : State). (stepped : Stepped (World State)) → (on_board turns).Step (here s shelf) stepped → WritesWithin s stepped.world.state old.wrote new.wrote) (sym made)
+      (of_made b next turn takes is kept)

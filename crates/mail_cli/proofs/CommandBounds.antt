@@ -1,0 +1,60 @@
+-- A run of one command that posts messages writes no more than these may: from what the command wrote to what the run did.
+use Rattle.std.proofs.Common.{◌≡◌, inl, inr, ℕ, zero, suc, List, [], ◌∷◌, drop, length, refl, sym, ◌∙◌, ap, subst, arith}
+use Rattle.std.proofs.lemmas.List.{drop_all}
+use Rattle.std.specs.Prelude.{Result}
+use Rattle.board_commands.specs.State.{State}
+use Rattle.board_commands.specs.WriteBound.{KeepsWriteBound, WritesWithin}
+use Rattle.door_commands.proofs.OneCommand.{command_unique}
+use Rattle.door_commands.specs.Entries.{EntriesRead}
+use Rattle.door_commands.specs.Words.{CommandReads}
+use Rattle.door_commands.specs.declared.command.Command.{Command}
+use Rattle.door_commands.specs.declared.command.Command.TheVariants as command
+use Rattle.door_commands.specs.declared.entry.Entry.{Entry}
+use Rattle.door_commands.specs.declared.entry.Entry.TheVariants.{Run}
+use Rattle.door_outside.specs.Disk.{Disk}
+use Rattle.door_outside.specs.Shelf as Shelf
+use Rattle.entry_runs.specs.Saying.{Voiced}
+use Rattle.mail_cli.specs.CommandBound.{CommandKeepsBound, EntryKeepsBound, OneKeepsBound, PostsMessages, RunKeepsBound}
+use Rattle.mail_cli.specs.Step.{does}
+
+-- nothing was written
+pub unwritten : (now : ℕ) (words : List (List ℕ)) (disk : Disk) (shelf : Shelf.Files) → RunKeepsBound now words disk disk shelf
+unwritten now words disk shelf c reads posts closed state stores stepped step = omega arith
+
+module _ (now : ℕ) where
+  -- the reply was said, which writes nothing
+  pub said_bound : (c : Command) (old : Disk) {mid new : Disk} (shelf : Shelf.Files) {text : List ℕ} {T E : Type 0} {result : Result T E} → Voiced text mid new result → CommandKeepsBound now c old mid shelf → CommandKeepsBound now c old new shelf
+  said_bound c old {mid} {new} shelf voiced kept posts closed state stores stepped step =
+      subst (λ (n : ℕ). WritesWithin state stepped.world.state old.wrote n) (sym voiced.wrote) (kept posts closed state stores stepped step)
+
+  pub command_bound : (c : Command) (old new : Disk) (shelf : Shelf.Files) → CommandKeepsBound now c old new shelf → EntryKeepsBound now (Run c) old new shelf
+  command_bound c old new shelf kept other is =
+      let same : c ≡ other = cc in
+      subst (λ (x : Command). CommandKeepsBound now x old new shelf) same kept
+
+  -- of a list of one entry a run is at the first, and nothing was done before it
+  alone : (entries back : List Entry) (item : Entry) (index : ℕ) → drop index entries ≡ item ∷ back → (one : Entry) → entries ≡ one ∷ [] → (index ≡ 0) × (item ≡ one)
+  alone entries back item index more one is = at index (subst (λ (xs : List Entry). drop index xs ≡ item ∷ back) is more)
+    where
+      at : (i : ℕ) → drop i (one ∷ []) ≡ item ∷ back → (i ≡ 0) × (item ≡ one)
+      at zero here = let same : item ≡ one = cc in (refl, same)
+      at (suc i) here = let never : [] ≡ item ∷ back = sym (drop_all (suc i) (one ∷ []) (omega arith)) ∙ here in absurd (cc never)
+
+  module _ {Host Files : Type 0} (disk : Host → Disk) (files : Files → Shelf.Files) (entries back : List Entry) (item : Entry) (index : ℕ) (more : drop index entries ≡ item ∷ back) {old mid : Host} {first later : Files} where
+    pub one_bound : (index ≡ 0 → (mid ≡ old) × (later ≡ first)) → (new : Host) → EntryKeepsBound now item (disk mid) (disk new) (files later) → OneKeepsBound now entries (disk old) (disk new) (files first)
+    one_bound unbegun new kept c is =
+        let here = alone entries back item index more (Run c) is in
+        let same = unbegun here.0 in
+        subst (λ (host : Host). CommandKeepsBound now c (disk host) (disk new) (files first)) same.0
+        (subst (λ (shelf : Files). CommandKeepsBound now c (disk mid) (disk new) (files shelf)) same.1 (kept c here.1))
+
+  -- ---- words
+  -- the entries of words that are a command that posts messages
+  entries_are : (words : List (List ℕ)) (shelf : Shelf.Files) (entries : List Entry) → EntriesRead words shelf entries → (c : Command) → CommandReads words c → PostsMessages c → entries ≡ Run c ∷ []
+  entries_are words shelf entries (inl (other, reads, single, is)) c taken posts = is ∙ ap (λ (x : Command). Run x ∷ []) (command_unique words other c reads taken)
+  entries_are words shelf entries (inr (inl (file, reads, lines))) c taken posts = absurd (subst PostsMessages (command_unique words c (command.Batch file) taken reads) posts)
+  entries_are words shelf entries (inr (inr (never, is))) c taken posts = absurd (never c taken)
+
+  pub run_bound : (words : List (List ℕ)) (old new : Disk) (shelf later : Shelf.Files) (entries : List Entry) → later ≡ shelf → EntriesRead words shelf entries → OneKeepsBound now entries old new later → RunKeepsBound now words old new shelf
+  run_bound words old new shelf later entries same reads kept c taken posts closed =
+      subst (λ (files : Shelf.Files). KeepsWriteBound (does now c) old new files) same (kept c (entries_are words shelf entries reads c taken posts) posts closed)
