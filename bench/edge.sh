@@ -5,14 +5,15 @@
 # usage: bench/edge.sh [WORDS..]    the command that is run; without words it is `list P1`
 # The folders that DATA_FROM and SHELF_FROM name are copied before each run, and stand for DATA and SHELF.
 # Without them there is no DATA, and SHELF is the sample. CALLS is which of the system's calls are looked at, and
-# MOST how many of them fail in turn at most. PROGRAM is a program that is built already; without it the program is
-# built first.
+# MOST how many of them fail in turn at most; with EVERY only one in so many of them fails. PROGRAM is a program that is
+# built already; without it the program is built first.
 
 top=$(dirname -- "$(readlink -f -- "$0")")/..
 program=${PROGRAM:-$top/.build/qwkdoor}
 shelf_from=${SHELF_FROM:-$top/crates/qwkdoor/data/shelf}
 data_from=${DATA_FROM:-}
 most=${MOST:-400}
+every=${EVERY:-1}
 [ $# -gt 0 ] || set -- list P1
 
 if ! command -v strace >/dev/null; then
@@ -110,13 +111,14 @@ sed -n 's/^[a-z0-9_]*([0-9]*<\([^>]*\)>.*/\1/p; t; s/^[^"]*"\([^"]*\)".*/\1/p' "
 
 lay_out
 run sh "$work/narrow" -o "$work/calls" "$program" "$place/data" "$place/shelf" "$@"
-awk -v data="$place/data" -v shelf="$place/shelf" -v said="$place/said" '
+awk -v data="$place/data" -v shelf="$place/shelf" -v said="$place/said" -v every="$every" '
     {
         call = $0
         sub(/\(.*/, "", call)
         count[call]++
         wanted = index($0, shelf) ? 5 : index($0, said) ? 6 : 4
-        print call, count[call], wanted
+        if (NR % every == 0)
+            print call, count[call], wanted
     }' "$work/calls" | head -n "$most" >"$work/each"
 
 # What was said is a front of the whole reply.
