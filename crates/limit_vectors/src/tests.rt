@@ -3,6 +3,7 @@ mod boards;
 mod control;
 mod exports;
 mod fields;
+mod messages;
 mod numbered;
 mod packets;
 mod recovery;

@@ -1,0 +1,189 @@
+//! Each message of a board, held, deleted and gone, and the msgids that the board generates.
+ghost use Rattle.std.specs.Prelude.{IfOk, IsFalse, IsTrue};
+ghost use Rattle.intent_journal.specs.Hosts.{IsSettled};
+ghost use Rattle.mail_board.specs.Held.{Rests};
+ghost use Rattle.memory_outside.specs.MemoryHost.{disk_of};
+
+use anyhow::{Context, bail, ensure};
+use byte_lists::Bytes;
+use door_outside::Host;
+use example_runs::{no_faults, played};
+use jam_records::Message;
+use mail_board::{Board, Loaded};
+use memory_outside::{ImageChoice, MemoryHost};
+use std::alloc::{AllocError, Global};
+
+/// A host on what the last run has synced.
+#[tactic(auto, using(intent_journal::proofs::Hosts::at_rest_is_settled))]
+fn synced(alloc: Global, last: &MemoryHost) -> Result<MemoryHost, AllocError>
+    ensures { IfOk result (λ host. IsSettled (disk_of host)) }
+{
+    last.after_crash(alloc, ImageChoice::Synced, no_faults(alloc))
+}
+
+/// A message as a text: whether it is local, private, read and deleted, and its texts.
+fn described(alloc: Global, message: &Message) -> Result<String, AllocError> {
+    format!(in alloc;
+        "{:?} {} > {}: {} ({}) {}",
+        [
+            message.local,
+            message.private,
+            message.seen,
+            message.deleted
+        ],
+        message.from.as_slice().escape_ascii(),
+        message.to.as_slice().escape_ascii(),
+        message.subject.as_slice().escape_ascii(),
+        message.msgid.as_slice().escape_ascii(),
+        message.body.as_slice().escape_ascii()
+    )
+}
+
+/// The msgid that a board generates for a number in a place, or nothing where there is no such place.
+#[tactic(auto, using(board_commands::proofs::ReportLaws::place_within))]
+fn generated(alloc: Global, board: &Board, place: u8, number: u32) -> Result<Bytes, AllocError> {
+    if usize::from(place) >= board.setup().conferences.len() {
+        return Ok(Bytes::new(alloc));
+    }
+    board.msgid_of(alloc, place, number)
+}
+
+/// The message that was found, or that there is none.
+fn text_of(alloc: Global, found: &Option<Message>) -> Result<String, AllocError> {
+    match found {
+        Some(message) => described(alloc, message),
+        None => String::from_str(alloc, "none"),
+    }
+}
+
+/// The message of a number in a place.
+fn message_text<H: Host>(
+    alloc: Global,
+    board: &Board,
+    host: &mut H,
+    place: u8,
+    number: u32,
+) -> anyhow::Result<String>
+    requires sure { IsFalse board.now.doubtful }
+    requires rests { IsTrue H.tells → Rests board.now.board (H.disk host.old) }
+{
+    let found = board.message(alloc, host, place, number)?;
+    Ok(text_of(alloc, &found)?)
+}
+
+/// What a board says of a number in a place: the msgid that it generates, and the message.
+fn told<H: Host>(
+    alloc: Global,
+    board: &Board,
+    host: &mut H,
+    place: u8,
+    number: u32,
+) -> anyhow::Result<String>
+    requires sure { IsFalse board.now.doubtful }
+    requires rests { IsTrue H.tells → Rests board.now.board (H.disk host.old) }
+{
+    let message = message_text(alloc, board, host, place, number)?;
+    let msgid = generated(alloc, board, place, number)?;
+    let msgid = msgid.as_slice().escape_ascii();
+    Ok(format!(in alloc; "{place} {number} {msgid} = {message}")?)
+}
+
+/// What the board of a host says of a number in a place.
+fn row_of<H: Host>(alloc: Global, host: &mut H, place: u8, number: u32) -> anyhow::Result<String>
+    requires { IsTrue H.tells → IsSettled (H.disk host.old) }
+{
+    match Board::load(alloc, host)? {
+        Loaded::Ready(board) => told(alloc, &board, host, place, number),
+        Loaded::NotMade => bail!("there is no board"),
+    }
+}
+
+/// The place and the number that a row begins with.
+fn place_and_number(row: &str) -> Option<(u8, u32)> {
+    let mut words = row.split(' ');
+    Some((words.next()?.parse().ok()?, words.next()?.parse().ok()?))
+}
+
+/// Looks at each row of a table on the board that was synced.
+fn expect_rows(alloc: Global, last: &MemoryHost, rows: &str) -> anyhow::Result<()> {
+    for row in rows.lines() {
+        let (place, number) = place_and_number(row).context("a row has no number")?;
+        let mut host = synced(alloc, last)?;
+        let found = row_of(alloc, &mut host, place, number)?;
+        ensure!(found.as_str() == row, "{found} in place of {row}");
+    }
+    Ok(())
+}
+
+/// Three messages, of which the second is deleted, and a slot behind them whose message is gone; a letter in the net
+/// conference, which Ann has read; and no message in the last.
+const BOARD: &str = r#"
+* board B
+* put own From: Bob Ray\nTo: All\nSubject: Own\nMsgid: mine\nReply: 0.1.TESTBBS\n\nA\n\nB\n.\n
+* put net From: Bob Ray\nTo: Ann Lee\n\nHi\n.\n
+> import 0 two
+imported 2 into 0
+> import 0 own
+imported 1 into 0
+> import 1 net
+imported 1 into 1
+> kill 0 2
+killed 0 2
+> export "Ann Lee" 10 out
+packet 1: 3 messages
+> ack "Ann Lee" 1
+acknowledged 1
+* damage 4 longer 8 255
+> check
+board TESTBBS
+0 GENERAL: 4 slots, 2 live
+1 NETMAIL: 1 slots, 1 live
+7 NEWS: 0 slots, 0 live
+4 users, 0 uploads, 4079 bytes
+"#;
+
+const ROWS: &str = r#"0 0 0.0.TESTBBS = none
+0 1 0.1.TESTBBS = [true, false, false, false] Bob Ray > All: Hello (0.1.TESTBBS) First line\r
+0 2 0.2.TESTBBS = [true, false, false, true] Bob Ray > All: Hello (0.2.TESTBBS) First line\r
+0 3 0.3.TESTBBS = [true, false, false, false] Bob Ray > All: Own (mine) A\r\rB\r
+0 4 0.4.TESTBBS = none
+0 5 0.5.TESTBBS = none
+0 4294967295 0.4294967295.TESTBBS = none
+1 0 1.0.TESTBBS = none
+1 1 1.1.TESTBBS = [true, true, true, false] Bob Ray > Ann Lee:  (1.1.TESTBBS) Hi\r
+1 9999 1.9999.TESTBBS = none
+2 1 7.1.TESTBBS = none
+2 4294967295 7.4294967295.TESTBBS = none
+3 1  = none
+255 1  = none
+"#;
+
+#[test]
+fn each_message_of_a_board_is_given(rt: HostRuntime) -> anyhow::Result<()> {
+    let alloc = rt.alloc();
+    let stage = played(alloc, BOARD)?;
+    expect_rows(alloc, &stage.host, ROWS)
+}
+
+/// A conference of 9,999 messages, of which the last but one is deleted.
+const FULL: &str = r#"
+* board B
+* add most 9999 From: Bob Ray\nTo: All\nSubject: Hello\n\nFirst line\n.\n
+> import 7 most
+imported 9999 into 7
+> kill 7 9998
+killed 7 9998
+"#;
+
+const LAST_ROWS: &str =
+    r#"2 9998 7.9998.TESTBBS = [true, false, false, true] Bob Ray > All: Hello (7.9998.TESTBBS) First line\r
+2 9999 7.9999.TESTBBS = [true, false, false, false] Bob Ray > All: Hello (7.9999.TESTBBS) First line\r
+2 10000 7.10000.TESTBBS = none
+"#;
+
+#[test]
+fn the_last_messages_of_a_full_conference_are_given(rt: HostRuntime) -> anyhow::Result<()> {
+    let alloc = rt.alloc();
+    let stage = played(alloc, FULL)?;
+    expect_rows(alloc, &stage.host, LAST_ROWS)
+}
