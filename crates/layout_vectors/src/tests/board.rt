@@ -1,149 +1,111 @@
-use board_layout::{ReadError, StoredBoard, read_board};
+//! What the files of boards are read as.
+use super::ledger_texts::ledger_text;
+use board_layout::{StoredBoard, read_board};
+use byte_lists::Bytes;
+use case_texts::{Miss, bytes_of, expect_cases, number_of};
 use door_outside::FileId;
-use jam_records::{Damage, DamageRule};
 use memory_outside::{CallNumbers, FaultPlan, MemoryHost};
 use std::alloc::{AllocError, Global};
-use std::test::Fail;
 
-/// The ledger of a board of three conferences, without users.
-pub(crate) const LEDGER: [u8; 119] =
-    *b"QMDL\x01\0\x03\0\0\0\x02\0\0\0\0\0\0\xCA\x9A;90\0\0\x0A\0Test Board\x0B\0Springfield\x08\0555-0100\x09\0Sam Sysop\x07\0TESTBBS\x01\0\x02\0\0\0\0\x02\x07\0GENERAL\x01\0\x02\0\x07\0NETMAIL\x07\0\0\x01\x04\0NEWS";
+/// The base header of a conference without messages.
+const HEADER: &str = r"JAM\0\0\xCA\x9A;\0\0\0\0\0\0\0\0\xFF\xFF\xFF\xFF\x01\0\{1003}";
 
-/// The same with a user to whom packet 5 is offered, up to message 3 of the first conference.
-const LEDGER_OF_ONE: [u8; 157] =
-    *b"QMDL\x01\0\x03\0\x01\0\x02\0\0\0\0\0\0\xCA\x9A;90\0\0\x0A\0Test Board\x0B\0Springfield\x08\0555-0100\x09\0Sam Sysop\x07\0TESTBBS\x01\0\x02\0\0\0\0\x02\x07\0GENERAL\x01\0\x02\0\x07\0NETMAIL\x07\0\0\x01\x04\0NEWS\x07\0Eve Poe\0\x05\0\0\0\x05\0\0\0\x01\0\0\0\0\0\0\0\x03\0\0\0\0\0\0\0\0\0\0\0";
-
-/// The last-read record of that user.
-const EVE: [u8; 16] = *b"\xF3\x70\xCA\x1C\x01\0\0\0\0\0\0\0\0\0\0\0";
-
-/// The base header of a conference without messages, up to the 1,000 zeros.
-const HEADER: [u8; 24] = *b"JAM\0\0\xCA\x9A;\0\0\0\0\0\0\0\0\xFF\xFF\xFF\xFF\x01\0\0\0";
-
-/// A host of empty files, whose calls fail from one on.
-fn empty(alloc: Global, stop: Option<u32>) -> MemoryHost {
+/// A host of empty files, whose calls fail from one on, or from none where that is 0.
+fn empty(alloc: Global, stop: u32) -> MemoryHost {
     let fails = CallNumbers::new(alloc);
+    let stop = (stop > 0).then_some(stop);
     MemoryHost::new(alloc, FaultPlan { fails, stop })
 }
 
 /// Gives the file of a number these bytes.
-fn put(host: &mut MemoryHost, number: u16, bytes: &[u8]) -> Result<(), Fail> {
-    let file = FileId::new(number).ok_or("no file")?;
+fn put(host: &mut MemoryHost, number: u32, bytes: &[u8]) -> Result<(), Miss> {
+    let number = u16::try_from(number).ok();
+    let file = number.and_then(FileId::new).ok_or(Miss::Words)?;
     if bytes.len() > 0x7FFF_FFFF {
-        return Err("too long".into());
+        return Err(Miss::Unreached);
     }
     host.put(file, bytes)?;
     Ok(())
 }
 
-/// Puts the files of the board of three conferences, without users and messages.
-fn put_board(alloc: Global, host: &mut MemoryHost) -> Result<(), Fail> {
-    put(host, 0, &LEDGER)?;
-    let mut header = HEADER.to_vec(alloc)?;
-    header.resize(1024, 0)?;
+/// Puts the files of the board of three conferences and these users, without messages.
+fn put_board(alloc: Global, host: &mut MemoryHost, users: &[u8]) -> Result<(), Miss> {
+    let ledger = ledger_text(alloc, users, b"")?;
+    put(host, 0, ledger.as_slice())?;
+    let header = bytes_of(alloc, HEADER.as_bytes())?;
     for number in [2, 6, 10] {
-        put(host, number, &header)?;
+        put(host, number, header.as_slice())?;
     }
     Ok(())
+}
+
+/// Puts files, each by its number and its bytes.
+fn put_files(host: &mut MemoryHost, words: &[Bytes]) -> Result<(), Miss> {
+    for file in words.chunks(2) {
+        let [number, bytes] = file else {
+            return Err(Miss::Words);
+        };
+        put(host, number_of(number.as_slice())?, bytes.as_slice())?;
+    }
+    Ok(())
+}
+
+/// How many bytes the files have, of each place how many slots there are, the serial number, and how many conferences
+/// there are.
+fn described(alloc: Global, board: &StoredBoard) -> Result<String, AllocError> {
+    let slots = [0, 1, 2, 3].map(|place| Some(board.base(place)?.slot_count()));
+    let serial = board.ledger().setup.serial;
+    format!(in alloc;
+        "{} {slots:?} {serial} {}",
+        board.size(),
+        board.bases().len()
+    )
 }
 
 /// What the files of a host are read as.
-fn read(alloc: Global, host: &mut MemoryHost) -> Result<Option<StoredBoard>, ReadError> {
-    read_board(alloc, host)
-}
-
-#[test]
-fn empty_files_are_no_board(rt: HostRuntime) -> Result<(), Fail> {
-    let mut host = empty(rt.alloc(), None);
-    assert!(rt; read(rt.alloc(), &mut host)?.is_none());
-    Ok(())
-}
-
-/// How many bytes the board's files have, and of each place how many slots there are.
-fn counts(board: &StoredBoard) -> (u64, [Option<u32>; 4]) {
-    let slots = [0, 1, 2, 3].map(|place| Some(board.base(place)?.slot_count()));
-    (board.size(), slots)
-}
-
-#[test]
-fn a_board_is_read(rt: HostRuntime) -> Result<(), Fail> {
-    let mut host = empty(rt.alloc(), None);
-    put_board(rt.alloc(), &mut host)?;
-    let board = read(rt.alloc(), &mut host)?.ok_or("no board")?;
-    assert_eq!(rt; counts(&board), (3191, [Some(0), Some(0), Some(0), None]));
-    assert_eq!(rt; board.ledger().setup.serial, 12345);
-    assert_eq!(rt; board.bases().len(), 3);
-    Ok(())
-}
-
-/// What the board with these bytes in these files in place of its own is read as.
-fn damage_with(alloc: Global, files: &[(u16, &[u8])]) -> Result<Option<Damage>, Fail> {
-    let mut host = empty(alloc, None);
-    put_board(alloc, &mut host)?;
-    for (number, bytes) in files {
-        put(&mut host, *number, bytes)?;
-    }
-    match read(alloc, &mut host) {
-        Ok(_) => Ok(None),
-        Err(ReadError::Damaged(damage)) => Ok(Some(damage)),
-        Err(error) => Err(error.into()),
+fn outcome(alloc: Global, host: &mut MemoryHost) -> Result<String, AllocError> {
+    match read_board(alloc, host) {
+        Ok(Some(board)) => described(alloc, &board),
+        Ok(None) => String::from_str(alloc, "none"),
+        Err(error) => format!(in alloc; "{error}"),
     }
 }
 
-/// The damage of a record of a file.
-pub(crate) fn named(file: u16, item: u32, rule: DamageRule) -> Option<Damage> {
-    Some(Damage { file, item, rule })
-}
-
-#[test]
-fn the_first_damage_of_a_file_is_named(rt: HostRuntime) -> Result<(), Fail> {
-    let cases: [(u16, &[u8], u32, DamageRule); 6] = [
-        (0, b"", 0, DamageRule::Short),
-        (5, b"x", 0, DamageRule::Rest),
-        (6, b"", 0, DamageRule::Short),
-        (12, b"x", 0, DamageRule::Short),
-        (14, b"x", 0, DamageRule::Rest),
-        (257, b"x", 0, DamageRule::Rest),
-    ];
-    for (file, bytes, item, rule) in cases {
-        let damage = damage_with(rt.alloc(), &[(file, bytes)])?;
-        assert_eq!(rt; damage, named(file, item, rule), "{file}");
+/// What a board is read as: the call from which on all fail, the users or `-` for no board, and files in place of its own.
+fn board_read(alloc: Global, words: &[Bytes]) -> Result<String, Miss> {
+    let [stop, users, files @ ..] = words else {
+        return Err(Miss::Words);
+    };
+    let mut host = empty(alloc, number_of(stop.as_slice())?);
+    if users.as_slice() != b"-".as_slice() {
+        put_board(alloc, &mut host, users.as_slice())?;
     }
-    Ok(())
+    put_files(&mut host, files)?;
+    Ok(outcome(alloc, &mut host)?)
 }
 
-#[test]
-fn a_high_comes_last(rt: HostRuntime) -> Result<(), Fail> {
-    let user: [(u16, &[u8]); 2] = [(0, &LEDGER_OF_ONE), (5, &EVE)];
-    assert_eq!(rt;
-        damage_with(rt.alloc(), &user)?,
-        named(0, 4, DamageRule::High)
-    );
-    let rest: [(u16, &[u8]); 3] = [(0, &LEDGER_OF_ONE), (5, &EVE), (255, b"x")];
-    assert_eq!(rt;
-        damage_with(rt.alloc(), &rest)?,
-        named(255, 0, DamageRule::Rest)
-    );
-    Ok(())
-}
+/// The first damage comes by file; a high behind the conferences, whose last-read record of Eve is there; the size before
+/// all. The faults are those of the first call, of the first after the lengths of 257 files, and of the length of the last
+/// file.
+const BOARDS: &str = r#"
+0 - => none
+0 "" => 3191 [Some(0), Some(0), Some(0), None] 12345 3
+0 "" 0 "" => damaged: file 0, record 0, Short
+0 "" 5 x => damaged: file 5, record 0, Rest
+0 "" 6 "" => damaged: file 6, record 0, Short
+0 "" 12 x => damaged: file 12, record 0, Short
+0 "" 14 x => damaged: file 14, record 0, Rest
+0 "" 257 x => damaged: file 257, record 0, Rest
+0 E 5 \xF3\x70\xCA\x1C\x01\0\0\0\0\0\0\0\0\0\0\0 => damaged: file 0, record 4, High
+0 E 5 \xF3\x70\xCA\x1C\x01\0\0\0\0\0\0\0\0\0\0\0 255 x => damaged: file 255, record 0, Rest
+0 "" 3 \0\{33551242} => damaged: file 0, record 0, Size
+0 "" 3 \0\{33551241} => damaged: file 3, record 1, Rest
+1 "" => disk fault
+258 "" => disk fault
+527 "" => disk fault
+"#;
 
 #[test]
-fn the_size_comes_first(rt: HostRuntime) -> Result<(), Fail> {
-    let zeros = vec![in rt.alloc(); 0u8; 33_551_242]?;
-    let long = damage_with(rt.alloc(), &[(3, &zeros)])?;
-    assert_eq!(rt; long, named(0, 0, DamageRule::Size));
-    let longest = damage_with(rt.alloc(), &[(3, &zeros[1..])])?;
-    assert_eq!(rt; longest, named(3, 1, DamageRule::Rest));
-    Ok(())
-}
-
-#[test]
-fn a_fault_is_told(rt: HostRuntime) -> Result<(), Fail> {
-    // The first call, the first after the lengths of 257 files, and the length of the last file.
-    for stop in [1, 258, 527] {
-        let mut host = empty(rt.alloc(), Some(stop));
-        put_board(rt.alloc(), &mut host)?;
-        let error = read(rt.alloc(), &mut host).err();
-        assert_eq!(rt; error, Some(ReadError::DiskFault), "{stop}");
-    }
-    Ok(())
+fn boards_are_read(rt: HostRuntime) -> Result<(), Miss> {
+    expect_cases(rt.alloc(), BOARDS, board_read)
 }

@@ -1,42 +1,51 @@
 //! A further user of a new board.
 use board_changes::{fits_user, made, size_with_user};
 use board_layout::StoredBoard;
+use byte_lists::Bytes;
+use case_texts::{Miss, expect_cases, number_of};
 use setup_file::Setup;
 use std::alloc::Global;
-use std::test::Fail;
 
 /// A setup of three conferences.
-const SETUP: [u8; 194] =
-    *b"board: Test Board\ncity: Springfield\nphone: 555-0100\nsysop: Sam Sysop\nbbsid: TESTBBS\nserial: 12345\nzones: 1 2\nconference: 0 local p GENERAL\nconference: 1 net - NETMAIL\nconference: 7 local r NEWS\n";
-
-/// How many bytes its new board has: a ledger of 119 bytes, and three base headers.
-const NEW_SIZE: u64 = 119 + 3 * 1024;
+const SETUP: &str =
+    "board: Test Board\ncity: Springfield\nphone: 555-0100\nsysop: Sam Sysop\nbbsid: TESTBBS\nserial: 12345\nzones: 1 2\nconference: 0 local p GENERAL\nconference: 1 net - NETMAIL\nconference: 7 local r NEWS\n";
 
 /// The board of the setup.
-fn new_board(alloc: Global) -> Result<StoredBoard, Fail> {
-    let setup = Setup::parse(alloc, &SETUP)?;
-    Ok(made(alloc, setup, 1_000_000_000)?.board)
+fn new_board(alloc: Global) -> Result<StoredBoard, Miss> {
+    let text = SETUP.as_bytes();
+    if text.len() > 0x7FFF_FFFF {
+        return Err(Miss::Unreached);
+    }
+    match Setup::parse(alloc, text) {
+        Ok(setup) => Ok(made(alloc, setup, 1_000_000_000)?.board),
+        Err(_) => Err(Miss::Unreached),
+    }
 }
 
-/// Names and places, how many bytes they add, and whether they fit.
-const USERS: [(&[u8], u64, u64, bool); 6] = [
-    (b"Bob Ray", 0b001, 38 + 16, true),
-    (b"Bob Ray", 0b111, 38 + 3 * 16, true),
-    (b"Bob Ray", 0b000, 38, false),
-    (b"Bob Ray", 0b1000, 38, false),
-    (b" Bob Ray", 0b001, 39 + 16, false),
-    (b"", 0b001, 31 + 16, false),
-];
+/// How many bytes the new board has with a user of a name in places, and whether the user fits.
+fn with_user(alloc: Global, words: &[Bytes]) -> Result<String, Miss> {
+    let [name, members] = words else {
+        return Err(Miss::Words);
+    };
+    let members = u64::from(number_of(members.as_slice())?);
+    let board = new_board(alloc)?;
+    let size = size_with_user(&board, name.as_slice(), false, members);
+    let fits = fits_user(&board, name.as_slice(), false, members);
+    Ok(format!(in alloc; "{size} fits {fits}")?)
+}
+
+/// The places are the bits of a number. The new board has a ledger of 119 bytes and three base headers of 1,024; a user's
+/// record has 31 bytes and the name, and a last-read record 16.
+const USERS: &str = r#"
+"Bob Ray" 1 => 3245 fits true
+"Bob Ray" 7 => 3277 fits true
+"Bob Ray" 0 => 3229 fits false
+"Bob Ray" 8 => 3229 fits false
+" Bob Ray" 1 => 3246 fits false
+"" 1 => 3238 fits false
+"#;
 
 #[test]
-fn users_fit_by_name_and_places(rt: HostRuntime) -> Result<(), Fail> {
-    let board = new_board(rt.alloc())?;
-    for (name, members, added, fits) in USERS {
-        assert_eq!(rt;
-            size_with_user(&board, name, false, members),
-            NEW_SIZE + added
-        );
-        assert_eq!(rt; fits_user(&board, name, false, members), fits);
-    }
-    Ok(())
+fn users_fit_by_name_and_places(rt: HostRuntime) -> Result<(), Miss> {
+    expect_cases(rt.alloc(), USERS, with_user)
 }
