@@ -167,14 +167,31 @@ expect 'imported 31 into 31' half batch lines
 expect 'imported 31 into 63' whole batch lines
 grow 'check of 16 MB and 33 MB of messages' check
 
+# Puts as many lines into a batch of each size, of the numbers from 1 on.
+lines() {
+    awk -v count="$1" -v form="$3" 'BEGIN { for (i = 1; i <= count; i++) { line = form; gsub(/#/, i, line); print line } }' >"$work/half/lines"
+    awk -v count="$2" -v form="$3" 'BEGIN { for (i = 1; i <= count; i++) { line = form; gsub(/#/, i, line); print line } }' >"$work/whole/lines"
+}
+
 renew 1
-for count in 1000 2000; do
-    [ "$count" -eq 1000 ] && size=half || size=whole
-    sheet "$count" 3 >"$work/$size/sheet"
-    expect "imported $count into 0" "$size" import 0 sheet
-    awk -v count="$count" 'BEGIN { for (i = 1; i <= count; i++) printf "kill 0 %d\n", i }' >"$work/$size/lines"
+sheet 5000 3 >"$work/half/sheet"
+sheet 9999 3 >"$work/whole/sheet"
+expect 'imported 5000 into 0' half import 0 sheet
+expect 'imported 9999 into 0' whole import 0 sheet
+lines 5000 9999 'kill 0 #'
+grow 'deleting 5,000 and 9,999 messages in a batch' batch lines
+
+lines 1000 2000 'export "Ann Lee" 1 out\nack "Ann Lee" #'
+grow '1,000 and 2,000 acknowledgements in a batch' batch lines
+
+renew 1
+for size in half whole; do
+    sheet 9000 3 >"$work/$size/sheet"
+    sheet 1 3 >"$work/$size/small"
+    expect 'imported 9000 into 0' "$size" import 0 sheet
 done
-grow 'deleting 1,000 and 2,000 messages in a batch' batch lines
+lines 250 500 'import 0 small'
+grow '250 and 500 imports of one into 9,000 in a batch' batch lines
 
 packet 81919 >"$work/half/BIG"
 packet 163839 >"$work/whole/BIG"
