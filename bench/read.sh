@@ -43,11 +43,12 @@ send() {
     mv -- "$box/TESTBBS.REP" "$work/sent/$(printf '%06d' "$sent")" 2>/dev/null
 }
 
-# The editor gives each answer a number of its own.
+# The editor gives each answer a number of its own, also where it was killed while it took one.
 cat >"$VISUAL" <<EDITOR
 #!/bin/sh
 number=\$((\$(cat '$work/number') + 1))
-echo "\$number" >'$work/number'
+echo "\$number" >'$work/number.new'
+mv -- '$work/number.new' '$work/number'
 echo "Answer \$number." >"\$1"
 EDITOR
 chmod +x "$VISUAL"
