@@ -40,7 +40,6 @@ fn described(alloc: Global, message: &Message) -> Result<String, AllocError> {
 }
 
 /// The msgid that a board generates for a number in a place, or nothing where there is no such place.
-#[tactic(auto, using(board_commands::proofs::ReportLaws::place_within))]
 fn generated(alloc: Global, board: &Board, place: u8, number: u32) -> Result<Bytes, AllocError> {
     if usize::from(place) >= board.setup().conferences.len() {
         return Ok(Bytes::new(alloc));
