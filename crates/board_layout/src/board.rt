@@ -111,16 +111,6 @@ impl StoredBoard {
         self.bases.get(usize::from(place))
     }
 
-    /// Its ledger and its conferences, by place.
-    pub fn into_parts(self) -> (Ledger, Bases)
-        ensures ledger { result.0 ≡ self.ledger }
-        ensures conferences { conferences_in result.1 ≡ self.conferences }
-        ensures shapes { shapes_in result.1 ≡ shapes_of self.ledger }
-        ensures board { IsBoard self }
-    {
-        (self.ledger, List::from_vec(self.bases))
-    }
-
     /// Puts a ledger in place of its own, where there is one, and each new conference in place of the old one. It
     /// takes no memory.
     pub fn renew(&mut self, ledger: Option<Ledger>, bases: List<Option<Base>>)

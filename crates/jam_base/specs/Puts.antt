@@ -18,6 +18,7 @@ use Rattle.jam_layout.specs.Index.{index_records}
 use Rattle.jam_layout.specs.Layout.{entries_of, files_size}
 use Rattle.jam_layout.specs.Sizes.{slot_header}
 use Rattle.jam_layout.specs.declared.conference.Conference.{Conference}
+use Rattle.jam_layout.specs.declared.entry.Entry.{Entry}
 use Rattle.jam_layout.specs.declared.files.BaseFiles.{BaseFiles}
 use Rattle.jam_layout.specs.declared.shape.Shape.{Shape}
 use Rattle.jam_writing.specs.Pieces.{body_piece, body_size}
@@ -40,10 +41,14 @@ abbrev pub link_puts : ℕ → List Slot → List Slot → List Message → List
 link_puts place old slots [] = []
 link_puts place old slots (m ∷ messages) = link_put place old (link_change slots m.replyid) ++ link_puts place old (slots ++ Held m ∷ []) messages
 
+-- the messages of the slots behind so many others, with their numbers and links
+abbrev pub last_entries : ℕ → Conference → List Entry
+last_entries count c = entries_of (link_of c.slots) (count + 1) (drop count c.slots)
+
 -- what the slots behind so many others add at the end of .JHR, of .JDT and of .JDX
 abbrev pub last_headers : Shape → ℕ → Conference → Patch
 last_headers shape count c =
-    Put (jhr_file shape.place) (1024 + sum_by slot_header (take count c.slots)) (headers_text shape.kind (sum_by body_size (take count c.slots)) (entries_of (link_of c.slots) (count + 1) (drop count c.slots)))
+    Put (jhr_file shape.place) (1024 + sum_by slot_header (take count c.slots)) (headers_text shape.kind (sum_by body_size (take count c.slots)) (last_entries count c))
 
 abbrev pub last_bodies : ℕ → ℕ → Conference → Patch
 last_bodies place count c = Put (jdt_file place) (sum_by body_size (take count c.slots)) (flat_map body_piece (drop count c.slots))

@@ -59,7 +59,8 @@ AreTried words shelf entries = EntriesRead words shelf entries ⊎ (entries ≡ 
 pub record HoldsAsThen (now : ℕ) (entries : List Entry) (old : Disk) (image : Image) : Type 0 where
   pub before : Image
   pub could_be : Now old before
-  pub holds : (start : State) (deeds : List (Deed Entry)) → IsHistory steps start deeds → StandFor (reached start deeds) (recovered before.files) → HoldsFront now start deeds entries (recovered image.files)
+  pub holds : (start : State) (deeds : List (Deed Entry)) → IsHistory steps start deeds
+      → StandFor (reached start deeds) (recovered before.files) → HoldsFront now start deeds entries (recovered image.files)
 
 -- A run of words behind a history: at its end, and after a crash at any moment of it, the files hold a front of its entries.
 module _ (now : ℕ) (words : List (List ℕ)) where
@@ -73,7 +74,8 @@ module _ (now : ℕ) (words : List (List ℕ)) where
 
   abbrev pub RunContinues : Disk → Disk → Shelf.Files → Type 0
   RunContinues old new shelf =
-      (start : State) (deeds : List (Deed Entry)) → IsHistory steps start deeds → StandFor (reached start deeds) (recovered old.files) → RunEndsSo start deeds new shelf × RunBreaksSo start deeds old new shelf
+      (start : State) (deeds : List (Deed Entry)) → IsHistory steps start deeds
+      → StandFor (reached start deeds) (recovered old.files) → RunEndsSo start deeds new shelf × RunBreaksSo start deeds old new shelf
 
 -- ---- many runs
 -- What was carried out of a run, to its end or to where a fault or a crash cut it short: its moment, the shelf at its entry
