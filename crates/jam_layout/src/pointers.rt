@@ -13,6 +13,7 @@ use door_outside::FileId;
 use jam_records::DamageRule;
 use name_crc::name_crc;
 use record_numbers::u32_at;
+use shared_lists::Shared;
 use std::alloc::Global;
 
 /// The pointer of a reader, whose record is at the front.
@@ -45,7 +46,7 @@ pub fn pointers_of(
     alloc: Global,
     place: u8,
     count: u32,
-    readers: &[Reader],
+    readers: &[Shared<Reader>],
     bytes: &[u8],
 ) -> Result<List<u32>, BaseError>
     requires place { place < 64 }
@@ -55,7 +56,7 @@ pub fn pointers_of(
     let mut pointers = List::new(alloc);
     let mut rest = bytes;
     for (j, reader) in readers.iter().enumerate() {
-        let pointer = pointer_of(place, count, j as u32, reader, rest)?;
+        let pointer = pointer_of(place, count, j as u32, reader.get(), rest)?;
         pointers.add(pointer)?;
         rest = &rest[16..];
     }

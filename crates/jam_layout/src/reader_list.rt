@@ -4,13 +4,14 @@ ghost use Rattle.jam_layout.specs.Reader.{IsReader};
 
 use crate::reader::Reader;
 use byte_lists::List;
+use shared_lists::Shared;
 use std::alloc::{AllocError, Global};
 use std::marker::Model;
 
-/// The readers of a conference. Their ids rise. Contracts see them in order.
+/// The readers of a conference. Their ids rise. A copy shares them. Contracts see them in order.
 #[derive(Debug, Drop)]
 pub struct Readers {
-    inner: List<Reader>,
+    inner: List<Shared<Reader>>,
 }
 
 impl Model for Readers {
@@ -36,12 +37,12 @@ impl Readers {
     }
 
     /// Adds a reader at the end. Where there is no memory, the list is unchanged and the reader dropped.
-    pub fn add(&mut self, reader: Reader) -> Result<(), AllocError>
+    pub fn add(&mut self, alloc: Global, reader: Reader) -> Result<(), AllocError>
         ensures ok { OnOk result (self.new ≡ self.old ++ reader ∷ []) }
         ensures err { OnErr result (self.new ≡ self.old) }
     {
         let _name = reader.name.as_slice();
-        self.inner.add(reader)
+        self.inner.add(Shared::new(alloc, reader)?)
     }
 
     /// How many readers there are.
@@ -55,7 +56,7 @@ impl Readers {
     pub fn get(&self, place: usize) -> Option<&Reader>
         ensures { option_copied result ≡ slice_get self.now place }
     {
-        self.inner.get(place)
+        self.inner.get(place).map(|reader| reader.get())
     }
 
     /// The place, from 0, of the reader with this id, or None where there is none.
@@ -66,18 +67,20 @@ impl Readers {
         self.inner
             .as_slice()
             .iter()
-            .position(|reader| reader.id == id)
+            .position(|reader| reader.get().id == id)
     }
 
     /// The readers.
-    pub fn as_slice(&self) -> &[Reader]
+    pub fn as_slice(&self) -> &[Shared<Reader>]
         ensures same { result.now ≡ self.now }
         ensures fit { All IsReader self.now }
     {
         self.inner.as_slice()
     }
 
-    /// An equal list.
+    /// An equal list, which shares its readers.
+    ///
+    /// The error comes where there is no memory.
     pub fn copy(&self, alloc: Global) -> Result<Readers, AllocError>
         ensures { IfOk result (λ copy. copy ≡ self.now) }
     {

@@ -5,6 +5,7 @@ use crate::reader::Reader;
 use crate::reader_list::Readers;
 use byte_lists::Duplicate;
 use jam_records::Kind;
+use shared_lists::Shared;
 use std::alloc::{AllocError, Global};
 
 /// What the board says of a conference.
@@ -29,7 +30,7 @@ impl Shape {
     }
 
     /// Its readers, in order, of which the numbers and names are of their types.
-    pub(crate) fn reader_slice(&self) -> &[Reader]
+    pub(crate) fn reader_slice(&self) -> &[Shared<Reader>]
         ensures same { result.now ≡ self.now.readers }
         ensures fit { ShapeFits self.now }
     {

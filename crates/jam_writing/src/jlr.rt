@@ -1,10 +1,12 @@
 ghost use Rattle.std.specs.Prelude.{◌≡◌, IfOk};
+ghost use Rattle.jam_records.specs.LastReads.{last_text};
 ghost use Rattle.jam_layout.specs.Readers.{last_read as record_of, last_reads};
 
 use byte_lists::Bytes;
 use jam_layout::Reader;
 use jam_records::{LastRead, write_last};
 use name_crc::name_crc;
+use shared_lists::Shared;
 use std::alloc::{AllocError, Global};
 
 /// The last-read record of a reader with this pointer.
@@ -19,15 +21,26 @@ fn last_read(reader: &Reader, pointer: u32) -> LastRead
     }
 }
 
+/// The bytes of the last-read record of a reader with this pointer.
+pub fn write_reader(reader: &Reader, pointer: u32) -> [u8; 16]
+    ensures { result ≡ last_text (record_of reader.now pointer) }
+{
+    write_last(&last_read(reader, pointer))
+}
+
 /// The bytes of .JLR: the records of readers with these pointers.
 ///
 /// The error comes where there is no memory.
-pub fn write_jlr(alloc: Global, readers: &[Reader], pointers: &[u32]) -> Result<Bytes, AllocError>
+pub fn write_jlr(
+    alloc: Global,
+    readers: &[Shared<Reader>],
+    pointers: &[u32],
+) -> Result<Bytes, AllocError>
     ensures { IfOk result (λ jlr. jlr ≡ last_reads readers.now pointers.now) }
 {
     let mut jlr = Bytes::new(alloc);
     for (reader, pointer) in readers.iter().zip(pointers) {
-        jlr.add(&write_last(&last_read(reader, *pointer)))?;
+        jlr.add(&write_reader(reader.get(), *pointer))?;
     }
     Ok(jlr)
 }

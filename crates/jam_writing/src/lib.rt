@@ -15,5 +15,5 @@ pub use header::add_header;
 pub use jdt::write_jdt;
 pub use jdx::write_jdx;
 pub use jhr::write_jhr;
-pub use jlr::write_jlr;
+pub use jlr::{write_jlr, write_reader};
 pub use last::{write_last_bodies, write_last_headers, write_last_records};
