@@ -9,7 +9,7 @@ use Rattle.std.proofs.lemmas.List.{drop_all}
 use Rattle.std.proofs.lemmas.List.Elements.{All-append, All-cons, All-head, All-nil, All-tail}
 use Rattle.door_outside.specs.Disk.{written}
 use Rattle.door_outside.specs.File.{jhr_file, jdt_file, jlr_file}
-use Rattle.record_numbers.specs.Numbers.{u32_text}
+use Rattle.record_numbers.specs.Numbers.{u32_text, u32s_text}
 use Rattle.intent_journal.specs.Patches.{Files, apply, file_of, patched}
 use Rattle.intent_journal.specs.declared.patch.Patch.{Patch}
 use Rattle.intent_journal.specs.declared.patch.Patch.TheVariants.{Put, Whole}
@@ -29,7 +29,7 @@ use Rattle.jam_writing.specs.Pieces.{body_piece, body_size}
 use Rattle.jam_writing.proofs.PieceLaws.{bodies_are, bodies_length}
 use Rattle.jam_base.specs.Bodies.{Lengthens}
 use Rattle.jam_base.specs.Contents.{Contents}
-use Rattle.jam_base.specs.MarkPuts.{marks_put, pointer_patch, pointer_put, receive_put, receive_puts}
+use Rattle.jam_base.specs.MarkPuts.{marks_put, pointer_patch, receive_put, receive_puts, record_patch, record_put}
 use Rattle.jam_base.specs.Places.{header_place, field_place}
 use Rattle.jam_base.specs.Puts.{append_puts, counts_put, last_bodies, last_headers, last_records, link_put, link_puts}
 use Rattle.jam_base.specs.Slots.{is_due}
@@ -104,12 +104,15 @@ received_spares kind place name r at n (Held m ∷ slots) =
     (one_spares place mark (is_due name r n m) (λ e. omega (arith, e)))
     (received_spares kind place name r (at + slot_header (Held m)) (n + 1) slots)
 
-pub pointer_spares : (base : Contents) (reader number : ℕ) → SparesBodies base.shape.place (pointer_patch base reader number)
-pointer_spares base reader number = by (nat_lt reader 0x7FF_FFFF)
+pub record_spares : (base : Contents) (reader at : ℕ) (bytes : List ℕ) → SparesBodies base.shape.place (record_patch base reader at bytes)
+record_spares base reader at bytes = by (nat_lt reader 0x7FF_FFFF)
   where
-    by : (few : Bool) → SparesBodies base.shape.place (cond few (pointer_put base.shape.place reader number) (Whole (jlr_file base.shape.place) (layout base.shape base.conference).jlr))
+    by : (few : Bool) → SparesBodies base.shape.place (cond few (record_put base.shape.place reader at bytes) (Whole (jlr_file base.shape.place) (layout base.shape base.conference).jlr))
     by true = λ e. omega (arith, e)
     by false = λ e. omega (arith, e)
+
+pub pointer_spares : (base : Contents) (reader number : ℕ) → SparesBodies base.shape.place (pointer_patch base reader number)
+pointer_spares base reader number = record_spares base reader 8 (u32s_text (number ∷ number ∷ []))
 
 -- ---- messages more
 module _ (shape : Shape) (c : Conference) (counter : ℕ) (messages : List Message) where

@@ -19,6 +19,7 @@ pub mod MarkTurns
 pub mod MarkLoop
 pub mod MarkClauses
 pub mod PointerPuts
+pub mod ReaderPuts
 pub mod BaseLaws
 pub mod ReceivedLoop
 pub mod DueRange

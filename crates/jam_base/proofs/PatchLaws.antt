@@ -8,7 +8,7 @@ use Rattle.intent_journal.specs.Journal.{patch_text, patches_text}
 use Rattle.intent_journal.specs.declared.patch.Patch.{Patch}
 use Rattle.intent_journal.specs.declared.patch.Patch.TheVariants.{Whole}
 use Rattle.door_outside.specs.File.{jhr_file, jdt_file, jdx_file, jlr_file}
-use Rattle.jam_base.specs.Change.{whole_jhr, whole_jlr, whole_reading, whole_messages, whole_files, IsOfPlace, IsElsewhere, Turns, SuitsIntent}
+use Rattle.jam_base.specs.Change.{whole_files, IsOfPlace, IsElsewhere, Turns, SuitsIntent}
 use Rattle.jam_layout.specs.Layout.{files_size}
 use Rattle.jam_layout.specs.declared.files.BaseFiles.{BaseFiles}
 
@@ -33,7 +33,7 @@ not_here place file (inr above) k within = λ e. omega (arith, e, above, within.
 alone : (place : ℕ) (old : BaseFiles) (patch : Patch) → IsOfPlace place (file_of patch) → (files : Files) (file : ℕ) → IsElsewhere place file → apply patch files file ≡ files file
 alone place old patch within files file away = elsewhere patch files file (not_here place file away (file_of patch) within)
 
-pub jhr_turns : (place : ℕ) (old : BaseFiles) (jhr : List ℕ) → Turns place old (record old { jhr = jhr }) (Whole (jhr_file place) jhr ∷ [])
+jhr_turns : (place : ℕ) (old : BaseFiles) (jhr : List ℕ) → Turns place old (record old { jhr = jhr }) (Whole (jhr_file place) jhr ∷ [])
 jhr_turns place old jhr =
     let patch : Patch = Whole (jhr_file place) jhr in
     record {
@@ -47,7 +47,7 @@ jhr_turns place old jhr =
       others = alone place old patch (omega arith, omega arith);
     }
 
-pub jdt_turns : (place : ℕ) (old : BaseFiles) (jdt : List ℕ) → Turns place old (record old { jdt = jdt }) (Whole (jdt_file place) jdt ∷ [])
+jdt_turns : (place : ℕ) (old : BaseFiles) (jdt : List ℕ) → Turns place old (record old { jdt = jdt }) (Whole (jdt_file place) jdt ∷ [])
 jdt_turns place old jdt =
     let patch : Patch = Whole (jdt_file place) jdt in
     record {
@@ -61,7 +61,7 @@ jdt_turns place old jdt =
       others = alone place old patch (omega arith, omega arith);
     }
 
-pub jdx_turns : (place : ℕ) (old : BaseFiles) (jdx : List ℕ) → Turns place old (record old { jdx = jdx }) (Whole (jdx_file place) jdx ∷ [])
+jdx_turns : (place : ℕ) (old : BaseFiles) (jdx : List ℕ) → Turns place old (record old { jdx = jdx }) (Whole (jdx_file place) jdx ∷ [])
 jdx_turns place old jdx =
     let patch : Patch = Whole (jdx_file place) jdx in
     record {
@@ -100,20 +100,7 @@ turns_then place old between new patch patches one others = record {
   others = λ files file away. others.others (apply patch files) file away ∙ one.others files file away;
 }
 
--- ---- several files
-pub reading_turns : (place : ℕ) (old : BaseFiles) (jhr jlr : List ℕ) → Turns place old (record old { jhr = jhr; jlr = jlr }) (Whole (jhr_file place) jhr ∷ Whole (jlr_file place) jlr ∷ [])
-reading_turns place old jhr jlr =
-    let one : BaseFiles = record old { jhr = jhr } in
-    turns_then place old one (record one { jlr = jlr }) (Whole (jhr_file place) jhr) (Whole (jlr_file place) jlr ∷ []) (jhr_turns place old jhr) (jlr_turns place one jlr)
-
-pub messages_turn : (place : ℕ) (old : BaseFiles) (jhr jdt jdx : List ℕ) → Turns place old (record old { jhr = jhr; jdt = jdt; jdx = jdx }) (Whole (jhr_file place) jhr ∷ Whole (jdt_file place) jdt ∷ Whole (jdx_file place) jdx ∷ [])
-messages_turn place old jhr jdt jdx =
-    let one : BaseFiles = record old { jhr = jhr } in
-    let two : BaseFiles = record one { jdt = jdt } in
-    let three : BaseFiles = record two { jdx = jdx } in
-    turns_then place old one three (Whole (jhr_file place) jhr) (Whole (jdt_file place) jdt ∷ Whole (jdx_file place) jdx ∷ []) (jhr_turns place old jhr)
-    (turns_then place one two three (Whole (jdt_file place) jdt) (Whole (jdx_file place) jdx ∷ []) (jdt_turns place one jdt) (jdx_turns place two jdx))
-
+-- ---- all four files
 pub whole_turns : (place : ℕ) (new old : BaseFiles) → Turns place old new (whole_files place new)
 whole_turns place new old =
     let one : BaseFiles = record old { jhr = new.jhr } in
@@ -137,9 +124,6 @@ module _ (place : ℕ) (new : BaseFiles) where
     differ (jdt_file place) (jlr_file place) (omega arith),
     differ (jdx_file place) (jlr_file place) (omega arith),
   ) refl
-
-  once_three : IsTrue (is_once (whole_messages place new))
-  once_three = rw (differ (jhr_file place) (jdt_file place) (omega arith), differ (jhr_file place) (jdx_file place) (omega arith), differ (jdt_file place) (jdx_file place) (omega arith)) refl
 
   jdx_length : (rest : List Patch) → length (patches_text (Whole (jdx_file place) new.jdx ∷ rest)) ≡ 11 + (length new.jdx + length (patches_text rest))
   jdx_length rest = text_more (jdx_file place) new.jdx (patches_text rest)
@@ -200,33 +184,9 @@ module _ (place : ℕ) (new : BaseFiles) where
   unfolding Ends
   nothing_small = record { within = All-nil (λ (patch : Patch). IsOfPlace place (file_of patch)); once = refl; ends = no_ends; short = omega arith }
 
-  pub jhr_small : SuitsIntent place new (whole_jhr place new)
-  unfolding OfPlace Ends
-  jhr_small = record { within = jhr_within [] none; once = refl; ends = jhr_ends [] no_ends; short = at_most _ _ _ (text_more (jhr_file place) new.jhr []) (omega arith) }
-
-  pub jlr_small : SuitsIntent place new (whole_jlr place new)
+  pub jlr_small : SuitsIntent place new (Whole (jlr_file place) new.jlr ∷ [])
   unfolding OfPlace Ends
   jlr_small = record { within = jlr_within [] none; once = refl; ends = jlr_ends [] no_ends; short = at_most _ _ _ (text_more (jlr_file place) new.jlr []) (omega arith) }
-
-  pub reading_small : SuitsIntent place new (whole_reading place new)
-  unfolding OfPlace Ends
-  reading_small = record {
-    ends = jhr_ends (Whole (jlr_file place) new.jlr ∷ []) (jlr_ends [] no_ends);
-    within = jhr_within (Whole (jlr_file place) new.jlr ∷ []) (jlr_within [] none);
-    once = rw (differ (jhr_file place) (jlr_file place) (omega arith)) refl;
-    short = at_most _ _ _
-        (text_more (jhr_file place) new.jhr (patches_text (Whole (jlr_file place) new.jlr ∷ [])) ∙ ap (λ n. 11 + (length new.jhr + n)) (text_more (jlr_file place) new.jlr []))
-        (omega arith);
-  }
-
-  pub messages_small : SuitsIntent place new (whole_messages place new)
-  unfolding OfPlace Ends
-  messages_small = record {
-    ends = jhr_ends (Whole (jdt_file place) new.jdt ∷ Whole (jdx_file place) new.jdx ∷ []) (jdt_ends (Whole (jdx_file place) new.jdx ∷ []) (jdx_ends [] no_ends));
-    within = jhr_within (Whole (jdt_file place) new.jdt ∷ Whole (jdx_file place) new.jdx ∷ []) (jdt_within (Whole (jdx_file place) new.jdx ∷ []) (jdx_within [] none));
-    once = once_three;
-    short = at_most _ _ _ (texts_length []) (omega arith);
-  }
 
   pub whole_small : SuitsIntent place new (whole_files place new)
   unfolding OfPlace Ends

@@ -22,6 +22,7 @@ use Rattle.jam_layout.specs.Sizes.{slot_header}
 use Rattle.jam_layout.specs.declared.files.BaseFiles.{BaseFiles}
 use Rattle.jam_layout.specs.declared.reader.Reader.{Reader}
 use Rattle.jam_layout.proofs.BaseLaws.{base_length}
+use Rattle.jam_layout.proofs.SlotSizes.{last_length}
 use Rattle.jam_writing.proofs.PieceLaws.{headers_length}
 use Rattle.jam_base.specs.Bodies.{Lengthens}
 use Rattle.jam_base.specs.Change.{Turns, SuitsIntent}
@@ -47,29 +48,25 @@ record_written : (r : LastRead) (n : ℕ) → written (last_text r) 8 (u32s_text
 unfolding last_text
 record_written r n = refl
 
-record_long : (r : LastRead) → length (last_text r) ≡ 16
-unfolding last_text
-record_long r = refl
-
 pub room : (readers : List Reader) (pointers : List ℕ) (place : ℕ) → place < length readers → place < length pointers → 16 * place + 16 ≤ length (last_reads readers pointers)
 room [] pointers place in_readers in_pointers = absurd (omega (arith, in_readers))
 room (r ∷ readers) [] place in_readers in_pointers = absurd (omega (arith, in_pointers))
-room (r ∷ readers) (p ∷ pointers) zero in_readers in_pointers = omega (arith, length-append (last_text (last_read r p)) (last_reads readers pointers), record_long (last_read r p))
+room (r ∷ readers) (p ∷ pointers) zero in_readers in_pointers = omega (arith, length-append (last_text (last_read r p)) (last_reads readers pointers), last_length (last_read r p))
 room (r ∷ readers) (p ∷ pointers) (suc place) in_readers in_pointers =
-    omega (arith, length-append (last_text (last_read r p)) (last_reads readers pointers), record_long (last_read r p), room readers pointers place (omega (arith, in_readers)) (omega (arith, in_pointers)))
+    omega (arith, length-append (last_text (last_read r p)) (last_reads readers pointers), last_length (last_read r p), room readers pointers place (omega (arith, in_readers)) (omega (arith, in_pointers)))
 
 pub pointer_written : (readers : List Reader) (pointers : List ℕ) (place number : ℕ) → place < length readers → place < length pointers
     → written (last_reads readers pointers) (16 * place + 8) (u32s_text (number ∷ number ∷ [])) ≡ last_reads readers (set pointers place number)
 pointer_written [] pointers place number in_readers in_pointers = absurd (omega (arith, in_readers))
 pointer_written (r ∷ readers) [] place number in_readers in_pointers = absurd (omega (arith, in_pointers))
 pointer_written (r ∷ readers) (p ∷ pointers) zero number in_readers in_pointers =
-    let long = record_long (last_read r p) in
+    let long = last_length (last_read r p) in
     written_before (last_text (last_read r p)) (last_reads readers pointers) (u32s_text (number ∷ number ∷ [])) 8 (omega (arith, long))
     ∙ ap (λ (xs : List ℕ). xs ++ last_reads readers pointers) (record_written (last_read r p) number)
 pointer_written (r ∷ readers) (p ∷ pointers) (suc place) number in_readers in_pointers =
     let text : List ℕ = last_text (last_read r p) in
     let rest : List ℕ = last_reads readers pointers in
-    let there : 16 * suc place + 8 ≡ length text + (16 * place + 8) = omega (arith, record_long (last_read r p)) in
+    let there : 16 * suc place + 8 ≡ length text + (16 * place + 8) = omega (arith, last_length (last_read r p)) in
     ap (λ k. written (text ++ rest) k (u32s_text (number ∷ number ∷ []))) there
     ∙ (written_behind text rest (u32s_text (number ∷ number ∷ [])) (16 * place + 8) (omega (arith, room readers pointers place (omega (arith, in_readers)) (omega (arith, in_pointers))))
     ∙ ap (λ (xs : List ℕ). text ++ xs) (pointer_written readers pointers place number (omega (arith, in_readers)) (omega (arith, in_pointers))))
@@ -112,7 +109,7 @@ reads_long (r ∷ readers) [] [] same = refl
 reads_long (r ∷ readers) [] (q ∷ other) same = absurd (omega (arith, same))
 reads_long (r ∷ readers) (p ∷ one) [] same = absurd (omega (arith, same))
 reads_long (r ∷ readers) (p ∷ one) (q ∷ other) same =
-    omega (arith, length-append (last_text (last_read r p)) (last_reads readers one), length-append (last_text (last_read r q)) (last_reads readers other), record_long (last_read r p), record_long (last_read r q), reads_long readers one other (omega (arith, same)))
+    omega (arith, length-append (last_text (last_read r p)) (last_reads readers one), length-append (last_text (last_read r q)) (last_reads readers other), last_length (last_read r p), last_length (last_read r q), reads_long readers one other (omega (arith, same)))
 
 moved_long : (pointers : List ℕ) (number : ℕ) (place : Option ℕ) → length (pointers_with place number pointers) ≡ length pointers
 moved_long pointers number None = refl

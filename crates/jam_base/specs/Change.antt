@@ -38,19 +38,7 @@ pub record SuitsIntent (place : ℕ) (new : BaseFiles) (patches : List Patch) : 
   pub ends : All (λ patch. place_of patch + length (bytes_of patch) ≤ files_size new) patches
   pub short : 5 * length (patches_text patches) ≤ 5 * (4 * 11) + 6 * files_size new
 
--- some of a place's four files, whole, and all of them
-abbrev pub whole_jhr : ℕ → BaseFiles → List Patch
-whole_jhr place files = Whole (jhr_file place) files.jhr ∷ []
-
-abbrev pub whole_jlr : ℕ → BaseFiles → List Patch
-whole_jlr place files = Whole (jlr_file place) files.jlr ∷ []
-
-abbrev pub whole_reading : ℕ → BaseFiles → List Patch
-whole_reading place files = Whole (jhr_file place) files.jhr ∷ Whole (jlr_file place) files.jlr ∷ []
-
-abbrev pub whole_messages : ℕ → BaseFiles → List Patch
-whole_messages place files = Whole (jhr_file place) files.jhr ∷ Whole (jdt_file place) files.jdt ∷ Whole (jdx_file place) files.jdx ∷ []
-
+-- all four files of a place, whole
 abbrev pub whole_files : ℕ → BaseFiles → List Patch
 whole_files place files =
     Whole (jhr_file place) files.jhr ∷ Whole (jdt_file place) files.jdt ∷ Whole (jdx_file place) files.jdx ∷ Whole (jlr_file place) files.jlr ∷ []

@@ -39,12 +39,20 @@ abbrev pub receive_puts : Kind → ℕ → List ℕ → Receipt → ℕ → ℕ 
 receive_puts kind place name r at number [] = []
 receive_puts kind place name r at number (s ∷ slots) = receive_put kind place name r at number s ++ receive_puts kind place name r (at + slot_header s) (number + 1) slots
 
--- both numbers of the record of the reader in a place from 0
-abbrev pub pointer_put : ℕ → ℕ → ℕ → Patch
-pointer_put place reader number = Put (jlr_file place) (16 * reader + 8) (u32s_text (number ∷ number ∷ []))
+-- bytes from a place on in the record of the reader in a place from 0
+abbrev pub record_put : ℕ → ℕ → ℕ → List ℕ → Patch
+record_put place reader at bytes = Put (jlr_file place) (16 * reader + at) bytes
 
--- the pointer of that reader, which a base has there; as a patch ends below 2 ^ 31, the whole .JLR is written where the
--- record would end behind that
+-- those, which a base has there; as a patch ends below 2 ^ 31, the whole .JLR is written where the record would end
+-- behind that
+abbrev pub record_patch : Contents → ℕ → ℕ → List ℕ → Patch
+record_patch base reader at bytes =
+    if nat_lt reader 0x7FF_FFFF then record_put base.shape.place reader at bytes else Whole (jlr_file base.shape.place) (layout base.shape base.conference).jlr
+
+-- both numbers of that record
+abbrev pub pointer_put : ℕ → ℕ → ℕ → Patch
+pointer_put place reader number = record_put place reader 8 (u32s_text (number ∷ number ∷ []))
+
+-- the pointer of that reader, which a base has there
 abbrev pub pointer_patch : Contents → ℕ → ℕ → Patch
-pointer_patch base reader number =
-    if nat_lt reader 0x7FF_FFFF then pointer_put base.shape.place reader number else Whole (jlr_file base.shape.place) (layout base.shape base.conference).jlr
+pointer_patch base reader number = record_patch base reader 8 (u32s_text (number ∷ number ∷ []))

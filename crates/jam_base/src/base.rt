@@ -32,7 +32,7 @@ use jam_layout::{Conference, Reader, Shape};
 use jam_records::{Message, Messages, Slot, Slots};
 use jam_threads::{Threads, links};
 use jam_writing::{
-    write_files, write_jlr, write_last_bodies, write_last_headers, write_last_records,
+    write_files, write_jlr, write_last_bodies, write_last_headers, write_last_records, write_reader,
 };
 use shared_lists::{Shared, SharedList};
 use shared_slots::SharedSlots;
@@ -171,6 +171,18 @@ impl Base {
             pointers,
             threads: self.threads.share()?,
         })
+    }
+
+    /// The base with a further reader, whose pointer is 0.
+    fn with_reader(&self, alloc: Global, reader: Reader) -> Result<Base, AllocError>
+        requires { All (λ other. other.id < reader.id) self.now.shape.readers }
+        ensures { IfOk result (λ base. base ≡ with_reader reader.id reader.name self.now) }
+    {
+        let mut shape = self.shape().duplicate(alloc)?;
+        shape.readers.add(alloc, reader)?;
+        let mut pointers = self.pointers().copy(alloc)?;
+        pointers.add(alloc, 0)?;
+        self.with_readers(alloc, Shared::new(alloc, shape)?, pointers)
     }
 
     /// The base with the pointer in a place, from 0, at a message number.
@@ -338,14 +350,14 @@ impl Base {
         ensures bodies { IfOk result (λ change. Lengthens self.now.shape.place (layout self.now.shape self.now.conference) (layout change.base.shape change.base.conference) change.patches) }
         ensures each { IfOk result (λ change. TurnsEach self.now (with_reader user name.now) change.patches) }
         ensures intent { IfOk result (λ change. SuitsIntent self.now.shape.place (layout change.base.shape change.base.conference) change.patches) }
+        ensures costs { IfOk result (λ change. (length change.patches ≡ 1) × (length self.now.shape.readers < 0x7FF_FFFF → byte_count change.patches ≤ 16)) }
     {
-        let mut shape = self.shape().duplicate(alloc)?;
         let name = Bytes::from_slice(alloc, name)?;
-        shape.readers.add(Reader { id: user, name })?;
-        let mut pointers = self.pointers().copy(alloc)?;
-        pointers.add(alloc, 0)?;
-        let base = self.with_readers(alloc, Shared::new(alloc, shape)?, pointers)?;
-        BaseChange::of_jlr(alloc, base)
+        let reader = Reader { id: user, name };
+        let record = write_reader(&reader, 0);
+        let place = self.shape().readers.len();
+        let base = self.with_reader(alloc, reader)?;
+        BaseChange::of_record(alloc, base, place, &record)
     }
 
     /// The base with these messages at the end, one after the other. Its patches make its files of those of

@@ -1,11 +1,11 @@
 ghost use Rattle.std.specs.Prelude.{◌≡◌, ◌≤◌, [], ◌∷◌, ◌++◌, ◌<◌, length, IfOk};
 ghost use Rattle.jam_layout.specs.Layout.{layout};
-ghost use Rattle.jam_base.specs.Change.{whole_jlr, whole_files};
-ghost use Rattle.jam_base.specs.MarkPuts.{pointer_patch as pointer_patch_of};
+ghost use Rattle.jam_base.specs.Change.{whole_files};
+ghost use Rattle.jam_base.specs.MarkPuts.{pointer_patch as pointer_patch_of, record_patch as record_patch_of};
 ghost use Rattle.jam_base.specs.Puts.{counts_put, last_puts};
 
 use crate::base::Base;
-use crate::pointers::pointer_patch;
+use crate::pointers::{pointer_patch, record_patch};
 use byte_lists::Bytes;
 use door_outside::FileId;
 use intent_journal::{Patch, Patches};
@@ -46,12 +46,17 @@ impl BaseChange {
         Ok(BaseChange { base, patches })
     }
 
-    /// The change to this base that writes its .JLR.
-    pub(crate) fn of_jlr(alloc: Global, base: Base) -> Result<BaseChange, AllocError>
+    /// The change to this base that writes the record of the reader in a place from 0, whose bytes these are.
+    pub(crate) fn of_record(
+        alloc: Global,
+        base: Base,
+        reader: usize,
+        bytes: &[u8],
+    ) -> Result<BaseChange, AllocError>
         ensures base { IfOk result (λ change. change.base ≡ base) }
-        ensures patches { IfOk result (λ change. change.patches ≡ whole_jlr base.shape.place (layout base.shape base.conference)) }
+        ensures patches { IfOk result (λ change. change.patches ≡ record_patch_of base reader 0 bytes.now ∷ []) }
     {
-        let patches = jlr_of(alloc, &base)?;
+        let patches = recorded_of(alloc, &base, reader, bytes)?;
         Ok(BaseChange { base, patches })
     }
 
@@ -145,12 +150,17 @@ fn ends_of(alloc: Global, base: &Base, count: usize, before: Patches) -> Result<
     Ok(patches)
 }
 
-/// What writes a base's .JLR.
-fn jlr_of(alloc: Global, base: &Base) -> Result<Patches, AllocError>
-    ensures { IfOk result (λ patches. patches ≡ whole_jlr base.now.shape.place (layout base.now.shape base.now.conference)) }
+/// What writes the record of the reader in a place from 0, whose bytes these are.
+fn recorded_of(
+    alloc: Global,
+    base: &Base,
+    reader: usize,
+    bytes: &[u8],
+) -> Result<Patches, AllocError>
+    ensures { IfOk result (λ patches. patches ≡ record_patch_of base.now reader 0 bytes.now ∷ []) }
 {
     let mut patches = Patches::new(alloc);
-    patches.add(whole(FileId::jlr(base.place()), base.jlr(alloc)?))?;
+    patches.add(record_patch(alloc, base, reader, 0, bytes)?)?;
     Ok(patches)
 }
 

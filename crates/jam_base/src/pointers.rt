@@ -1,6 +1,6 @@
 // The last-read pointers of a conference.
 ghost use Rattle.std.specs.Prelude.{◌≡◌, ◌<◌, length, replicate, slice_set, IfOk};
-ghost use Rattle.jam_base.specs.MarkPuts.{pointer_patch as pointer_patch_of};
+ghost use Rattle.jam_base.specs.MarkPuts.{pointer_patch as pointer_patch_of, record_patch as record_patch_of};
 
 use crate::base::Base;
 use crate::numbers::two_numbers;
@@ -37,6 +37,28 @@ pub fn moved(
     Ok(copy)
 }
 
+/// The patch of these bytes, which stand from a place on in the record of the reader in a place of this base, both
+/// from 0.
+pub fn record_patch(
+    alloc: Global,
+    base: &Base,
+    reader: usize,
+    at: u32,
+    bytes: &[u8],
+) -> Result<Patch, AllocError>
+    requires { at < 16 }
+    ensures { IfOk result (λ patch. patch ≡ record_patch_of base.now reader at bytes.now) }
+{
+    let file = FileId::jlr(base.place());
+    if reader >= PUT_LIMIT {
+        let bytes = base.jlr(alloc)?;
+        return Ok(Patch::Whole { file, bytes });
+    }
+    let bytes = Bytes::from_slice(alloc, bytes)?;
+    let at = 16 * reader as u32 + at;
+    Ok(Patch::Put { file, at, bytes })
+}
+
 /// The patch that moves the pointer of the reader in a place, from 0, to a number, at which it is in this base.
 pub fn pointer_patch(
     alloc: Global,
@@ -46,12 +68,5 @@ pub fn pointer_patch(
 ) -> Result<Patch, AllocError>
     ensures { IfOk result (λ patch. patch ≡ pointer_patch_of base.now reader number) }
 {
-    let file = FileId::jlr(base.place());
-    if reader >= PUT_LIMIT {
-        let bytes = base.jlr(alloc)?;
-        return Ok(Patch::Whole { file, bytes });
-    }
-    let bytes = Bytes::from_slice(alloc, &two_numbers(number, number))?;
-    let at = 16 * reader as u32 + 8;
-    Ok(Patch::Put { file, at, bytes })
+    record_patch(alloc, base, reader, 8, &two_numbers(number, number))
 }

@@ -35,11 +35,11 @@ index_length : (pair : IndexRecord) → length (index_text pair) ≡ 8
 unfolding index_text
 index_length pair = omega arith
 
-last_length : (r : LastRead) → length (last_text r) ≡ 16
+pub last_length : (r : LastRead) → length (last_text r) ≡ 16
 unfolding last_text
 last_length r = omega arith
 
-readers_length : (readers : List Reader) (pointers : List ℕ) → length pointers ≡ length readers → length (last_reads readers pointers) ≡ 16 * length readers
+pub readers_length : (readers : List Reader) (pointers : List ℕ) → length pointers ≡ length readers → length (last_reads readers pointers) ≡ 16 * length readers
 readers_length [] pointers same = refl
 readers_length (r ∷ readers) [] same = absurd (omega (arith, same))
 readers_length (r ∷ readers) (p ∷ pointers) same =

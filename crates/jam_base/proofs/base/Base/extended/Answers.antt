@@ -96,5 +96,5 @@ pub returns-then-is_empty-clause-each : goal.returns-then-is_empty-clause-each
 returns-then-is_empty-clause-each c =
     let base : Contents = c.args.self.now in
     let none : (length c.args.messages == 0) ≡ true = ap (λ (ms : List Message). length ms == 0) (sym c.as_slice.ensures) ∙ (sym c.is_empty.ensures ∙ c.if-is_empty.true) in
-    let turns = no_change base.shape.place (layout base.shape base.conference) base base c.unchanged.result refl c.unchanged.ensures.base c.unchanged.ensures.patches in
+    let turns = no_change base.shape.place (layout base.shape base.conference) base c.unchanged.result refl c.unchanged.ensures.base c.unchanged.ensures.patches in
     appended_each base base c.unchanged.result c.unchanged.ensures.base turns c.unchanged.ensures.bodies c.args.messages (no_messages c.args.messages base none)

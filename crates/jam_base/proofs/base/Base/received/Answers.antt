@@ -60,5 +60,5 @@ returns-then-not-any_due-clause-each c =
     let base : Contents = c.args.self.now in
     let receipt : Receipt = record { above = c.args.above; upto = c.args.upto; now = c.args.now } in
     let none : any_due c.args.name.now receipt 1 base.conference.slots ≡ false = sym (c.any_due.ensures ∙ ap (any_due c.args.name.now receipt 1) c.slots-old.ensures.same) ∙ c.if-not-any_due.true in
-    let turns = no_change base.shape.place (layout base.shape base.conference) base base c.unchanged.result refl c.unchanged.ensures.base c.unchanged.ensures.patches in
+    let turns = no_change base.shape.place (layout base.shape base.conference) base c.unchanged.result refl c.unchanged.ensures.base c.unchanged.ensures.patches in
     received_each base base c.unchanged.result c.unchanged.ensures.base turns c.unchanged.ensures.bodies c.args.name.now receipt (unreceived c.args.name.now receipt base none)

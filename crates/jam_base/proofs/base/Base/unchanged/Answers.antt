@@ -9,4 +9,4 @@ pub returns-clause-bodies : goal.returns-clause-bodies
 returns-clause-bodies c =
     let base : Contents = c.args.self.now in
     let change : Result BaseChange ℕ = Ok c.of_nothing.result in
-    no_change_lengthens base.shape.place (layout base.shape base.conference) base base change refl (c.of_nothing.ensures.base ∙ c.in_ok-base.ensures) c.of_nothing.ensures.patches
+    no_change_lengthens base.shape.place (layout base.shape base.conference) base change refl (c.of_nothing.ensures.base ∙ c.in_ok-base.ensures) c.of_nothing.ensures.patches
