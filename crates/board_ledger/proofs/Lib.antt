@@ -19,5 +19,8 @@ pub mod LedgerLaws
 pub mod ReadingClauses
 pub mod LedgerBounds
 pub mod Writes
+pub mod LedgerParts
+pub mod TwoPuts
 pub mod UploadPutLaws
 pub mod UserPutLaws
+pub mod EnrollPutLaws

@@ -1,6 +1,6 @@
 -- The put of a user's record makes of the ledger's text that with this user in the place.
-use Rattle.std.proofs.Common.{◌≡◌, ◌≢◌, true, ℕ, zero, suc, ◌+◌, ◌<◌, ◌≤◌, ◌==◌, List, [], ◌∷◌, ◌++◌, length, take, drop, set, refl, sym, ap, ◌∙◌, subst, arith, append-nil, length-append, length-drop, length-take}
-use Rattle.std.specs.Prelude.{nat_le, slice_get, sum_by, Option, Some, None, IsSomeAnd}
+use Rattle.std.proofs.Common.{◌≡◌, true, ℕ, zero, suc, ◌+◌, ◌≤◌, ◌==◌, List, [], ◌∷◌, ◌++◌, length, take, drop, set, refl, sym, ap, ◌∙◌, subst, arith, append-nil, length-append, length-drop, length-take}
+use Rattle.std.specs.Prelude.{nat_le, slice_get, Option, Some, None, IsSomeAnd}
 use Rattle.std.specs.List.{flat_map}
 use Rattle.std.proofs.lemmas.Bool.{and_from, le-leb, ne_eqb, cond-false}
 use Rattle.std.proofs.lemmas.List.{drop_all, get_or-set_same, length-set}
@@ -9,7 +9,7 @@ use Rattle.std.proofs.lemmas.Option.{slice_get_within}
 use Rattle.byteorder.specs.Endian.{little_bytes}
 use Rattle.door_outside.specs.Disk.{written}
 use Rattle.record_numbers.specs.Numbers.{u32s_text}
-use Rattle.intent_journal.specs.Patches.{Files, apply, bytes_of, byte_count}
+use Rattle.intent_journal.specs.Patches.{bytes_of, byte_count}
 use Rattle.intent_journal.specs.declared.patch.Patch.{Patch}
 use Rattle.intent_journal.specs.declared.patch.Patch.TheVariants.{Put}
 use Rattle.board_ledger.specs.Conferences.{conference_text}

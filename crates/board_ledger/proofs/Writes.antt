@@ -1,5 +1,5 @@
 -- What a write leaves of a text in parts.
-use Rattle.std.proofs.Common.{◌≡◌, ℕ, ◌+◌, ◌-◌, ◌≤◌, List, [], ◌++◌, length, take, drop, refl, sym, ap, ◌∙◌, arith, append_assoc, append-nil, length-append, length-take}
+use Rattle.std.proofs.Common.{◌≡◌, ℕ, ◌+◌, ◌-◌, ◌≤◌, List, [], ◌++◌, length, take, drop, sym, ap, ◌∙◌, arith, append_assoc, append-nil, length-append}
 use Rattle.std.specs.Prelude.{replicate}
 use Rattle.std.proofs.Math.Seq.{take-append-add, drop-append-add}
 use Rattle.std.proofs.lemmas.List.{take-append-le, drop-append-le, take_all, drop_all}
@@ -37,6 +37,14 @@ written_end xs bytes at is =
     no_gap xs bytes at (omega (arith, is))
     ∙ ((λ i. take_all at xs (omega (arith, is)) i ++ (bytes ++ drop_all (at + length bytes) xs (omega (arith, is)) i))
     ∙ ap (λ (l : List ℕ). xs ++ l) (append-nil bytes))
+
+-- from the end of a part on, over all that is left
+pub written_over : (xs ys bytes : List ℕ) (at : ℕ) → at ≡ length xs → length ys ≤ length bytes → written (xs ++ ys) at bytes ≡ xs ++ bytes
+written_over xs ys bytes at is le =
+    no_gap (xs ++ ys) bytes at (omega (arith, is, length-append xs ys))
+    ∙ ((λ i. take-append-le at xs ys (omega (arith, is)) i ++ (bytes ++ drop_all (at + length bytes) (xs ++ ys) (omega (arith, is, le, length-append xs ys)) i))
+    ∙ ((λ i. take_all at xs (omega (arith, is)) i ++ (bytes ++ []))
+    ∙ ap (λ (l : List ℕ). xs ++ l) (append-nil bytes)))
 
 -- within the third of four parts
 pub written_in : (ws xs ys zs bytes : List ℕ) (place at : ℕ) → place ≡ length ws + length xs → at + length bytes ≤ length ys

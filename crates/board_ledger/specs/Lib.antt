@@ -11,3 +11,4 @@ pub mod Valid
 pub mod OneFile
 pub mod UploadPuts
 pub mod UserPuts
+pub mod EnrollPuts

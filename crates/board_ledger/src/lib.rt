@@ -4,6 +4,7 @@
 
 mod conferences;
 mod damaged;
+mod enroll_puts;
 mod error;
 pub mod laws;
 mod ledger;
@@ -20,6 +21,7 @@ mod user_puts;
 mod users;
 mod write;
 
+pub use enroll_puts::enroll_patches;
 pub use error::LedgerError;
 pub use ledger::Ledger;
 pub use setup_file::{Conference, Conferences, Setup, SetupError, SetupRule, Zones};

@@ -1,4 +1,4 @@
-use Rattle.std.proofs.Common.{length, take, ap, arith, length-append}
+use Rattle.std.proofs.Common.{length, ap, arith, length-append}
 use Rattle.std.specs.List.{flat_map}
 use Rattle.std.proofs.lemmas.List.{take_all}
 use Rattle.board_ledger.specs.Opening.{fixed_text, setup_text}
