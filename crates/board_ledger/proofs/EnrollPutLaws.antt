@@ -1,5 +1,5 @@
 -- The puts of a new user make of the ledger's text that with him behind the others.
-use Rattle.std.proofs.Common.{◌≡◌, ℕ, ◌+◌, ◌*◌, List, [], ◌∷◌, ◌++◌, length, refl, sym, ap, ◌∙◌, subst, arith, append_assoc, append-nil, length-append}
+use Rattle.std.proofs.Common.{◌≡◌, ℕ, ◌+◌, ◌*◌, ◌≤◌, List, [], ◌∷◌, ◌++◌, length, refl, sym, ap, ◌∙◌, subst, arith, append_assoc, append-nil, length-append}
 use Rattle.std.specs.List.{flat_map}
 use Rattle.std.proofs.lemmas.List.{get_or_push, take_all}
 use Rattle.std.proofs.lemmas.Grind.{flat_map-append}
@@ -100,6 +100,13 @@ module _ (l : Ledger) (u : User) where
     two_bytes (Put 0 8 (u16_text (length l.users + 1))) (Put 0 (user_place (length l.users) l) (user_text u ++ records)),
     records_length ok,
   )
+
+  -- ---- where the second put begins and ends
+  pub put_begins : 24 ≤ user_place (length l.users) l
+  put_begins = omega (arith, place_is, numbers_long l (length l.users + 1) (length l.uploads), length-append first (middle l))
+
+  pub put_ends : user_place (length l.users) l + length (user_text u ++ records) ≡ length (ledger_text (with_user u l))
+  put_ends = omega (arith, place_is, ap length text_more, length-append (first ++ middle l) (user_text u ++ records))
 
   -- ---- the user
   pub last_user : IsLedger (with_user u l) → IsUser (length l.setup.conferences) u
