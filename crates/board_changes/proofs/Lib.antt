@@ -1,6 +1,7 @@
 pub mod JoinLaws
 pub mod LedgerBounds
 pub mod GatherLaws
+pub mod LedgerPuts
 pub mod PlaceLaws
 pub mod MadeLaws
 pub mod MemberLaws

@@ -4,10 +4,9 @@ ghost use Rattle.board_changes.specs.Changed.{base_at, with_base as with_base_of
 ghost use Rattle.board_layout.specs.Valid.{IsBoard};
 
 use crate::change::BoardChange;
-use crate::gather::add_all;
+use crate::gather::intent_with;
 use board_layout::StoredBoard;
 use byte_lists::List;
-use intent_journal::Intent;
 use jam_base::{Base, BaseChange};
 use std::alloc::{AllocError, Global};
 
@@ -39,8 +38,7 @@ pub fn with_base(
     ensures patches { IfOk result (λ next. next.intent ≡ change.patches) }
 {
     let _ledger = board.ledger();
-    let mut intent = Intent::new(alloc);
-    add_all(&mut intent, change.patches)?;
+    let intent = intent_with(alloc, change.patches)?;
     let bases = only_in(alloc, place, change.base)?;
     Ok(BoardChange {
         ledger: None,

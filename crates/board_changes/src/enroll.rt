@@ -6,14 +6,15 @@ ghost use Rattle.board_changes.specs.Gathered.{Gathered, FitJournal};
 ghost use Rattle.board_layout.specs.Layout.{IsLayout, base_files};
 ghost use Rattle.board_layout.specs.Renewed.{contents_of, renewed};
 ghost use Rattle.board_layout.specs.Valid.{IsBoard};
+ghost use Rattle.board_ledger.specs.EnrollPuts.{enroll_puts};
 ghost use Rattle.board_ledger.specs.Ledger.{ledger_text};
 ghost use Rattle.board_ledger.specs.Valid.{IsLedger};
 
 use crate::change::BoardChange;
 use crate::copy::copy_of;
-use crate::gather::{add_all, ledger_intent};
+use crate::gather::{add_all, intent_with};
 use board_layout::StoredBoard;
-use board_ledger::{Highs, Ledger, User};
+use board_ledger::{Highs, Ledger, User, enroll_patches};
 use byte_lists::{Bytes, Duplicate, List};
 use intent_journal::Intent;
 use jam_base::Base;
@@ -97,14 +98,24 @@ fn joined_bases(
     Ok(bases)
 }
 
+/// The intent that puts the record of a user into the ledger's file, behind those of the others, and changes no other
+/// file. Both ledgers are valid.
+fn enroll_intent(alloc: Global, ledger: &Ledger, user: &User) -> Result<Intent, AllocError>
+    requires ledger { IsLedger ledger.now }
+    requires longer { IsLedger (with_user_of user.now ledger.now) }
+    ensures { IfOk result (λ intent. intent ≡ enroll_puts ledger.now user.now) }
+{
+    intent_with(alloc, enroll_patches(alloc, ledger, user)?)
+}
+
 /// The change of a board by this user, behind the others.
 fn enrolled_as(alloc: Global, board: &StoredBoard, user: &User) -> Result<BoardChange, AllocError>
     requires { IsBoard (with_member user.now board.now) }
     ensures { IfOk result (λ change. Becomes board.now (with_member user.now board.now) change) }
 {
     let ledger = board.ledger();
+    let mut intent = enroll_intent(alloc, ledger, user)?;
     let next = with_user(alloc, ledger, user.duplicate(alloc)?)?;
-    let mut intent = ledger_intent(alloc, &next)?;
     let bases = joined_bases(alloc, board, user, &mut intent)?;
     Ok(BoardChange {
         ledger: Some(next),

@@ -22,6 +22,18 @@ pub fn add_all(intent: &mut Intent, patches: Patches) -> Result<(), AllocError>
     Ok(())
 }
 
+/// The intent of these patches, which an intent may have.
+///
+/// The error comes where there is no memory.
+pub fn intent_with(alloc: Global, patches: Patches) -> Result<Intent, AllocError>
+    requires { Joins [] patches }
+    ensures { IfOk result (λ intent. intent ≡ patches) }
+{
+    let mut intent = Intent::new(alloc);
+    add_all(&mut intent, patches)?;
+    Ok(intent)
+}
+
 /// The intent that makes the file of a ledger, which is valid, and no other.
 ///
 /// The error comes where there is no memory.

@@ -1,5 +1,5 @@
 //! A further user of a new board.
-use board_changes::{fits_user, made, size_with_user};
+use board_changes::{enrolled, fits_user, made, size_with_user};
 use board_layout::StoredBoard;
 use byte_lists::Bytes;
 use case_texts::{Miss, expect_cases, number_of};
@@ -22,7 +22,8 @@ fn new_board(alloc: Global) -> Result<StoredBoard, Miss> {
     }
 }
 
-/// How many bytes the new board has with a user of a name in places, and whether the user fits.
+/// How many bytes the new board has with a user of a name in places, and whether the user fits; where he does, how many
+/// the journal of his enrolment has.
 fn with_user(alloc: Global, words: &[Bytes]) -> Result<String, Miss> {
     let [name, members] = words else {
         return Err(Miss::Words);
@@ -30,19 +31,23 @@ fn with_user(alloc: Global, words: &[Bytes]) -> Result<String, Miss> {
     let members = u64::from(number_of(members.as_slice())?);
     let board = new_board(alloc)?;
     let size = size_with_user(&board, name.as_slice(), false, members);
-    let fits = fits_user(&board, name.as_slice(), false, members);
-    Ok(format!(in alloc; "{size} fits {fits}")?)
+    if !fits_user(&board, name.as_slice(), false, members) {
+        return Ok(format!(in alloc; "{size} refused")?);
+    }
+    let change = enrolled(alloc, &board, name.as_slice(), false, members)?;
+    Ok(format!(in alloc; "{size} fits, {} journal", change.intent.size())?)
 }
 
 /// The places are the bits of a number. The new board has a ledger of 119 bytes and three base headers of 1,024; a user's
-/// record has 31 bytes and the name, and a last-read record 16.
+/// record has 31 bytes and the name, and a last-read record 16. A journal has 13 bytes before its patches, and 11 before
+/// the bytes of each: the count of users, which are 2, the user's record, and a last-read record for each place.
 const USERS: &str = r#"
-"Bob Ray" 1 => 3245 fits true
-"Bob Ray" 7 => 3277 fits true
-"Bob Ray" 0 => 3229 fits false
-"Bob Ray" 8 => 3229 fits false
-" Bob Ray" 1 => 3246 fits false
-"" 1 => 3238 fits false
+"Bob Ray" 1 => 3245 fits, 102 journal
+"Bob Ray" 7 => 3277 fits, 156 journal
+"Bob Ray" 0 => 3229 refused
+"Bob Ray" 8 => 3229 refused
+" Bob Ray" 1 => 3246 refused
+"" 1 => 3238 refused
 "#;
 
 #[test]

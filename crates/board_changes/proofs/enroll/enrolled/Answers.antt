@@ -1,7 +1,7 @@
 use Rattle.std.proofs.Common.{◌≡◌, length, sym, ap, ◌∙◌, subst}
 use Rattle.std.specs.Prelude.{IfOk}
 use Rattle.board_changes.specs.Change.{Becomes}
-use Rattle.board_changes.specs.Changed.{enrolled, new_user, with_member}
+use Rattle.board_changes.specs.Changed.{new_user, with_member}
 use Rattle.board_changes.specs.declared.change.BoardChange.{BoardChange}
 use Rattle.board_layout.specs.Board.{Board}
 use Rattle.board_layout.specs.Valid.{IsBoard}
