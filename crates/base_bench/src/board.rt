@@ -16,13 +16,13 @@ pub fn general(alloc: Global) -> Result<Shape, AllocError>
 {
     let mut readers = Readers::new(alloc);
     let name = Bytes::from_slice(alloc, b"Ann Lee")?;
-    readers.add(Reader { id: 1, name })?;
+    readers.add(alloc, Reader { id: 1, name })?;
     let name = Bytes::from_slice(alloc, b"Bob Ray")?;
-    readers.add(Reader { id: 2, name })?;
+    readers.add(alloc, Reader { id: 2, name })?;
     let name = Bytes::from_slice(alloc, b"Sam Sysop")?;
-    readers.add(Reader { id: 3, name })?;
+    readers.add(alloc, Reader { id: 3, name })?;
     let name = Bytes::from_slice(alloc, b"Cy Day")?;
-    readers.add(Reader { id: 4, name })?;
+    readers.add(alloc, Reader { id: 4, name })?;
     Ok(Shape {
         place: 0,
         created: CREATED,

@@ -90,6 +90,7 @@ fn add_messages(alloc: Global, files: &mut BaseFiles, slots: &Slots) -> Result<(
 /// Adds the record of each reader, who has read all.
 fn add_readers(files: &mut BaseFiles, shape: &Shape) -> Result<(), AllocError> {
     for reader in shape.readers.as_slice() {
+        let reader = reader.get();
         let last = LastRead {
             user_crc: name_crc(reader.name.as_slice()),
             user_id: reader.id,

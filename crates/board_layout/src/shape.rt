@@ -15,10 +15,9 @@ fn readers_of(alloc: Global, users: &[User], place: u8) -> Result<Readers, Alloc
     let mut readers = Readers::new(alloc);
     for (i, user) in users.iter().enumerate() {
         if user.is_member(u32::from(place)) {
-            readers.add(Reader {
-                id: i as u32 + 1,
-                name: user.name.copy(alloc)?,
-            })?;
+            let name = user.name.copy(alloc)?;
+            let id = i as u32 + 1;
+            readers.add(alloc, Reader { id, name })?;
         }
     }
     Ok(readers)

@@ -225,10 +225,8 @@ fn numbers_of_calls_are_copied(rt: HostRuntime) -> Result<(), Fail> {
 fn readers_are_copied(rt: HostRuntime) -> Result<(), Fail> {
     let alloc = rt.alloc();
     let mut readers = Readers::new(alloc);
-    readers.add(Reader {
-        id: 2,
-        name: Bytes::from_slice(alloc, b"Bob Ray")?,
-    })?;
+    let name = Bytes::from_slice(alloc, b"Bob Ray")?;
+    readers.add(alloc, Reader { id: 2, name })?;
     let copies = readers.copy(alloc)?;
     let copy = copies.get(0).ok_or("no reader")?;
     assert_eq!(rt; (copy.id, copy.name.as_slice()), (2, b"Bob Ray".as_slice()));

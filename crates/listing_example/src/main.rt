@@ -17,9 +17,9 @@ fn general(alloc: Global) -> Result<Shape, AllocError>
 {
     let mut readers = Readers::new(alloc);
     let name = Bytes::from_slice(alloc, b"Ann Lee")?;
-    readers.add(Reader { id: 1, name })?;
+    readers.add(alloc, Reader { id: 1, name })?;
     let name = Bytes::from_slice(alloc, b"Bob Ray")?;
-    readers.add(Reader { id: 2, name })?;
+    readers.add(alloc, Reader { id: 2, name })?;
     Ok(Shape {
         place: 0,
         created: 1_795_963_499,

@@ -68,7 +68,7 @@ fn shape_of(alloc: Global, place: u8, kind: Kind, has_reader: bool) -> Result<Sh
     let mut readers = Readers::new(alloc);
     if has_reader {
         let name = Bytes::from_slice(alloc, b"Ann Lee")?;
-        readers.add(Reader { id: 1, name })?;
+        readers.add(alloc, Reader { id: 1, name })?;
     }
     Ok(Shape {
         place,
