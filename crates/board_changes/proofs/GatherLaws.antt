@@ -1,14 +1,13 @@
 -- Patches that are gathered place by place: the first, those of one place more, and all.
-use Rattle.std.proofs.Common.{◌≡◌, ◌≢◌, inl, inr, ℕ, zero, suc, ◌+◌, ◌<◌, ◌≤◌, List, [], ◌∷◌, ◌++◌, length, take, true, refl, sym, ap, ◌∙◌, subst, arith, length-append}
-use Rattle.std.specs.Prelude.{All, sum_by, nat_lt, ◌==◌}
+use Rattle.std.proofs.Common.{◌≡◌, ◌≢◌, inl, inr, ℕ, zero, suc, ◌+◌, ◌<◌, ◌≤◌, List, [], ◌∷◌, ◌++◌, length, take, refl, sym, ap, ◌∙◌, subst, arith, length-append}
+use Rattle.std.specs.Prelude.{sum_by, nat_lt, ◌==◌}
 use Rattle.std.proofs.lemmas.Bool.{cond-true, cond-false, lt-ltb, le-ltb, ne_eqb, cases_lt, cases_eq, cases_order}
 use Rattle.std.proofs.lemmas.List.{append-nil, take_more}
 use Rattle.std.proofs.lemmas.List.Sums.{sum_by-append, sum_by-cons, sum_by-take-le}
 use Rattle.std.proofs.lemmas.List.Elements.{All-nil, All-cons, All-append}
 use Rattle.door_outside.specs.File.{ledger_file, journal_file, jhr_file, jdt_file, jdx_file, jlr_file}
-use Rattle.board_ledger.specs.OneFile.{TurnsFile}
-use Rattle.intent_journal.specs.Journal.{Takes, patches_text}
-use Rattle.intent_journal.specs.Patches.{Files, file_of, is_once, patched}
+use Rattle.intent_journal.specs.Journal.{Takes}
+use Rattle.intent_journal.specs.Patches.{Files, file_of, patched}
 use Rattle.intent_journal.specs.declared.patch.Patch.{Patch}
 use Rattle.intent_journal.specs.declared.patch.Patch.TheVariants.{Whole}
 use Rattle.jam_base.specs.Change.{files_of_place, IsElsewhere, Turns, SuitsIntent}
@@ -53,28 +52,6 @@ gathered_kept P ledger old new has right = record {
   below = All-nil (λ (p : Patch). file_of p < jhr_file 0);
   once = refl;
   short = omega arith;
-}
-
--- ---- a ledger that is changed in place
--- patches of the ledger's file leave those of each place
-places_stay : (ledger next : List ℕ) (patches : List Patch) → TurnsFile ledger_file ledger next patches → (files : Files) (place : ℕ) → files_of_place place (patched patches files) ≡ files_of_place place files
-places_stay ledger next patches turns files place =
-    let jhr = turns.others files (jhr_file place) (λ e. omega (arith, e)) in
-    let jdt = turns.others files (jdt_file place) (λ e. omega (arith, e)) in
-    let jdx = turns.others files (jdx_file place) (λ e. omega (arith, e)) in
-    let jlr = turns.others files (jlr_file place) (λ e. omega (arith, e)) in
-    λ i. record { jhr = jhr i; jdt = jdt i; jdx = jdx i; jlr = jlr i }
-
-pub gathered_turned : (P : Files → Type 0) (ledger next : List ℕ) (old new : List BaseFiles) (patches : List Patch) → TurnsFile ledger_file ledger next patches → All (λ patch. file_of patch ≡ ledger_file) patches
-    → is_once patches ≡ true → length (patches_text patches) ≤ 11 + length next → ((files : Files) → P files → HasBases old files) → ((files : Files) → P files → files ledger_file ≡ ledger) → Gathered P next old new 0 patches
-gathered_turned P ledger next old new patches turns own once short has right = record {
-  starts = λ files here. turns.starts files (right files here);
-  ledger_is = λ files here. turns.makes files (right files here);
-  bases = λ files here place within. places_stay ledger next patches turns files place ∙ (has files here place within ∙ sym (cond-false (nat_lt place 0) (at_place new place) (at_place old place) (le-ltb place 0 (omega arith))));
-  no_journal = λ k d within e. omega (arith, e, own k d within);
-  below = λ k d within. omega (arith, own k d within);
-  once = once;
-  short = omega (arith, short);
 }
 
 -- ---- the files of one place

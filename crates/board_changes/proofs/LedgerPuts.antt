@@ -1,10 +1,11 @@
 -- Puts of the ledger's file, and of no other, begin the intent of a change.
-use Rattle.std.proofs.Common.{◌≡◌, ℕ, ◌+◌, ◌≤◌, List, [], ◌∷◌, ◌++◌, length, refl, arith, length-append}
-use Rattle.std.specs.Prelude.{All, IsTrue}
+use Rattle.std.proofs.Common.{◌≡◌, ℕ, ◌+◌, ◌≤◌, List, [], ◌∷◌, ◌++◌, length, refl, sym, ◌∙◌, arith, length-append}
+use Rattle.std.specs.Prelude.{All, IsTrue, nat_lt}
+use Rattle.std.specs.List.{flat_map}
+use Rattle.std.proofs.lemmas.Bool.{cond-false, le-ltb}
 use Rattle.std.proofs.lemmas.List.Elements.{All-nil, All-cons}
 use Rattle.board_changes.specs.Changed.{with_user}
-use Rattle.board_changes.specs.Gathered.{Gathered, HasBases, Joins}
-use Rattle.board_changes.proofs.GatherLaws.{gathered_turned}
+use Rattle.board_changes.specs.Gathered.{at_place, Gathered, HasBases, Joins}
 use Rattle.board_changes.proofs.JoinLaws.{journal_length}
 use Rattle.board_changes.proofs.LedgerBounds.{ledger_at_most}
 use Rattle.board_ledger.proofs.EnrollPutLaws.{enroll_turns, put_begins, put_ends}
@@ -17,14 +18,14 @@ use Rattle.board_ledger.specs.Users.{user_text}
 use Rattle.board_ledger.specs.Valid.{IsLedger}
 use Rattle.board_ledger.specs.declared.ledger.Ledger.{Ledger}
 use Rattle.board_ledger.specs.declared.user.User.{User}
-use Rattle.door_outside.specs.File.{ledger_file}
+use Rattle.door_outside.specs.File.{ledger_file, jhr_file, jdt_file, jdx_file, jlr_file}
 use Rattle.intent_journal.specs.Journal.{patch_text, patches_text}
-use Rattle.intent_journal.specs.Patches.{Files, bytes_of, file_of, is_once, place_of}
+use Rattle.intent_journal.specs.Patches.{Files, bytes_of, file_of, is_once, patched, place_of}
 use Rattle.intent_journal.specs.declared.patch.Patch.{Patch}
 use Rattle.intent_journal.specs.declared.patch.Patch.TheVariants.{Put}
+use Rattle.jam_base.specs.Change.{files_of_place}
 use Rattle.jam_layout.specs.declared.files.BaseFiles.{BaseFiles}
 use Rattle.record_numbers.specs.Numbers.{u16_text}
-use Rattle.std.specs.List.{flat_map}
 
 -- they end within the file's next text, and are spelled within it and 11 bytes
 pub record Begins (next : List ℕ) (patches : List Patch) : Type 0 where
@@ -43,11 +44,28 @@ begins_join next patches begins ok =
       fits = omega (arith, journal_length patches, begins.short, small);
     }
 
+-- they leave the files of each place
+places_stay : (ledger next : List ℕ) (patches : List Patch) → TurnsFile ledger_file ledger next patches → (files : Files) (place : ℕ) → files_of_place place (patched patches files) ≡ files_of_place place files
+places_stay ledger next patches turns files place =
+    let jhr = turns.others files (jhr_file place) (λ e. omega (arith, e)) in
+    let jdt = turns.others files (jdt_file place) (λ e. omega (arith, e)) in
+    let jdx = turns.others files (jdx_file place) (λ e. omega (arith, e)) in
+    let jlr = turns.others files (jlr_file place) (λ e. omega (arith, e)) in
+    λ i. record { jhr = jhr i; jdt = jdt i; jdx = jdx i; jlr = jlr i }
+
 pub begins_gather : (P : Files → Type 0) (ledger next : List ℕ) (old new : List BaseFiles) (patches : List Patch) → TurnsFile ledger_file ledger next patches → Begins next patches
     → ((files : Files) → P files → HasBases old files) → ((files : Files) → P files → files ledger_file ≡ ledger) → Gathered P next old new 0 patches
-begins_gather P ledger next old new patches turns begins has right = gathered_turned P ledger next old new patches turns begins.own begins.once begins.short has right
+begins_gather P ledger next old new patches turns begins has right = record {
+  starts = λ files here. turns.starts files (right files here);
+  ledger_is = λ files here. turns.makes files (right files here);
+  bases = λ files here place within. places_stay ledger next patches turns files place ∙ (has files here place within ∙ sym (cond-false (nat_lt place 0) (at_place new place) (at_place old place) (le-ltb place 0 (omega arith))));
+  no_journal = λ k d within e. omega (arith, e, begins.own k d within);
+  below = λ k d within. omega (arith, begins.own k d within);
+  once = begins.once;
+  short = omega (arith, begins.short);
+}
 
--- ---- two puts
+-- ---- one put, and two
 put_text : (at : ℕ) (bytes : List ℕ) (rest : List Patch) → length (patches_text (Put ledger_file at bytes ∷ rest)) ≡ 11 + length bytes + length (patches_text rest)
 put_text at bytes rest = omega (arith, length-append (patch_text (Put ledger_file at bytes)) (patches_text rest))
 

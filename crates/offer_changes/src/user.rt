@@ -7,7 +7,7 @@ ghost use Rattle.board_ledger.specs.UserPuts.{user_puts, IsAsLong};
 ghost use Rattle.board_ledger.specs.Valid.{IsLedger};
 ghost use Rattle.offer_changes.specs.Changed.{with_user as with_user_of, HasUser};
 
-use board_changes::add_all;
+use board_changes::intent_with;
 use board_layout::StoredBoard;
 use board_ledger::{Ledger, User, user_patches};
 use byte_lists::List;
@@ -74,7 +74,5 @@ pub(crate) fn user_intent(
     ensures { IfOk result (λ intent. intent ≡ user_puts (id - 1) user.now ledger.now) }
 {
     let patches = user_patches(alloc, ledger, id as usize - 1, user)?;
-    let mut intent = Intent::new(alloc);
-    add_all(&mut intent, patches)?;
-    Ok(intent)
+    intent_with(alloc, patches)
 }

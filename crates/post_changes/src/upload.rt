@@ -8,7 +8,7 @@ ghost use Rattle.post_changes.specs.Posted.{ArePlaced, uploaded as uploaded_of, 
 
 use crate::post::{Posts, posted};
 use crate::record::{record_of, with_record};
-use board_changes::{BoardChange, add_all};
+use board_changes::{BoardChange, intent_with};
 use board_layout::StoredBoard;
 use board_ledger::{Ledger, UploadRecord, upload_patches};
 use intent_journal::Intent;
@@ -24,10 +24,7 @@ fn upload_intent(
     requires longer { IsLedger (with_record_of upload.now ledger.now) }
     ensures { IfOk result (λ intent. intent ≡ upload_puts ledger.now upload.now) }
 {
-    let patches = upload_patches(alloc, ledger, upload)?;
-    let mut intent = Intent::new(alloc);
-    add_all(&mut intent, patches)?;
-    Ok(intent)
+    intent_with(alloc, upload_patches(alloc, ledger, upload)?)
 }
 
 /// The change of a board by a reply packet that the user of an id, from 1, sent: the messages of its posts go to the
