@@ -11,3 +11,5 @@ pub mod ReadingBases
 pub mod ReadingParts
 pub mod ReadingClauses
 pub mod ReadingBoard
+pub mod OutlineLaws
+pub mod OneOutline

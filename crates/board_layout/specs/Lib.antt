@@ -5,3 +5,4 @@ pub mod Layout
 pub mod Valid
 pub mod Damage
 pub mod Rules
+pub mod Outlines
