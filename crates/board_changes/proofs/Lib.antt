@@ -6,7 +6,10 @@ pub mod PlaceLaws
 pub mod MadeLaws
 pub mod MemberLaws
 pub mod LeadLaws
+pub mod PlaceSteps
 pub mod OneBase
+pub mod EachBase
+pub mod EachBoard
 pub mod NextLaws
 pub mod UserSizes
 pub mod FitLaws

@@ -3,3 +3,4 @@ pub mod Change
 pub mod Gathered
 pub mod Enrolling
 pub mod Spending
+pub mod Outlined

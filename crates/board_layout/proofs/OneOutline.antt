@@ -8,6 +8,7 @@ use Rattle.std.proofs.lemmas.List.Elements.{All-nil, All-cons, All-head, All-tai
 use Rattle.board_layout.proofs.OutlineLaws.{base_size_outline, highs_outline, outline_base, outline_size, outline_valid}
 use Rattle.board_layout.specs.Board.{Board, shapes_of}
 use Rattle.board_layout.specs.Layout.{base_size, board_size}
+use Rattle.board_layout.specs.Lookups.{user_of}
 use Rattle.board_layout.specs.Outlines.{HasBody, board_outline}
 use Rattle.board_layout.specs.Renewed.{contents_of}
 use Rattle.board_layout.specs.Valid.{IsBoard}
@@ -90,6 +91,12 @@ outline_back b ok conferences =
 module _ (a b : Board) (alike : board_outline a ≡ board_outline b) where
   pub alike_ledger : a.ledger ≡ b.ledger
   alike_ledger = ap (λ (o : Board). o.ledger) alike
+
+  pub alike_user : (id : ℕ) → user_of id a ≡ user_of id b
+  alike_user id = ap (λ (o : Board). user_of id o) alike
+
+  pub alike_places : length a.conferences ≡ length b.conferences
+  alike_places = sym (length-map a.conferences outline) ∙ (ap (λ (o : Board). length o.conferences) alike ∙ length-map b.conferences outline)
 
   pub alike_size : board_size a ≡ board_size b
   alike_size = sym (outline_size a) ∙ (ap board_size alike ∙ outline_size b)
