@@ -5,3 +5,4 @@ pub mod PlaceKinds
 pub mod AppendLaws
 pub mod FitLaws
 pub mod DeleteLaws
+pub mod EachSlots

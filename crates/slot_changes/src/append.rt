@@ -1,5 +1,6 @@
 ghost use Rattle.std.specs.Prelude.{◌≡◌, ◌<◌, ◌≤◌, ◌+◌, length, IfOk};
 ghost use Rattle.board_changes.specs.Change.{Becomes};
+ghost use Rattle.board_changes.specs.Outlined.{LeadsEach};
 ghost use Rattle.board_changes.specs.Spending.{Spends};
 ghost use Rattle.board_layout.specs.Valid.{IsBoard};
 ghost use Rattle.slot_changes.specs.Changed.{appended as appended_of};
@@ -55,7 +56,8 @@ fn all_identified(
 
 /// The change of a board by messages at the end of the conference in a place, one after the other, each with the
 /// msgid that is generated for its number, where it has none. Where there are no messages, the board stays as it is.
-/// The place is there, and the board that it makes is valid. A message is copied once.
+/// The place is there, and the board that it makes is valid. The intent serves each board with the outline of this
+/// one. A message is copied once.
 ///
 /// The error comes where there is no memory.
 pub fn appended(
@@ -67,6 +69,7 @@ pub fn appended(
     requires place { place < length board.now.conferences }
     requires next { IsBoard (appended_of place messages.now board.now) }
     ensures becomes { IfOk result (λ change. Becomes board.now (appended_of place messages.now board.now) change) }
+    ensures each { IfOk result (λ change. LeadsEach board.now (appended_of place messages.now) change.intent) }
     ensures costs { IfOk result (λ change. Spends (length messages.now) board.now (appended_of place messages.now board.now) change.intent) }
 {
     let base = base_of(board, place);

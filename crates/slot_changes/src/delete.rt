@@ -1,8 +1,10 @@
 ghost use Rattle.std.specs.Prelude.{◌≡◌, ◌≤◌, length, IfOk, IsTrue};
 ghost use Rattle.board_changes.specs.Change.{Becomes, Changes};
+ghost use Rattle.board_changes.specs.Outlined.{LeadsEach};
 ghost use Rattle.board_layout.specs.Valid.{IsBoard};
 ghost use Rattle.intent_journal.specs.Patches.{byte_count};
 ghost use Rattle.jam_base.specs.Contents.{with_deleted};
+ghost use Rattle.jam_base.specs.Outlined.{TurnsEach};
 ghost use Rattle.jam_base.specs.Slots.{has_live};
 ghost use Rattle.slot_changes.specs.Changed.{deleted as deleted_of, HasMessage};
 
@@ -17,6 +19,7 @@ fn killed(alloc: Global, base: &Base, number: u32) -> Result<BaseChange, AllocEr
     requires { IsTrue (has_live number base.now.conference.slots) }
     ensures base { IfOk result (λ change. change.base ≡ with_deleted number base.now) }
     ensures changes { IfOk result (λ change. Changes base.now change) }
+    ensures each { IfOk result (λ change. TurnsEach base.now (with_deleted number) change.patches) }
     ensures costs { IfOk result (λ change. (length change.patches ≤ 2) × (byte_count change.patches ≤ 24)) }
 {
     match base.killed(alloc, number) {
@@ -27,7 +30,7 @@ fn killed(alloc: Global, base: &Base, number: u32) -> Result<BaseChange, AllocEr
 }
 
 /// The change of a board by which the message of a number in a place is deleted. The message is there and isn't
-/// deleted, and the board that it makes is valid.
+/// deleted, and the board that it makes is valid. The intent serves each board with the outline of this one.
 ///
 /// The error comes where there is no memory.
 pub fn deleted(
@@ -39,6 +42,7 @@ pub fn deleted(
     requires message { HasMessage place number board.now }
     requires next { IsBoard (deleted_of place number board.now) }
     ensures becomes { IfOk result (λ change. Becomes board.now (deleted_of place number board.now) change) }
+    ensures each { IfOk result (λ change. LeadsEach board.now (deleted_of place number) change.intent) }
     ensures costs { IfOk result (λ change. (length change.intent ≤ 2) × (byte_count change.intent ≤ 24)) }
 {
     let change = killed(alloc, base_of(board, place), number)?;

@@ -1,7 +1,8 @@
 use Rattle.std.proofs.Common.{◌≡◌, ℕ, ◌+◌, List, length, Some, sym, ap, ◌∙◌, subst, arith}
-use Rattle.std.specs.Prelude.{All, IfOk}
+use Rattle.std.specs.Prelude.{All, IfOk, IsSomeAnd}
 use Rattle.board_changes.specs.Change.{Becomes}
 use Rattle.board_changes.specs.Changed.{base_at, with_base}
+use Rattle.board_changes.specs.Outlined.{KeepsEach, LeadsEach, MadeBy, with_changed}
 use Rattle.board_changes.specs.Spending.{Spends}
 use Rattle.board_changes.specs.declared.change.BoardChange.{BoardChange}
 use Rattle.board_layout.specs.Board.{Board}
@@ -12,6 +13,7 @@ use Rattle.jam_base.specs.declared.change.BaseChange.{BaseChange}
 use Rattle.jam_layout.specs.Messages.{IsMessage}
 use Rattle.jam_records.specs.declared.message.Message.{Message}
 use Rattle.slot_changes.proofs.AppendLaws.{appended_few, appended_messages, appended_spends, appended_there, copies_are}
+use Rattle.slot_changes.proofs.EachSlots.{appended_leads}
 use Rattle.slot_changes.proofs.MsgidLaws.{identified_count}
 use Rattle.slot_changes.specs.Changed.{appended}
 use Rattle.slot_changes.specs.Msgids.{all_identified, generated, msgid_in}
@@ -76,3 +78,15 @@ returns-clause-costs c =
     one_ok (λ (change : BoardChange). change.intent ≡ made.patches) (λ (change : BoardChange). Spends (length c.args.messages.now) b (appended c.args.place c.args.messages.now b) change.intent) c.with_base.result
     (λ change same. appended_spends b c.args.place c.args.messages.now c.in_ok-messages.messages base made change.intent c.base_of-base.ensures.board c.base_of-base.ensures.base c.in_ok-extended.ensures.base many c.in_ok-extended.ensures.costs same next)
     c.with_base.ensures.patches
+
+pub returns-clause-each : goal.returns-clause-each
+returns-clause-each c =
+    let b : Board = c.args.board.now in
+    let base : Contents = c.base_of-base.result.now in
+    let made : BaseChange = c.in_ok-extended.field-0 in
+    let are = copies_are b c.args.place c.conference_of.result.now base c.as_slice-bbsid.result.now c.ledger.result.now c.slot_count-first.result c.as_slice.result.now c.args.messages.now c.in_ok-messages.messages
+    c.conference_of.ensures c.as_slice-bbsid.ensures.same c.ledger.ensures.ledger c.slot_count-first.ensures c.as_slice.ensures c.in_ok-messages.ensures in
+    one_ok (λ (change : BoardChange). (f : Contents → Contents) → IsSomeAnd (base_at c.args.place b) (MadeBy f made) → KeepsEach b (with_changed c.args.place f) → LeadsEach b (with_changed c.args.place f) change.intent)
+    (λ (change : BoardChange). LeadsEach b (appended c.args.place c.args.messages.now) change.intent) c.with_base.result
+    (λ change leads. appended_leads b c.args.place c.args.messages.now base c.base_of-base.ensures.board c.base_of-base.ensures.base made c.in_ok-messages.messages change.intent c.requires.next c.in_ok-extended.ensures.base are c.in_ok-extended.ensures.each leads)
+    c.with_base.ensures.each
