@@ -4,5 +4,6 @@ pub mod PutLaws
 pub mod OfferLaws
 pub mod ReadLaws
 pub mod AcknowledgeLaws
-pub mod PlaceSteps
+pub mod EachOffer
+pub mod StepLaws
 pub mod FitLaws

@@ -78,14 +78,14 @@ module _ (b : Board) (id : ℕ) (u : User) (highs : List ℕ) (here : slice_get 
   alike : Alike u (with_offer highs u)
   alike = record { name = refl; members = refl }
 
-  same_shapes : shapes_of (offered_to id highs u b).ledger ≡ shapes_of b.ledger
-  same_shapes = shapes_stay b.ledger id u (with_offer highs u) here alike
+  pub offer_shapes : shapes_of (offered_to id highs u b).ledger ≡ shapes_of b.ledger
+  offer_shapes = shapes_stay b.ledger id u (with_offer highs u) here alike
 
   pub contents_stay : contents_of (offered_to id highs u b) ≡ contents_of b
-  contents_stay = ap (λ (s : List Shape). contents s b.conferences) same_shapes
+  contents_stay = ap (λ (s : List Shape). contents s b.conferences) offer_shapes
 
   files_stay : base_files (offered_to id highs u b) ≡ base_files b
-  files_stay = ap (λ (s : List Shape). layouts s b.conferences) same_shapes
+  files_stay = ap (λ (s : List Shape). layouts s b.conferences) offer_shapes
 
   -- ---- how many bytes its files have
   pub offer_size : IsBoard b → length highs ≡ length u.highs → board_size (offered_to id highs u b) ≡ board_size b
@@ -108,7 +108,7 @@ module _ (b : Board) (id : ℕ) (u : User) (highs : List ℕ) (here : slice_get 
       offer_user (length b.ledger.setup.conferences) u highs was more count (small_highs highs (shapes_of b.ledger) b.conferences ok.conferences many own.1) halves.1 in
       record {
         ledger = ledger_is b.ledger id u (with_offer highs u) here alike ok.ledger user;
-        conferences = subst (λ (s : List Shape). AllZip IsConference s b.conferences) (sym same_shapes) ok.conferences;
+        conferences = subst (λ (s : List Shape). AllZip IsConference s b.conferences) (sym offer_shapes) ok.conferences;
         highs = All-set (λ (v : User). highs_fit b.conferences v.highs ≡ true) b.ledger.users (id - 1) (with_offer highs u) own.1 ok.highs;
         small = omega (arith, ok.small, offer_size ok (omega (arith, many, highs_each ok)));
       }

@@ -1,9 +1,8 @@
 ghost use Rattle.std.specs.Prelude.{◌≡◌, ◌≤◌, ◌++◌, Some, length, option_map, slice_index, IfOk, IfSome, OnOk};
 ghost use Rattle.board_changes.specs.Change.{Becomes, Changes};
-ghost use Rattle.board_changes.specs.Gathered.{Gathered, Joins};
-ghost use Rattle.board_layout.specs.Layout.{IsLayout, base_files};
+ghost use Rattle.board_changes.specs.Gathered.{Joins};
+ghost use Rattle.board_changes.specs.Outlined.{ChangesEach, GatheredEach, LeadsEach};
 ghost use Rattle.board_layout.specs.Renewed.{contents_of, renewed};
-ghost use Rattle.board_ledger.specs.Ledger.{ledger_text};
 ghost use Rattle.board_layout.specs.Lookups.{user_of as user_in};
 ghost use Rattle.offer_changes.specs.Changed.{acknowledged as acknowledged_of, read_by, read_up_to as read_of, without_offer as without_offer_of, HasUser};
 ghost use Rattle.offer_changes.specs.Steps.{base_after, patches_of};
@@ -56,6 +55,7 @@ fn read_up_to(
     requires { high ≤ length base.now.conference.slots }
     ensures base { IfOk result (λ change. base_after base.now change ≡ read_of id name.now now high base.now) }
     ensures changes { IfOk result (λ change. IfSome change (Changes base.now)) }
+    ensures each { IfOk result (λ change. ChangesEach base.now (read_of id name.now now high) (patches_of change)) }
 {
     let Some(pointer) = base.pointer(id) else {
         return Ok(None);
@@ -94,9 +94,9 @@ fn bases_read(
     intent: &mut Intent,
 ) -> Result<List<Option<Base>>, AllocError>
     requires user { user_in id board.now ≡ Some user.now }
-    requires gathered { Gathered (IsLayout board.now) (ledger_text (read_by id now user.now board.now).ledger) (base_files board.now) (base_files (read_by id now user.now board.now)) 0 intent.old }
+    requires gathered { GatheredEach board.now (read_by id now user.now) 0 intent.old }
     ensures bases { IfOk result (λ bases. renewed (contents_of board.now) bases ≡ contents_of (read_by id now user.now board.now)) }
-    ensures gathers { OnOk result (Gathered (IsLayout board.now) (ledger_text (read_by id now user.now board.now).ledger) (base_files board.now) (base_files (read_by id now user.now board.now)) (length board.now.conferences) intent.new) }
+    ensures gathers { OnOk result (GatheredEach board.now (read_by id now user.now) (length board.now.conferences) intent.new) }
 {
     let mut bases = List::new(alloc);
     for (place, base) in board.bases().iter().enumerate() {
@@ -110,7 +110,8 @@ fn bases_read(
 /// The change of a board by which the user of an id, from 1, acknowledges what is offered to him at a moment in Unix
 /// seconds: in each conference whose high is above his last-read pointer, each message to him, ignoring case, is
 /// marked read that isn't deleted, isn't read and has a number above the pointer and at most the high, and then the
-/// pointer is the high. The offer goes, and all his highs are 0. The user is there.
+/// pointer is the high. The offer goes, and all his highs are 0. The user is there. The intent serves each board with
+/// the outline of this one.
 ///
 /// The error comes where there is no memory.
 pub fn acknowledged(
@@ -120,7 +121,8 @@ pub fn acknowledged(
     now: u32,
 ) -> Result<BoardChange, AllocError>
     requires { HasUser user board.now }
-    ensures { IfOk result (λ change. Becomes board.now (acknowledged_of user now board.now) change) }
+    ensures becomes { IfOk result (λ change. Becomes board.now (acknowledged_of user now board.now) change) }
+    ensures each { IfOk result (λ change. LeadsEach board.now (acknowledged_of user now) change.intent) }
 {
     let reader = user_of(board, user);
     let old = board.ledger();

@@ -1,5 +1,6 @@
 ghost use Rattle.std.specs.Prelude.{◌≡◌, ◌<◌, IfOk};
 ghost use Rattle.board_changes.specs.Change.{Becomes};
+ghost use Rattle.board_changes.specs.Outlined.{LeadsEach};
 ghost use Rattle.board_layout.specs.Valid.{IsBoard};
 ghost use Rattle.offer_changes.specs.Changed.{offered as offered_of, with_offer as with_offer_of, HasUser};
 
@@ -27,7 +28,8 @@ fn with_offer(alloc: Global, user: &User, highs: &Highs) -> Result<User, AllocEr
 }
 
 /// The change of a board by which one packet more is offered to the user of an id, from 1: it is his last one, and
-/// these are its highs. An older offer is superseded. The user is there, and the board that it makes is valid.
+/// these are its highs. An older offer is superseded. The user is there, and the board that it makes is valid. The
+/// intent serves each board with the outline of this one.
 ///
 /// The error comes where there is no memory.
 pub fn offered(
@@ -38,7 +40,8 @@ pub fn offered(
 ) -> Result<BoardChange, AllocError>
     requires user { HasUser user board.now }
     requires next { IsBoard (offered_of user highs.now board.now) }
-    ensures { IfOk result (λ change. Becomes board.now (offered_of user highs.now board.now) change) }
+    ensures becomes { IfOk result (λ change. Becomes board.now (offered_of user highs.now board.now) change) }
+    ensures each { IfOk result (λ change. LeadsEach board.now (offered_of user highs.now) change.intent) }
 {
     let old = board.ledger();
     let next = with_offer(alloc, user_of(board, user), highs)?;

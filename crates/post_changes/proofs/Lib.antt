@@ -1,7 +1,9 @@
 pub mod PlacePosts
 pub mod PostLaws
+pub mod EachPost
 pub mod RecordLaws
 pub mod SizeLaws
 pub mod FitLaws
 pub mod PostSteps
 pub mod UploadLaws
+pub mod EachUpload

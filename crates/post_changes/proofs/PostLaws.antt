@@ -78,7 +78,7 @@ module _ (b : Board) (posts : List (ℕ × Message)) (l : Ledger) (ok : IsBoard 
   pub contents_places : length (contents_of b) ≡ length b.conferences
   contents_places = omega (arith, ap (length {A = Conference}) old_conferences, length-map (contents_of b) (λ (base : Contents). base.conference))
 
-  new_shapes : shapes_in (all_posted b posts 0 (contents_of b)) ≡ shapes_of l
+  pub new_shapes : shapes_in (all_posted b posts 0 (contents_of b)) ≡ shapes_of l
   new_shapes = all_shapes b posts 0 (contents_of b) ∙ (old_shapes ∙ sym same)
 
   pub contents_posted : contents_of (posted_with l posts b) ≡ all_posted b posts 0 (contents_of b)

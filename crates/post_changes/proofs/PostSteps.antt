@@ -4,17 +4,20 @@ use Rattle.std.specs.Prelude.{IfSome, count_by, nat_lt, option_map, sum_by, unwr
 use Rattle.std.proofs.lemmas.Bool.{cases_order, cond-false, cond-true, eq-eqb, le-ltb, lt-ltb, ne_eqb}
 use Rattle.std.proofs.lemmas.List.{take_all, take_more}
 use Rattle.std.proofs.lemmas.List.Sums.{count_by-le-length, sum_by-append, sum_by-cons}
-use Rattle.board_changes.proofs.LeadLaws.{leads_next, places_count}
+use Rattle.board_changes.proofs.EachBoard.{gathered_leads, step_each}
+use Rattle.board_changes.proofs.LeadLaws.{places_count}
 use Rattle.board_changes.proofs.MemberLaws.{files_at, files_count, place_known, renewed_pushed}
-use Rattle.offer_changes.proofs.PlaceSteps.{change_joins, change_suits, change_turns, step_gathered, step_joins}
+use Rattle.board_changes.proofs.PlaceSteps.{step_joins}
+use Rattle.offer_changes.proofs.StepLaws.{change_joins, change_suits}
 use Rattle.board_changes.specs.Change.{Becomes, Changes}
-use Rattle.board_changes.specs.Gathered.{at_place, Gathered, Joins}
+use Rattle.board_changes.specs.Gathered.{at_place, Joins}
+use Rattle.board_changes.specs.Outlined.{ChangesEach, GatheredEach, LeadsEach}
 use Rattle.board_changes.specs.Spending.{Spends, SpendsHere}
 use Rattle.offer_changes.specs.Steps.{base_after, patches_of}
 use Rattle.board_changes.specs.declared.change.BoardChange.{BoardChange}
 use Rattle.board_layout.proofs.BasePlaces.{shapes_count}
 use Rattle.board_layout.specs.Board.{Board, shapes_of}
-use Rattle.board_layout.specs.Layout.{IsLayout, base_files, board_size, files_in, no_base}
+use Rattle.board_layout.specs.Layout.{base_files, board_size, files_in, no_base}
 use Rattle.board_layout.specs.Renewed.{contents_of, renewed}
 use Rattle.board_layout.specs.Valid.{IsBoard}
 use Rattle.board_ledger.specs.Ledger.{ledger_text}
@@ -22,11 +25,13 @@ use Rattle.board_ledger.specs.declared.ledger.Ledger.{Ledger}
 use Rattle.intent_journal.specs.Patches.{byte_count}
 use Rattle.intent_journal.specs.declared.patch.Patch.{Patch}
 use Rattle.jam_base.proofs.PutBounds.{count_append}
+use Rattle.jam_base.specs.Change.{SuitsIntent}
 use Rattle.jam_base.specs.Contents.{Contents}
 use Rattle.jam_base.specs.declared.change.BaseChange.{BaseChange}
 use Rattle.jam_layout.specs.Layout.{files_size}
 use Rattle.jam_layout.specs.declared.files.BaseFiles.{BaseFiles}
 use Rattle.jam_records.specs.declared.message.Message.{Message}
+use Rattle.post_changes.proofs.EachPost.{other_shapes, posted_at, posted_keeps}
 use Rattle.post_changes.proofs.PlacePosts.{count_posts}
 use Rattle.post_changes.proofs.PostLaws.{base_posted, contents_count, contents_places, shapes_places}
 use Rattle.post_changes.specs.Posted.{posted_in, posted_with, posts_in}
@@ -81,7 +86,7 @@ pub spent_begun : (b : Board) (posts : List (ℕ × Message)) (l : Ledger) (patc
 spent_begun b posts l patches few grown = record { few = omega (arith, few); grown = omega (arith, grown, no_files (base_files b), no_files (base_files (posted_with l posts b))) }
 
 pub posting_begun : (b : Board) (posts : List (ℕ × Message)) (change : BoardChange) → shapes_of (next_ledger b change) ≡ shapes_of b.ledger → IsBoard (posted_with (next_ledger b change) posts b) → change.bases ≡ []
-    → Gathered (IsLayout b) (ledger_text (next_ledger b change)) (base_files b) (base_files (posted_with (next_ledger b change) posts b)) 0 change.intent → SpentSoFar b posts 0 (next_ledger b change) change.intent → Posting b posts 0 change
+    → GatheredEach b (posted_with (next_ledger b change) posts) 0 change.intent → SpentSoFar b posts 0 (next_ledger b change) change.intent → Posting b posts 0 change
 posting_begun b posts change shapes next none gathered spent = record {
   shapes = shapes;
   next = next;
@@ -93,17 +98,19 @@ posting_begun b posts change shapes next none gathered spent = record {
 
 -- ---- one place more
 module _ (b : Board) (posts : List (ℕ × Message)) (place : ℕ) (base : Contents) (change : BoardChange) (made : Option BaseChange) (ok : IsBoard b) (here : slice_get (contents_of b) place ≡ Some base)
-    (is : base_after base made ≡ posted_in b posts place base) (changes : IfSome made (Changes base)) (so_far : Posting b posts place change) where
+    (is : base_after base made ≡ posted_in b posts place base) (changes : IfSome made (Changes base)) (each : ChangesEach base (posted_in b posts place) (patches_of made)) (so_far : Posting b posts place change) where
   abbrev next : Board
   next = posted_with (next_ledger b change) posts b
 
   there : slice_get (contents_of next) place ≡ Some (base_after base made)
   there = base_posted b posts (next_ledger b change) ok so_far.shapes place base here ∙ ap Some (sym is)
 
+  suits : SuitsIntent base.shape.place (files_in (posted_in b posts place base)) (patches_of made)
+  suits = change_suits base (posted_in b posts place base) made changes is
+
   pub post_joins : IfSome made (λ c. Joins change.intent c.patches)
   post_joins = change_joins change.intent made
-      (step_joins b next place base (base_after base made) change.intent (patches_of made) ok so_far.next here there so_far.gathered
-      (change_turns base (base_after base made) made changes refl) (change_suits base (base_after base made) made changes refl))
+      (step_joins b next place base (posted_in b posts place base) change.intent (patches_of made) ok so_far.next here (there ∙ ap Some is) (so_far.gathered.gathered b ok refl) (each.files.turns base refl) suits)
 
   spent_more : SpendsHere (length (posts_in place posts)) (files_in base) (files_in (base_after base made)) (patches_of made) → SpentSoFar b posts (place + 1) (next_ledger b change) (change.intent ++ patches_of made)
   spent_more costs =
@@ -127,8 +134,8 @@ module _ (b : Board) (posts : List (ℕ × Message)) (place : ℕ) (base : Conte
     next = so_far.next;
     bases = renewed_pushed (contents_of b) (contents_of next) change.bases place base new so_far.bases so_far.counted here (there ∙ ap (λ (o : Option Contents). Some (unwrap_or o base)) (sym same));
     counted = omega (arith, length-append change.bases (new ∷ []), so_far.counted);
-    gathered = step_gathered b next place base (base_after base made) change.intent (patches_of made) ok so_far.next here there so_far.gathered
-        (change_turns base (base_after base made) made changes refl) (change_suits base (base_after base made) made changes refl);
+    gathered = step_each b (posted_with (next_ledger b change) posts) place base (posted_in b posts place) change.intent (patches_of made) here (posted_keeps b posts (next_ledger b change) ok so_far.shapes so_far.next)
+        (λ other valid alike one at. posted_at b posts (next_ledger b change) ok so_far.shapes other valid alike place one at) each suits so_far.gathered;
     spent = spent_more costs;
   }
 
@@ -138,16 +145,21 @@ module _ (b : Board) (posts : List (ℕ × Message)) (place : ℕ) (base : Conte
       subst (Posting b posts (place + 1)) (sym all) (one_more new costs same)
 
 -- ---- all places
+pub posts_lead : (b : Board) (posts : List (ℕ × Message)) (count : ℕ) (change : BoardChange) → IsBoard b → count ≡ length (contents_of b) → Posting b posts count change → LeadsEach b (posted_with (next_ledger b change) posts) change.intent
+posts_lead b posts count change ok all posting =
+    let l : Ledger = next_ledger b change in
+    let end : count ≡ length b.conferences = all ∙ contents_places b posts l ok posting.shapes in
+    gathered_leads b (posted_with l posts) change.intent (posted_keeps b posts l ok posting.shapes posting.next) (λ other alike. shapes_places l other.ledger (other_shapes b posts l ok posting.shapes other alike))
+    (subst (λ (k : ℕ). GatheredEach b (posted_with l posts) k change.intent) end posting.gathered)
+
 pub posts_become : (b : Board) (posts : List (ℕ × Message)) (count : ℕ) (change : BoardChange) → IsBoard b → count ≡ length (contents_of b) → Posting b posts count change → Becomes b (posted_with (next_ledger b change) posts b) change
 posts_become b posts count change ok all posting =
     let next : Board = posted_with (next_ledger b change) posts b in
-    let places : length (contents_of b) ≡ length b.conferences = contents_places b posts (next_ledger b change) ok posting.shapes in
-    let end : count ≡ length b.conferences = all ∙ places in
     record {
       ledger = refl;
       bases = ap (λ (xs : List Contents). renewed xs change.bases) (sym (take_all count (contents_of b) (omega (arith, all))))
           ∙ (posting.bases ∙ take_all count (contents_of next) (omega (arith, all, contents_count b posts (next_ledger b change) ok posting.shapes)));
-      intent = leads_next b next change.intent ok posting.next (shapes_places (next_ledger b change) b.ledger posting.shapes) (subst (λ (k : ℕ). Gathered (IsLayout b) (ledger_text (next_ledger b change)) (base_files b) (base_files next) k change.intent) end posting.gathered);
+      intent = (posts_lead b posts count change ok all posting).leads b ok refl;
     }
 
 -- the size of all data files

@@ -1,9 +1,9 @@
 -- A change of a board by posts, place by place.
 use Rattle.std.specs.Prelude.{◌≡◌, ℕ, ◌+◌, ◌*◌, ◌≤◌, List, length, take, count_by, nat_lt, sum_by, unwrap_or}
-use Rattle.board_changes.specs.Gathered.{Gathered}
+use Rattle.board_changes.specs.Outlined.{GatheredEach}
 use Rattle.board_changes.specs.declared.change.BoardChange.{BoardChange}
 use Rattle.board_layout.specs.Board.{Board, shapes_of}
-use Rattle.board_layout.specs.Layout.{IsLayout, base_files}
+use Rattle.board_layout.specs.Layout.{base_files}
 use Rattle.board_layout.specs.Renewed.{contents_of, renewed}
 use Rattle.board_layout.specs.Valid.{IsBoard}
 use Rattle.board_ledger.specs.Ledger.{ledger_text}
@@ -32,11 +32,11 @@ abbrev pub next_ledger : Board → BoardChange → Ledger
 next_ledger b change = unwrap_or change.ledger b.ledger
 
 -- by the ledger behind the change the next board is valid, and its conferences have the same shapes; of the first places
--- the change has the bases with their posts and the patches of their files
+-- the change has the bases with their posts, and the patches of their files, for each board with the outline of this one
 pub record Posting (b : Board) (posts : List (ℕ × Message)) (count : ℕ) (change : BoardChange) : Type 0 where
   pub shapes : shapes_of (next_ledger b change) ≡ shapes_of b.ledger
   pub next : IsBoard (posted_with (next_ledger b change) posts b)
   pub bases : renewed (take count (contents_of b)) change.bases ≡ take count (contents_of (posted_with (next_ledger b change) posts b))
   pub counted : length change.bases ≡ count
-  pub gathered : Gathered (IsLayout b) (ledger_text (next_ledger b change)) (base_files b) (base_files (posted_with (next_ledger b change) posts b)) count change.intent
+  pub gathered : GatheredEach b (posted_with (next_ledger b change) posts) count change.intent
   pub spent : SpentSoFar b posts count (next_ledger b change) change.intent

@@ -1,12 +1,10 @@
 ghost use Rattle.std.specs.Prelude.{◌≡◌, ◌+◌, Some, length, unwrap_or, IfOk, OnOk};
 ghost use Rattle.board_changes.specs.Change.{Becomes};
 ghost use Rattle.board_changes.specs.Changed.{base_at};
-ghost use Rattle.board_changes.specs.Gathered.{Gathered};
+ghost use Rattle.board_changes.specs.Outlined.{GatheredEach, LeadsEach};
 ghost use Rattle.board_changes.specs.Spending.{Spends};
 ghost use Rattle.board_layout.specs.Board.{shapes_of};
-ghost use Rattle.board_layout.specs.Layout.{IsLayout, base_files};
 ghost use Rattle.board_layout.specs.Valid.{IsBoard};
-ghost use Rattle.board_ledger.specs.Ledger.{ledger_text};
 ghost use Rattle.post_changes.specs.Posted.{ArePlaced, posted_with, spread as spread_of};
 ghost use Rattle.post_changes.specs.Posting.{Posting, SpentSoFar, next_ledger};
 
@@ -58,6 +56,7 @@ fn add_bases(
 ) -> Result<(), AllocError>
     requires { Posting board.now posts.now 0 change.old }
     ensures becomes { OnOk result (Becomes board.now (posted_with (next_ledger board.now change.old) posts.now board.now) change.new) }
+    ensures each { OnOk result (LeadsEach board.now (posted_with (next_ledger board.now change.old) posts.now) change.new.intent) }
     ensures costs { OnOk result (Spends (length posts.now) board.now (posted_with (next_ledger board.now change.old) posts.now board.now) change.new.intent) }
 {
     for (place, base) in board.bases().iter().enumerate() {
@@ -77,9 +76,10 @@ pub(crate) fn posted(
 ) -> Result<BoardChange, AllocError>
     requires shapes { shapes_of (unwrap_or ledger board.now.ledger) ≡ shapes_of board.now.ledger }
     requires next { IsBoard (posted_with (unwrap_or ledger board.now.ledger) posts.now board.now) }
-    requires gathered { Gathered (IsLayout board.now) (ledger_text (unwrap_or ledger board.now.ledger)) (base_files board.now) (base_files (posted_with (unwrap_or ledger board.now.ledger) posts.now board.now)) 0 intent }
+    requires gathered { GatheredEach board.now (posted_with (unwrap_or ledger board.now.ledger) posts.now) 0 intent }
     requires spent { SpentSoFar board.now posts.now 0 (unwrap_or ledger board.now.ledger) intent }
     ensures becomes { IfOk result (Becomes board.now (posted_with (unwrap_or ledger board.now.ledger) posts.now board.now)) }
+    ensures each { IfOk result (λ change. LeadsEach board.now (posted_with (unwrap_or ledger board.now.ledger) posts.now) change.intent) }
     ensures costs { IfOk result (λ change. Spends (length posts.now) board.now (posted_with (unwrap_or ledger board.now.ledger) posts.now board.now) change.intent) }
 {
     let mut change = BoardChange {
@@ -93,13 +93,15 @@ pub(crate) fn posted(
 
 /// The change of a board by posts: the messages of each place go to the end of the conference there, in order, each
 /// with the msgid that is generated for its number, where it has none. A conference without posts stays as it is,
-/// and so does the ledger. All places are there, and the board that it makes is valid. A message is copied once.
+/// and so does the ledger. All places are there, and the board that it makes is valid. The intent serves each board
+/// with the outline of this one. A message is copied once.
 ///
 /// The error comes where there is no memory.
 pub fn spread(alloc: Global, board: &StoredBoard, posts: &Posts) -> Result<BoardChange, AllocError>
     requires places { ArePlaced posts.now board.now }
     requires next { IsBoard (spread_of posts.now board.now) }
     ensures becomes { IfOk result (Becomes board.now (spread_of posts.now board.now)) }
+    ensures each { IfOk result (λ change. LeadsEach board.now (spread_of posts.now) change.intent) }
     ensures costs { IfOk result (λ change. Spends (length posts.now) board.now (spread_of posts.now board.now) change.intent) }
 {
     posted(alloc, board, None, Intent::new(alloc), posts.as_slice())

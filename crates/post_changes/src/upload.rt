@@ -1,5 +1,6 @@
 ghost use Rattle.std.specs.Prelude.{◌≡◌, length, IfOk};
 ghost use Rattle.board_changes.specs.Change.{Becomes};
+ghost use Rattle.board_changes.specs.Outlined.{LeadsEach};
 ghost use Rattle.board_changes.specs.Spending.{Spends};
 ghost use Rattle.board_layout.specs.Valid.{IsBoard};
 ghost use Rattle.board_ledger.specs.UploadPuts.{upload_puts};
@@ -30,7 +31,7 @@ fn upload_intent(
 /// The change of a board by a reply packet that the user of an id, from 1, sent: the messages of its posts go to the
 /// ends of their conferences, as `spread` has it, and the record of the packet stands behind the others, with its
 /// SHA-256, how many posts there are and how many messages were refused. All places are there, and the board that
-/// it makes is valid. A message is copied once.
+/// it makes is valid. The intent serves each board with the outline of this one. A message is copied once.
 ///
 /// The error comes where there is no memory.
 pub fn uploaded(
@@ -44,6 +45,7 @@ pub fn uploaded(
     requires places { ArePlaced posts.now board.now }
     requires next { IsBoard (uploaded_of user digest.now refused posts.now board.now) }
     ensures becomes { IfOk result (Becomes board.now (uploaded_of user digest.now refused posts.now board.now)) }
+    ensures each { IfOk result (λ change. LeadsEach board.now (uploaded_of user digest.now refused posts.now) change.intent) }
     ensures costs { IfOk result (λ change. Spends (length posts.now) board.now (uploaded_of user digest.now refused posts.now board.now) change.intent) }
 {
     let posts = posts.as_slice();

@@ -1,19 +1,15 @@
 use Rattle.std.proofs.Common.{◌≡◌, ℕ, ◌-◌, length, refl, sym, ap, ◌∙◌, subst, arith}
 use Rattle.std.specs.Prelude.{slice_get}
 use Rattle.std.proofs.lemmas.Option.{slice_get_within}
-use Rattle.board_changes.proofs.LeadLaws.{leads_next}
-use Rattle.board_changes.specs.Change.{Leads}
-use Rattle.board_changes.specs.Gathered.{Gathered}
 use Rattle.board_layout.specs.Board.{Board}
-use Rattle.board_layout.specs.Layout.{IsLayout, base_files}
 use Rattle.board_layout.specs.Renewed.{contents_of}
-use Rattle.board_ledger.specs.Ledger.{ledger_text}
 use Rattle.board_ledger.specs.UserPuts.{IsAsLong, user_puts}
 use Rattle.board_ledger.specs.Valid.{IsLedger}
 use Rattle.board_ledger.specs.declared.ledger.Ledger.{Ledger}
 use Rattle.board_ledger.specs.declared.user.User.{User}
 use Rattle.offer_changes.proofs.AcknowledgeLaws.{read_is, read_room, read_there}
-use Rattle.offer_changes.proofs.PutLaws.{gathered_user, there_room}
+use Rattle.offer_changes.proofs.EachOffer.{read_begun, read_leads}
+use Rattle.offer_changes.proofs.PutLaws.{there_room}
 use Rattle.offer_changes.proofs.UserLaws.{id_above, user_there}
 use Rattle.offer_changes.specs.Changed.{read_by, with_user, without_offer}
 use Rattle.offer_changes.proofs.acknowledge.acknowledged.Goals as goal
@@ -53,25 +49,22 @@ made b id now u next was ledger is same new = is ∙ (λ i. with_user id (new i)
 
 pub bases_read-requires-clause-gathered : goal.bases_read-requires-clause-gathered
 bases_read-requires-clause-gathered c =
-    let b : Board = c.args.board.now in
-    let u : User = c.user_of-reader.result.now in
-    let next : Board = read_by c.args.user c.args.now u b in
-    let here = user_there b c.args.user u c.user_of-reader.ensures.user in
-    let intent : c.in_ok-intent.intent ≡ user_puts (c.args.user - 1) (without_offer u) b.ledger =
-    c.in_ok-intent.ensures ∙ (λ i. user_puts (c.args.user - 1) (c.in_ok-next.ensures i) (c.ledger-old.ensures.ledger i)) in
-    subst (Gathered (IsLayout b) (ledger_text next.ledger) (base_files b) (base_files next) 0) (sym intent)
-    (gathered_user b.ledger c.args.user u (without_offer u) here (read_room b c.args.user c.args.now u here c.user_of-reader.ensures.board) (IsLayout b) (base_files b) (base_files next) (λ files is. is.places) (λ files is. is.ledger))
+    read_begun c.args.board.now c.args.user c.args.now c.user_of-reader.result.now c.user_of-reader.ensures.user c.user_of-reader.ensures.board (omega arith) c.in_ok-intent.intent
+    (c.in_ok-intent.ensures ∙ (λ i. user_puts (c.args.user - 1) (c.in_ok-next.ensures i) (c.ledger-old.ensures.ledger i)))
 
-pub returns : goal.returns
-returns c =
+pub returns-clause-becomes : goal.returns-clause-becomes
+returns-clause-becomes c =
     let b : Board = c.args.board.now in
     let u : User = c.user_of-reader.result.now in
-    let next : Board = read_by c.args.user c.args.now u b in
     let there = read_there b c.args.user c.args.now u c.user_of-reader.ensures.user in
-    let ok = read_is b c.args.user c.args.now u (user_there b c.args.user u c.user_of-reader.ensures.user) c.user_of-reader.ensures.board (omega arith) in
     let ledger = made b c.args.user c.args.now u c.in_ok-next.next c.ledger-old.result.now c.in_ok-ledger.ledger c.in_ok-ledger.ensures c.ledger-old.ensures.ledger c.in_ok-next.ensures in
+    let each = read_leads b c.args.user c.args.now u c.user_of-reader.ensures.user c.user_of-reader.ensures.board (omega arith) c.bases_read.new.intent c.in_ok-bases.ensures.gathers in
     record {
       ledger = ledger ∙ ap (λ (d : Board). d.ledger) (sym there);
       bases = c.in_ok-bases.ensures.bases ∙ ap contents_of (sym there);
-      intent = subst (λ (d : Board). Leads (IsLayout b) d c.bases_read.new.intent) (sym there) (leads_next b next c.bases_read.new.intent c.user_of-reader.ensures.board ok refl c.in_ok-bases.ensures.gathers);
+      intent = each.leads b c.user_of-reader.ensures.board refl;
     }
+
+pub returns-clause-each : goal.returns-clause-each
+returns-clause-each c =
+    read_leads c.args.board.now c.args.user c.args.now c.user_of-reader.result.now c.user_of-reader.ensures.user c.user_of-reader.ensures.board (omega arith) c.bases_read.new.intent c.in_ok-bases.ensures.gathers

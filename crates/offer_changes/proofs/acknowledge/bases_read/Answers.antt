@@ -1,19 +1,18 @@
-use Rattle.std.proofs.Common.{◌≡◌, ◌<◌, ◌+◌, ℕ, [], ◌∷◌, ◌++◌, List, length, length-append, take, slice_get, get_or, Some, Option, refl, sym, ap, ◌∙◌, subst, arith}
+use Rattle.std.proofs.Common.{◌≡◌, ◌<◌, ◌+◌, ℕ, [], ◌∷◌, ◌++◌, List, length, length-append, take, slice_get, get_or, Some, Option, sym, ap, ◌∙◌, subst, arith}
 use Rattle.std.specs.Prelude.{unwrap_or}
 use Rattle.std.proofs.lemmas.List.{take_all}
 use Rattle.std.proofs.lemmas.Option.{slice_get-get_or}
 use Rattle.board_changes.proofs.MemberLaws.{renewed_pushed}
-use Rattle.board_changes.specs.Gathered.{Gathered}
+use Rattle.board_changes.specs.Outlined.{ChangesEach, GatheredEach}
 use Rattle.board_layout.specs.Board.{Board}
-use Rattle.board_layout.specs.Layout.{IsLayout, base_files}
 use Rattle.board_layout.specs.Renewed.{contents_of, renewed}
 use Rattle.board_layout.specs.Valid.{IsBoard}
-use Rattle.board_ledger.specs.Ledger.{ledger_text}
 use Rattle.board_ledger.specs.declared.user.User.{User}
 use Rattle.jam_base.specs.Contents.{Contents}
 use Rattle.jam_base.specs.declared.change.BaseChange.{BaseChange}
-use Rattle.offer_changes.proofs.AcknowledgeLaws.{base_read, contents_count, highs_were, read_is}
-use Rattle.offer_changes.proofs.PlaceSteps.{change_joins, change_suits, change_turns, step_gathered, step_joins}
+use Rattle.offer_changes.proofs.AcknowledgeLaws.{base_read, contents_count, highs_were}
+use Rattle.offer_changes.proofs.EachOffer.{read_gathers, read_joins}
+use Rattle.offer_changes.proofs.StepLaws.{change_joins}
 use Rattle.offer_changes.proofs.ReadLaws.{high_within}
 use Rattle.offer_changes.proofs.UserLaws.{user_there}
 use Rattle.offer_changes.specs.Changed.{read_by, read_up_to}
@@ -40,16 +39,13 @@ gather-requires c =
     let place : ℕ = c.loop-place.place in
     let base : Contents = c.base-item.result in
     let change : Option BaseChange = c.in_ok-change.change in
-    let next : Board = read_by c.args.id c.args.now u b in
-    let ok : IsBoard b = c.bases-base-items.ensures.board in
-    let found = user_there b c.args.id u c.requires.user in
     let here = base_here b c.bases-base-items.result.now place base c.bases-base-items.ensures.contents (omega arith) c.base-item.is in
-    let read : base_after base change ≡ read_up_to c.args.id u.name c.args.now (get_or u.highs place 0) base =
-    c.in_ok-change.ensures.base ∙ (λ i. read_up_to c.args.id (c.as_slice.ensures.same i) c.args.now (c.high_of-high.ensures i) base) in
-    let there : slice_get (contents_of next) place ≡ Some (base_after base change) = base_read b c.args.id c.args.now u found ok place base here ∙ ap Some (sym read) in
+    let read : read_up_to c.args.id c.as_slice.result.now c.args.now c.high_of-high.result ≡ read_up_to c.args.id u.name c.args.now (get_or u.highs place 0) =
+    λ i. read_up_to c.args.id (c.as_slice.ensures.same i) c.args.now (c.high_of-high.ensures i) in
+    let is : base_after base change ≡ read_up_to c.args.id u.name c.args.now (get_or u.highs place 0) base = c.in_ok-change.ensures.base ∙ (λ i. read i base) in
+    let each = subst (λ (f : Contents → Contents). ChangesEach base f (patches_of change)) read c.in_ok-change.ensures.each in
     change_joins c.loop-place.intent change
-    (step_joins b next place base (base_after base change) c.loop-place.intent (patches_of change) ok (read_is b c.args.id c.args.now u found ok (omega arith)) here there c.loop-place.invariant.gathered
-    (change_turns base (base_after base change) change c.in_ok-change.ensures.changes refl) (change_suits base (base_after base change) change c.in_ok-change.ensures.changes refl))
+    (read_joins b c.args.id c.args.now u c.requires.user c.bases-base-items.ensures.board (omega arith) place base c.loop-place.intent change here is c.in_ok-change.ensures.changes each c.loop-place.invariant.gathered)
 
 pub loop-place-preserved : goal.loop-place-preserved
 loop-place-preserved c =
@@ -60,11 +56,12 @@ loop-place-preserved c =
     let change : Option BaseChange = c.in_ok-change.change in
     let next : Board = read_by c.args.id c.args.now u b in
     let ok : IsBoard b = c.bases-base-items.ensures.board in
-    let found = user_there b c.args.id u c.requires.user in
     let here = base_here b c.bases-base-items.result.now place base c.bases-base-items.ensures.contents (omega arith) c.base-item.is in
-    let read : base_after base change ≡ read_up_to c.args.id u.name c.args.now (get_or u.highs place 0) base =
-    c.in_ok-change.ensures.base ∙ (λ i. read_up_to c.args.id (c.as_slice.ensures.same i) c.args.now (c.high_of-high.ensures i) base) in
-    let there : slice_get (contents_of next) place ≡ Some (base_after base change) = base_read b c.args.id c.args.now u found ok place base here ∙ ap Some (sym read) in
+    let read : read_up_to c.args.id c.as_slice.result.now c.args.now c.high_of-high.result ≡ read_up_to c.args.id u.name c.args.now (get_or u.highs place 0) =
+    λ i. read_up_to c.args.id (c.as_slice.ensures.same i) c.args.now (c.high_of-high.ensures i) in
+    let is : base_after base change ≡ read_up_to c.args.id u.name c.args.now (get_or u.highs place 0) base = c.in_ok-change.ensures.base ∙ (λ i. read i base) in
+    let each = subst (λ (f : Contents → Contents). ChangesEach base f (patches_of change)) read c.in_ok-change.ensures.each in
+    let there : slice_get (contents_of next) place ≡ Some (base_after base change) = base_read b c.args.id c.args.now u (user_there b c.args.id u c.requires.user) ok place base here ∙ ap Some (sym is) in
     let v = c.loop-place.invariant in
     let bases : List (Option Contents) = c.loop-place.bases in
     let new : Option Contents = c.in_ok-gather.field-0 in
@@ -73,9 +70,8 @@ loop-place-preserved c =
       bases = ap (renewed (take (place + 1) (contents_of b))) added
           ∙ renewed_pushed (contents_of b) (contents_of next) bases place base new v.bases v.counted here (there ∙ ap (λ (o : Option Contents). Some (unwrap_or o base)) (sym c.in_ok-gather.ensures.base));
       counted = omega (arith, ap length added, length-append bases (new ∷ []), v.counted);
-      gathered = subst (Gathered (IsLayout b) (ledger_text next.ledger) (base_files b) (base_files next) (place + 1)) (sym c.in_ok-gather.ensures.gathers)
-          (step_gathered b next place base (base_after base change) c.loop-place.intent (patches_of change) ok (read_is b c.args.id c.args.now u found ok (omega arith)) here there v.gathered
-          (change_turns base (base_after base change) change c.in_ok-change.ensures.changes refl) (change_suits base (base_after base change) change c.in_ok-change.ensures.changes refl));
+      gathered = subst (GatheredEach b (read_by c.args.id c.args.now u) (place + 1)) (sym c.in_ok-gather.ensures.gathers)
+          (read_gathers b c.args.id c.args.now u c.requires.user ok (omega arith) place base c.loop-place.intent change here is c.in_ok-change.ensures.changes each v.gathered);
       all = v.all;
       end = v.end;
     }

@@ -1,17 +1,16 @@
-use Rattle.std.proofs.Common.{◌≡◌, ℕ, ◌-◌, List, length, sym, ap, ◌∙◌, subst, arith}
+use Rattle.std.proofs.Common.{◌≡◌, ℕ, ◌-◌, List, length, refl, sym, ap, ◌∙◌, subst, arith}
 use Rattle.std.specs.Prelude.{slice_get}
 use Rattle.std.proofs.lemmas.Option.{slice_get_within}
-use Rattle.board_changes.specs.Change.{Leads}
 use Rattle.board_layout.proofs.RenewedBases.{none_new}
 use Rattle.board_layout.specs.Board.{Board}
-use Rattle.board_layout.specs.Layout.{IsLayout}
 use Rattle.board_layout.specs.Renewed.{contents_of, renewed}
 use Rattle.board_layout.specs.Valid.{IsBoard}
 use Rattle.board_ledger.specs.UserPuts.{IsAsLong, user_puts}
 use Rattle.board_ledger.specs.Valid.{IsLedger}
 use Rattle.board_ledger.specs.declared.ledger.Ledger.{Ledger}
 use Rattle.board_ledger.specs.declared.user.User.{User}
-use Rattle.offer_changes.proofs.OfferLaws.{contents_stay, offer_last, offer_leads, offer_room, offer_there}
+use Rattle.offer_changes.proofs.EachOffer.{offered_each}
+use Rattle.offer_changes.proofs.OfferLaws.{contents_stay, offer_last, offer_room, offer_there}
 use Rattle.offer_changes.proofs.PutLaws.{there_room}
 use Rattle.offer_changes.proofs.UserLaws.{id_above, user_there}
 use Rattle.offer_changes.specs.Changed.{offered_to, with_offer, with_user}
@@ -58,18 +57,25 @@ with_user-requires-clause-within c =
 made : (b : Board) (id : ℕ) (u next : User) (highs : List ℕ) (was ledger : Ledger) → ledger ≡ with_user id next was → was ≡ b.ledger → next ≡ with_offer highs u → ledger ≡ (offered_to id highs u b).ledger
 made b id u next highs was ledger is same new = is ∙ (λ i. with_user id (new i) (same i))
 
-pub returns : goal.returns
-returns c =
+pub returns-clause-becomes : goal.returns-clause-becomes
+returns-clause-becomes c =
     let b : Board = c.args.board.now in
     let u : User = c.user_of.result.now in
     let there = offer_there b c.args.user u c.args.highs.now c.user_of.ensures.user in
     let here = user_there b c.args.user u c.user_of.ensures.user in
     let ledger = made b c.args.user u c.in_ok-next.next c.args.highs.now c.ledger-old.result.now c.in_ok-ledger.ledger c.in_ok-ledger.ensures c.ledger-old.ensures.ledger c.in_ok-next.ensures in
-    let intent : c.in_ok-intent.intent ≡ user_puts (c.args.user - 1) (with_offer c.args.highs.now u) b.ledger =
-    c.in_ok-intent.ensures ∙ (λ i. user_puts (c.args.user - 1) (c.in_ok-next.ensures i) (c.ledger-old.ensures.ledger i)) in
+    let each = offered_each b c.args.user u c.args.highs.now c.user_of.ensures.user (subst IsBoard there c.requires.next) c.in_ok-intent.intent
+    (c.in_ok-intent.ensures ∙ (λ i. user_puts (c.args.user - 1) (c.in_ok-next.ensures i) (c.ledger-old.ensures.ledger i))) in
     record {
       ledger = ledger ∙ ap (λ (d : Board). d.ledger) (sym there);
       bases = ap (renewed (contents_of b)) c.new.ensures ∙ (none_new (contents_of b) ∙ (sym (contents_stay b c.args.user u c.args.highs.now here) ∙ ap contents_of (sym there)));
-      intent = subst (λ (d : Board). Leads (IsLayout b) d c.in_ok-intent.intent) (sym there)
-          (subst (Leads (IsLayout b) (offered_to c.args.user c.args.highs.now u b)) (sym intent) (offer_leads b c.args.user u c.args.highs.now here c.user_of.ensures.board (subst IsBoard there c.requires.next)));
+      intent = each.leads b c.user_of.ensures.board refl;
     }
+
+pub returns-clause-each : goal.returns-clause-each
+returns-clause-each c =
+    let b : Board = c.args.board.now in
+    let u : User = c.user_of.result.now in
+    let there = offer_there b c.args.user u c.args.highs.now c.user_of.ensures.user in
+    offered_each b c.args.user u c.args.highs.now c.user_of.ensures.user (subst IsBoard there c.requires.next) c.in_ok-intent.intent
+    (c.in_ok-intent.ensures ∙ (λ i. user_puts (c.args.user - 1) (c.in_ok-next.ensures i) (c.ledger-old.ensures.ledger i)))

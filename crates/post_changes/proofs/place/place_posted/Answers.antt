@@ -6,6 +6,7 @@ use Rattle.board_layout.specs.Board.{Board}
 use Rattle.jam_base.specs.Contents.{Contents}
 use Rattle.jam_layout.specs.Messages.{IsMessage}
 use Rattle.jam_records.specs.declared.message.Message.{Message}
+use Rattle.post_changes.proofs.EachPost.{nothing_each, posted_each}
 use Rattle.post_changes.proofs.PlacePosts.{none_posted, place_there, posted_few, posted_messages, some_posted}
 use Rattle.post_changes.specs.Posted.{posts_in}
 use Rattle.slot_changes.proofs.AppendLaws.{changes, copies_are}
@@ -73,3 +74,22 @@ returns-clause-costs c =
     let many : length c.in_ok-messages.messages ≡ length (posts_in c.args.place c.args.posts.now) =
     omega (arith, ap (length {A = Message}) c.in_ok-messages.ensures, identified_count (generated c.conference_of.result.now.number c.as_slice-bbsid.result.now) (c.slot_count-first.result + 1) (posts_in c.args.place c.args.posts.now)) in
     record { few = omega (arith, costs.few, some, same, many); grown = omega (arith, costs.short, some, same, many) }
+
+pub returns-then-is_empty-clause-each : goal.returns-then-is_empty-clause-each
+returns-then-is_empty-clause-each c =
+    let b : Board = c.args.board.now in
+    let base : Contents = c.args.base.now in
+    let messages : List Message = posts_in c.args.place c.args.posts.now in
+    let are = copies_are b c.args.place c.conference_of.result.now base c.as_slice-bbsid.result.now c.ledger.result.now c.slot_count-first.result messages messages c.in_ok-messages.messages
+    c.conference_of.ensures c.as_slice-bbsid.ensures.same c.ledger.ensures.ledger c.slot_count-first.ensures refl c.in_ok-messages.ensures in
+    let none : c.as_slice.result.now ≡ [] = nil_from_length c.as_slice.result.now (eqb-true (length c.as_slice.result.now) 0 (sym c.is_empty.ensures ∙ c.if-is_empty.true)) in
+    posted_each b c.args.posts.now c.args.place base c.in_ok-messages.messages [] are (nothing_each base c.in_ok-messages.messages (sym c.as_slice.ensures ∙ none))
+
+pub returns-clause-each : goal.returns-clause-each
+returns-clause-each c =
+    let b : Board = c.args.board.now in
+    let base : Contents = c.args.base.now in
+    let messages : List Message = posts_in c.args.place c.args.posts.now in
+    let are = copies_are b c.args.place c.conference_of.result.now base c.as_slice-bbsid.result.now c.ledger.result.now c.slot_count-first.result messages messages c.in_ok-messages.messages
+    c.conference_of.ensures c.as_slice-bbsid.ensures.same c.ledger.ensures.ledger c.slot_count-first.ensures refl c.in_ok-messages.ensures in
+    posted_each b c.args.posts.now c.args.place base c.in_ok-messages.messages c.in_ok-extended.field-0.patches are c.in_ok-extended.ensures.each

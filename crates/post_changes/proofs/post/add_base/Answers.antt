@@ -14,7 +14,7 @@ place_posted-requires-clause-next c =
 
 pub gather-requires : goal.gather-requires
 gather-requires c =
-    post_joins c.args.board.now c.args.posts.now c.args.place c.args.base.now c.args.change.now c.in_ok-made.made c.requires.board c.requires.base c.in_ok-made.ensures.base c.in_ok-made.ensures.changes c.requires.so_far
+    post_joins c.args.board.now c.args.posts.now c.args.place c.args.base.now c.args.change.now c.in_ok-made.made c.requires.board c.requires.base c.in_ok-made.ensures.base c.in_ok-made.ensures.changes c.in_ok-made.ensures.each c.requires.so_far
 
 pub returns-clause-so_far : goal.returns-clause-so_far
 returns-clause-so_far c =
@@ -22,6 +22,6 @@ returns-clause-so_far c =
     let made : Option BaseChange = c.in_ok-made.made in
     let after : BoardChange = record { ledger = c.args.change.now.ledger; bases = c.add.new.self; intent = c.gather.new.intent } in
     on_ok_weaker c.add.result
-    (λ added. post_more b c.args.posts.now c.args.place c.args.base.now c.args.change.now made c.requires.board c.requires.base c.in_ok-made.ensures.base c.in_ok-made.ensures.changes c.requires.so_far after
+    (λ added. post_more b c.args.posts.now c.args.place c.args.base.now c.args.change.now made c.requires.board c.requires.base c.in_ok-made.ensures.base c.in_ok-made.ensures.changes c.in_ok-made.ensures.each c.requires.so_far after
     c.in_ok-next.next c.in_ok-made.ensures.costs c.in_ok-next.ensures.base refl added c.in_ok-next.ensures.gathers)
     c.add.ensures.ok

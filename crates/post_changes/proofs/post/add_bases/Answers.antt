@@ -2,11 +2,12 @@ use Rattle.std.proofs.Common.{◌∙◌, Option, length, subst, arith}
 use Rattle.std.specs.Prelude.{unwrap_or}
 use Rattle.board_changes.proofs.MemberLaws.{place_small}
 use Rattle.board_changes.specs.Change.{Becomes}
+use Rattle.board_changes.specs.Outlined.{LeadsEach}
 use Rattle.board_changes.specs.Spending.{Spends}
 use Rattle.board_layout.specs.Board.{Board}
 use Rattle.board_ledger.specs.declared.ledger.Ledger.{Ledger}
 use Rattle.post_changes.proofs.PlacePosts.{base_here}
-use Rattle.post_changes.proofs.PostSteps.{posts_become, posts_spend}
+use Rattle.post_changes.proofs.PostSteps.{posts_become, posts_lead, posts_spend}
 use Rattle.post_changes.specs.Posted.{posted_with}
 use Rattle.post_changes.proofs.post.add_bases.Goals as goal
 
@@ -28,6 +29,13 @@ returns-clause-becomes c =
     let b : Board = c.args.board.now in
     let v = c.loop-place.invariant in
     subst (λ (l : Option Ledger). Becomes b (posted_with (unwrap_or l b.ledger) c.args.posts.now b) c.loop-place.change) v.ledger (posts_become b c.args.posts.now c.loop-place.place c.loop-place.change c.bases-base-items.ensures.board (omega (arith, v.end)) v.so_far)
+
+pub returns-clause-each : goal.returns-clause-each
+returns-clause-each c =
+    let b : Board = c.args.board.now in
+    let v = c.loop-place.invariant in
+    subst (λ (l : Option Ledger). LeadsEach b (posted_with (unwrap_or l b.ledger) c.args.posts.now) c.loop-place.change.intent) v.ledger
+    (posts_lead b c.args.posts.now c.loop-place.place c.loop-place.change c.bases-base-items.ensures.board (omega (arith, v.end)) v.so_far)
 
 pub returns-clause-costs : goal.returns-clause-costs
 returns-clause-costs c =

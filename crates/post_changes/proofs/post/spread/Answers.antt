@@ -1,17 +1,17 @@
 use Rattle.std.proofs.Common.{ℕ, List, length, sym, ap, subst, arith}
 use Rattle.std.specs.Prelude.{IfOk}
-use Rattle.board_changes.proofs.GatherLaws.{gathered_kept}
 use Rattle.board_changes.specs.Change.{Becomes}
-use Rattle.board_changes.specs.Gathered.{Gathered}
+use Rattle.board_changes.specs.Outlined.{GatheredEach, LeadsEach}
 use Rattle.board_changes.specs.Spending.{Spends}
+use Rattle.board_changes.specs.declared.change.BoardChange.{BoardChange}
 use Rattle.board_layout.specs.Board.{Board}
-use Rattle.board_layout.specs.Layout.{IsLayout, base_files}
 use Rattle.board_layout.specs.Valid.{IsBoard}
-use Rattle.board_ledger.specs.Ledger.{ledger_text}
 use Rattle.intent_journal.specs.Patches.{byte_count}
+use Rattle.jam_base.proofs.ChangeClauses.{one_ok}
 use Rattle.jam_records.specs.declared.message.Message.{Message}
+use Rattle.post_changes.proofs.EachPost.{spread_begun, spread_leads}
 use Rattle.post_changes.proofs.PostSteps.{spent_begun}
-use Rattle.post_changes.specs.Posted.{posted_with}
+use Rattle.post_changes.specs.Posted.{posted_with, spread}
 use Rattle.post_changes.proofs.post.spread.Goals as goal
 
 pub posted-requires-clause-next : goal.posted-requires-clause-next
@@ -20,9 +20,7 @@ posted-requires-clause-next c = subst IsBoard (λ i. posted_with c.args.board.no
 pub posted-requires-clause-gathered : goal.posted-requires-clause-gathered
 posted-requires-clause-gathered c =
     let b : Board = c.args.board.now in
-    let next : Board = posted_with b.ledger c.as_slice.result.now b in
-    subst (Gathered (IsLayout b) (ledger_text b.ledger) (base_files b) (base_files next) 0) (sym c.new.ensures)
-    (gathered_kept (IsLayout b) (ledger_text b.ledger) (base_files b) (base_files next) (λ files is. is.places) (λ files is. is.ledger))
+    subst (GatheredEach b (posted_with b.ledger c.as_slice.result.now) 0) (sym c.new.ensures) (spread_begun b c.as_slice.result.now)
 
 pub posted-requires-clause-spent : goal.posted-requires-clause-spent
 posted-requires-clause-spent c =
@@ -37,3 +35,10 @@ returns-clause-costs c =
     let b : Board = c.args.board.now in
     let costs : List (ℕ × Message) → Type 0 = λ posts. IfOk c.posted.result (λ change. Spends (length posts) b (posted_with b.ledger posts b) change.intent) in
     subst costs c.as_slice.ensures c.posted.ensures.costs
+
+pub returns-clause-each : goal.returns-clause-each
+returns-clause-each c =
+    let b : Board = c.args.board.now in
+    let posts : List (ℕ × Message) = c.args.posts.now in
+    one_ok (λ (change : BoardChange). LeadsEach b (posted_with b.ledger c.as_slice.result.now) change.intent) (λ (change : BoardChange). LeadsEach b (spread posts) change.intent) c.posted.result
+    (λ change each. spread_leads b posts change.intent (subst (λ (ps : List (ℕ × Message)). LeadsEach b (posted_with b.ledger ps) change.intent) c.as_slice.ensures each)) c.posted.ensures.each

@@ -1,10 +1,10 @@
 use Rattle.std.proofs.Common.{◌≡◌, ℕ, List, length, sym, ap, ◌∙◌, subst, arith}
 use Rattle.std.specs.Prelude.{IfOk}
 use Rattle.board_changes.specs.Change.{Becomes}
-use Rattle.board_changes.specs.Gathered.{Gathered}
+use Rattle.board_changes.specs.Outlined.{GatheredEach, LeadsEach}
 use Rattle.board_changes.specs.Spending.{Spends}
+use Rattle.board_changes.specs.declared.change.BoardChange.{BoardChange}
 use Rattle.board_layout.specs.Board.{Board, shapes_of}
-use Rattle.board_layout.specs.Layout.{IsLayout, base_files}
 use Rattle.board_layout.specs.Valid.{IsBoard}
 use Rattle.board_ledger.specs.Ledger.{ledger_text}
 use Rattle.board_ledger.specs.UploadPuts.{upload_puts}
@@ -13,11 +13,12 @@ use Rattle.board_ledger.specs.declared.ledger.Ledger.{Ledger}
 use Rattle.board_ledger.specs.declared.upload.UploadRecord.{UploadRecord}
 use Rattle.board_ledger.proofs.UploadPutLaws.{last_digest, upload_bytes}
 use Rattle.intent_journal.specs.Patches.{byte_count}
+use Rattle.jam_base.proofs.ChangeClauses.{one_ok}
 use Rattle.jam_records.specs.declared.message.Message.{Message}
+use Rattle.post_changes.proofs.EachUpload.{upload_begun, upload_leads}
 use Rattle.post_changes.proofs.PostSteps.{spent_begun}
 use Rattle.post_changes.proofs.RecordLaws.{record_counts, record_length, record_shapes}
-use Rattle.post_changes.proofs.UploadLaws.{gathered_upload}
-use Rattle.post_changes.specs.Posted.{posted_with, record_of, with_record}
+use Rattle.post_changes.specs.Posted.{posted_with, record_of, uploaded, with_record}
 use Rattle.post_changes.proofs.upload.uploaded.Goals as goal
 
 -- the ledger that is made is that of the next board
@@ -60,10 +61,9 @@ posted-requires-clause-gathered c =
     let same : c.in_ok-ledger.ledger ≡ with_record r b.ledger =
     made b.ledger c.ledger-old.result.now c.in_ok-ledger.ledger r c.record_of-upload.result c.in_ok-ledger.ensures upload c.ledger-old.ensures.ledger in
     let puts : c.in_ok-intent.intent ≡ upload_puts b.ledger r = c.in_ok-intent.ensures ∙ (λ i. upload_puts (c.ledger-old.ensures.ledger i) (upload i)) in
-    let next : Ledger → Board = λ (l : Ledger). posted_with l c.as_slice-posts.result.now b in
-    subst (λ (l : Ledger). Gathered (IsLayout b) (ledger_text l) (base_files b) (base_files (next l)) 0 c.in_ok-intent.intent) (sym same)
-    (subst (Gathered (IsLayout b) (ledger_text (with_record r b.ledger)) (base_files b) (base_files (next (with_record r b.ledger))) 0) (sym puts)
-    (gathered_upload b.ledger r c.ledger-old.ensures.board.ledger c.requires.next.ledger (IsLayout b) (base_files b) (base_files (next (with_record r b.ledger))) (λ files is. is.places) (λ files is. is.ledger)))
+    let posts : List (ℕ × Message) = c.as_slice-posts.result.now in
+    subst (λ (l : Ledger). GatheredEach b (posted_with l posts) 0 c.in_ok-intent.intent) (sym same)
+    (subst (GatheredEach b (posted_with (with_record r b.ledger) posts) 0) (sym puts) (upload_begun b r posts c.ledger-old.ensures.board.ledger c.requires.next.ledger))
 
 pub posted-requires-clause-spent : goal.posted-requires-clause-spent
 posted-requires-clause-spent c =
@@ -94,3 +94,15 @@ returns-clause-costs c =
     made b.ledger c.ledger-old.result.now c.in_ok-ledger.ledger r c.record_of-upload.result c.in_ok-ledger.ensures upload c.ledger-old.ensures.ledger in
     let costs : (l : Ledger) → List (ℕ × Message) → Type 0 = λ l posts. IfOk c.posted.result (λ change. Spends (length posts) b (posted_with l posts b) change.intent) in
     subst (λ (l : Ledger). costs l c.args.posts.now) same (subst (costs c.in_ok-ledger.ledger) c.as_slice-posts.ensures c.posted.ensures.costs)
+
+pub returns-clause-each : goal.returns-clause-each
+returns-clause-each c =
+    let b : Board = c.args.board.now in
+    let posts : List (ℕ × Message) = c.args.posts.now in
+    let r : UploadRecord = record_of c.args.user c.args.digest.now c.args.refused posts in
+    let upload : c.record_of-upload.result ≡ r = c.record_of-upload.ensures ∙ ap (record_of c.args.user c.args.digest.now c.args.refused) c.as_slice-posts.ensures in
+    let same : c.in_ok-ledger.ledger ≡ with_record r b.ledger =
+    made b.ledger c.ledger-old.result.now c.in_ok-ledger.ledger r c.record_of-upload.result c.in_ok-ledger.ensures upload c.ledger-old.ensures.ledger in
+    let change_is : posted_with c.in_ok-ledger.ledger c.as_slice-posts.result.now ≡ posted_with (with_record r b.ledger) posts = λ i. posted_with (same i) (c.as_slice-posts.ensures i) in
+    one_ok (λ (change : BoardChange). LeadsEach b (posted_with c.in_ok-ledger.ledger c.as_slice-posts.result.now) change.intent) (λ (change : BoardChange). LeadsEach b (uploaded c.args.user c.args.digest.now c.args.refused posts) change.intent) c.posted.result
+    (λ change each. upload_leads b c.args.user c.args.digest.now c.args.refused posts change.intent (subst (λ (next : Board → Board). LeadsEach b next change.intent) change_is each)) c.posted.ensures.each
