@@ -12,4 +12,5 @@ pub mod EachBase
 pub mod EachBoard
 pub mod NextLaws
 pub mod UserSizes
+pub mod EachMember
 pub mod FitLaws

@@ -8,16 +8,12 @@ use Rattle.std.proofs.lemmas.List.{append-nil, length-take-le, take_more}
 use Rattle.std.proofs.lemmas.List.Elements.{All-append, All-nil, All-cons}
 use Rattle.board_changes.specs.Changed.{joined_in, joined_from, with_user, with_member}
 use Rattle.board_layout.specs.Board.{Board, reader_of, readers_from, shape_of, shapes_from, shapes_of}
-use Rattle.board_changes.specs.Gathered.{at_place, Gathered, FitJournal, Joins}
-use Rattle.board_changes.proofs.GatherLaws.{gathered_more, joins_more}
-use Rattle.board_layout.specs.Layout.{IsLayout, base_files, layouts}
+use Rattle.board_changes.specs.Gathered.{at_place, FitJournal}
+use Rattle.board_layout.specs.Layout.{base_files, layouts}
 use Rattle.board_layout.specs.Valid.{IsBoard}
 use Rattle.board_layout.proofs.BasePlaces.{shapes_count, layouts_count}
 use Rattle.board_ledger.specs.Ledger.{ledger_text}
 use Rattle.board_ledger.specs.Users.{is_member}
-use Rattle.intent_journal.specs.declared.patch.Patch.{Patch}
-use Rattle.jam_base.specs.Change.{Turns, SuitsIntent}
-use Rattle.jam_base.proofs.PatchLaws.{nothing_turns, nothing_small}
 use Rattle.jam_layout.specs.Layout.{layout}
 use Rattle.jam_layout.specs.declared.files.BaseFiles.{BaseFiles}
 use Rattle.jam_layout.specs.declared.shape.Shape.{Shape}
@@ -151,63 +147,23 @@ place_next b u k base next is = place_small (with_member u b) k (next_base b.led
 pub files_count : (b : Board) → IsBoard b → length (base_files b) ≡ length b.ledger.setup.conferences
 files_count b ok = layouts_count (shapes_of b.ledger) b.conferences ok.conferences ∙ shapes_count b.ledger 0 b.ledger.setup.conferences
 
--- ---- the patches of a place
-module _ (b : Board) (u : User) (place : ℕ) (base : Contents) (done : List Patch) (next : IsBoard (with_member u b)) (here : slice_get (contents_of b) place ≡ Some base)
-    (gathered : Gathered (IsLayout b) (ledger_text (with_user u b.ledger)) (base_files b) (base_files (with_member u b)) place done) where
-  old_is : at_place (base_files b) place ≡ layout base.shape base.conference
-  old_is = files_at b place base here
+-- ---- the base of a place after it
+-- where the user isn't a member
+pub same_base : (l : Ledger) (u : User) (place : ℕ) (base : Contents) → is_member u place ≡ false → next_base l u place base ≡ base
+unfolding next_base
+same_base l u place base away = cond-false (is_member u place) (with_reader (1 + length l.users) u.name base) base away
 
-  counted : place < length (base_files (with_member u b))
-  counted = omega (arith, files_count (with_member u b) next, place_known (with_member u b) place (next_base b.ledger u place base) (next_in b u place base here), shapes_count (with_user u b.ledger) 0 b.ledger.setup.conferences)
+pub stays_base : (b : Board) (u : User) (place : ℕ) (base : Contents) → slice_get (contents_of b) place ≡ Some base → is_member u place ≡ false → slice_get (contents_of (with_member u b)) place ≡ Some base
+stays_base b u place base here away = next_in b u place base here ∙ ap Some (same_base b.ledger u place base away)
 
-  small : place < 64
-  small = place_next b u place base next here
+-- where the user is
+pub joined_is : (l : Ledger) (u : User) (place : ℕ) (base : Contents) → is_member u place ≡ true → next_base l u place base ≡ with_reader (length l.users + 1) u.name base
+unfolding next_base
+joined_is l u place base member = cond-true (is_member u place) (with_reader (1 + length l.users) u.name base) base member ∙ ap (λ (n : ℕ). with_reader n u.name base) (omega arith)
 
-  -- the user isn't a member
-  module _ (away : is_member u place ≡ false) where
-    same_base : next_base b.ledger u place base ≡ base
-    unfolding next_base
-    same_base = cond-false (is_member u place) (with_reader (1 + length b.ledger.users) u.name base) base away
-
-    pub stays_base : slice_get (contents_of (with_member u b)) place ≡ Some base
-    stays_base = next_in b u place base here ∙ ap Some same_base
-
-    pub stays_gathered : Gathered (IsLayout b) (ledger_text (with_user u b.ledger)) (base_files b) (base_files (with_member u b)) (place + 1) done
-    stays_gathered =
-        let new_is : at_place (base_files (with_member u b)) place ≡ layout base.shape base.conference = files_at (with_member u b) place base stays_base in
-        let turns : Turns place (at_place (base_files b) place) (at_place (base_files (with_member u b)) place) [] =
-        subst (λ (f : BaseFiles). Turns place (at_place (base_files b) place) f []) (old_is ∙ sym new_is) (nothing_turns place (at_place (base_files b) place)) in
-        subst (Gathered (IsLayout b) (ledger_text (with_user u b.ledger)) (base_files b) (base_files (with_member u b)) (place + 1)) (append-nil done)
-        (gathered_more (IsLayout b) (ledger_text (with_user u b.ledger)) (base_files b) (base_files (with_member u b)) place done [] gathered small counted turns (nothing_small place (at_place (base_files (with_member u b)) place)))
-
-  -- the user is
-  module _ (member : is_member u place ≡ true) (made : Contents) (patches : List Patch) (made_is : made ≡ with_reader (length b.ledger.users + 1) u.name base)
-      (turns : Turns base.shape.place (layout base.shape base.conference) (layout made.shape made.conference) patches) (suits : SuitsIntent base.shape.place (layout made.shape made.conference) patches) where
-    with_is : next_base b.ledger u place base ≡ made
-    unfolding next_base
-    with_is = cond-true (is_member u place) (with_reader (1 + length b.ledger.users) u.name base) base member ∙ (ap (λ (n : ℕ). with_reader n u.name base) (omega arith) ∙ sym made_is)
-
-    pub joins_base : slice_get (contents_of (with_member u b)) place ≡ Some made
-    joins_base = next_in b u place base here ∙ ap Some with_is
-
-    new_is : at_place (base_files (with_member u b)) place ≡ layout made.shape made.conference
-    new_is = files_at (with_member u b) place made joins_base
-
-    turns_here : Turns place (at_place (base_files b) place) (at_place (base_files (with_member u b)) place) patches
-    turns_here =
-        subst (λ (k : ℕ). Turns k (at_place (base_files b) place) (at_place (base_files (with_member u b)) place) patches) (place_at b place base here)
-        (subst (λ (f : BaseFiles). Turns base.shape.place (at_place (base_files b) place) f patches) (sym new_is) (subst (λ (f : BaseFiles). Turns base.shape.place f (layout made.shape made.conference) patches) (sym old_is) turns))
-
-    suits_here : SuitsIntent place (at_place (base_files (with_member u b)) place) patches
-    suits_here =
-        subst (λ (k : ℕ). SuitsIntent k (at_place (base_files (with_member u b)) place) patches) (place_at b place base here)
-        (subst (λ (f : BaseFiles). SuitsIntent base.shape.place f patches) (sym new_is) suits)
-
-    pub joins_patches : FitJournal (ledger_text (with_user u b.ledger)) (base_files (with_member u b)) → Joins done patches
-    joins_patches fit = joins_more (IsLayout b) (ledger_text (with_user u b.ledger)) (base_files b) (base_files (with_member u b)) place done patches gathered small counted turns_here suits_here fit
-
-    pub joins_gathered : Gathered (IsLayout b) (ledger_text (with_user u b.ledger)) (base_files b) (base_files (with_member u b)) (place + 1) (done ++ patches)
-    joins_gathered = gathered_more (IsLayout b) (ledger_text (with_user u b.ledger)) (base_files b) (base_files (with_member u b)) place done patches gathered small counted turns_here suits_here
+pub joins_base : (b : Board) (u : User) (place : ℕ) (base made : Contents) → slice_get (contents_of b) place ≡ Some base → is_member u place ≡ true → made ≡ with_reader (length b.ledger.users + 1) u.name base
+    → slice_get (contents_of (with_member u b)) place ≡ Some made
+joins_base b u place base made here member is = next_in b u place base here ∙ ap Some (joined_is b.ledger u place base member ∙ sym is)
 
 -- ---- the whole board
 pub member_fits : (b : Board) → IsBoard b → FitJournal (ledger_text b.ledger) (base_files b)

@@ -2,12 +2,10 @@ ghost use Rattle.std.specs.Prelude.{◌≡◌, ◌<◌, ◌+◌, ◌==◌, ◌�
 ghost use Rattle.std.specs.Int.{bit_at};
 ghost use Rattle.board_changes.specs.Change.{Becomes};
 ghost use Rattle.board_changes.specs.Changed.{enrolled as enrolled_of, new_user as new_user_of, with_user as with_user_of, with_member};
-ghost use Rattle.board_changes.specs.Gathered.{Gathered, FitJournal};
-ghost use Rattle.board_layout.specs.Layout.{IsLayout, base_files};
+ghost use Rattle.board_changes.specs.Outlined.{GatheredEach, LeadsEach};
 ghost use Rattle.board_layout.specs.Renewed.{contents_of, renewed};
 ghost use Rattle.board_layout.specs.Valid.{IsBoard};
 ghost use Rattle.board_ledger.specs.EnrollPuts.{enroll_puts};
-ghost use Rattle.board_ledger.specs.Ledger.{ledger_text};
 ghost use Rattle.board_ledger.specs.Valid.{IsLedger};
 
 use crate::change::BoardChange;
@@ -61,12 +59,12 @@ fn joined_base(
     base: &Base,
     intent: &mut Intent,
 ) -> Result<Option<Base>, AllocError>
+    requires board { IsBoard board.now }
     requires next { IsBoard (with_member user.now board.now) }
     requires base { slice_get (contents_of board.now) place ≡ Some base.now }
-    requires gathered { Gathered (IsLayout board.now) (ledger_text (with_user_of user.now board.now.ledger)) (base_files board.now) (base_files (with_member user.now board.now)) place intent.old }
-    requires fit { FitJournal (ledger_text (with_user_of user.now board.now.ledger)) (base_files (with_member user.now board.now)) }
+    requires gathered { GatheredEach board.now (with_member user.now) place intent.old }
     ensures base { IfOk result (λ new. slice_get (contents_of (with_member user.now board.now)) place ≡ Some (unwrap_or new base.now)) }
-    ensures gathers { OnOk result (Gathered (IsLayout board.now) (ledger_text (with_user_of user.now board.now.ledger)) (base_files board.now) (base_files (with_member user.now board.now)) (place + 1) intent.new) }
+    ensures gathers { OnOk result (GatheredEach board.now (with_member user.now) (place + 1) intent.new) }
 {
     if !user.is_member(u32::from(place)) {
         return Ok(None);
@@ -86,10 +84,9 @@ fn joined_bases(
     intent: &mut Intent,
 ) -> Result<List<Option<Base>>, AllocError>
     requires next { IsBoard (with_member user.now board.now) }
-    requires gathered { Gathered (IsLayout board.now) (ledger_text (with_user_of user.now board.now.ledger)) (base_files board.now) (base_files (with_member user.now board.now)) 0 intent.old }
-    requires fit { FitJournal (ledger_text (with_user_of user.now board.now.ledger)) (base_files (with_member user.now board.now)) }
+    requires gathered { GatheredEach board.now (with_member user.now) 0 intent.old }
     ensures bases { IfOk result (λ bases. renewed (contents_of board.now) bases ≡ contents_of (with_member user.now board.now)) }
-    ensures gathers { OnOk result (Gathered (IsLayout board.now) (ledger_text (with_user_of user.now board.now.ledger)) (base_files board.now) (base_files (with_member user.now board.now)) (length board.now.conferences) intent.new) }
+    ensures gathers { OnOk result (GatheredEach board.now (with_member user.now) (length board.now.conferences) intent.new) }
 {
     let mut bases = List::new(alloc);
     for (place, base) in board.bases().iter().enumerate() {
@@ -111,7 +108,8 @@ fn enroll_intent(alloc: Global, ledger: &Ledger, user: &User) -> Result<Intent, 
 /// The change of a board by this user, behind the others.
 fn enrolled_as(alloc: Global, board: &StoredBoard, user: &User) -> Result<BoardChange, AllocError>
     requires { IsBoard (with_member user.now board.now) }
-    ensures { IfOk result (λ change. Becomes board.now (with_member user.now board.now) change) }
+    ensures becomes { IfOk result (λ change. Becomes board.now (with_member user.now board.now) change) }
+    ensures each { IfOk result (λ change. LeadsEach board.now (with_member user.now) change.intent) }
 {
     let ledger = board.ledger();
     let mut intent = enroll_intent(alloc, ledger, user)?;
@@ -125,7 +123,8 @@ fn enrolled_as(alloc: Global, board: &StoredBoard, user: &User) -> Result<BoardC
 }
 
 /// The change of a board by a user who is new on it: behind the others, with pointers 0 in the conferences in
-/// these places, bit k for place k. The board that it makes is valid.
+/// these places, bit k for place k. The board that it makes is valid. The intent serves each board with the outline
+/// of this one.
 ///
 /// The error comes where there is no memory.
 pub fn enrolled(
@@ -136,7 +135,8 @@ pub fn enrolled(
     members: u64,
 ) -> Result<BoardChange, AllocError>
     requires { IsBoard (enrolled_of name.now net members board.now) }
-    ensures { IfOk result (λ change. Becomes board.now (enrolled_of name.now net members board.now) change) }
+    ensures becomes { IfOk result (λ change. Becomes board.now (enrolled_of name.now net members board.now) change) }
+    ensures each { IfOk result (λ change. LeadsEach board.now (enrolled_of name.now net members) change.intent) }
 {
     let count = board.ledger().setup.conferences.len();
     let user = new_user(alloc, name, net, members, count)?;
