@@ -4,7 +4,7 @@ use board_layout::StoredBoard;
 use byte_lists::Bytes;
 use case_texts::{Miss, expect_cases, number_of};
 use setup_file::Setup;
-use std::alloc::Global;
+use std::alloc::{AllocError, Global};
 
 /// A setup of three conferences.
 const SETUP: &str =
@@ -22,20 +22,43 @@ fn new_board(alloc: Global) -> Result<StoredBoard, Miss> {
     }
 }
 
-/// How many bytes the new board has with a user of a name in places, and whether the user fits; where he does, how many
-/// the journal of his enrolment has.
+/// How many bytes the journal of a user's enrolment in places has, or None where he doesn't fit.
+fn journal(
+    alloc: Global,
+    board: &StoredBoard,
+    name: &[u8],
+    members: u64,
+) -> Result<Option<u64>, AllocError> {
+    if !fits_user(board, name, false, members) {
+        return Ok(None);
+    }
+    let change = enrolled(alloc, board, name, false, members)?;
+    Ok(Some(change.intent.size()))
+}
+
+/// How many bytes a board has with a user of a name in places, and whether he fits; where he does, how many the journal of
+/// his enrolment has.
+fn outcome(
+    alloc: Global,
+    board: &StoredBoard,
+    name: &[u8],
+    members: u64,
+) -> Result<String, AllocError> {
+    let size = size_with_user(board, name, false, members);
+    match journal(alloc, board, name, members)? {
+        Some(journal) => format!(in alloc; "{size} fits, {journal} journal"),
+        None => format!(in alloc; "{size} refused"),
+    }
+}
+
+/// That of the new board.
 fn with_user(alloc: Global, words: &[Bytes]) -> Result<String, Miss> {
     let [name, members] = words else {
         return Err(Miss::Words);
     };
     let members = u64::from(number_of(members.as_slice())?);
     let board = new_board(alloc)?;
-    let size = size_with_user(&board, name.as_slice(), false, members);
-    if !fits_user(&board, name.as_slice(), false, members) {
-        return Ok(format!(in alloc; "{size} refused")?);
-    }
-    let change = enrolled(alloc, &board, name.as_slice(), false, members)?;
-    Ok(format!(in alloc; "{size} fits, {} journal", change.intent.size())?)
+    Ok(outcome(alloc, &board, name.as_slice(), members)?)
 }
 
 /// The places are the bits of a number. The new board has a ledger of 119 bytes and three base headers of 1,024; a user's

@@ -73,15 +73,28 @@ fn stopped(alloc: Global, host: &MemoryHost, shelf: &mut MemoryShelf) -> Result<
     Ok(left)
 }
 
-/// A crash in the recovery leaves torn files, and the next recovery the whole board.
+/// What a crash in the recovery of a full board's files leaves.
+fn torn(alloc: Global, full: &MemoryHost, shelf: &mut MemoryShelf) -> Result<MemoryHost, Miss> {
+    let open = open_host(alloc, full)?;
+    stopped(alloc, &open, shelf)
+}
+
+/// The next recovery leaves the whole board.
+fn recovers(
+    alloc: Global,
+    full: MemoryHost,
+    torn: &MemoryHost,
+    shelf: &mut MemoryShelf,
+) -> Result<(), Miss> {
+    let mut steps = Steps::of(alloc, full, shelf, "")?;
+    steps.after_crash(alloc, torn, ImageChoice::Mixed(1), shelf)?;
+    Ok(())
+}
+
 #[test]
 fn the_longest_journal_is_recovered(rt: HostRuntime) -> Result<(), Miss> {
     let alloc = rt.alloc();
-    let stage = played_numbered(alloc, ROOM)?;
-    let mut shelf = stage.shelf;
-    let open = open_host(alloc, &stage.host)?;
-    let torn = stopped(alloc, &open, &mut shelf)?;
-    let mut steps = Steps::of(alloc, stage.host, &mut shelf, "")?;
-    steps.after_crash(alloc, &torn, ImageChoice::Mixed(1), &mut shelf)?;
-    Ok(())
+    let mut stage = played_numbered(alloc, ROOM)?;
+    let torn = torn(alloc, &stage.host, &mut stage.shelf)?;
+    recovers(alloc, stage.host, &torn, &mut stage.shelf)
 }
