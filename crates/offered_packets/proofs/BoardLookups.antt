@@ -1,10 +1,10 @@
 -- What stands in a place of a board.
-use Rattle.std.proofs.Common.{◌≡◌, ℕ, zero, suc, ◌-◌, ◌<◌, ◌≤◌, false, cond, eqb, List, [], ◌∷◌, length, get_or, refl, sym, ap, ◌∙◌, inl, inr, arith, Bor}
+use Rattle.std.proofs.Common.{◌≡◌, ℕ, zero, suc, ◌-◌, ◌<◌, ◌≤◌, false, cond, eqb, List, [], ◌∷◌, length, get_or, take, refl, sym, ap, ◌∙◌, inl, inr, arith, Bor}
 use Rattle.std.specs.Prelude.{Option, Some, None, option_map, option_copied, unwrap_or, slice_get, Contains, IfSome, IfNone}
 use Rattle.std.specs.List.{AllZip}
 use Rattle.std.proofs.lemmas.Bool.{cases_lt, cases_eq, cond-true, cond-false, eq-eqb, ne_eqb}
 use Rattle.std.proofs.lemmas.List.{length-map, get_or_past}
-use Rattle.std.proofs.lemmas.Option.{slice_get-map, slice_get_within, slice_get-get_or, get_or_from_slice_get, none-some}
+use Rattle.std.proofs.lemmas.Option.{slice_get-map, slice_get_past, slice_get_within, slice_get-get_or, get_or_from_slice_get, none-some}
 use Rattle.board_layout.specs.Board.{Board, conferences_in, shapes_of}
 use Rattle.board_layout.specs.Valid.{IsBoard}
 use Rattle.board_layout.proofs.BasePlaces.{shapes_count}
@@ -15,6 +15,7 @@ use Rattle.jam_layout.specs.declared.shape.Shape.{Shape}
 use Rattle.jam_records.specs.declared.message.Slot.{Slot}
 use Rattle.jam_records.specs.declared.message.Slot.TheVariants.{Gone}
 use Rattle.jam_base.specs.Slots.{numbered}
+use Rattle.jam_threads.specs.Children.{original, slot_original}
 use Rattle.board_ledger.specs.declared.user.User.{User}
 use Rattle.setup_file.specs.Valid.{numbers_of}
 use Rattle.setup_file.specs.declared.conference.Conference.{Conference as SetupConference}
@@ -96,3 +97,9 @@ none_number (c ∷ conferences) (suc place) e = none_number conferences place e
 pub found_user : (users : List User) (place : ℕ) (found : Option (Bor User)) → option_copied found ≡ slice_get users place → IfSome found (λ user. Contains users user.now)
 found_user users place None is = tt
 found_user users place (Some user) is = (place, slice_get_within users place user.now (sym is), get_or_from_slice_get users place user.now user.now (sym is))
+
+-- where there is no slot no message answers another
+pub none_answers : (number : ℕ) → original [] number ≡ 0
+unfolding original
+none_answers zero = refl
+none_answers (suc place) = ap (slot_original (take place [])) (slice_get_past [] place (omega arith))

@@ -1,18 +1,12 @@
 -- What is shown of bodies.
-use Rattle.std.proofs.Common.{◌≡◌, ◌≢◌, ℕ, suc, ◌+◌, ◌-◌, ◌<◌, ◌≤◌, min, Bool, true, false, cond, eqb, List, [], ◌∷◌, ◌++◌, length, map, get_or, take, drop, reverse, refl, sym, ap, ◌∙◌, subst, inl, inr, arith, length-append}
-use Rattle.std.specs.List.{All, prefix_len, suffix_len, slice_split, onto_first}
-use Rattle.std.proofs.lemmas.Bool.{eqb-true, eqb-false, eq-eqb, ne_eqb, cases_eq, cases_Bool, cond-true, cond-false}
+use Rattle.std.proofs.Common.{◌≡◌, ◌≢◌, ℕ, suc, ◌+◌, ◌-◌, ◌<◌, ◌≤◌, Bool, false, cond, eqb, List, [], ◌∷◌, ◌++◌, length, map, get_or, take, refl, sym, ap, ◌∙◌, inl, inr, arith, length-append}
+use Rattle.std.specs.List.{All, slice_split, onto_first}
+use Rattle.std.proofs.lemmas.Bool.{eq-eqb, ne_eqb, cases_eq, cases_Bool, cond-true, cond-false}
 use Rattle.std.proofs.lemmas.List.Elements.{All-map}
-use Rattle.std.proofs.lemmas.List.{length-map, length-take, length-reverse, length-drop, take-append-drop, get_or-drop, get_or-take, get_or-reverse, get_or_at, get_or_default, take_min, append_assoc, append-nil}
+use Rattle.std.proofs.lemmas.List.{length-map, append_assoc, append-nil}
 use Rattle.std.proofs.lemmas.List.Splits.{slice_split_at, slice_split_none, slice_split-cons_yes, slice_split-cons_no, length-slice_split}
-use Rattle.std.proofs.lemmas.List.Sums.{prefix_len_passes, prefix_len_stops, suffix_len-le-length}
 use Rattle.qwk_blocks.specs.Text.{ended, IsLine}
-use Rattle.text_fields.specs.Blank.{IsBlank}
 use Rattle.text_fields.specs.Split.{Lacks, SplitsAt}
-use Rattle.text_fields.specs.Trim.{EndsWithNone, TrimmedEnd}
-use Rattle.text_fields.specs.declared.blank.Blank.TheVariants.{Spaces}
-use Rattle.text_fields.proofs.Trimming.{trimmed_end_unique}
-use Rattle.setup_file.specs.Words.{is_space, before_spaces}
 use Rattle.offered_packets.specs.Shown.{shown_line, body_lines, shown_lines}
 
 -- ---- bodies

@@ -6,6 +6,7 @@ pub mod FieldLaws
 pub mod PlainTexts
 pub mod Packets
 pub mod Listings
+pub mod OutlineLaws
 pub mod ShownMessages
 pub mod PacketSizes
 pub mod Controls

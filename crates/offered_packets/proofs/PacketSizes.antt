@@ -1,35 +1,27 @@
 -- How long packets are, and that each of their messages can be written.
-use Rattle.std.proofs.Common.{◌≡◌, ℕ, ◌+◌, ◌*◌, ◌^◌, ◌<◌, ◌≤◌, List, [], ◌∷◌, length, refl, sym, arith, length-append}
+use Rattle.std.proofs.Common.{◌≡◌, ℕ, ◌+◌, ◌*◌, ◌^◌, ◌<◌, ◌≤◌, List, [], ◌∷◌, length, refl, sym, ap, ◌∙◌, arith, length-append}
 use Rattle.std.specs.Prelude.{Option, Some, None, IfSome, filter_map, codes, decimal, option_map}
 use Rattle.std.specs.List.{All, cons_option, enumerate_from, flat_map}
 use Rattle.std.proofs.lemmas.Fmt.{length-decimal-le}
 use Rattle.std.proofs.lemmas.List.Elements.{All-nil, All-cons, All-head, All-tail, All-weaker}
 use Rattle.board_layout.specs.Board.{Board}
 use Rattle.board_layout.specs.Valid.{IsBoard}
+use Rattle.jam_layout.specs.Outlines.{message_outline}
 use Rattle.jam_records.specs.declared.message.Message.{Message}
 use Rattle.qwk_blocks.specs.Text.{ended}
 use Rattle.qwk_blocks.specs.Written.{message_text, header_text, padded, blocks_of, spelling, Writable}
 use Rattle.qwk_blocks.specs.declared.message.QwkMessage.{QwkMessage}
 use Rattle.qwk_blocks.proofs.Written.{header_back, length_padded}
 use Rattle.offered_packets.specs.Sees.{message_at}
-use Rattle.offered_packets.specs.Shown.{shown_message, shown, shown_all, notice}
+use Rattle.offered_packets.specs.Shown.{shown_message, shown, shown_all, notice, IsShort}
 use Rattle.offered_packets.specs.declared.offered_message.OfferedMessage.{OfferedMessage}
-use Rattle.offered_packets.proofs.ShownMessages.{is_there, message_fits, message_size}
+use Rattle.offered_packets.proofs.OutlineLaws.{outline_message}
+use Rattle.offered_packets.proofs.ShownMessages.{is_short}
 use Rattle.offered_packets.proofs.Packets.{shown_at}
-
--- it can be written, and its text has at most the bytes of a body and of lines that give long values
-pub record IsShort (m : QwkMessage) : Type 0 where
-  pub writable : Writable m
-  pub short : length (ended m.lines) ≤ 16551
 
 one_short : (b : Board) (place number logical : ℕ) (found : Option Message) → IsBoard b → logical < 2 ^ 16 → found ≡ message_at b place number → IfSome (option_map (shown_message b place number logical) found) IsShort
 one_short b place number logical None ok small is = tt
-one_short b place number logical (Some m) ok small is =
-    let there = is_there b place number m ok (sym is) in
-    record {
-      writable = message_fits b place number logical m ok small there;
-      short = message_size b place number logical m there;
-    }
+one_short b place number logical (Some m) ok small is = is_short b place number logical m ok small (outline_message b place number ∙ ap (option_map message_outline) (sym is))
 
 pub shown_short : (b : Board) (place number logical : ℕ) → IsBoard b → logical < 2 ^ 16 → IfSome (shown b place number logical) IsShort
 unfolding shown
@@ -55,8 +47,11 @@ all_short : (b : Board) (messages : List OfferedMessage) → IsBoard b → lengt
 unfolding shown_all
 all_short b messages ok few = from_here b 1 messages ok (omega arith)
 
+pub are_writable : (messages : List QwkMessage) → All IsShort messages → All Writable messages
+are_writable messages short = All-weaker IsShort Writable (λ m short. short.writable) messages short
+
 pub all_writable : (b : Board) (messages : List OfferedMessage) → IsBoard b → length messages < 2 ^ 16 → All Writable (shown_all b messages)
-all_writable b messages ok few = All-weaker IsShort Writable (λ m short. short.writable) (shown_all b messages) (all_short b messages ok few)
+all_writable b messages ok few = are_writable (shown_all b messages) (all_short b messages ok few)
 
 -- ---- how long
 one_length : (m : QwkMessage) → IsShort m → length (message_text m) ≤ 16768
@@ -92,11 +87,13 @@ pub notice_short : (number : ℕ) → number < 2 ^ 32 → length (notice number)
 unfolding notice
 notice_short number small = omega (arith, length-append (codes "Produced by qwkdoor, packet ") (decimal number), length-decimal-le 10 number (omega arith) (omega arith) (omega arith))
 
-pub packet_short : (b : Board) (messages : List OfferedMessage) (number : ℕ) → IsBoard b → length messages < 2 ^ 16 → number < 2 ^ 32 → length (spelling (notice number) (shown_all b messages)) < 2 ^ 31
-packet_short b messages number ok few small = omega (
+pub spelling_short : (messages : List QwkMessage) (number : ℕ) → All IsShort messages → length messages < 2 ^ 16 → number < 2 ^ 32 → length (spelling (notice number) messages) < 2 ^ 31
+spelling_short messages number short few small = omega (
   arith,
-  length-append (padded 128 (notice number)) (flat_map message_text (shown_all b messages)),
+  length-append (padded 128 (notice number)) (flat_map message_text messages),
   length_padded 128 (notice number) (notice_short number small),
-  all_length (shown_all b messages) (all_short b messages ok few),
-  count_all b messages,
+  all_length messages short,
 )
+
+pub packet_short : (b : Board) (messages : List OfferedMessage) (number : ℕ) → IsBoard b → length messages < 2 ^ 16 → number < 2 ^ 32 → length (spelling (notice number) (shown_all b messages)) < 2 ^ 31
+packet_short b messages number ok few small = spelling_short (shown_all b messages) number (all_short b messages ok few) (omega (arith, count_all b messages)) small

@@ -1,5 +1,5 @@
 -- What a reader sees of the messages of a packet.
-use Rattle.std.proofs.Common.{◌≡◌, ℕ, ◌+◌, List, [], ◌∷◌, map, refl, sym, ap, ◌∙◌}
+use Rattle.std.proofs.Common.{◌≡◌, ℕ, ◌+◌, List, [], ◌∷◌, map, refl, ap, ◌∙◌}
 use Rattle.std.specs.Prelude.{Option, Some, None, option_map, filter_map}
 use Rattle.std.specs.List.{cons_option, enumerate_from}
 use Rattle.board_layout.specs.Board.{Board}

@@ -1,20 +1,20 @@
 -- What is shown of a valid board can be written.
-use Rattle.std.proofs.Common.{◌≡◌, ℕ, zero, suc, ◌+◌, ◌-◌, ◌^◌, ◌<◌, ◌≤◌, Bool, true, false, ◌&&◌, cond, eqb, leb, List, [], length, get_or, take, refl, sym, ap, ◌∙◌, subst, inl, inr, arith}
+use Rattle.std.proofs.Common.{◌≡◌, ℕ, zero, suc, ◌-◌, ◌^◌, ◌<◌, ◌≤◌, Bool, true, false, ◌&&◌, cond, eqb, leb, List, [], length, get_or, take, refl, sym, ap, ◌∙◌, subst, inl, inr, arith}
 use Rattle.std.specs.Prelude.{Some, slice_get, IsTrue}
-use Rattle.std.specs.Char.{to_ascii_uppercase}
 use Rattle.std.specs.List.{All, list_all}
-use Rattle.std.specs.Str.{str_to_ascii_uppercase}
-use Rattle.std.proofs.lemmas.Bool.Decides.{nat_tests}
 use Rattle.std.proofs.lemmas.Bool.{and_parts, leb-true, cases_lt, cases_eq, cond-true, cond-false, eq-eqb, ne_eqb}
-use Rattle.std.proofs.lemmas.List.{length-map, length-take, get_or-map, get_or_past}
+use Rattle.std.proofs.lemmas.List.{length-map, length-replicate, length-take, get_or-map, get_or_past}
 use Rattle.std.proofs.lemmas.List.Elements.{All-take}
 use Rattle.std.proofs.lemmas.List.Sums.{AllPass-from_list_all}
 use Rattle.std.proofs.lemmas.Option.{none-some, same_Some, slice_get-get_or, slice_get_past}
 use Rattle.board_layout.specs.Board.{Board, shapes_of}
+use Rattle.board_layout.specs.Outlines.{board_outline}
 use Rattle.board_layout.specs.Valid.{IsBoard}
+use Rattle.board_layout.proofs.OutlineLaws.{outline_valid}
 use Rattle.jam_base.specs.Slots.{numbered}
 use Rattle.jam_layout.specs.Fields.{is_text}
 use Rattle.jam_layout.specs.Messages.{EmptyOr, IsMessage, IsSlot}
+use Rattle.jam_layout.specs.Outlines.{message_outline}
 use Rattle.jam_layout.specs.Valid.{IsConference}
 use Rattle.jam_layout.specs.declared.conference.Conference.{Conference}
 use Rattle.jam_layout.specs.declared.shape.Shape.{Shape}
@@ -42,9 +42,10 @@ use Rattle.setup_file.specs.declared.conference.Conference.{Conference as SetupC
 use Rattle.text_fields.proofs.Trimming.{nothing_ends}
 use Rattle.board_layout.specs.Lookups.{held_in}
 use Rattle.offered_packets.specs.Sees.{slots_in, message_at}
-use Rattle.offered_packets.specs.Shown.{shown_text, shown_lines, conference_number, whole_header, whole_message, shown_message}
+use Rattle.offered_packets.specs.Shown.{shown_text, shown_lines, whole_message, shown_message, IsShort}
 use Rattle.offered_packets.proofs.FieldLaws.{are_lines, lines_length}
 use Rattle.offered_packets.proofs.BoardLookups.{slots_of, conference_fits}
+use Rattle.offered_packets.proofs.OutlineLaws.{outline_shown}
 use Rattle.offered_packets.proofs.PlainTexts.{IsPlain}
 
 -- ---- texts
@@ -178,34 +179,39 @@ header_fits b place number logical m ok small there =
       logical = small;
     }
 
+-- ---- a message whose outline is there
+outlined_body : (b : Board) (place number : ℕ) (m : Message) → IsThere b place number (message_outline m) → length m.body ≤ 16384
+outlined_body b place number m there = let small = there.message.body in omega (arith, length-replicate {A = ℕ} (length m.body) 0x0D, small)
+
 -- with its names and subject whole it can be written once the long ones go as lines
-pub whole_fits : (b : Board) (place number logical : ℕ) (m : Message) → IsBoard b → logical < 2 ^ 16 → IsThere b place number m → FitsWithLong (whole_message b place number logical m)
+whole_fits : (b : Board) (place number logical : ℕ) (m : Message) → IsBoard b → logical < 2 ^ 16 → IsThere b place number (message_outline m) → FitsWithLong (whole_message b place number logical m)
 whole_fits b place number logical m ok small there = record {
-  header = header_fits b place number logical m ok small there;
+  header = header_fits b place number logical (message_outline m) ok small there;
   lines = are_lines m.body;
-  blocks = omega (arith, lines_length m.body, there.message.body);
+  blocks = omega (arith, lines_length m.body, outlined_body b place number m there);
 }
 
-pub message_fits : (b : Board) (place number logical : ℕ) (m : Message) → IsBoard b → logical < 2 ^ 16 → IsThere b place number m → Writable (shown_message b place number logical m)
+message_fits : (b : Board) (place number logical : ℕ) (m : Message) → IsBoard b → logical < 2 ^ 16 → IsThere b place number (message_outline m) → Writable (shown_message b place number logical m)
 message_fits b place number logical m ok small there =
     let whole : QwkMessage = whole_message b place number logical m in
     capitals_writable (with_long whole) (long_fits whole (whole_fits b place number logical m ok small there))
 
 -- its text has at most 167 bytes more than its body
-pub message_size : (b : Board) (place number logical : ℕ) (m : Message) → IsThere b place number m → length (ended (shown_message b place number logical m).lines) ≤ 16551
-message_size b place number logical m there = omega (arith, long_text_size (whole_message b place number logical m), lines_length m.body, there.message.body)
+message_size : (b : Board) (place number logical : ℕ) (m : Message) → IsThere b place number (message_outline m) → length (ended (shown_message b place number logical m).lines) ≤ 16551
+message_size b place number logical m there = omega (arith, long_text_size (whole_message b place number logical m), lines_length m.body, outlined_body b place number m there)
 
--- what was made of the parts of a message
-pub made_fits : (b : Board) (place number logical : ℕ) (m : Message) (slots : List Slot) (header : Header) (lines : List (List ℕ)) (conference answered : ℕ) (made : QwkMessage) → IsBoard b → logical < 2 ^ 16 → slots ≡ slots_in b place
-    → Some m ≡ held_in (numbered slots number) → header ≡ whole_header conference number answered logical m → conference ≡ conference_number b place → answered ≡ original slots number → lines ≡ shown_lines m.body
-    → made ≡ in_capitals (with_long (record { header = header; lines = lines })) → Writable made
-made_fits b place number logical m slots header lines conference answered made ok small where_is held header_is conference_is answers lines_is made_is =
-    let found : message_at b place number ≡ Some m = ap (λ (xs : List Slot). held_in (numbered xs number)) (sym where_is) ∙ sym held in
-    let reply : answered ≡ original (slots_in b place) number = answers ∙ ap (λ (xs : List Slot). original xs number) where_is in
-    let whole : header ≡ (whole_message b place number logical m).header
-    = header_is ∙ (ap (λ c. whole_header c number answered logical m) conference_is ∙ ap (λ a. whole_header (conference_number b place) number a logical m) reply) in
-    let with_lines : Header → QwkMessage = λ h. record { header = h; lines = lines } in
-    let with_header : List (List ℕ) → QwkMessage = λ ls. record { header = (whole_message b place number logical m).header; lines = ls } in
-    let same : ◌≡◌ {A = QwkMessage} (record { header = header; lines = lines }) (whole_message b place number logical m)
-    = ap with_lines whole ∙ ap with_header lines_is in
-    subst Writable (sym (made_is ∙ ap (λ (q : QwkMessage). in_capitals (with_long q)) same)) (message_fits b place number logical m ok small (is_there b place number m ok found))
+-- it is shown so that it can be written, in at most the bytes of a body and of lines that give long values
+pub is_short : (b : Board) (place number logical : ℕ) (m : Message) → IsBoard b → logical < 2 ^ 16 → message_at (board_outline b) place number ≡ Some (message_outline m) → IsShort (shown_message b place number logical m)
+is_short b place number logical m ok small here =
+    let valid : IsBoard (board_outline b) = outline_valid b ok in
+    let there : IsThere (board_outline b) place number (message_outline m) = is_there (board_outline b) place number (message_outline m) valid here in
+    subst IsShort (outline_shown b place number logical m) (record {
+      writable = message_fits (board_outline b) place number logical m valid small there;
+      short = message_size (board_outline b) place number logical m there;
+    })
+
+-- what was made of its parts
+pub made_short : (b : Board) (place number logical : ℕ) (m : Message) (header : Header) (lines : List (List ℕ)) (made : QwkMessage) → IsBoard b → logical < 2 ^ 16 → message_at (board_outline b) place number ≡ Some (message_outline m)
+    → header ≡ (whole_message b place number logical m).header → lines ≡ shown_lines m.body → made ≡ in_capitals (with_long (record { header = header; lines = lines })) → IsShort made
+made_short b place number logical m header lines made ok small here header_is lines_is made_is =
+    subst IsShort (sym (made_is ∙ (λ i. in_capitals (with_long (record { header = header_is i; lines = lines_is i }))))) (is_short b place number logical m ok small here)

@@ -1,5 +1,5 @@
 -- How a message is shown in a QWK packet.
-use Rattle.std.specs.Prelude.{ℕ, ◌-◌, List, [], ◌++◌, length, map, take, codes, decimal, slice_index, Option, Some, option_map, filter_map, ◌==◌, if◌then◌else◌}
+use Rattle.std.specs.Prelude.{ℕ, ◌-◌, ◌≤◌, List, [], ◌++◌, length, map, take, codes, decimal, slice_index, Option, Some, option_map, filter_map, ◌==◌, if◌then◌else◌}
 use Rattle.std.specs.List.{enumerate_from, slice_split}
 use Rattle.board_layout.specs.Board.{Board}
 use Rattle.jam_records.specs.declared.message.Message.{Message}
@@ -8,6 +8,8 @@ use Rattle.long_names.specs.Plain.{with_long, in_capitals, with_read_names}
 use Rattle.long_names.specs.Value.{short_form, is_long, most_of}
 use Rattle.long_names.specs.declared.line_field.LineField.{LineField}
 use Rattle.long_names.specs.declared.line_field.LineField.TheVariants.{To, From, Subject}
+use Rattle.qwk_blocks.specs.Text.{ended}
+use Rattle.qwk_blocks.specs.Written.{Writable}
 use Rattle.qwk_blocks.specs.declared.message.Header.{Header}
 use Rattle.qwk_blocks.specs.declared.message.QwkMessage.{QwkMessage}
 use Rattle.qwk_moments.specs.Moments.{date_text, time_text}
@@ -68,6 +70,11 @@ whole_message b place number logical m = record {
 -- a message as it goes: its long names and subject as lines, and To and From in ASCII capitals
 abbrev pub shown_message : Board → ℕ → ℕ → ℕ → Message → QwkMessage
 shown_message b place number logical m = in_capitals (with_long (whole_message b place number logical m))
+
+-- it can be written, and its text has at most the bytes of a body and of lines that give long values
+pub record IsShort (m : QwkMessage) : Type 0 where
+  pub writable : Writable m
+  pub short : length (ended m.lines) ≤ 16551
 
 -- the message of a number in a place as it is shown, where there is one
 unfoldable pub shown : Board → ℕ → ℕ → ℕ → Option QwkMessage

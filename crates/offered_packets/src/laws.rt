@@ -1,14 +1,18 @@
 //! Laws of packets, each the contract of a function that does nothing.
-ghost use Rattle.std.specs.Prelude.{◌≡◌, ℕ, ◌≤◌, ◌<◌, ◌^◌, List, length, map, All, Contains, IfSome};
+ghost use Rattle.std.specs.Prelude.{◌≡◌, ℕ, ◌≤◌, ◌<◌, ◌^◌, List, length, map, option_map, All, Contains, IfSome};
 ghost use Rattle.board_layout.specs.Board.{Board};
+ghost use Rattle.board_layout.specs.Outlines.{board_outline};
 ghost use Rattle.board_layout.specs.Valid.{IsBoard};
 ghost use Rattle.board_ledger.specs.declared.user.User.{User};
+ghost use Rattle.jam_layout.specs.Outlines.{message_outline};
+ghost use Rattle.jam_records.specs.declared.message.Message.{Message};
 ghost use Rattle.long_names.specs.Plain.{plain};
 ghost use Rattle.qwk_blocks.specs.Written.{spelling, Writable as IsWritable};
 ghost use Rattle.qwk_control.specs.Written.{Writable as IsWritableControl};
 ghost use Rattle.offered_packets.specs.Control.{control};
-ghost use Rattle.offered_packets.specs.Offered.{offered};
-ghost use Rattle.offered_packets.specs.Shown.{shown, shown_all, packet, packet_read, notice};
+ghost use Rattle.offered_packets.specs.Offered.{highs, offered};
+ghost use Rattle.offered_packets.specs.Sees.{message_at, sees};
+ghost use Rattle.offered_packets.specs.Shown.{shown, shown_all, shown_message, packet, packet_read, notice};
 ghost use Rattle.offered_packets.specs.declared.offered_message.OfferedMessage.{OfferedMessage};
 
 use qwk_moments::laws::written_bytes;
@@ -37,4 +41,14 @@ pub fn shown_is_read()
 /// Each message that is offered is shown.
 pub fn each_offered_is_shown()
     ensures { (b : Board) (user limit : ℕ) → length (packet b user limit) ≡ length (offered b user limit) }
+{}
+
+/// The outline of a board has all that is asked of a board to make a packet but the bodies: its messages without
+/// them, who sees which, what he is offered, the highs of that, and how a message is shown that is at hand.
+pub fn outline_is_offered()
+    ensures message { (b : Board) (place number : ℕ) → message_at (board_outline b) place number ≡ option_map message_outline (message_at b place number) }
+    ensures sees { (b : Board) (id place number : ℕ) → sees (board_outline b) id place number ≡ sees b id place number }
+    ensures offered { (b : Board) (id limit : ℕ) → offered (board_outline b) id limit ≡ offered b id limit }
+    ensures highs { (b : Board) (messages : List OfferedMessage) → highs (board_outline b) messages ≡ highs b messages }
+    ensures shown { (b : Board) (place number logical : ℕ) (m : Message) → shown_message (board_outline b) place number logical m ≡ shown_message b place number logical m }
 {}

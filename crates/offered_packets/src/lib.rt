@@ -19,5 +19,5 @@ pub use lookups::{base_at, message_of, user_at};
 pub use offered_message::{Offered, OfferedMessage};
 pub use offering::offered;
 pub use rights::{is_sysop, may_see, sees};
-pub use showing::{packet_of, shown};
+pub use showing::shown;
 pub use text::{control_text, packet_text};

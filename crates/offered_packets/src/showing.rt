@@ -1,17 +1,19 @@
-ghost use Rattle.std.specs.Prelude.{◌≡◌, ℕ, ◌<◌, ◌^◌, length, All, IfOk, IfSome};
+ghost use Rattle.std.specs.Prelude.{◌≡◌, IfOk, Some};
 ghost use Rattle.std.specs.Str.{str_to_ascii_uppercase};
+ghost use Rattle.board_layout.specs.Outlines.{board_outline};
+ghost use Rattle.jam_layout.specs.Outlines.{message_outline};
+ghost use Rattle.jam_threads.specs.Children.{original};
 ghost use Rattle.long_names.specs.Plain.{with_long as with_long_of, in_capitals as in_capitals_of};
-ghost use Rattle.qwk_blocks.specs.Written.{spelling, Writable};
-ghost use Rattle.offered_packets.specs.Shown.{conference_number as number_in, whole_header as header_of, shown as shown_of, shown_all, notice};
+ghost use Rattle.offered_packets.specs.Sees.{message_at, slots_in};
+ghost use Rattle.offered_packets.specs.Shown.{conference_number as number_in, whole_header as header_of, shown_message, IsShort};
 
 use crate::fields::{shown_lines, shown_status, shown_text};
-use crate::lookups::{base_at, message_of};
-use crate::offered_message::Offered;
+use crate::lookups::base_at;
 use board_layout::StoredBoard;
 use byte_lists::Bytes;
 use jam_records::Message;
 use long_names::{LineField, with_long};
-use qwk_blocks::{Header, QwkMessage, QwkMessages};
+use qwk_blocks::{Header, QwkMessage};
 use qwk_moments::{date_field, time_field};
 use std::alloc::{AllocError, Global};
 
@@ -76,57 +78,38 @@ fn as_it_goes(alloc: Global, whole: &QwkMessage) -> Result<QwkMessage, AllocErro
     Ok(message)
 }
 
-/// A message of a board, by the place of its conference and its number, as a packet shows it under a logical
-/// number; or None where no slot of the number holds one. It can be written.
+/// The number of the message that the message of a number in a place answers, or 0 where it answers none that is there.
+fn original_in(board: &StoredBoard, place: u8, number: u32) -> u32
+    ensures { result ≡ original (slots_in board.now place) number }
+{
+    match base_at(board, place) {
+        Some(base) => base.reply_to(number),
+        None => 0,
+    }
+}
+
+/// How a packet shows a message, which stands in a board under a number in the place of its conference, under a
+/// logical number. The board may hold the outline of the message alone: nothing is asked of it but what an outline
+/// tells, and the body is that of the message at hand. It can be written, and has at most 16,551 bytes of text.
 ///
 /// The error comes where there is no memory.
-#[tactic(auto, unfolding(crate::specs::Shown::shown))]
 pub fn shown(
     alloc: Global,
     board: &StoredBoard,
     place: u8,
     number: u32,
     logical: u16,
-) -> Result<Option<QwkMessage>, AllocError>
-    ensures shown { IfOk result (λ shown. shown ≡ shown_of board.now place number logical) }
-    ensures writable { IfOk result (λ shown. IfSome shown Writable) }
-{
-    let Some(base) = base_at(board, place) else {
-        return Ok(None);
-    };
-    let Some(message) = message_of(base, number) else {
-        return Ok(None);
-    };
-    let conference = conference_number(board, place);
-    let original = base.reply_to(number);
-    let header = whole_header(alloc, conference, number, original, logical, message)?;
-    let lines = shown_lines(alloc, message.body.as_slice())?;
-    Ok(Some(as_it_goes(alloc, &QwkMessage { header, lines })?))
-}
-
-/// What a packet shows of messages of a board, with logical numbers from 1. The messages can be written, in fewer
-/// than 2^31 bytes. There are fewer than 65,536, since a logical number has 16 bits. It takes time linear in the
-/// bytes of their bodies.
-///
-/// The error comes where there is no memory.
-#[tactic(auto, unfolding(crate::specs::Shown::shown_all))]
-pub fn packet_of(
-    alloc: Global,
-    board: &StoredBoard,
-    offered: &Offered,
-) -> Result<QwkMessages, AllocError>
-    requires { length offered.now < 2 ^ 16 }
-    ensures shown { IfOk result (λ packet. packet ≡ shown_all board.now offered.now) }
-    ensures writable { IfOk result (All Writable) }
-    ensures short { (number : ℕ) → number < 2 ^ 32 → IfOk result (λ packet. length (spelling (notice number) packet) < 2 ^ 31) }
+    message: &Message,
+) -> Result<QwkMessage, AllocError>
+    requires { message_at (board_outline board.now) place number ≡ Some (message_outline message.now) }
+    ensures shown { IfOk result (λ shown. shown ≡ shown_message board.now place number logical message.now) }
+    ensures short { IfOk result IsShort }
 {
     // The board is valid.
     let _ledger = board.ledger();
-    let mut packet = QwkMessages::new(alloc);
-    for (i, message) in offered.as_slice().iter().enumerate() {
-        if let Some(shown) = shown(alloc, board, message.place, message.number, i as u16 + 1)? {
-            packet.add(shown)?;
-        }
-    }
-    Ok(packet)
+    let conference = conference_number(board, place);
+    let original = original_in(board, place, number);
+    let header = whole_header(alloc, conference, number, original, logical, message)?;
+    let lines = shown_lines(alloc, message.body.as_slice())?;
+    as_it_goes(alloc, &QwkMessage { header, lines })
 }

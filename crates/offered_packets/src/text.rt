@@ -26,7 +26,7 @@ fn notice(alloc: Global, number: u32) -> Result<Bytes, AllocError>
 }
 
 /// The bytes of MESSAGES.DAT for the packet of a number: the notice, and the messages. These can be written, in
-/// fewer than 2^31 bytes, as what `packet_of` answers can.
+/// fewer than 2^31 bytes, as fewer than 65,536 messages can that `shown` answers.
 ///
 /// The error comes where there is no memory.
 pub fn packet_text(alloc: Global, number: u32, messages: &QwkMessages) -> Result<Bytes, AllocError>
