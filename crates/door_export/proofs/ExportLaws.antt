@@ -1,5 +1,5 @@
 -- A packet that isn't refused is an offer that fits, so the board after it is valid.
-use Rattle.std.proofs.Common.{◌≡◌, ℕ, zero, suc, ◌+◌, ◌<◌, ◌≤◌, ◌^◌, Bool, true, false, cond, ◌||◌, eqb, ltb, List, Option, Some, None, Result, Err, refl, sym, ap, ◌∙◌, subst, inl, inr, arith}
+use Rattle.std.proofs.Common.{◌≡◌, ℕ, zero, suc, ◌+◌, ◌<◌, ◌≤◌, ◌^◌, Bool, true, false, cond, ◌||◌, eqb, ltb, List, Option, Some, None, Result, Err, refl, sym, ap, ◌∙◌, subst, inl, inr, ◌⊎◌, arith}
 use Rattle.std.proofs.lemmas.Bool.{cases_lt, eqb-false, ltb-false}
 use Rattle.board_layout.specs.Board.{Board}
 use Rattle.board_layout.specs.Lookups.{user_of}
@@ -16,7 +16,7 @@ use Rattle.offer_changes.proofs.UserLaws.{Alike, user_there}
 use Rattle.offered_packets.specs.Offered.{highs, offered}
 use Rattle.door_export.proofs.HighsFit.{offer_may}
 use Rattle.door_export.specs.Export.{ExportRefusal, NoUser, Limit, Packets, board_after, export_as, export_of, export_to, packet_to, unless_refused, user_refusal}
-use Rattle.door_export.specs.Exporting.{KeepsOffer, error_of, of_change, refusal_of}
+use Rattle.door_export.specs.Exporting.{LeavesAll, error_of, of_change, refusal_of}
 use Rattle.door_export.specs.declared.exporting.ExportError.{ExportError}
 
 -- ---- a user who isn't refused
@@ -86,8 +86,8 @@ error_back Packets = refl
 pub export_found : (name : List ℕ) (limit now : ℕ) (b : Board) (id : ℕ) (u : User) → user_id name b ≡ Some id → user_of id b ≡ Some u → export_of name limit now b ≡ unless_refused (packet_to limit now b id u) (user_refusal limit u)
 export_found name limit now b id u id_is user_is = ap (export_as limit now b) id_is ∙ ap (export_to limit now b id) user_is
 
--- an error of the board's change keeps no offer
-pub unkept : {T : Type 0} (e : ChangeError) (result : Result T ExportError) → result ≡ Err (of_change e) → KeepsOffer result → ⊥
-unkept change.DiskFault result is kept = subst KeepsOffer is kept
-unkept change.Doubt result is kept = subst KeepsOffer is kept
-unkept change.OutOfMemory result is kept = subst KeepsOffer is kept
+-- an error of the board's change that leaves all as it was
+pub undone : {T : Type 0} (e : ChangeError) (result : Result T ExportError) → result ≡ Err (of_change e) → LeavesAll result → (e ≡ change.Doubt) ⊎ (e ≡ change.OutOfMemory)
+undone change.DiskFault result is early = absurd (subst LeavesAll is early)
+undone change.Doubt result is early = inl refl
+undone change.OutOfMemory result is early = inr refl

@@ -1,5 +1,6 @@
 pub mod FolderLaws
 pub mod HighsFit
 pub mod ExportLaws
+pub mod FetchLaws
 pub mod AckLaws
 pub mod ExportedReads

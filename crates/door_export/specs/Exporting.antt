@@ -1,13 +1,17 @@
 -- What an export answers, and what it has prepared before it changes the board.
-use Rattle.std.specs.Prelude.{Option, Some, None, Result, Ok, Err}
+use Rattle.std.specs.Prelude.{◌≡◌, Bool, IsTrue, Option, Some, None, Result, Ok, Err}
 use Rattle.board_layout.specs.Board.{Board}
+use Rattle.board_layout.specs.declared.error.ReadError.{ReadError}
+use Rattle.board_layout.specs.declared.error.ReadError.TheVariants as read
+use Rattle.door_outside.specs.Disk.{Disk, Unchanged}
 use Rattle.mail_board.specs.Changes.{changed}
+use Rattle.mail_board.specs.Held.{HeldBoard}
 use Rattle.mail_board.specs.declared.change.ChangeError.{ChangeError}
 use Rattle.mail_board.specs.declared.change.ChangeError.TheVariants as change
 use Rattle.door_export.specs.Export.{ExportRefusal, Handout}
 use Rattle.door_export.specs.Export as refusal
 use Rattle.door_export.specs.declared.exporting.ExportError.{ExportError}
-use Rattle.door_export.specs.declared.exporting.ExportError.TheVariants.{NoUser, Limit, Packets, DiskFault, Doubt, ShelfFault, OutOfMemory}
+use Rattle.door_export.specs.declared.exporting.ExportError.TheVariants.{NoUser, Limit, Packets, DiskFault, Doubt, Damaged, ShelfFault, OutOfMemory}
 use Rattle.door_export.specs.declared.exporting.Exporting.{Exporting}
 
 -- the error as which the board's change ended
@@ -15,6 +19,12 @@ abbrev pub of_change : ChangeError → ExportError
 of_change change.DiskFault = DiskFault
 of_change change.Doubt = Doubt
 of_change change.OutOfMemory = OutOfMemory
+
+-- the error as which the fetching of a message ended
+abbrev pub of_read : ReadError → ExportError
+of_read (read.Damaged d) = Damaged d
+of_read read.DiskFault = DiskFault
+of_read read.OutOfMemory = OutOfMemory
 
 -- the packet that is prepared for a board
 abbrev pub packet_of : Exporting → Board → Handout
@@ -33,6 +43,7 @@ refusal_of Limit = Some refusal.Limit
 refusal_of Packets = Some refusal.Packets
 refusal_of DiskFault = None
 refusal_of Doubt = None
+refusal_of (Damaged d) = None
 refusal_of ShelfFault = None
 refusal_of OutOfMemory = None
 
@@ -41,13 +52,41 @@ abbrev pub refusal_in : {T : Type 0} → Result T ExportError → Option ExportR
 refusal_in (Ok value) = None
 refusal_in (Err e) = refusal_of e
 
--- an error that comes before anything is changed
+-- an error that comes before any call of the host
+abbrev pub IsFirst : ExportError → Type 0
+IsFirst NoUser = Unit {0}
+IsFirst Limit = Unit {0}
+IsFirst Packets = Unit {0}
+IsFirst DiskFault = ⊥
+IsFirst Doubt = Unit {0}
+IsFirst (Damaged d) = ⊥
+IsFirst ShelfFault = ⊥
+IsFirst OutOfMemory = ⊥
+
+-- such an answer asks nothing of the host
+abbrev pub AsksNothing : {T : Type 0} → Result T ExportError → Type 0
+AsksNothing (Ok value) = ⊥
+AsksNothing (Err e) = IsFirst e
+
+-- an error that may come before anything is changed
+abbrev pub IsBefore : ExportError → Type 0
+IsBefore NoUser = Unit {0}
+IsBefore Limit = Unit {0}
+IsBefore Packets = Unit {0}
+IsBefore DiskFault = Unit {0}
+IsBefore Doubt = Unit {0}
+IsBefore (Damaged d) = Unit {0}
+IsBefore ShelfFault = ⊥
+IsBefore OutOfMemory = Unit {0}
+
+-- one that comes only before it: all but a disk fault
 abbrev pub IsEarly : ExportError → Type 0
 IsEarly NoUser = Unit {0}
 IsEarly Limit = Unit {0}
 IsEarly Packets = Unit {0}
 IsEarly DiskFault = ⊥
 IsEarly Doubt = Unit {0}
+IsEarly (Damaged d) = Unit {0}
 IsEarly ShelfFault = ⊥
 IsEarly OutOfMemory = Unit {0}
 
@@ -55,6 +94,11 @@ IsEarly OutOfMemory = Unit {0}
 abbrev pub LeavesAll : {T : Type 0} → Result T ExportError → Type 0
 LeavesAll (Ok value) = ⊥
 LeavesAll (Err e) = IsEarly e
+
+-- the board is as it was, and so is the disk of a host that tells
+pub record AreLeft (tells : Bool) (before after : HeldBoard) (old new : Disk) : Type 0 where
+  pub board : after ≡ before
+  pub disk : IsTrue tells → Unchanged old new
 
 -- the offer is kept
 abbrev pub KeepsOffer : {T : Type 0} → Result T ExportError → Type 0
@@ -64,5 +108,6 @@ KeepsOffer (Err Limit) = ⊥
 KeepsOffer (Err Packets) = ⊥
 KeepsOffer (Err DiskFault) = ⊥
 KeepsOffer (Err Doubt) = ⊥
+KeepsOffer (Err (Damaged d)) = ⊥
 KeepsOffer (Err ShelfFault) = Unit {0}
 KeepsOffer (Err OutOfMemory) = ⊥

@@ -1,28 +1,32 @@
 //! An export: a packet is made of what a user is offered, offered to him, and written.
-ghost use Rattle.std.specs.Prelude.{◌≡◌, true, ◌↔◌, Ok, Err, Some, None, IfOk, IfErr, IsErrOf, IsOk, IsTrue, IsFalse, OnOk, option_map};
+ghost use Rattle.std.specs.Prelude.{◌≡◌, ◌⊎◌, true, ◌↔◌, Ok, Err, Some, None, IfOk, IfErr, IsErrOf, IsOk, IsTrue, IsFalse, OnOk, option_map};
 ghost use Rattle.std.specs.Result.{result_err, result_ok};
 ghost use Rattle.board_layout.specs.Layout.{IsLayout};
 ghost use Rattle.board_layout.specs.Lookups.{user_of};
-ghost use Rattle.door_outside.specs.Disk.{AllNow, Between};
+ghost use Rattle.board_layout.specs.Rules.{HasReadCause};
+ghost use Rattle.door_outside.specs.Disk.{AllNow, Between, Unchanged};
 ghost use Rattle.door_outside.specs.Name.{HasParts};
 ghost use Rattle.entry_runs.specs.Door.{SameBut};
 ghost use Rattle.intent_journal.specs.Hosts.{IsSettled};
+ghost use Rattle.jam_records.specs.declared.damage.Damage.{Damage};
 ghost use Rattle.mail_board.specs.Causes.{HasFault};
 ghost use Rattle.mail_board.specs.Changes.{Fits};
 ghost use Rattle.mail_board.specs.Held.{BeforeOrNext, Rests, sure};
 ghost use Rattle.door_export.specs.Export.{board_after, export_of, packet_to, user_refusal};
-ghost use Rattle.door_export.specs.Exporting.{error_of, IsEarly, KeepsOffer, LeavesAll, packet_of as packet_made, refusal_in};
+ghost use Rattle.door_export.specs.Exporting.{error_of, AreLeft, AsksNothing, IsBefore, KeepsOffer, LeavesAll, packet_of as packet_made, refusal_in};
 ghost use Rattle.door_export.specs.Folder.{folder_names, with_packet};
 ghost use Rattle.door_export.specs.declared.exporting.ExportError.TheVariants.{OutOfMemory};
 
+use crate::fetching::packet_of;
 use crate::folder::{names_in, write_packet};
 use crate::offering::offered;
 use crate::reader::reader_of;
 use board_ledger::User;
 use byte_lists::Bytes;
 use door_outside::{Host, Shelf, ShelfName};
-use mail_board::{Board, Change, ChangeError};
-use offered_packets::{control_text, highs_of, packet_of, packet_text};
+use jam_records::Damage;
+use mail_board::{Board, Change, ChangeError, ReadError};
+use offered_packets::{control_text, highs_of, packet_text};
 use std::alloc::{AllocError, Global};
 use thiserror::Error;
 
@@ -56,6 +60,10 @@ pub enum ExportError {
     /// An earlier change ended with a disk fault, so nothing was done.
     #[error("the board is in doubt")]
     Doubt,
+    /// What the host gave as a message's text can't be one of the board's. This is the rule that it breaks. Nothing was
+    /// done. It never comes from a host that tells its files.
+    #[error("damaged: file {file}, record {item}, {rule:?}", file = .0.file, item = .0.item, rule = .0.rule)]
+    Damaged(Damage),
     /// A call of the shelf failed. The offer is kept, and the next export offers the same messages.
     #[error("shelf fault")]
     ShelfFault,
@@ -75,6 +83,21 @@ impl From<ChangeError> for ExportError {
             ChangeError::DiskFault => ExportError::DiskFault,
             ChangeError::Doubt => ExportError::Doubt,
             ChangeError::OutOfMemory => ExportError::OutOfMemory,
+        }
+    }
+}
+
+impl From<ReadError> for ExportError {
+    ghost use Rattle.std.specs.Prelude.{◌≡◌};
+    ghost use Rattle.door_export.specs.Exporting.{of_read};
+
+    ghost from_gives = { λ error e. e ≡ of_read error };
+
+    fn from(error: ReadError) -> ExportError {
+        match error {
+            ReadError::Damaged(damage) => ExportError::Damaged(damage),
+            ReadError::DiskFault => ExportError::DiskFault,
+            ReadError::OutOfMemory => ExportError::OutOfMemory,
         }
     }
 }
@@ -110,26 +133,34 @@ fn refusal_of(limit: u32, user: &User) -> Option<ExportError>
     None
 }
 
-/// The packet of what is offered to a user, made at a moment. All memory of an export but that of the names is taken
-/// here.
-fn packet_for(
+/// The packet of what is offered to a user, made at a moment. The board isn't doubtful, and the host's files are those
+/// of this board. Its messages are fetched from the host, of which nothing changes. All memory of an export but that of
+/// the names is taken here.
+fn packet_for<H: Host>(
     alloc: Global,
     board: &Board,
+    host: &mut H,
     id: u32,
     user: &User,
     limit: u32,
     now: u32,
-) -> Result<Exporting, AllocError>
+) -> Result<Exporting, ReadError>
     requires user { user_of id board.now.board ≡ Some user.now }
     requires may { user_refusal limit user.now ≡ None }
+    requires sure { IsFalse board.now.doubtful }
+    requires rests { IsTrue H.tells → Rests board.now.board (H.disk host.old) }
     ensures fits { IfOk result (λ e. Fits e.change board.now.board) }
     ensures packet { IfOk result (λ e. packet_made e board.now.board ≡ packet_to limit now board.now.board id user.now) }
+    ensures unchanged { IsTrue H.tells → Unchanged (H.disk host.old) (H.disk host.new) }
+    ensures undamaged { IsTrue H.tells → (damage : Damage) → ¬ (result ≡ Err (ReadError.Damaged damage)) }
+    ensures cause { HasReadCause (H.disk_faults host.old) (H.disk_faults host.new) result }
+    ensures voice { H.voice_faults host.new ≡ H.voice_faults host.old }
 {
     let messages = offered(alloc, board, id, limit)?;
     let stored = board.stored();
     let packet = user.last + 1;
     let count = messages.len() as u32;
-    let shown = packet_of(alloc, stored, &messages)?;
+    let shown = packet_of(alloc, board, host, &messages)?;
     Ok(Exporting {
         change: Change::Offer {
             user: id,
@@ -141,20 +172,27 @@ fn packet_for(
     })
 }
 
-/// What is handed out to the user of a name, or why nothing is.
-fn prepared(
+/// What is handed out to the user of a name, or why nothing is. Nothing of the host changes.
+fn prepared<H: Host>(
     alloc: Global,
     board: &Board,
+    host: &mut H,
     name: &[u8],
     limit: u32,
     now: u32,
 ) -> Result<Exporting, ExportError>
+    requires rests { IsTrue H.tells → IsFalse board.now.doubtful → Rests board.now.board (H.disk host.old) }
     ensures refused { refusal_in result ≡ result_err (export_of name.now limit now board.now.board) }
-    ensures early { IfErr result IsEarly }
+    ensures early { IfErr result IsBefore }
     ensures doubt { (result ≡ Err ExportError.Doubt) ↔ (IsOk (export_of name.now limit now board.now.board) × IsTrue board.now.doubtful) }
     ensures sure { OnOk result (IsFalse board.now.doubtful) }
     ensures fits { IfOk result (λ e. Fits e.change board.now.board) }
     ensures packet { IfOk result (λ e. Ok (packet_made e board.now.board) ≡ export_of name.now limit now board.now.board) }
+    ensures asked { AsksNothing result → host.new ≡ host.old }
+    ensures unchanged { IsTrue H.tells → Unchanged (H.disk host.old) (H.disk host.new) }
+    ensures undamaged { IsTrue H.tells → (damage : Damage) → ¬ (result ≡ Err (ExportError.Damaged damage)) }
+    ensures cause { HasFault ExportError.DiskFault (H.disk_faults host.old) (H.disk_faults host.new) result }
+    ensures voice { H.voice_faults host.new ≡ H.voice_faults host.old }
 {
     let Some(reader) = reader_of(board, name) else {
         return Err(ExportError::NoUser);
@@ -165,19 +203,21 @@ fn prepared(
     if board.doubtful() {
         return Err(ExportError::Doubt);
     }
-    Ok(packet_for(alloc, board, reader.id, reader.user, limit, now)?)
+    Ok(packet_for(alloc, board, host, reader.id, reader.user, limit, now)?)
 }
 
 /// Hands out to the user of a name, ignoring ASCII case, the messages that are offered to him, at most as many as the
-/// limit: it keeps the offer, and then writes CONTROL.DAT and MESSAGES.DAT of the folder. No last-read pointer moves.
-/// `now` is in Unix seconds. Where the board isn't doubtful, the host's files are those of this board, and the host
-/// rests. It says nothing.
+/// limit: it fetches them from the host, keeps the offer, and then writes CONTROL.DAT and MESSAGES.DAT of the folder. No
+/// last-read pointer moves. `now` is in Unix seconds. Where the board isn't doubtful, the host's files are those of this
+/// board, and the host rests; and so it is afterwards, unless the board is doubtful then. It says nothing.
 ///
 /// `NoUser` comes where no user has the name, else `Limit` where the limit isn't 1 to 2,000, else `Packets` where his
-/// last packet has the number 4,294,967,295, else `Doubt` where the board is doubtful, and `OutOfMemory` before the
-/// first write: all of them leave all as it was. `DiskFault` comes only where the host's count of disk faults rose,
-/// and then the board is doubtful. `ShelfFault` comes only where the shelf's count of faults rose: the offer is kept,
-/// and the two files may hold anything.
+/// last packet has the number 4,294,967,295, else `Doubt` where the board is doubtful: all of them before any call of
+/// the host or the shelf. `Damaged` comes where a fetched message can't be in the board's files, and never from a host
+/// that tells its files. It and `OutOfMemory` come before the first write. All of these leave the board, the files and
+/// the shelf as they were. `DiskFault` comes only where the host's count of disk faults rose. Where that was before the
+/// first write, all is as it was too, and the board isn't doubtful; else the board is doubtful. `ShelfFault` comes only
+/// where the shelf's count of faults rose: the offer is kept, and the two files may hold anything.
 pub fn export<H: Host, S: Shelf>(
     alloc: Global,
     board: &mut Board,
@@ -196,25 +236,28 @@ pub fn export<H: Host, S: Shelf>(
     ensures now { IsTrue H.tells → IsFalse board.old.doubtful → AllNow (H.disk host.new) (BeforeOrNext (IsLayout board.old.board) (board_after board.old.board (export_of user.now limit now board.old.board)) (H.disk host.old)) }
     ensures settled { IsTrue H.tells → IsFalse board.old.doubtful → IsSettled (H.disk host.new) }
 
+    // What is refused, and what leaves all as it was.
     ensures refused { refusal_in result ≡ result_err (export_of user.now limit now board.old.board) }
     ensures doubt { (result ≡ Err ExportError.Doubt) ↔ (IsOk (export_of user.now limit now board.old.board) × IsTrue board.old.doubtful) }
-    ensures unchanged { LeavesAll result → (board.new ≡ board.old) × (host.new ≡ host.old) × (shelf.new ≡ shelf.old) }
+    ensures undamaged { IsTrue H.tells → (damage : Damage) → ¬ (result ≡ Err (ExportError.Damaged damage)) }
+    ensures asked { AsksNothing result → host.new ≡ host.old }
+    ensures unchanged { LeavesAll result → AreLeft H.tells board.old board.new (H.disk host.old) (H.disk host.new) × (shelf.new ≡ shelf.old) }
+    ensures fault { IsErrOf result ExportError.DiskFault → (AreLeft H.tells board.old board.new (H.disk host.old) (H.disk host.new) ⊎ (board.new ≡ record { board = board.old.board; doubtful = true })) × (shelf.new ≡ shelf.old) }
 
     // The packet, and its files.
     ensures answer { IfOk result (λ exported. option_map (λ p. p.answer) (result_ok (export_of user.now limit now board.old.board)) ≡ Some exported) }
     ensures files { IsTrue S.tells → OnOk result (Some (S.files shelf.new) ≡ option_map (λ p. with_packet folder.now p.controls p.messages (S.files shelf.old)) (result_ok (export_of user.now limit now board.old.board))) }
     ensures others { IsTrue S.tells → IsErrOf result ExportError.ShelfFault → SameBut (folder_names folder.now) (S.files shelf.old) (S.files shelf.new) }
 
-    // The offer, which a shelf fault leaves kept.
+    // The offer, which a shelf fault leaves kept; and the host is the board's, unless that is doubtful.
     ensures board { KeepsOffer result → board.new ≡ sure (board_after board.old.board (export_of user.now limit now board.old.board)) }
-    ensures rests { KeepsOffer result → IsTrue H.tells → Rests (board_after board.old.board (export_of user.now limit now board.old.board)) (H.disk host.new) }
-    ensures fault { IsErrOf result ExportError.DiskFault → (board.new ≡ record { board = board.old.board; doubtful = true }) × (shelf.new ≡ shelf.old) }
+    ensures rests { IsTrue H.tells → IsFalse board.old.doubtful → IsFalse board.new.doubtful → Rests board.new.board (H.disk host.new) }
 
     ensures disk_cause { HasFault ExportError.DiskFault (H.disk_faults host.old) (H.disk_faults host.new) result }
     ensures shelf_cause { HasFault ExportError.ShelfFault (S.faults shelf.old) (S.faults shelf.new) result }
     ensures voice { H.voice_faults host.new ≡ H.voice_faults host.old }
 {
-    let exporting = prepared(alloc, board, user, limit, now)?;
+    let exporting = prepared(alloc, board, host, user, limit, now)?;
     let names = names_in(alloc, folder)?;
     board.change(alloc, host, &exporting.change)?;
     match write_packet(

@@ -3,6 +3,7 @@
 
 mod acknowledging;
 mod exporting;
+mod fetching;
 mod folder;
 pub mod laws;
 mod offering;

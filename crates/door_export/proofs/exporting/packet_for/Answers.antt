@@ -6,7 +6,7 @@ use Rattle.door_export.proofs.ExportLaws.{last_small, may_export, offer_may_be}
 use Rattle.door_export.proofs.exporting.packet_for.Goals as goal
 
 pub returns-clause-fits : goal.returns-clause-fits
-returns-clause-fits c =
+returns-clause-fits g c =
     let b = c.args.board.now.board in
     let ok = c.stored-stored.ensures.valid in
     let small = last_small b c.args.id c.args.user.now ok c.requires.user in
