@@ -70,6 +70,13 @@ module _ (a b : Board) (alike : board_outline a ≡ board_outline b) (posts : Li
       let one : outlined (posted_in a posts place x) ≡ outlined (posted_in b posts place y) = ap outlined (one_same place x) ∙ identified_same y (msgid_in place b) (posts_in place posts) x here in
       λ i. one i ∷ all_outline (place + 1) xs ys (tail_is (outlined x) (outlined y) (map outlined xs) (map outlined ys) same) i
 
+  -- and both get one outline
+  pub posted_outline : (l : Ledger) → board_outline (posted_with l posts a) ≡ board_outline (posted_with l posts b)
+  posted_outline l =
+      let same : map outlined (contents_of a) ≡ map outlined (contents_of b) = sym (outline_contents a) ∙ (ap contents_of alike ∙ outline_contents b) in
+      ap (λ (cs : List Conference). record { ledger = l; conferences = cs })
+      (conferences_outline (all_posted a posts 0 (contents_of a)) ∙ (ap conferences_in (all_outline 0 (contents_of a) (contents_of b) same) ∙ sym (conferences_outline (all_posted b posts 0 (contents_of b)))))
+
   one_base : (place : ℕ) (x y : Contents) → outlined x ≡ outlined y → IsBase x → IsBase (posted_in b posts place y) → IsBase (posted_in a posts place x)
   one_base place x y same was next =
       let messages : Contents → List Message = λ (c : Contents). all_identified (msgid_in place b) (length c.conference.slots + 1) (posts_in place posts) in
@@ -99,11 +106,8 @@ module _ (b : Board) (posts : List (ℕ × Message)) (l : Ledger) (ok : IsBoard 
       let bases : List Contents = all_posted other posts 0 (contents_of other) in
       let same : map outlined (contents_of other) ≡ map outlined (contents_of b) = sym (outline_contents other) ∙ (ap contents_of alike ∙ outline_contents b) in
       let own = other_shapes other alike in
-      let outlines : board_outline (posted_with l posts other) ≡ board_outline (posted_with l posts b) =
-      ap (λ (cs : List Conference). record { ledger = l; conferences = cs })
-      (conferences_outline bases ∙ (ap conferences_in (all_outline other b alike posts 0 (contents_of other) (contents_of b) same) ∙ sym (conferences_outline (all_posted b posts 0 (contents_of b))))) in
       let all = each_base other b alike posts 0 (contents_of other) (contents_of b) same (were_bases other posts l valid own) (posted_bases b posts l ok shapes next) in
-      alike_valid (posted_with l posts other) (posted_with l posts b) outlines next (subst (λ (s : List Shape). AllZip IsConference s (conferences_in bases)) (new_shapes other posts l valid own) (zipped bases all))
+      alike_valid (posted_with l posts other) (posted_with l posts b) (posted_outline other b alike posts l) next (subst (λ (s : List Shape). AllZip IsConference s (conferences_in bases)) (new_shapes other posts l valid own) (zipped bases all))
 
   pub posted_keeps : IsBoard (posted_with l posts b) → KeepsEach b (posted_with l posts)
   posted_keeps next = record { valid = keeps_one next }
