@@ -10,3 +10,4 @@ pub mod Validity
 pub mod Steps
 pub mod Fitting
 pub mod Counting
+pub mod OutlineLaws
