@@ -6,7 +6,7 @@ use Rattle.board_commands.specs.Halts.{told}
 use Rattle.door_export.specs.declared.acknowledging.AckError.{AckError}
 use Rattle.door_export.specs.declared.acknowledging.AckError.TheVariants as ack
 use Rattle.door_export.specs.declared.exporting.ExportError.{ExportError}
-use Rattle.door_export.specs.declared.exporting.ExportError.TheVariants.{NoUser, Limit, Packets, DiskFault, Doubt, ShelfFault, OutOfMemory}
+use Rattle.door_export.specs.declared.exporting.ExportError.TheVariants.{NoUser, Limit, Packets, DiskFault, Doubt, Damaged, ShelfFault, OutOfMemory}
 use Rattle.door_export.specs.declared.exporting.Exported.{Exported}
 use Rattle.entry_runs.specs.Promise.{HasCauses, counts, ended}
 use Rattle.entry_runs.specs.declared.status.Status.TheVariants as status
@@ -23,6 +23,7 @@ module _ {disk voice shelf disk_after voice_after shelf_after : ℕ} (voice_same
   export_causes text (Err Packets) d s certain = quiet voice_same status.Done (λ is. absurd (cc is)) (λ is. absurd (cc is)) (λ is. absurd (cc is)) (unraised DiskFault _ d (λ is. cc is)) (unraised ShelfFault _ s (λ is. cc is))
   export_causes text (Err DiskFault) d s certain = disk_fails voice_same d.later (d.rose refl) (unraised ShelfFault _ s (λ is. cc is))
   export_causes text (Err Doubt) d s certain = absurd (certain refl)
+  export_causes text (Err (Damaged e)) d s certain = quiet voice_same status.Done (λ is. absurd (cc is)) (λ is. absurd (cc is)) (λ is. absurd (cc is)) (unraised DiskFault _ d (λ is. cc is)) (unraised ShelfFault _ s (λ is. cc is))
   export_causes text (Err ShelfFault) d s certain = shelf_fails voice_same s.later (s.rose refl) (unraised DiskFault _ d (λ is. cc is))
   export_causes text (Err OutOfMemory) d s certain = quiet voice_same status.OutOfMemory (λ is. absurd (cc is)) (λ is. absurd (cc is)) (λ is. absurd (cc is)) (unraised DiskFault _ d (λ is. cc is)) (unraised ShelfFault _ s (λ is. cc is))
 

@@ -15,7 +15,7 @@ use Rattle.door_export.specs.Export as why
 use Rattle.door_export.specs.Exporting.{KeepsOffer, LeavesAll, refusal_in}
 use Rattle.door_export.specs.Folder.{folder_names, with_packet}
 use Rattle.door_export.specs.declared.exporting.ExportError.{ExportError}
-use Rattle.door_export.specs.declared.exporting.ExportError.TheVariants.{NoUser, Limit, Packets, DiskFault, Doubt, ShelfFault, OutOfMemory}
+use Rattle.door_export.specs.declared.exporting.ExportError.TheVariants.{NoUser, Limit, Packets, DiskFault, Doubt, Damaged, ShelfFault, OutOfMemory}
 use Rattle.door_export.specs.declared.exporting.Exported.{Exported}
 use Rattle.door_outside.specs.Disk.{Disk, AllNow, Between, Unchanged}
 use Rattle.door_outside.specs.Shelf.{Files}
@@ -26,6 +26,7 @@ use Rattle.entry_runs.specs.declared.stop.Stop.TheVariants as stop
 use Rattle.intent_journal.specs.Hosts.{IsSettled}
 use Rattle.intent_journal.specs.declared.recovery.JournalError.{JournalError}
 use Rattle.intent_journal.specs.declared.recovery.JournalError.TheVariants as journal
+use Rattle.jam_records.specs.declared.damage.Damage.{Damage}
 use Rattle.mail_board.specs.Held.{BeforeOrNext, Rests}
 use Rattle.shelf_files.specs.Halts.{done, refused as says_refusal}
 use Rattle.exchange_commands.proofs.HandingExits.{answered, cut_short, handed, starved, unchanged}
@@ -43,6 +44,7 @@ pub record Leaves (b : Board) (folder : List ℕ) (mid new : Disk) (shelf later 
   pub settled : IsSettled new
   pub refused_is : refusal_in result ≡ result_err r
   pub certain : result ≢ Err Doubt
+  pub undamaged : (d : Damage) → result ≢ Err (Damaged d)
   pub same : LeavesAll result → Unchanged mid new × (later ≡ shelf)
   pub answer : IfOk result (λ e. option_map (λ p. p.answer) (result_ok r) ≡ Some e)
   pub files : OnOk result (Some later ≡ option_map (λ p. with_packet folder p.controls p.messages shelf) (result_ok r))
@@ -107,6 +109,7 @@ module _ (name : List ℕ) (limit : ℕ) (folder : List ℕ) (now : ℕ) (b : Bo
         (unchanged (folder_names folder) (hands name limit folder now) at {board = Some b} finds is (handing_of folder world.shelf b (Ok p)) (takes world.shelf (Ok p) r_is) packet_line journal.DiskFault
         (changes (Ok p) r_is (Err DiskFault) leaves {T = Unit {0}} (Err journal.DiskFault) tt) (λ never. absurd (cc never)))
     works (Ok p) r_is (Err Doubt) leaves = absurd (leaves.certain refl)
+    works (Ok p) r_is (Err (Damaged d)) leaves = absurd (leaves.undamaged d refl)
     works (Ok p) r_is (Err ShelfFault) leaves =
         cut_short (folder_names folder) (hands name limit folder now) at {board = Some b} finds is (handing_of folder world.shelf b (Ok p)) (takes world.shelf (Ok p) r_is)
         (changes (Ok p) r_is (Err ShelfFault) leaves {E = JournalError} (Ok (tt {0})) (leaves.rests tt)) (leaves.others refl)
@@ -117,5 +120,6 @@ module _ (name : List ℕ) (limit : ℕ) (folder : List ℕ) (now : ℕ) (b : Bo
     works (Err reason) r_is (Err Packets) leaves = refused_as why.Packets reason leaves.refused_is r_is (leaves.same tt)
     works (Err reason) r_is (Err DiskFault) leaves = absurd (cc leaves.refused_is)
     works (Err reason) r_is (Err Doubt) leaves = absurd (leaves.certain refl)
+    works (Err reason) r_is (Err (Damaged d)) leaves = absurd (leaves.undamaged d refl)
     works (Err reason) r_is (Err ShelfFault) leaves = absurd (cc leaves.refused_is)
     works (Err reason) r_is (Err OutOfMemory) leaves = absurd (cc leaves.refused_is)

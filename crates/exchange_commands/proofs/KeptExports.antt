@@ -1,5 +1,5 @@
 -- What is kept of the board after an export, and after an acknowledgement.
-use Rattle.std.proofs.Common.{◌≡◌, false, Ok, Err, refl}
+use Rattle.std.proofs.Common.{◌≡◌, ◌⊎◌, inl, inr, Bool, true, false, cond, Some, None, Ok, Err, refl, ap, subst}
 use Rattle.std.specs.Prelude.{Result, IsErrOf, OnOk}
 use Rattle.board_commands.proofs.KeptLaws.{doubted, next_kept, next_sure, none_kept, none_sure, same_kept, same_sure}
 use Rattle.board_commands.specs.Kept.{AreSure, IsKept, unless_doubtful}
@@ -15,28 +15,31 @@ use Rattle.door_export.specs.declared.exporting.Exported.{Exported}
 use Rattle.door_outside.specs.Disk.{Disk}
 use Rattle.intent_journal.specs.Hosts.{IsSettled}
 use Rattle.mail_board.specs.Held.{HeldBoard, Rests, sure}
+use Rattle.mail_board.specs.declared.loading.Loaded.TheVariants.{Ready}
+
+-- a board that is in no doubt after an export is the host's
+pub export_kept : (after : HeldBoard) (disk : Disk) → (after.doubtful ≡ false → Rests after.board disk) → IsSettled disk → IsKept (unless_doubtful after) disk
+export_kept after disk rests settled = by after.doubtful refl
+  where
+    by : (doubtful : Bool) → after.doubtful ≡ doubtful → IsKept (cond doubtful None (Some (Ready after))) disk
+    by true is = settled
+    by false is = rests is
+
+-- so it is of the next board, where the offer was kept
+pub next_rests : (after : HeldBoard) (next : Board) (disk : Disk) → after ≡ sure next → (after.doubtful ≡ false → Rests after.board disk) → Rests next disk
+next_rests after next disk is rests = subst (λ (held : HeldBoard). Rests held.board disk) is (rests (ap (λ (held : HeldBoard). held.doubtful) is))
 
 -- the board before, the one that a call makes of it, and what it left
 module _ (before after : HeldBoard) (next : Board) (certain : before.doubtful ≡ false) where
-  pub export_kept : (result : Result Exported ExportError) (disk : Disk) → (export.KeepsOffer result → after ≡ sure next) → (export.KeepsOffer result → Rests next disk) → (export.LeavesAll result → after ≡ before) → (export.LeavesAll result → Rests before.board disk)
-      → (IsErrOf result error.DiskFault → after ≡ doubted before) → IsSettled disk → IsKept (unless_doubtful after) disk
-  export_kept (Ok e) disk board rests same still fault settled = next_kept before after certain next disk (board tt) (rests tt)
-  export_kept (Err error.NoUser) disk board rests same still fault settled = same_kept before after certain disk (same tt) (still tt)
-  export_kept (Err error.Limit) disk board rests same still fault settled = same_kept before after certain disk (same tt) (still tt)
-  export_kept (Err error.Packets) disk board rests same still fault settled = same_kept before after certain disk (same tt) (still tt)
-  export_kept (Err error.DiskFault) disk board rests same still fault settled = none_kept before after certain disk (fault refl) settled
-  export_kept (Err error.Doubt) disk board rests same still fault settled = same_kept before after certain disk (same tt) (still tt)
-  export_kept (Err error.ShelfFault) disk board rests same still fault settled = next_kept before after certain next disk (board tt) (rests tt)
-  export_kept (Err error.OutOfMemory) disk board rests same still fault settled = same_kept before after certain disk (same tt) (still tt)
-
-  pub export_sure : (result : Result Exported ExportError) → IsBoard before.board → IsBoard next → (export.KeepsOffer result → after ≡ sure next) → (export.LeavesAll result → after ≡ before) → (IsErrOf result error.DiskFault → after ≡ doubted before)
-      → AreSure (unless_doubtful after)
+  pub export_sure : (result : Result Exported ExportError) → IsBoard before.board → IsBoard next → (export.KeepsOffer result → after ≡ sure next) → (export.LeavesAll result → after ≡ before)
+      → (IsErrOf result error.DiskFault → (after ≡ before) ⊎ (after ≡ doubted before)) → AreSure (unless_doubtful after)
   export_sure (Ok e) ok later board same fault = next_sure before after certain next (board tt) later
   export_sure (Err error.NoUser) ok later board same fault = same_sure before after certain (same tt) ok
   export_sure (Err error.Limit) ok later board same fault = same_sure before after certain (same tt) ok
   export_sure (Err error.Packets) ok later board same fault = same_sure before after certain (same tt) ok
-  export_sure (Err error.DiskFault) ok later board same fault = none_sure before after certain (fault refl)
+  export_sure (Err error.DiskFault) ok later board same fault = elim (fault refl) [ inl is ↦ same_sure before after certain is ok | inr is ↦ none_sure before after certain is ]
   export_sure (Err error.Doubt) ok later board same fault = same_sure before after certain (same tt) ok
+  export_sure (Err (error.Damaged d)) ok later board same fault = same_sure before after certain (same tt) ok
   export_sure (Err error.ShelfFault) ok later board same fault = next_sure before after certain next (board tt) later
   export_sure (Err error.OutOfMemory) ok later board same fault = same_sure before after certain (same tt) ok
 

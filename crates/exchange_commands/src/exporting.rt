@@ -30,6 +30,7 @@ fn answered(exported: Result<Exported, ExportError>) -> Result<Exported, BoardHa
         Err(ExportError::Packets) => Err(BoardHalt::Refused(Refusal::Packets)),
         Err(ExportError::DiskFault) => Err(BoardHalt::DiskFault),
         Err(ExportError::Doubt) => unreachable!(),
+        Err(ExportError::Damaged(damage)) => Err(BoardHalt::Damaged(damage)),
         Err(ExportError::ShelfFault) => Err(BoardHalt::ShelfFault),
         Err(ExportError::OutOfMemory) => Err(BoardHalt::OutOfMemory),
     }
@@ -39,8 +40,9 @@ fn answered(exported: Result<Exported, ExportError>) -> Result<Exported, BoardHa
 /// limit, as CONTROL.DAT and MESSAGES.DAT of a folder. `now` is in Unix seconds.
 ///
 /// It is refused where there is no board, then where no user has the name, then where the limit isn't 1 to 2,000,
-/// then where his last packet has the number 4,294,967,295. Where the shelf fails, the offer is kept, and the next
-/// export offers the same messages.
+/// then where his last packet has the number 4,294,967,295. A damage that a fetched message shows, which comes only
+/// from a host that doesn't tell its files, is answered as that of a load is, and nothing has changed. Where the shelf
+/// fails, the offer is kept, and the next export offers the same messages.
 pub fn export<H: Host, S: Shelf>(
     alloc: Global,
     host: &mut H,

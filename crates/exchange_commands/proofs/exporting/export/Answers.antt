@@ -1,15 +1,12 @@
-use Rattle.std.proofs.Common.{rules, ◌≡◌, ℕ, true≢false, Option, None, Err, refl, sym, ◌∙◌, ap, subst}
+use Rattle.std.proofs.Common.{rules, ◌≡◌, ℕ, inl, inr, true≢false, Option, None, Err, refl, sym, ◌∙◌, ap, subst}
 use Rattle.std.specs.Prelude.{Result}
-use Rattle.board_commands.proofs.FindLaws.{same_host}
 use Rattle.board_commands.specs.Halts.{told, of_read}
 use Rattle.board_commands.specs.Kept.{AreSure, IsKept, kept_board, unread}
 use Rattle.board_commands.specs.State.{Made, Stores, state_of, migrated}
 use Rattle.board_commands.specs.declared.halt.BoardHalt.{BoardHalt}
-use Rattle.door_outside.specs.Disk.{Unchanged}
 use Rattle.entry_runs.specs.Entry.{Works}
 use Rattle.entry_runs.specs.Promise.{HasCauses, counts, ended}
 use Rattle.mail_board.specs.Causes.{HasFault}
-use Rattle.mail_board.specs.Held.{Rests}
 use Rattle.mail_board.specs.declared.loading.Loaded.{Loaded}
 use Rattle.shelf_files.specs.declared.refusal.Refusal.TheVariants.{NotMade}
 use Rattle.door_export.proofs.ExportLaws.{export_board}
@@ -20,7 +17,7 @@ use Rattle.door_export.specs.declared.exporting.Exported.{Exported}
 use Rattle.exchange_commands.proofs.Causes.{export_causes}
 use Rattle.exchange_commands.proofs.ExportExits.{works}
 use Rattle.exchange_commands.proofs.HandingExits.{answered, unfound}
-use Rattle.exchange_commands.proofs.KeptExports.{export_kept, export_sure}
+use Rattle.exchange_commands.proofs.KeptExports.{export_kept, export_sure, next_rests}
 use Rattle.exchange_commands.specs.Export.{export_handing, exports, packet_line}
 use Rattle.exchange_commands.specs.Handing.{refuses}
 use Rattle.exchange_commands.proofs.exporting.export.Goals as goal
@@ -57,28 +54,22 @@ returns-clause-works g c tells shelf_tells world at =
       settled = gives.settled tells certain.1;
       refused_is = gives.refused;
       certain = λ doubt. true≢false (sym (gives.doubt.0 doubt).1 ∙ certain.1);
-      same = λ early. (
-        subst (λ host. Unchanged (g.H.Host.disk c.find.new.host) (g.H.Host.disk host)) (sym (gives.unchanged early).1) (same_host (g.H.Host.disk c.find.new.host)),
-        ap (λ shelf. g.S.Shelf.files shelf) (gives.unchanged early).2,
-      );
+      undamaged = gives.undamaged tells;
+      same = λ early. let left = gives.unchanged early in (left.0.disk tells, ap (λ shelf. g.S.Shelf.files shelf) left.1);
       answer = gives.answer;
       files = gives.files shelf_tells;
       others = gives.others shelf_tells;
       fault = λ is. ap (λ shelf. g.S.Shelf.files shelf) (gives.fault is).1;
-      rests = λ kept. gives.rests kept tells;
+      rests = λ kept. next_rests c.export-exported.new.board (board_after held.board (export_of c.args.user.now c.args.limit c.args.now held.board)) (g.H.Host.disk c.export-exported.new.host) (gives.board kept) (gives.rests tells certain.1);
     }))
 
 pub returns-clause-kept : goal.returns-clause-kept
 returns-clause-kept g c tells =
-    let held = c.in_ok-board.board in
     let here : c.find.new.kept ≡ _ = c.in_ok-board.ensures.board in
     let certain = subst AreSure here c.in_ok-find.ensures.sure in
-    let rests = subst (λ (kept : Option Loaded). IsKept kept (g.H.Host.disk c.find.new.host)) here (c.in_ok-find.ensures.kept tells) in
     let gives = c.export-exported.ensures in
     subst (λ (kept : Option Loaded). IsKept kept (g.H.Host.disk c.export-exported.new.host)) (sym c.keep_board.ensures)
-    (export_kept held c.export-exported.new.board (board_after held.board (export_of c.args.user.now c.args.limit c.args.now held.board)) certain.1 c.export-exported.result
-    (g.H.Host.disk c.export-exported.new.host) gives.board (λ kept. gives.rests kept tells) (λ early. (gives.unchanged early).0)
-    (λ early. subst (λ host. Rests held.board (g.H.Host.disk host)) (sym (gives.unchanged early).1) rests) (λ is. (gives.fault is).0) (gives.settled tells certain.1))
+    (export_kept c.export-exported.new.board (g.H.Host.disk c.export-exported.new.host) (gives.rests tells certain.1) (gives.settled tells certain.1))
 
 pub returns-clause-sure : goal.returns-clause-sure
 returns-clause-sure g c =
@@ -88,7 +79,7 @@ returns-clause-sure g c =
     let gives = c.export-exported.ensures in
     subst AreSure (sym c.keep_board.ensures)
     (export_sure held c.export-exported.new.board (board_after held.board (export_of c.args.user.now c.args.limit c.args.now held.board)) certain.1 c.export-exported.result certain.0
-    (export_board c.args.user.now c.args.limit c.args.now held.board certain.0) gives.board (λ early. (gives.unchanged early).0) (λ is. (gives.fault is).0))
+    (export_board c.args.user.now c.args.limit c.args.now held.board certain.0) gives.board (λ early. (gives.unchanged early).0.board) (λ is. elim (gives.fault is).0 [ inl left ↦ inl left.board | inr doubted ↦ inr doubted ]))
 
 pub returns-clause-causes : goal.returns-clause-causes
 returns-clause-causes g c =
