@@ -89,8 +89,8 @@ fn add_messages(alloc: Global, files: &mut BaseFiles, slots: &Slots) -> Result<(
 
 /// Adds the record of each reader, who has read all.
 fn add_readers(files: &mut BaseFiles, shape: &Shape) -> Result<(), AllocError> {
-    for reader in shape.readers.as_slice() {
-        let reader = reader.get();
+    for place in 0..shape.readers.len() {
+        let reader = shape.readers.at(place);
         let last = LastRead {
             user_crc: name_crc(reader.name.as_slice()),
             user_id: reader.id,

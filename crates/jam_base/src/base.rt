@@ -238,9 +238,8 @@ impl Base {
     pub(crate) fn jlr(&self, alloc: Global) -> Result<Bytes, AllocError>
         ensures { IfOk result (λ jlr. jlr ≡ (layout self.now.shape self.now.conference).jlr) }
     {
-        let readers = self.shape().readers.as_slice();
         let pointers = self.pointers().to_list(alloc)?;
-        write_jlr(alloc, readers, pointers.as_slice())
+        write_jlr(alloc, &self.shape().readers, pointers.as_slice())
     }
 
     /// The patch of its change counter and its count of messages that aren't deleted.
@@ -509,7 +508,7 @@ impl Base {
         ensures size { result ≡ 16 * length self.now.shape.readers }
         ensures bound { result ≤ 2 ^ 36 }
     {
-        16 * self.shape().readers.as_slice().len() as u64
+        16 * self.shape().readers.len() as u64
     }
 
     /// How many bytes the four files have together.

@@ -8,12 +8,12 @@ ghost use Rattle.jam_layout.specs.Readers.{reader_rules, pointers_at};
 use crate::error::BaseError;
 use crate::places::damaged;
 use crate::reader::Reader;
+use crate::reader_list::Readers;
 use byte_lists::List;
 use door_outside::FileId;
 use jam_records::DamageRule;
 use name_crc::name_crc;
 use record_numbers::u32_at;
-use shared_lists::Shared;
 use std::alloc::Global;
 
 /// The pointer of a reader, whose record is at the front.
@@ -46,7 +46,7 @@ pub fn pointers_of(
     alloc: Global,
     place: u8,
     count: u32,
-    readers: &[Shared<Reader>],
+    readers: &Readers,
     bytes: &[u8],
 ) -> Result<List<u32>, BaseError>
     requires place { place < 64 }
@@ -55,8 +55,8 @@ pub fn pointers_of(
 {
     let mut pointers = List::new(alloc);
     let mut rest = bytes;
-    for (j, reader) in readers.iter().enumerate() {
-        let pointer = pointer_of(place, count, j as u32, reader.get(), rest)?;
+    for j in 0..readers.len() {
+        let pointer = pointer_of(place, count, j as u32, readers.at(j), rest)?;
         pointers.add(pointer)?;
         rest = &rest[16..];
     }

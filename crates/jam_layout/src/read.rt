@@ -77,7 +77,7 @@ fn conference_in(alloc: Global, files: &BaseFiles, shape: &Shape) -> Result<Conf
     ensures files { IfOk result (λ _. FilesFit files.now) }
     ensures shape { ShapeFits shape.now }
 {
-    let readers = shape.reader_slice();
+    let readers = shape.readers();
     let headers = files.jhr.as_slice();
     let counter = counter_of(shape, headers)?;
     let entries = entries_of(alloc, shape.place, shape.kind, &headers[BASE_HEADER..])?;

@@ -1,17 +1,17 @@
-ghost use Rattle.std.specs.Prelude.{◌≡◌, ◌<◌, ◌==◌, [], ◌∷◌, ◌++◌, length, slice_get, position, IfOk, IfSome, OnOk, OnErr, All};
+ghost use Rattle.std.specs.Prelude.{◌≡◌, ◌<◌, ◌==◌, [], ◌∷◌, ◌++◌, length, slice_get, slice_index_or, position, IfOk, IfSome, OnOk, OnErr, All};
 ghost use Rattle.std.specs.Option.{option_copied};
 ghost use Rattle.jam_layout.specs.Reader.{IsReader};
 
 use crate::reader::Reader;
-use byte_lists::List;
-use shared_lists::Shared;
+use shared_lists::{Shared, SharedList};
 use std::alloc::{AllocError, Global};
 use std::marker::Model;
 
-/// The readers of a conference. Their ids rise. A copy shares them. Contracts see them in order.
+/// The readers of a conference. Their ids rise. A copy shares them, and takes a step for each 128 of them. Contracts see
+/// them in order.
 #[derive(Debug, Drop)]
 pub struct Readers {
-    inner: List<Shared<Reader>>,
+    inner: SharedList<Shared<Reader>>,
 }
 
 impl Model for Readers {
@@ -32,7 +32,7 @@ impl Readers {
         ensures { result ≡ [] }
     {
         Readers {
-            inner: List::new(alloc),
+            inner: SharedList::new(alloc),
         }
     }
 
@@ -42,12 +42,13 @@ impl Readers {
         ensures err { OnErr result (self.new ≡ self.old) }
     {
         let _name = reader.name.as_slice();
-        self.inner.add(Shared::new(alloc, reader)?)
+        self.inner.add(alloc, Shared::new(alloc, reader)?)
     }
 
     /// How many readers there are.
     pub fn len(&self) -> usize
-        ensures { result ≡ length self.now }
+        ensures count { result ≡ length self.now }
+        ensures fit { All IsReader self.now }
     {
         self.inner.len()
     }
@@ -59,23 +60,25 @@ impl Readers {
         self.inner.get(place).map(|reader| reader.get())
     }
 
+    /// The reader at a place from 0.
+    pub fn at(&self, place: usize) -> &Reader
+        requires { place < length self.now }
+        ensures { result.now ≡ slice_index_or self.now place result.now }
+    {
+        self.inner.at(place).get()
+    }
+
     /// The place, from 0, of the reader with this id, or None where there is none.
     pub fn position(&self, id: u32) -> Option<usize>
         ensures place { result ≡ position (λ reader. reader.id == id) self.now }
         ensures within { IfSome result (λ place. place < length self.now) }
     {
-        self.inner
-            .as_slice()
-            .iter()
-            .position(|reader| reader.get().id == id)
-    }
-
-    /// The readers.
-    pub fn as_slice(&self) -> &[Shared<Reader>]
-        ensures same { result.now ≡ self.now }
-        ensures fit { All IsReader self.now }
-    {
-        self.inner.as_slice()
+        for place in 0..self.len() {
+            if self.at(place).id == id {
+                return Some(place);
+            }
+        }
+        None
     }
 
     /// An equal list, which shares its readers.

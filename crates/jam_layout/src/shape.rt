@@ -1,11 +1,9 @@
 ghost use Rattle.std.specs.Prelude.{◌≡◌};
 ghost use Rattle.jam_layout.specs.Valid.{ShapeFits};
 
-use crate::reader::Reader;
 use crate::reader_list::Readers;
 use byte_lists::Duplicate;
 use jam_records::Kind;
-use shared_lists::Shared;
 use std::alloc::{AllocError, Global};
 
 /// What the board says of a conference.
@@ -30,12 +28,13 @@ impl Shape {
     }
 
     /// Its readers, in order, of which the numbers and names are of their types.
-    pub(crate) fn reader_slice(&self) -> &[Shared<Reader>]
+    pub(crate) fn readers(&self) -> &Readers
         ensures same { result.now ≡ self.now.readers }
         ensures fit { ShapeFits self.now }
     {
         let _created = self.created();
-        self.readers.as_slice()
+        let _count = self.readers.len();
+        &self.readers
     }
 }
 

@@ -69,7 +69,7 @@ fn jlr_size(shape: &Shape) -> u64
     ensures size { result ≡ 16 * length shape.now.readers }
     ensures bound { result ≤ 2 ^ 36 }
 {
-    16 * shape.reader_slice().len() as u64
+    16 * shape.readers.len() as u64
 }
 
 /// How many bytes the four files of a conference have together.

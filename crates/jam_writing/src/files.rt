@@ -30,6 +30,6 @@ pub fn write_files(
         jhr: write_jhr(alloc, shape, conference, links)?,
         jdt: write_jdt(alloc, conference)?,
         jdx: write_jdx(alloc, conference)?,
-        jlr: write_jlr(alloc, shape.readers.as_slice(), pointers)?,
+        jlr: write_jlr(alloc, &shape.readers, pointers)?,
     })
 }

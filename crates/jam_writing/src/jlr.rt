@@ -3,10 +3,9 @@ ghost use Rattle.jam_records.specs.LastReads.{last_text};
 ghost use Rattle.jam_layout.specs.Readers.{last_read as record_of, last_reads};
 
 use byte_lists::Bytes;
-use jam_layout::Reader;
+use jam_layout::{Reader, Readers};
 use jam_records::{LastRead, write_last};
 use name_crc::name_crc;
-use shared_lists::Shared;
 use std::alloc::{AllocError, Global};
 
 /// The last-read record of a reader with this pointer.
@@ -31,16 +30,15 @@ pub fn write_reader(reader: &Reader, pointer: u32) -> [u8; 16]
 /// The bytes of .JLR: the records of readers with these pointers.
 ///
 /// The error comes where there is no memory.
-pub fn write_jlr(
-    alloc: Global,
-    readers: &[Shared<Reader>],
-    pointers: &[u32],
-) -> Result<Bytes, AllocError>
+pub fn write_jlr(alloc: Global, readers: &Readers, pointers: &[u32]) -> Result<Bytes, AllocError>
     ensures { IfOk result (λ jlr. jlr ≡ last_reads readers.now pointers.now) }
 {
     let mut jlr = Bytes::new(alloc);
-    for (reader, pointer) in readers.iter().zip(pointers) {
-        jlr.add(&write_reader(reader.get(), *pointer))?;
+    for (place, pointer) in pointers.iter().enumerate() {
+        let Some(reader) = readers.get(place) else {
+            break;
+        };
+        jlr.add(&write_reader(reader, *pointer))?;
     }
     Ok(jlr)
 }

@@ -1,5 +1,5 @@
 -- A place in a list in chunks of 128 items.
-use Rattle.std.proofs.Common.{◌≡◌, ℕ, suc, zero, ◌+◌, ◌*◌, ◌-◌, ◌/◌, ◌%◌, ◌≤◌, ◌<◌, List, [], ◌∷◌, ◌++◌, length, refl, sym, ap, ◌∙◌, arith, append_assoc, append-nil, length-append, get_or}
+use Rattle.std.proofs.Common.{◌≡◌, ℕ, suc, zero, ◌+◌, ◌*◌, ◌-◌, ◌/◌, ◌%◌, ◌≤◌, ◌<◌, List, [], ◌∷◌, ◌++◌, length, refl, sym, ap, ◌∙◌, arith, append-nil, length-append, get_or}
 use Rattle.std.specs.Prelude.{All, slice_get, Some, None}
 use Rattle.std.proofs.lemmas.Option.{get_or_from_slice_get}
 use Rattle.std.proofs.Math.ListN.{set}
@@ -80,12 +80,12 @@ module _ {X : Type 0} (chunks : List (List X)) (last : List X) (place : ℕ) (al
   pub set_last : (item : X) → length chunks ≤ place / 128 → set (joined chunks ++ last) place item ≡ joined chunks ++ set last (place - 128 * length chunks) item
   set_last item past = set-append_right (joined chunks) last (128 * length chunks) place item (joined_length chunks all) (omega arith)
 
--- a chunk that becomes full
-pub chunk_more : {X : Type 0} (chunks : List (List X)) (last full : List X) (item : X) → full ≡ last ++ item ∷ [] → joined (chunks ++ full ∷ []) ++ [] ≡ (joined chunks ++ last) ++ item ∷ []
-chunk_more {X = X} chunks last full item is =
-    append-nil (joined (chunks ++ full ∷ []))
-    ∙ (flat_map-append (λ (c : List X). c) chunks (full ∷ [])
-    ∙ (ap (λ (zs : List X). joined chunks ++ zs) (append-nil full ∙ is) ∙ sym (append_assoc (joined chunks) last (item ∷ []))))
+-- the last items become a chunk
+pub chunk_closed : {X : Type 0} (chunks : List (List X)) (last : List X) → joined (chunks ++ last ∷ []) ++ [] ≡ joined chunks ++ last
+chunk_closed {X = X} chunks last =
+    append-nil (joined (chunks ++ last ∷ []))
+    ∙ (flat_map-append (λ (c : List X). c) chunks (last ∷ [])
+    ∙ ap (λ (zs : List X). joined chunks ++ zs) (append-nil last))
 
 -- an item that was looked up
 pub found_item : {X : Type 0} (xs : List X) (i : ℕ) (x : X) → slice_get xs i ≡ Some x → x ≡ get_or xs i x

@@ -38,6 +38,17 @@ impl<T: Drop> Shared<T> {
         })
     }
 
+    /// The value, which is moved, or the value again where there is no memory.
+    pub(crate) fn new_or_back(alloc: Global, value: T) -> Result<Shared<T>, T>
+        ensures ok { IfOk result (λ shared. shared ≡ value) }
+        ensures err { IfErr result (λ back. back ≡ value) }
+    {
+        match Rc::new(alloc, value) {
+            Ok(value) => Ok(Shared { value }),
+            Err(failed) => Err(failed.value),
+        }
+    }
+
     /// The same value, which isn't copied.
     ///
     /// The error comes where it is shared by more than can be counted.

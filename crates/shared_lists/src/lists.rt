@@ -1,5 +1,6 @@
-ghost use Rattle.std.specs.Prelude.{◌≡◌, ◌<◌, ◌^◌, [], ◌∷◌, ◌++◌, length, slice_get, slice_index_or, slice_set, IfOk, OnOk, OnErr};
+ghost use Rattle.std.specs.Prelude.{◌≡◌, ◌<◌, [], ◌∷◌, ◌++◌, length, slice_get, slice_index_or, slice_set, IfOk, OnOk, OnErr};
 ghost use Rattle.std.specs.Option.{option_copied};
+ghost use Rattle.shared_lists.specs.Chunks.{joined, AreChunks};
 
 use crate::handles::Shared;
 use byte_lists::{Duplicate, List};
@@ -10,25 +11,28 @@ use std::mem;
 /// How many items a chunk has.
 const CHUNK: usize = 128;
 
+/// How many chunks a list has at most, so that its items can be counted.
+const MOST_CHUNKS: usize = 0xFFFF_FFFF;
+
 /// A list whose copies share its items but the last ones: a copy takes a step for each chunk of 128 items, and a
-/// change of an item copies one chunk. Contracts see the items in order.
+/// change of an item copies one chunk. It has at most 2^39 items. Contracts see them in order.
 #[derive(Debug, Drop)]
 pub struct SharedList<T> {
     /// Chunks of 128 items each.
     chunks: Vec<Shared<List<T>>>,
-    /// The items behind those, fewer than 128.
+    /// The items behind those, at most 128.
     last: Vec<T>,
 }
 
 impl<T> Model for SharedList<T> {
-    ghost use Rattle.std.specs.Prelude.{◌≡◌, ◌<◌, ◌++◌, List as ListOf, length, All};
-    ghost use Rattle.shared_lists.specs.Chunks.{joined};
+    ghost use Rattle.std.specs.Prelude.{◌++◌, List as ListOf};
+    ghost use Rattle.shared_lists.specs.Chunks.{joined, AreChunks};
 
     ghost Value = { ListOf T };
 
     ghost view = { λ a. joined a.chunks.items ++ a.last.items };
 
-    ghost invariant = { λ a. All (λ chunk. length chunk ≡ 128) a.chunks.items × (length a.last.items < 128) };
+    ghost invariant = { λ a. AreChunks a.chunks.items a.last.items };
 }
 
 /// The item at a place from 0, or None past the last.
@@ -78,7 +82,6 @@ impl<T> SharedList<T> {
 
     /// How many items there are.
     pub fn len(&self) -> usize
-        requires { length self.now < 2 ^ 40 }
         ensures { result ≡ length self.now }
     {
         CHUNK * self.chunks.len() + self.last.len()
@@ -111,20 +114,61 @@ impl<T> SharedList<T> {
     }
 }
 
+/// Makes the last items a chunk more. Where that can't be, all stays as it is.
+fn close<T: Drop>(
+    alloc: Global,
+    chunks: &mut Vec<Shared<List<T>>>,
+    last: &mut Vec<T>,
+) -> Result<(), AllocError>
+    ensures chunks { OnOk result (chunks.new.items ≡ chunks.old.items ++ last.old.items ∷ []) }
+    ensures last { OnOk result (last.new.items ≡ []) }
+    ensures same_chunks { OnErr result (chunks.new.items ≡ chunks.old.items) }
+    ensures same_last { OnErr result (last.new.items ≡ last.old.items) }
+{
+    chunks.reserve(1)?;
+    let items = mem::replace(last, Vec::new(alloc));
+    match Shared::new_or_back(alloc, List::from_vec(items)) {
+        Ok(chunk) => {
+            chunks.push(chunk)?;
+            Ok(())
+        }
+        Err(items) => {
+            *last = items.into_vec();
+            Err(AllocError)
+        }
+    }
+}
+
+/// Makes room for an item behind the chunks. The items stay, whatever the answer.
+fn make_room<T: Drop>(
+    alloc: Global,
+    chunks: &mut Vec<Shared<List<T>>>,
+    last: &mut Vec<T>,
+) -> Result<(), AllocError>
+    requires { AreChunks chunks.old.items last.old.items }
+    ensures same { joined chunks.new.items ++ last.new.items ≡ joined chunks.old.items ++ last.old.items }
+    ensures are_chunks { AreChunks chunks.new.items last.new.items }
+    ensures room { OnOk result (length last.new.items < 128) }
+{
+    if last.len() < CHUNK {
+        return Ok(());
+    }
+    if chunks.len() >= MOST_CHUNKS {
+        return Err(AllocError);
+    }
+    close(alloc, chunks, last)
+}
+
 impl<T: Drop> SharedList<T> {
     /// Adds an item at the end.
     ///
-    /// The error comes where there is no memory. The list is of no use then.
+    /// The error comes where there is no memory, or 2^39 items stand. The list is unchanged then, and the item dropped.
     pub fn add(&mut self, alloc: Global, item: T) -> Result<(), AllocError>
-        ensures { OnOk result (self.new ≡ self.old ++ item ∷ []) }
+        ensures ok { OnOk result (self.new ≡ self.old ++ item ∷ []) }
+        ensures err { OnErr result (self.new ≡ self.old) }
     {
-        if self.last.len() + 1 < CHUNK {
-            self.last.push(item)?;
-            return Ok(());
-        }
-        let mut full = mem::replace(&mut self.last, Vec::new(alloc));
-        full.push(item)?;
-        self.chunks.push(Shared::new(alloc, List::from_vec(full))?)?;
+        make_room(alloc, &mut self.chunks, &mut self.last)?;
+        self.last.push(item)?;
         Ok(())
     }
 
@@ -176,7 +220,6 @@ impl<T: Duplicate> SharedList<T> {
     ///
     /// The error comes where there is no memory.
     pub fn to_list(&self, alloc: Global) -> Result<List<T>, AllocError>
-        requires { length self.now < 2 ^ 40 }
         ensures { IfOk result (λ list. list ≡ self.now) }
     {
         let mut list = List::new(alloc);

@@ -76,7 +76,7 @@ returns-in_err-pointers-clause-gives c =
     let bodies = sym (bodies_is c.args.shape.now c.args.files.now c.as_slice-2.result.now c.in_ok-entries.entries c.in_ok-entries.entries c.as_slice-2.ensures.same refl) ∙ c.in_ok-entries-2.ensures in
     let index = sym (slots_is c.args.shape.now c.args.files.now c.as_slice-3.result.now c.in_ok-entries-2.entries c.in_ok-entries-2.entries c.as_slice-3.ensures.same refl) ∙ c.in_ok-slots.ensures in
     rw (p.1, p.2) (pointers_fail c.args.shape.now c.args.files.now c.in_err-pointers.field-0.0 c.in_ok-counter.counter c.in_ok-entries.entries c.in_ok-entries-2.entries c.in_ok-slots.slots _ base headers second bodies index
-    (failed c.in_err-pointers.field-0.0 _ _ (pointers_is c.args.shape.now c.args.files.now c.as_slice-4.result.now c.reader_slice-readers.result.now c.len-count.result c.in_ok-slots.slots c.as_slice-4.ensures.same c.reader_slice-readers.ensures.same c.len-count.ensures) c.in_err-pointers.ensures))
+    (failed c.in_err-pointers.field-0.0 _ _ (pointers_is c.args.shape.now c.args.files.now c.as_slice-4.result.now c.readers-readers.result.now c.len-count.result c.in_ok-slots.slots c.as_slice-4.ensures.same c.readers-readers.ensures.same c.len-count.ensures) c.in_err-pointers.ensures))
 
 pub returns-clause-gives : goal.returns-clause-gives
 returns-clause-gives c =
@@ -85,5 +85,5 @@ returns-clause-gives c =
     let second = sym (second_is c.args.shape.now c.args.files.now c.as_slice-headers.result.now c.u32_at.result c.as_slice.result.now c.in_ok-entries.entries c.as_slice-headers.ensures.same c.u32_at.ensures c.as_slice.ensures) ∙ c.in_ok-check.ensures in
     let bodies = sym (bodies_is c.args.shape.now c.args.files.now c.as_slice-2.result.now c.in_ok-entries.entries c.in_ok-entries.entries c.as_slice-2.ensures.same refl) ∙ c.in_ok-entries-2.ensures in
     let index = sym (slots_is c.args.shape.now c.args.files.now c.as_slice-3.result.now c.in_ok-entries-2.entries c.in_ok-entries-2.entries c.as_slice-3.ensures.same refl) ∙ c.in_ok-slots.ensures in
-    let last = sym (pointers_is c.args.shape.now c.args.files.now c.as_slice-4.result.now c.reader_slice-readers.result.now c.len-count.result c.in_ok-slots.slots c.as_slice-4.ensures.same c.reader_slice-readers.ensures.same c.len-count.ensures) ∙ c.in_ok-pointers.ensures in
+    let last = sym (pointers_is c.args.shape.now c.args.files.now c.as_slice-4.result.now c.readers-readers.result.now c.len-count.result c.in_ok-slots.slots c.as_slice-4.ensures.same c.readers-readers.ensures.same c.len-count.ensures) ∙ c.in_ok-pointers.ensures in
     all_read c.args.shape.now c.args.files.now c.in_ok-counter.counter c.in_ok-entries.entries c.in_ok-entries-2.entries c.in_ok-slots.slots c.in_ok-pointers.pointers _ base headers second bodies index last

@@ -11,5 +11,5 @@ returns c =
     let jhr = c.in_ok-write_jhr.ensures in
     let jdt = c.in_ok-write_jdt.ensures c.args.shape.now in
     let jdx = c.in_ok-write_jdx.ensures c.args.shape.now in
-    let jlr = c.in_ok-write_jlr.ensures ∙ (ap (λ readers. last_reads readers c.as_slice-pointers.result.now) c.as_slice.ensures.same ∙ ap (last_reads c.args.shape.now.readers) c.as_slice-pointers.ensures) in
+    let jlr = c.in_ok-write_jlr.ensures ∙ ap (last_reads c.args.shape.now.readers) c.as_slice-pointers.ensures in
     λ i. record { jhr = jhr i; jdt = jdt i; jdx = jdx i; jlr = jlr i }

@@ -10,12 +10,12 @@ of_files-requires c = c.in_ok-files.ensures ∙ sym (ap (λ (k : Contents). layo
 
 pub returns-clause-files : goal.returns-clause-files
 returns-clause-files c =
-    let pointers = c.in_ok-no_pointers.ensures ∙ ap (λ n. replicate n 0) c.len.ensures in
+    let pointers = c.in_ok-no_pointers.ensures ∙ ap (λ n. replicate n 0) c.len.ensures.count in
     let made : c.in_ok-base.base ≡ record { shape = c.args.shape.now; conference = no_slots c.args.shape.now } = fresh_base c.args.shape.now c.in_ok-base.base c.new.result c.in_ok-no_pointers.field-0 c.new.ensures pointers c.in_ok-base.ensures in
     fresh_changes c.args.shape.now c.in_ok-base.base c.of_files.result made c.of_files.ensures.patches
 
 pub returns-clause-intent : goal.returns-clause-intent
 returns-clause-intent c =
-    let pointers = c.in_ok-no_pointers.ensures ∙ ap (λ n. replicate n 0) c.len.ensures in
+    let pointers = c.in_ok-no_pointers.ensures ∙ ap (λ n. replicate n 0) c.len.ensures.count in
     let made : c.in_ok-base.base ≡ record { shape = c.args.shape.now; conference = no_slots c.args.shape.now } = fresh_base c.args.shape.now c.in_ok-base.base c.new.result c.in_ok-no_pointers.field-0 c.new.ensures pointers c.in_ok-base.ensures in
     fresh_suits c.args.shape.now c.in_ok-base.base c.of_files.result made c.of_files.ensures.patches

@@ -11,7 +11,7 @@ with_readers-requires-clause-shape c =
     let from : c.in_ok-shape.shape ≡ base.shape = c.in_ok-shape.ensures ∙ c.shape.ensures.same in
     let readers : c.add.new.self ≡ base.shape.readers ++ c.args.reader ∷ [] = c.in_ok-add.ensures.ok ∙ ap (λ (s : Shape). s.readers ++ c.args.reader ∷ []) from in
     let shape_is = c.in_ok-new.ensures ∙ shape_more c.in_ok-shape.shape base.shape c.add.new.self c.args.reader.id c.args.reader.name from readers in
-    let pointers : c.add-2.new.self ≡ base.conference.pointers ++ 0 ∷ [] = c.in_ok-add-2.ensures ∙ ap (λ (ps : List ℕ). ps ++ 0 ∷ []) (c.in_ok-pointers.ensures ∙ c.pointers.ensures) in
+    let pointers : c.add-2.new.self ≡ base.conference.pointers ++ 0 ∷ [] = c.in_ok-add-2.ensures.ok ∙ ap (λ (ps : List ℕ). ps ++ 0 ∷ []) (c.in_ok-pointers.ensures ∙ c.pointers.ensures) in
     (joined_made base c.args.reader.id c.args.reader.name c.in_ok-new.field-0 (record base.conference { pointers = c.add-2.new.self }) shape_is (ap (λ (ps : List ℕ). record base.conference { pointers = ps }) pointers) c.requires (c.shape.ensures.is_shape, c.shape.ensures.is_conference)).0
 
 pub with_readers-requires-clause-conference : goal.with_readers-requires-clause-conference
@@ -20,7 +20,7 @@ with_readers-requires-clause-conference c =
     let from : c.in_ok-shape.shape ≡ base.shape = c.in_ok-shape.ensures ∙ c.shape.ensures.same in
     let readers : c.add.new.self ≡ base.shape.readers ++ c.args.reader ∷ [] = c.in_ok-add.ensures.ok ∙ ap (λ (s : Shape). s.readers ++ c.args.reader ∷ []) from in
     let shape_is = c.in_ok-new.ensures ∙ shape_more c.in_ok-shape.shape base.shape c.add.new.self c.args.reader.id c.args.reader.name from readers in
-    let pointers : c.add-2.new.self ≡ base.conference.pointers ++ 0 ∷ [] = c.in_ok-add-2.ensures ∙ ap (λ (ps : List ℕ). ps ++ 0 ∷ []) (c.in_ok-pointers.ensures ∙ c.pointers.ensures) in
+    let pointers : c.add-2.new.self ≡ base.conference.pointers ++ 0 ∷ [] = c.in_ok-add-2.ensures.ok ∙ ap (λ (ps : List ℕ). ps ++ 0 ∷ []) (c.in_ok-pointers.ensures ∙ c.pointers.ensures) in
     (joined_made base c.args.reader.id c.args.reader.name c.in_ok-new.field-0 (record base.conference { pointers = c.add-2.new.self }) shape_is (ap (λ (ps : List ℕ). record base.conference { pointers = ps }) pointers) c.requires (c.shape.ensures.is_shape, c.shape.ensures.is_conference)).1
 
 pub returns : goal.returns
@@ -29,7 +29,7 @@ returns c =
     let from : c.in_ok-shape.shape ≡ base.shape = c.in_ok-shape.ensures ∙ c.shape.ensures.same in
     let readers : c.add.new.self ≡ base.shape.readers ++ c.args.reader ∷ [] = c.in_ok-add.ensures.ok ∙ ap (λ (s : Shape). s.readers ++ c.args.reader ∷ []) from in
     let shape_is = c.in_ok-new.ensures ∙ shape_more c.in_ok-shape.shape base.shape c.add.new.self c.args.reader.id c.args.reader.name from readers in
-    let pointers : c.add-2.new.self ≡ base.conference.pointers ++ 0 ∷ [] = c.in_ok-add-2.ensures ∙ ap (λ (ps : List ℕ). ps ++ 0 ∷ []) (c.in_ok-pointers.ensures ∙ c.pointers.ensures) in
+    let pointers : c.add-2.new.self ≡ base.conference.pointers ++ 0 ∷ [] = c.in_ok-add-2.ensures.ok ∙ ap (λ (ps : List ℕ). ps ++ 0 ∷ []) (c.in_ok-pointers.ensures ∙ c.pointers.ensures) in
     let made : record { shape = c.in_ok-new.field-0; conference = record base.conference { pointers = c.add-2.new.self } } ≡ with_reader c.args.reader.id c.args.reader.name base =
     λ i. record { shape = shape_is i; conference = record base.conference { pointers = pointers i } } in
     one_ok (λ (b : Contents). b ≡ record { shape = c.in_ok-new.field-0; conference = record base.conference { pointers = c.add-2.new.self } }) (λ (b : Contents). b ≡ with_reader c.args.reader.id c.args.reader.name base) c.with_readers.result

@@ -8,7 +8,7 @@ pub index_mut-requires-else-chunk-len : goal.index_mut-requires-else-chunk-len
 index_mut-requires-else-chunk-len g c =
     let chunks = c.self.inside.chunks.items in
     let last = c.self.inside.last.items in
-    let len = joined_length chunks c.self.invariant.0 in
+    let len = joined_length chunks c.self.invariant.full in
     let count : c.len-else-chunk-len.result ≡ length chunks = omega (arith, c.len-else-chunk-len.ensures, c.self.inside.chunks.ok) in
     let first : c.len.result ≡ length chunks = omega (arith, c.len.ensures, c.self.inside.chunks.ok) in
     let whole = length-append (joined chunks) last in
@@ -22,7 +22,7 @@ returns-in_ok-self-inside-clause-ok g c =
     let q : ℕ = c.args.place / 128 in
     let r : ℕ = c.args.place % 128 in
     let first : c.len.result ≡ length chunks = omega (arith, c.len.ensures, c.self.inside.chunks.ok) in
-    let found = set_chunk chunks last c.args.place c.self.invariant.0 c.index.result.now c.args.item (omega (arith, first, c.if-chunk-len.true)) in
+    let found = set_chunk chunks last c.args.place c.self.invariant.full c.index.result.now c.args.item (omega (arith, first, c.if-chunk-len.true)) in
     ap (λ (x : List g.row.T.Denot). joined (set chunks q x) ++ last) (c.in_ok-self-inside.ensures ∙ ap (λ (xs : List g.row.T.Denot). set xs r c.args.item) c.index.ensures)
     ∙ (sym found ∙ ap (λ (xs : List g.row.T.Denot). set xs c.args.place c.args.item) c.self.view_is)
 
@@ -32,6 +32,6 @@ returns-else-chunk-len-clause-ok g c =
     let last = c.self.inside.last.items in
     let first : c.len.result ≡ length chunks = omega (arith, c.len.ensures, c.self.inside.chunks.ok) in
     let count : c.len-else-chunk-len.result ≡ length chunks = omega (arith, c.len-else-chunk-len.ensures, c.self.inside.chunks.ok) in
-    let found = set_last chunks last c.args.place c.self.invariant.0 c.args.item (omega (arith, first, c.if-chunk-len.false)) in
+    let found = set_last chunks last c.args.place c.self.invariant.full c.args.item (omega (arith, first, c.if-chunk-len.false)) in
     ap (λ (n : ℕ). joined chunks ++ set last (c.args.place - 128 * n) c.args.item) count
     ∙ (sym found ∙ ap (λ (xs : List g.row.T.Denot). set xs c.args.place c.args.item) c.self.view_is)

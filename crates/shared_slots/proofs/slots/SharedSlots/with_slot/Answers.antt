@@ -21,5 +21,5 @@ invariant_of-result c =
     let header_small : header < 2 ^ 31 = omega (arith, header_is, headers, c.requires.headers) in
     let body_small : body < 2 ^ 31 = omega (arith, body_is, bodies, c.requires.bodies) in
     kept_more old c.self.inside.headers c.self.inside.bodies c.self.inside.live c.args.slot c.add.new.self c.add-2.new.self c.add-3.new.self header body _
-    (c.in_ok-add.ensures ∙ ap (λ (s : Slot). old ++ s ∷ []) c.in_ok-new.ensures) c.in_ok-add-2.ensures c.in_ok-add-3.ensures header_is body_is
+    (c.in_ok-add.ensures.ok ∙ ap (λ (s : Slot). old ++ s ∷ []) c.in_ok-new.ensures) c.in_ok-add-2.ensures.ok c.in_ok-add-3.ensures.ok header_is body_is
     (omega (arith, c.live_in.ensures)) (omega (arith, ap length c.self.view_is, c.requires.few)) header_small body_small c.self.invariant

@@ -1,5 +1,0 @@
-use Rattle.std.proofs.Common.{ℕ, ◌<◌, ◌^◌, subst}
-use Rattle.jam_layout.proofs.shape.Shape.reader_slice.Goals as goal
-
-pub returns-clause-fit : goal.returns-clause-fit
-returns-clause-fit c = record { created = subst (λ (n : ℕ). n < 2 ^ 32) c.created-created.ensures c.created-created.type_inv; readers = c.as_slice.ensures.fit }
