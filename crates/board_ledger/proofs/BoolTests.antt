@@ -1,6 +1,5 @@
 -- What it says that tests pass or fail.
-use Rattle.std.proofs.Common.{◌≡◌, ℕ, Bool, true, false, not, ◌&&◌, ◌||◌, eqb, refl, ap}
-use Rattle.std.proofs.lemmas.Bool.{eqb-true, eq-eqb}
+use Rattle.std.proofs.Common.{◌≡◌, Bool, true, false, not, ◌&&◌, ◌||◌, refl}
 
 pub or_false : (a b : Bool) → (a || b) ≡ false → (a ≡ false) × (b ≡ false)
 or_false true b e = absurd cc
@@ -17,13 +16,6 @@ passes false e = absurd cc
 pub both_pass : (a b : Bool) → a ≡ true → b ≡ true → (a && b) ≡ true
 both_pass true b e f = f
 both_pass false b e f = absurd cc
-
--- numbers that are not unequal are equal
-pub equal : (a b : ℕ) → not (eqb a b) ≡ false → a ≡ b
-equal a b e = eqb-true a b (passes (eqb a b) e)
-
-pub unequal : (a b : ℕ) → a ≡ b → not (eqb a b) ≡ false
-unequal a b e = ap not (eq-eqb a b e)
 
 -- tests that pass under the same condition are the same
 pub same_tests : (a b : Bool) → (a ≡ true → b ≡ true) → (b ≡ true → a ≡ true) → a ≡ b

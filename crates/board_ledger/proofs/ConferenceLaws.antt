@@ -14,13 +14,13 @@ use Rattle.setup_file.specs.Texts.{is_conference_name}
 use Rattle.setup_file.specs.Valid.{IsSetupConference, numbers_of}
 use Rattle.setup_file.specs.declared.conference.Conference.{Conference}
 use Rattle.board_ledger.specs.Records.{EachBehind}
-use Rattle.board_ledger.specs.Texts.{sized_text, text_at, text_end}
+use Rattle.open_offers.specs.Texts.{sized_text, text_at, text_end}
 use Rattle.board_ledger.specs.Conferences.{kind_number, kind_of_number, rules_number, conference_text, conference_fields, out_of_order, conference_record_rules, conference_at}
 use Rattle.board_ledger.proofs.BoolTests.{passes, both_pass}
 use Rattle.board_ledger.proofs.SetupBounds.{name_small}
 use Rattle.board_ledger.proofs.SizeLaws.{conference_length}
 use Rattle.board_ledger.proofs.OpeningTests.{end_above}
-use Rattle.board_ledger.proofs.TextLaws.{glue, split, u16_small, byte_front, byte_again, u16_again, text_front, text_again}
+use Rattle.open_offers.proofs.TextLaws.{glue, split, u16_small, byte_front, byte_again, u16_again, text_front, text_again}
 
 -- a conference that is right behind those before
 abbrev pub ConferenceRight : List Conference → Conference → Type 0

@@ -13,11 +13,12 @@ use Rattle.board_ledger.specs.Ledger.{ledger_text}
 use Rattle.board_ledger.specs.OneFile.{TurnsFile}
 use Rattle.board_ledger.specs.Opening.{fixed_text, setup_text}
 use Rattle.board_ledger.specs.Uploads.{upload_text}
-use Rattle.board_ledger.specs.UserPuts.{user_place}
-use Rattle.board_ledger.specs.Users.{user_text, IsUser}
+use Rattle.board_ledger.specs.UserPuts.{record_in, user_place}
+use Rattle.board_ledger.specs.Users.{users_text, IsUser}
 use Rattle.board_ledger.specs.Valid.{IsLedger}
 use Rattle.board_ledger.specs.declared.ledger.Ledger.{Ledger}
 use Rattle.board_ledger.specs.declared.user.User.{User}
+use Rattle.open_offers.specs.declared.version.Version.TheVariants.{Second}
 use Rattle.board_ledger.proofs.LedgerParts.{numbers, numbers_long, middle, parts_are, text_long}
 use Rattle.board_ledger.proofs.SizeLaws.{fixed_length, flat_length, upload_length}
 use Rattle.board_ledger.proofs.TwoPuts.{two_turn, two_bytes}
@@ -51,53 +52,53 @@ module _ (l : Ledger) (u : User) where
   place_is =
       let s : List ℕ = setup_text l.setup in
       let c : List ℕ = flat_map conference_text l.setup.conferences in
-      let us : List ℕ = flat_map user_text l.users in
+      let us : List ℕ = users_text Second (length l.setup.conferences) l.users in
       omega (
         arith,
-        length-append (fixed_text l) s,
-        fixed_length l,
-        ap (λ (users : List User). length (flat_map user_text users)) (take_all (length l.users) l.users (omega arith)),
+        length-append (fixed_text Second l) s,
+        fixed_length Second l,
+        ap (λ (users : List User). length (users_text Second (length l.setup.conferences) users)) (take_all (length l.users) l.users (omega arith)),
         numbers_long l (length l.users + 1) (length l.uploads),
         length-append first (s ++ (c ++ us)),
         length-append s (c ++ us),
         length-append c us,
       )
 
-  middle_more : middle (with_user u l) ≡ middle l ++ user_text u
+  middle_more : middle (with_user u l) ≡ middle l ++ record_in l u
   unfolding middle
   middle_more =
       let s : List ℕ = setup_text l.setup in
       let c : List ℕ = flat_map conference_text l.setup.conferences in
-      let us : List ℕ = flat_map user_text l.users in
-      ap (λ (xs : List ℕ). s ++ (c ++ xs)) (flat_map-append user_text l.users (u ∷ []) ∙ ap (λ (xs : List ℕ). us ++ xs) (append-nil (user_text u)))
-      ∙ (ap (λ (xs : List ℕ). s ++ xs) (sym (append_assoc c us (user_text u))) ∙ sym (append_assoc s (c ++ us) (user_text u)))
+      let us : List ℕ = users_text Second (length l.setup.conferences) l.users in
+      ap (λ (xs : List ℕ). s ++ (c ++ xs)) (flat_map-append (record_in l) l.users (u ∷ []) ∙ ap (λ (xs : List ℕ). us ++ xs) (append-nil (record_in l u)))
+      ∙ (ap (λ (xs : List ℕ). s ++ xs) (sym (append_assoc c us (record_in l u))) ∙ sym (append_assoc s (c ++ us) (record_in l u)))
 
-  text_more : ledger_text (with_user u l) ≡ (first ++ middle l) ++ (user_text u ++ records)
+  text_more : ledger_text (with_user u l) ≡ (first ++ middle l) ++ (record_in l u ++ records)
   unfolding numbers
   text_more =
       parts_are (with_user u l)
       ∙ ((λ i. numbers l (longer i) (length l.uploads) ++ (middle_more i ++ records))
-      ∙ (ap (λ (xs : List ℕ). first ++ xs) (append_assoc (middle l) (user_text u) records)
-      ∙ sym (append_assoc first (middle l) (user_text u ++ records))))
+      ∙ (ap (λ (xs : List ℕ). first ++ xs) (append_assoc (middle l) (record_in l u) records)
+      ∙ sym (append_assoc first (middle l) (record_in l u ++ records))))
 
-  added : written (written (ledger_text l) 8 (u16_text (length l.users + 1))) (user_place (length l.users) l) (user_text u ++ records) ≡ ledger_text (with_user u l)
+  added : written (written (ledger_text l) 8 (u16_text (length l.users + 1))) (user_place (length l.users) l) (record_in l u ++ records) ≡ ledger_text (with_user u l)
   added =
-      ap (λ (xs : List ℕ). written xs (user_place (length l.users) l) (user_text u ++ records)) counted
-      ∙ (written_over (first ++ middle l) records (user_text u ++ records) (user_place (length l.users) l) place_is (omega (arith, length-append (user_text u) records)) ∙ sym text_more)
+      ap (λ (xs : List ℕ). written xs (user_place (length l.users) l) (record_in l u ++ records)) counted
+      ∙ (written_over (first ++ middle l) records (record_in l u ++ records) (user_place (length l.users) l) place_is (omega (arith, length-append (record_in l u) records)) ∙ sym text_more)
 
   -- ---- the patches
   pub enroll_turns : TurnsFile 0 (ledger_text l) (ledger_text (with_user u l)) (enroll_puts l u)
   enroll_turns =
-      two_turn (ledger_text l) (ledger_text (with_user u l)) (u16_text (length l.users + 1)) (user_text u ++ records) 8 (user_place (length l.users) l)
+      two_turn (ledger_text l) (ledger_text (with_user u l)) (u16_text (length l.users + 1)) (record_in l u ++ records) 8 (user_place (length l.users) l)
       (omega (arith, text_long l)) (omega (arith, ap length counted, place_is, length-append (first ++ middle l) records)) added
 
-  pub records_length : IsLedger l → length (user_text u ++ records) ≡ length (user_text u) + 42 * length l.uploads
-  records_length ok = omega (arith, length-append (user_text u) records, flat_length upload_text 42 l.uploads (λ k d within. upload_length _ (ok.uploads k d within).digest))
+  pub records_length : IsLedger l → length (record_in l u ++ records) ≡ length (record_in l u) + 42 * length l.uploads
+  records_length ok = omega (arith, length-append (record_in l u) records, flat_length upload_text 42 l.uploads (λ k d within. upload_length _ (ok.uploads k d within).digest))
 
-  pub enroll_bytes : IsLedger l → byte_count (enroll_puts l u) ≡ 2 + length (user_text u) + 42 * length l.uploads
+  pub enroll_bytes : IsLedger l → byte_count (enroll_puts l u) ≡ 2 + length (record_in l u) + 42 * length l.uploads
   enroll_bytes ok = omega (
     arith,
-    two_bytes (Put 0 8 (u16_text (length l.users + 1))) (Put 0 (user_place (length l.users) l) (user_text u ++ records)),
+    two_bytes (Put 0 8 (u16_text (length l.users + 1))) (Put 0 (user_place (length l.users) l) (record_in l u ++ records)),
     records_length ok,
   )
 
@@ -105,8 +106,8 @@ module _ (l : Ledger) (u : User) where
   pub put_begins : 24 ≤ user_place (length l.users) l
   put_begins = omega (arith, place_is, numbers_long l (length l.users + 1) (length l.uploads), length-append first (middle l))
 
-  pub put_ends : user_place (length l.users) l + length (user_text u ++ records) ≡ length (ledger_text (with_user u l))
-  put_ends = omega (arith, place_is, ap length text_more, length-append (first ++ middle l) (user_text u ++ records))
+  pub put_ends : user_place (length l.users) l + length (record_in l u ++ records) ≡ length (ledger_text (with_user u l))
+  put_ends = omega (arith, place_is, ap length text_more, length-append (first ++ middle l) (record_in l u ++ records))
 
   -- ---- the user
   pub last_user : IsLedger (with_user u l) → IsUser (length l.setup.conferences) u

@@ -16,18 +16,24 @@ use Rattle.setup_file.specs.Texts.{is_printed_byte, is_printed, is_name_byte, ha
 use Rattle.setup_file.specs.Valid.{IsSetup, IsSetupConference}
 use Rattle.setup_file.specs.declared.conference.Conference.{Conference}
 use Rattle.setup_file.specs.declared.setup.Setup.{Setup}
-use Rattle.board_ledger.specs.Texts.{sized_text, u64_text}
+use Rattle.open_offers.specs.Texts.{sized_text, u64_text}
+use Rattle.open_offers.specs.Offers.{behind_last, cell_count, cell_text, cells_for}
 use Rattle.board_ledger.specs.Opening.{magic, fixed_text, setup_text}
 use Rattle.board_ledger.specs.Conferences.{kind_number, rules_number, conference_text}
-use Rattle.board_ledger.specs.Users.{user_text, IsUser}
+use Rattle.board_ledger.specs.Users.{user_text, users_text, IsUser}
 use Rattle.board_ledger.specs.Uploads.{upload_text, IsUpload}
-use Rattle.board_ledger.specs.Ledger.{ledger_text}
-use Rattle.board_ledger.specs.Valid.{IsLedger}
+use Rattle.board_ledger.specs.Ledger.{stored_text, text_in}
+use Rattle.board_ledger.specs.Valid.{IsLedger, IsStored, today}
+use Rattle.open_offers.specs.Versions.{version_number, version_of}
 use Rattle.board_ledger.specs.declared.ledger.Ledger.{Ledger}
+use Rattle.open_offers.specs.declared.offer.OpenOffer.{OpenOffer}
 use Rattle.board_ledger.specs.declared.upload.UploadRecord.{UploadRecord}
 use Rattle.board_ledger.specs.declared.user.User.{User}
+use Rattle.open_offers.specs.declared.version.Version.{Version}
+use Rattle.open_offers.specs.declared.version.Version.TheVariants.{First, Second}
 use Rattle.board_ledger.proofs.SetupBounds.{board_small, user_small, bbsid_small, name_small, zones_few}
-use Rattle.board_ledger.proofs.SizeLaws.{setup_length, conference_length, user_length, ledger_length}
+use Rattle.board_ledger.proofs.SizeLaws.{setup_length, conference_length, user_length, behind_most, ledger_length}
+use Rattle.board_ledger.proofs.VersionLaws.{today_valid}
 
 -- ---- numbers and lists of records
 both : (xs ys : List ℕ) → All IsByte xs → All IsByte ys → All IsByte (xs ++ ys)
@@ -94,10 +100,10 @@ sized_bytes text all = both (u16_text (length text)) text (number_bytes 0 2 (len
 magic_bytes : All IsByte magic
 magic_bytes = All-cons IsByte 0x51 (0x4D ∷ 0x44 ∷ 0x4C ∷ []) (omega arith) (All-cons IsByte 0x4D (0x44 ∷ 0x4C ∷ []) (omega arith) (All-cons IsByte 0x44 (0x4C ∷ []) (omega arith) (All-cons IsByte 0x4C [] (omega arith) (All-nil IsByte))))
 
-fixed_bytes : (l : Ledger) → All IsByte (fixed_text l)
+fixed_bytes : (v : Version) (l : Ledger) → All IsByte (fixed_text v l)
 unfolding fixed_text
-fixed_bytes l =
-    let counts : List ℕ = 1 ∷ length l.setup.conferences ∷ length l.users ∷ length l.setup.zones ∷ [] in
+fixed_bytes v l =
+    let counts : List ℕ = version_number v ∷ length l.setup.conferences ∷ length l.users ∷ length l.setup.zones ∷ [] in
     let numbers : List ℕ = length l.uploads ∷ l.created ∷ l.setup.serial ∷ [] in
     both magic (flat_map (little_bytes 2) counts ++ u32s_text numbers) magic_bytes (both (flat_map (little_bytes 2) counts) (u32s_text numbers) (numbers_bytes 2 counts) (numbers_bytes 4 numbers))
 
@@ -132,15 +138,23 @@ flag_small : (net : Bool) → cond net 1 0 < 256
 flag_small true = omega arith
 flag_small false = omega arith
 
-one_user_bytes : (count : ℕ) (u : User) → IsUser count u → All IsByte (user_text u)
+cell_bytes : (o : OpenOffer) → All IsByte (cell_text o)
+cell_bytes o = both (u32_text o.number) (u32s_text o.highs) (number_bytes 0 4 o.number) (numbers_bytes 4 o.highs)
+
+behind_bytes : (v : Version) (members : ℕ) (cells : List OpenOffer) → All IsByte (behind_last v members cells)
+behind_bytes First members [] = All-nil IsByte
+behind_bytes First members (o ∷ cells) =
+    let rest : List ℕ = u64_text members ++ u32s_text o.highs in
+    both (u32_text o.number) rest (number_bytes 0 4 o.number) (both (u64_text members) (u32s_text o.highs) (number_bytes 0 8 members) (numbers_bytes 4 o.highs))
+behind_bytes Second members cells = both (u64_text members) (flat_map cell_text cells) (number_bytes 0 8 members) (records_bytes cell_text cells (λ k d within. cell_bytes _))
+
+one_user_bytes : (v : Version) (count : ℕ) (u : User) → IsUser count u → All IsByte (user_text v count u)
 unfolding user_text
-one_user_bytes count u ok =
-    let highs : List ℕ = u32s_text u.highs in
-    let e4 = both (u64_text u.members) highs (number_bytes 0 8 u.members) (numbers_bytes 4 u.highs) in
-    let e3 = both (u32_text u.offered) (u64_text u.members ++ highs) (number_bytes 0 4 u.offered) e4 in
-    let e2 = both (u32_text u.last) (u32_text u.offered ++ (u64_text u.members ++ highs)) (number_bytes 0 4 u.last) e3 in
-    both (sized_text u.name) (cond u.net 1 0 ∷ (u32_text u.last ++ (u32_text u.offered ++ (u64_text u.members ++ highs)))) (sized_bytes u.name (user_bytes u.name ok.name))
-    (All-cons IsByte (cond u.net 1 0) (u32_text u.last ++ (u32_text u.offered ++ (u64_text u.members ++ highs))) (flag_small u.net) e2)
+one_user_bytes v count u ok =
+    let behind : List ℕ = behind_last v u.members (cells_for count (cell_count v) u.offers) in
+    let rest = both (u32_text u.last) behind (number_bytes 0 4 u.last) (behind_bytes v u.members (cells_for count (cell_count v) u.offers)) in
+    both (sized_text u.name) (cond u.net 1 0 ∷ (u32_text u.last ++ behind)) (sized_bytes u.name (user_bytes u.name ok.name))
+    (All-cons IsByte (cond u.net 1 0) (u32_text u.last ++ behind) (flag_small u.net) rest)
 
 upload_bytes : (users : ℕ) (r : UploadRecord) → IsUpload users r → All IsByte (upload_text r)
 unfolding upload_text
@@ -149,25 +163,26 @@ upload_bytes users r ok =
     both (u16_text r.user) (r.digest ++ counts) (number_bytes 0 2 r.user) (both r.digest counts ok.bytes (both (u32_text r.counts.posted) (u32_text r.counts.refused) (number_bytes 0 4 r.counts.posted) (number_bytes 0 4 r.counts.refused)))
 
 -- ---- the whole
-text_bytes : (l : Ledger) → IsLedger l → All IsByte (ledger_text l)
-unfolding ledger_text
-text_bytes l ok =
+text_bytes : (v : Version) (l : Ledger) → IsLedger (today l) → All IsByte (text_in v l)
+unfolding text_in
+text_bytes v l ok =
     let c : List ℕ = flat_map conference_text l.setup.conferences in
-    let u : List ℕ = flat_map user_text l.users in
+    let count : ℕ = length l.setup.conferences in
+    let u : List ℕ = users_text v count l.users in
     let r : List ℕ = flat_map upload_text l.uploads in
     let cs : All IsByte c = records_bytes conference_text l.setup.conferences (λ k d within. conference_bytes _ (ok.setup.conferences.each k d within)) in
-    let us : All IsByte u = records_bytes user_text l.users (λ k d within. one_user_bytes (length l.setup.conferences) _ (ok.users k d within)) in
+    let us : All IsByte u = records_bytes (user_text v count) l.users (λ k d within. one_user_bytes v count _ (ok.users k d within)) in
     let rs : All IsByte r = records_bytes upload_text l.uploads (λ k d within. upload_bytes (length l.users) _ (ok.uploads k d within)) in
-    both (fixed_text l ++ setup_text l.setup) (c ++ (u ++ r)) (both (fixed_text l) (setup_text l.setup) (fixed_bytes l) (setup_bytes l.setup ok.setup)) (both c (u ++ r) cs (both u r us rs))
+    both (fixed_text v l ++ setup_text l.setup) (c ++ (u ++ r)) (both (fixed_text v l) (setup_text l.setup) (fixed_bytes v l) (setup_bytes l.setup ok.setup)) (both c (u ++ r) cs (both u r us rs))
 
 conference_most : (c : Conference) → IsSetupConference c → length (conference_text c) ≤ 19
 conference_most c ok = omega (arith, conference_length c, name_small c.name ok.name)
 
-user_most : (count : ℕ) (u : User) → count ≤ 64 → IsUser count u → length (user_text u) ≤ 400
-user_most count u few ok = omega (arith, user_length u, user_small u.name ok.name, ok.one_high_each)
+user_most : (v : Version) (count : ℕ) (u : User) → count ≤ 64 → IsUser count u → length (user_text v count u) ≤ 1080
+user_most v count u few ok = omega (arith, user_length v count u ok, user_small u.name ok.name, behind_most v count few)
 
-pub text_short : (l : Ledger) → IsLedger l → length (ledger_text l) < 2 ^ 31
-text_short l ok =
+pub text_short : (v : Version) (l : Ledger) → IsLedger (today l) → length (text_in v l) < 2 ^ 31
+text_short v l ok =
     let s : Setup = l.setup in
     let board = board_small s.board ok.setup.board in
     let city = board_small s.city ok.setup.city in
@@ -179,9 +194,9 @@ text_short l ok =
     let setup : length (setup_text s) ≤ 400 = omega (arith, setup_length s) in
     let conferences : length (flat_map conference_text s.conferences) ≤ 19 * length s.conferences =
     records_most conference_text 19 s.conferences (λ k d within. conference_most _ (ok.setup.conferences.each k d within)) in
-    let users : length (flat_map user_text l.users) ≤ 400 * length l.users =
-    records_most user_text 400 l.users (λ k d within. user_most (length s.conferences) _ many (ok.users k d within)) in
-    omega (arith, ledger_length l (λ k d within. (ok.uploads k d within).digest), setup, conferences, users, ok.few_users, ok.few_uploads)
+    let users : length (users_text v (length s.conferences) l.users) ≤ 1080 * length l.users =
+    records_most (user_text v (length s.conferences)) 1080 l.users (λ k d within. user_most v (length s.conferences) _ many (ok.users k d within)) in
+    omega (arith, ledger_length v l (λ k d within. (ok.uploads k d within).digest), setup, conferences, users, ok.few_users, ok.few_uploads)
 
-pub fit : (l : Ledger) → IsLedger l → All IsByte (ledger_text l) × (length (ledger_text l) < 2 ^ 31)
-fit l ok = (text_bytes l ok, text_short l ok)
+pub fit : (l : Ledger) → IsStored l → All IsByte (stored_text l) × (length (stored_text l) < 2 ^ 31)
+fit l stored = (text_bytes (version_of l.version) l (today_valid l stored), text_short (version_of l.version) l (today_valid l stored))

@@ -1,13 +1,12 @@
 pub mod RecordLaws
-pub mod TextLaws
 pub mod MetLaws
 pub mod UserTests
 pub mod ConferenceTests
 pub mod BoolTests
 pub mod SetupBounds
+pub mod VersionLaws
 pub mod OpeningTests
 pub mod UploadTests
-pub mod WritingLaws
 pub mod SizeLaws
 pub mod MetLoops
 pub mod ReadingSteps

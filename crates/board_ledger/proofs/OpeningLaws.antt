@@ -17,30 +17,33 @@ use Rattle.setup_file.specs.Texts.{is_board_text, is_user_name, is_bbsid}
 use Rattle.setup_file.specs.Zones.{are_zones}
 use Rattle.setup_file.specs.Valid.{IsSetup}
 use Rattle.setup_file.specs.declared.setup.Setup.{Setup}
-use Rattle.board_ledger.specs.Texts.{sized_text, text_at, text_end, u16s_at}
+use Rattle.open_offers.specs.Texts.{sized_text, text_at, text_end, u16s_at}
 use Rattle.board_ledger.specs.Opening.{magic, fixed_text, setup_text, opening_text, places_of, setup_of, opening_of, wrong_counts, wrong_texts, fixed_rules, setup_rules, opening_at}
 use Rattle.board_ledger.specs.Ledger.{with_conferences}
-use Rattle.board_ledger.specs.Valid.{IsLedger}
+use Rattle.board_ledger.specs.Valid.{IsLedger, today}
+use Rattle.open_offers.specs.Versions.{version_number, version_of, wrong_version}
 use Rattle.board_ledger.specs.declared.ledger.Ledger.{Ledger}
 use Rattle.board_ledger.specs.declared.opening.Opening.{Opening}
-use Rattle.board_ledger.proofs.BoolTests.{passes, both_pass, both_false, equal, unequal}
+use Rattle.open_offers.specs.declared.version.Version.{Version}
+use Rattle.board_ledger.proofs.BoolTests.{passes, both_pass, both_false}
 use Rattle.board_ledger.proofs.OpeningTests.{PlacesFit, places_fit, CountsFit, counts_fit}
 use Rattle.board_ledger.proofs.SetupBounds.{board_small, user_small, bbsid_small, zones_few, zones_small}
 use Rattle.board_ledger.proofs.SizeLaws.{setup_length}
-use Rattle.board_ledger.proofs.TextLaws.{glue, split, text_front, text_again, u16s_front, u32s_front, u16s_again, u32s_again}
+use Rattle.board_ledger.proofs.VersionLaws.{number_back, number_right, number_small, version_back}
+use Rattle.open_offers.proofs.TextLaws.{glue, split, text_front, text_again, u16s_front, u32s_front, u16s_again, u32s_again}
 
 -- the first 24 bytes by their numbers
-abbrev pub fixed_of : ℕ → ℕ → ℕ → ℕ → ℕ → ℕ → List ℕ
-fixed_of conferences users zones uploads created serial =
-    magic ++ (flat_map (little_bytes 2) (1 ∷ conferences ∷ users ∷ zones ∷ []) ++ u32s_text (uploads ∷ created ∷ serial ∷ []))
+abbrev pub fixed_of : Version → ℕ → ℕ → ℕ → ℕ → ℕ → ℕ → List ℕ
+fixed_of v conferences users zones uploads created serial =
+    magic ++ (flat_map (little_bytes 2) (version_number v ∷ conferences ∷ users ∷ zones ∷ []) ++ u32s_text (uploads ∷ created ∷ serial ∷ []))
 
-fixed_front : (bytes : List ℕ) → All IsByte bytes → 24 ≤ length bytes → bytes_eq (take 4 bytes) magic ≡ true → u16_at 4 bytes ≡ 1
-    → bytes ≡ fixed_of (u16_at 6 bytes) (u16_at 8 bytes) (u16_at 10 bytes) (u32_at 12 bytes) (u32_at 16 bytes) (u32_at 20 bytes) ++ drop 24 bytes
-fixed_front bytes all long letters version =
-    let counts : List ℕ = flat_map (little_bytes 2) (1 ∷ u16_at 6 bytes ∷ u16_at 8 bytes ∷ u16_at 10 bytes ∷ []) in
+fixed_front : (v : Version) (bytes : List ℕ) → All IsByte bytes → 24 ≤ length bytes → bytes_eq (take 4 bytes) magic ≡ true → version_number v ≡ u16_at 4 bytes
+    → bytes ≡ fixed_of v (u16_at 6 bytes) (u16_at 8 bytes) (u16_at 10 bytes) (u32_at 12 bytes) (u32_at 16 bytes) (u32_at 20 bytes) ++ drop 24 bytes
+fixed_front v bytes all long letters version =
+    let counts : List ℕ = flat_map (little_bytes 2) (version_number v ∷ u16_at 6 bytes ∷ u16_at 8 bytes ∷ u16_at 10 bytes ∷ []) in
     let numbers : List ℕ = u32s_text (u32_at 12 bytes ∷ u32_at 16 bytes ∷ u32_at 20 bytes ∷ []) in
     let a : bytes ≡ magic ++ drop 4 bytes = sym (take-append-drop 4 bytes) ∙ ap (λ xs. xs ++ drop 4 bytes) ((bytes_decides (take 4 bytes) magic).0 letters) in
-    let b : drop 4 bytes ≡ counts ++ drop 12 bytes = u16s_front 4 4 bytes all (omega arith) ∙ ap (λ n. flat_map (little_bytes 2) (n ∷ u16_at 6 bytes ∷ u16_at 8 bytes ∷ u16_at 10 bytes ∷ []) ++ drop 12 bytes) version in
+    let b : drop 4 bytes ≡ counts ++ drop 12 bytes = u16s_front 4 4 bytes all (omega arith) ∙ ap (λ n. flat_map (little_bytes 2) (n ∷ u16_at 6 bytes ∷ u16_at 8 bytes ∷ u16_at 10 bytes ∷ []) ++ drop 12 bytes) (sym version) in
     let d : drop 12 bytes ≡ numbers ++ drop 24 bytes = u32s_front 12 3 bytes all (omega arith) in
     glue bytes magic (counts ++ numbers) (drop 24 bytes) (drop 4 bytes) a (glue (drop 4 bytes) counts numbers (drop 24 bytes) (drop 12 bytes) b d)
 
@@ -100,7 +103,7 @@ zones_count bytes = u16s_count (places_of bytes).zones (u16_at 10 bytes) bytes
 
 -- what is said of record 0 where it is read
 pub record OpeningTaken (bytes : List ℕ) (o : Opening) : Type 0 where
-  pub whole : bytes ≡ (fixed_of o.conferences o.users (length o.setup.zones) o.uploads o.created o.setup.serial ++ setup_text o.setup) ++ drop o.size bytes
+  pub whole : bytes ≡ (fixed_of o.version o.conferences o.users (length o.setup.zones) o.uploads o.created o.setup.serial ++ setup_text o.setup) ++ drop o.size bytes
   pub setup : SetupFits o.setup
   pub created : IsU32 o.created
   pub some : 1 ≤ o.conferences
@@ -114,18 +117,19 @@ opening_fits bytes all fixed behind =
     let s : Setup = setup_of bytes in
     let long : 24 ≤ length bytes = ltb-false (length bytes) 24 fixed.0 in
     let letters : bytes_eq (take 4 bytes) magic ≡ true = passes (bytes_eq (take 4 bytes) magic) fixed.1.0 in
-    let version : u16_at 4 bytes ≡ 1 = equal (u16_at 4 bytes) 1 fixed.1.1.0 in
+    let v : Version = version_of (u16_at 4 bytes) in
+    let version : version_number v ≡ u16_at 4 bytes = version_back (u16_at 4 bytes) fixed.1.1.0 in
     let counts = counts_fit bytes fixed.1.1.1.0 in
     let serial = ltb-false 99999 (u32_at 20 bytes) fixed.1.1.1.1.0 in
     let end : (places_of bytes).end ≤ length bytes = ltb-false (length bytes) (places_of bytes).end behind.0 in
     let texts = texts_fit s behind.1.0 in
-    let front = fixed_front bytes all long letters version in
+    let front = fixed_front v bytes all long letters version in
     let zones : u16_at 10 bytes ≡ length s.zones = sym (zones_count bytes) in
     let number : u32_at 20 bytes ≡ s.serial = sym (serial_is bytes) in
-    let fixed_text : fixed_of (u16_at 6 bytes) (u16_at 8 bytes) (u16_at 10 bytes) (u32_at 12 bytes) (u32_at 16 bytes) (u32_at 20 bytes) ≡ fixed_of (u16_at 6 bytes) (u16_at 8 bytes) (length s.zones) (u32_at 12 bytes) (u32_at 16 bytes) s.serial =
-    λ i. fixed_of (u16_at 6 bytes) (u16_at 8 bytes) (zones i) (u32_at 12 bytes) (u32_at 16 bytes) (number i) in
+    let fixed_text : fixed_of v (u16_at 6 bytes) (u16_at 8 bytes) (u16_at 10 bytes) (u32_at 12 bytes) (u32_at 16 bytes) (u32_at 20 bytes) ≡ fixed_of v (u16_at 6 bytes) (u16_at 8 bytes) (length s.zones) (u32_at 12 bytes) (u32_at 16 bytes) s.serial =
+    λ i. fixed_of v (u16_at 6 bytes) (u16_at 8 bytes) (zones i) (u32_at 12 bytes) (u32_at 16 bytes) (number i) in
     record {
-      whole = glue bytes (fixed_of (u16_at 6 bytes) (u16_at 8 bytes) (length s.zones) (u32_at 12 bytes) (u32_at 16 bytes) s.serial) (setup_text s) (drop (places_of bytes).end bytes) (drop 24 bytes)
+      whole = glue bytes (fixed_of v (u16_at 6 bytes) (u16_at 8 bytes) (length s.zones) (u32_at 12 bytes) (u32_at 16 bytes) s.serial) (setup_text s) (drop (places_of bytes).end bytes) (drop 24 bytes)
           (front ∙ ap (λ xs. xs ++ drop 24 bytes) fixed_text) (setup_front bytes all (places_fit bytes end));
       setup = record {
         board = texts.0;
@@ -152,9 +156,9 @@ opening_takes bytes o all e =
 
 -- ---- what is written is read
 -- the numbers in the first 24 bytes
-pub record FixedStands (bytes : List ℕ) (conferences users zones uploads created serial : ℕ) (rest : List ℕ) : Type 0 where
+pub record FixedStands (bytes : List ℕ) (v : Version) (conferences users zones uploads created serial : ℕ) (rest : List ℕ) : Type 0 where
   pub letters : bytes_eq (take 4 bytes) magic ≡ true
-  pub version : u16_at 4 bytes ≡ 1
+  pub version : u16_at 4 bytes ≡ version_number v
   pub six : u16_at 6 bytes ≡ conferences
   pub eight : u16_at 8 bytes ≡ users
   pub ten : u16_at 10 bytes ≡ zones
@@ -166,14 +170,14 @@ pub record FixedStands (bytes : List ℕ) (conferences users zones uploads creat
 unfoldable nth : ℕ → List ℕ → ℕ
 nth n xs = get_or xs n 0
 
-fixed_back : (c u z r created serial : ℕ) (rest : List ℕ) → c < 2 ^ 16 → u < 2 ^ 16 → z < 2 ^ 16 → IsU32 r → IsU32 created → IsU32 serial
-    → FixedStands (fixed_of c u z r created serial ++ rest) c u z r created serial rest
+fixed_back : (v : Version) (c u z r created serial : ℕ) (rest : List ℕ) → c < 2 ^ 16 → u < 2 ^ 16 → z < 2 ^ 16 → IsU32 r → IsU32 created → IsU32 serial
+    → FixedStands (fixed_of v c u z r created serial ++ rest) v c u z r created serial rest
 unfolding nth
-fixed_back c u z r created serial rest cs us zs rs moment number =
-    let small : List ℕ = 1 ∷ c ∷ u ∷ z ∷ [] in
+fixed_back v c u z r created serial rest cs us zs rs moment number =
+    let small : List ℕ = version_number v ∷ c ∷ u ∷ z ∷ [] in
     let large : List ℕ = r ∷ created ∷ serial ∷ [] in
-    let whole : List ℕ = fixed_of c u z r created serial ++ rest in
-    let fits : All (λ n. n < 2 ^ 16) small = All-cons (λ n. n < 2 ^ 16) 1 (c ∷ u ∷ z ∷ []) (omega arith) (All-cons (λ n. n < 2 ^ 16) c (u ∷ z ∷ []) cs (All-cons (λ n. n < 2 ^ 16) u (z ∷ []) us (All-cons (λ n. n < 2 ^ 16) z [] zs (All-nil (λ n. n < 2 ^ 16))))) in
+    let whole : List ℕ = fixed_of v c u z r created serial ++ rest in
+    let fits : All (λ n. n < 2 ^ 16) small = All-cons (λ n. n < 2 ^ 16) (version_number v) (c ∷ u ∷ z ∷ []) (number_small v) (All-cons (λ n. n < 2 ^ 16) c (u ∷ z ∷ []) cs (All-cons (λ n. n < 2 ^ 16) u (z ∷ []) us (All-cons (λ n. n < 2 ^ 16) z [] zs (All-nil (λ n. n < 2 ^ 16))))) in
     let large_fits : All (λ n. n < 2 ^ 32) large = All-cons (λ n. n < 2 ^ 32) r (created ∷ serial ∷ []) rs (All-cons (λ n. n < 2 ^ 32) created (serial ∷ []) moment (All-cons (λ n. n < 2 ^ 32) serial [] number (All-nil (λ n. n < 2 ^ 32)))) in
     let at4 : drop 4 whole ≡ flat_map (little_bytes 2) small ++ (u32s_text large ++ rest) = append_assoc (flat_map (little_bytes 2) small) (u32s_text large) rest in
     let a = u16s_again 4 whole small (u32s_text large ++ rest) fits at4 in
@@ -224,12 +228,12 @@ setup_back bytes s rest fit count serial e =
       end = omega (arith, setup_length s, board.end, city.end, phone.end, sysop.end, bbsid.end, count);
     }
 
-abbrev opening_made : Setup → ℕ → ℕ → ℕ → ℕ → ℕ → Opening
-opening_made setup created conferences users uploads size = record { setup = setup; created = created; conferences = conferences; users = users; uploads = uploads; size = size }
+abbrev opening_made : Version → Setup → ℕ → ℕ → ℕ → ℕ → ℕ → Opening
+opening_made version setup created conferences users uploads size = record { version = version; setup = setup; created = created; conferences = conferences; users = users; uploads = uploads; size = size }
 
--- record 0 of a ledger
-abbrev pub opening_in : Ledger → Opening
-opening_in l = opening_made (with_conferences l.setup []) l.created (length l.setup.conferences) (length l.users) (length l.uploads) (24 + length (setup_text l.setup))
+-- record 0 of a ledger, in a version
+abbrev pub opening_in : Version → Ledger → Opening
+opening_in v l = opening_made v (with_conferences l.setup []) l.created (length l.setup.conferences) (length l.users) (length l.uploads) (24 + length (setup_text l.setup))
 
 pub setup_fits : (s : Setup) → IsSetup s → SetupFits s
 setup_fits s ok = record { board = ok.board; city = ok.city; phone = ok.phone; sysop = ok.sysop; bbsid = ok.bbsid; serial = ok.serial; zones = ok.zones }
@@ -247,19 +251,19 @@ counts_right bytes fit =
     (both_false (eqb (u16_at 6 bytes) 0 || ltb 64 (u16_at 6 bytes)) (ltb 500 (u16_at 8 bytes)) (both_false (eqb (u16_at 6 bytes) 0) (ltb 64 (u16_at 6 bytes)) (not_zero (u16_at 6 bytes) fit.some) (le-ltb _ _ fit.conferences)) (le-ltb _ _ fit.users))
     (both_false (ltb 16 (u16_at 10 bytes)) (ltb 100000 (u32_at 12 bytes)) (le-ltb _ _ fit.zones) (le-ltb _ _ fit.uploads))
 
-pub opening_again : (l : Ledger) (rest : List ℕ) → IsLedger l → opening_at (opening_text l ++ rest) ≡ Ok (opening_in l)
+pub opening_again : (v : Version) (l : Ledger) (rest : List ℕ) → IsLedger (today l) → opening_at (opening_text v l ++ rest) ≡ Ok (opening_in v l)
 unfolding opening_at opening_of fixed_rules setup_rules fixed_text
-opening_again l rest ok =
+opening_again v l rest ok =
     let s : Setup = l.setup in
     let fit = setup_fits s ok.setup in
     let few = zones_few s.zones fit.zones in
-    let whole : List ℕ = opening_text l ++ rest in
+    let whole : List ℕ = opening_text v l ++ rest in
     let conferences = ok.setup.conferences in
-    let f = fixed_back (length s.conferences) (length l.users) (length s.zones) (length l.uploads) l.created s.serial (setup_text s ++ rest)
+    let f = fixed_back v (length s.conferences) (length l.users) (length s.zones) (length l.uploads) l.created s.serial (setup_text s ++ rest)
     (omega (arith, conferences.many)) (omega (arith, ok.few_users)) (omega (arith, few)) (omega (arith, ok.few_uploads)) ok.created (omega (arith, fit.serial)) in
-    let joined : whole ≡ fixed_of (length s.conferences) (length l.users) (length s.zones) (length l.uploads) l.created s.serial ++ (setup_text s ++ rest) = append_assoc (fixed_text l) (setup_text s) rest in
-    let g : FixedStands whole (length s.conferences) (length l.users) (length s.zones) (length l.uploads) l.created s.serial (setup_text s ++ rest) =
-    subst (λ (xs : List ℕ). FixedStands xs (length s.conferences) (length l.users) (length s.zones) (length l.uploads) l.created s.serial (setup_text s ++ rest)) (sym joined) f in
+    let joined : whole ≡ fixed_of v (length s.conferences) (length l.users) (length s.zones) (length l.uploads) l.created s.serial ++ (setup_text s ++ rest) = append_assoc (fixed_text v l) (setup_text s) rest in
+    let g : FixedStands whole v (length s.conferences) (length l.users) (length s.zones) (length l.uploads) l.created s.serial (setup_text s ++ rest) =
+    subst (λ (xs : List ℕ). FixedStands xs v (length s.conferences) (length l.users) (length s.zones) (length l.uploads) l.created s.serial (setup_text s ++ rest)) (sym joined) f in
     let b = setup_back whole s rest fit g.ten g.twenty g.behind in
     let counts : CountsFit whole = record {
       some = omega (arith, g.six, conferences.some);
@@ -275,7 +279,7 @@ opening_again l rest ok =
       (
         ap not g.letters,
         (
-          unequal (u16_at 4 whole) 1 g.version,
+          ap wrong_version g.version ∙ number_right v,
           (
             counts_right whole counts,
             (le-ltb _ _ (omega (arith, g.twenty, fit.serial)), tt),
@@ -294,8 +298,8 @@ opening_again l rest ok =
       ),
     ) in
     kept_rules 0 0 (fixed_rules whole ++ setup_rules whole (setup_of whole)) (opening_of whole) (kept_both (fixed_rules whole) (setup_rules whole (setup_of whole)) front behind)
-    ∙ λ i. Ok (opening_made (b.is i) (g.sixteen i) (g.six i) (g.eight i) (g.twelve i) (b.end i))
+    ∙ λ i. Ok (opening_made ((ap version_of g.version ∙ number_back v) i) (b.is i) (g.sixteen i) (g.six i) (g.eight i) (g.twelve i) (b.end i))
 
-pub opening_behind : (l : Ledger) (rest : List ℕ) → drop (opening_in l).size (opening_text l ++ rest) ≡ rest
+pub opening_behind : (v : Version) (l : Ledger) (rest : List ℕ) → drop (opening_in v l).size (opening_text v l ++ rest) ≡ rest
 unfolding fixed_text
-opening_behind l rest = drop_at (opening_text l) rest (24 + length (setup_text l.setup)) (omega arith)
+opening_behind v l rest = drop_at (opening_text v l) rest (24 + length (setup_text l.setup)) (omega arith)

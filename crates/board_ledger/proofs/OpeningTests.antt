@@ -9,10 +9,12 @@ use Rattle.jam_records.specs.declared.damage.DamageRule.{DamageRule}
 use Rattle.damage_rules.specs.Rules.{first_broken, unless_broken, by_rules, ◌>>=◌, Stops}
 use Rattle.damage_rules.proofs.KeptRules.{none_kept, part_fails, part_passes, rules_kept, step_fails}
 use Rattle.setup_file.specs.declared.setup.Setup.{Setup}
-use Rattle.board_ledger.specs.Texts.{text_end}
+use Rattle.open_offers.specs.Texts.{text_end}
 use Rattle.board_ledger.specs.Opening.{places_of, setup_of, opening_of, opening_at, wrong_counts, fixed_rules, setup_rules}
+use Rattle.open_offers.specs.Versions.{version_of}
 use Rattle.board_ledger.specs.declared.opening.Opening.{Opening}
 use Rattle.board_ledger.specs.declared.opening.Places.{Places}
+use Rattle.open_offers.specs.declared.version.Version.{Version}
 
 -- each text ends within the record
 pub record PlacesFit (bytes : List ℕ) (p : Places) : Type 0 where
@@ -68,17 +70,17 @@ in_two bytes e =
 pub behind_fails : (bytes : List ℕ) (e : Option Damage) → None ≡ first_broken (fixed_rules bytes) → Stops e (behind bytes) → Stops e (opening_at bytes)
 behind_fails bytes e passed h = subst (Stops e) (sym (in_two bytes passed)) (step_fails e (behind bytes) (λ x. Ok (opening_of bytes)) h)
 
-abbrev opening_made : Setup → ℕ → ℕ → ℕ → ℕ → ℕ → Opening
-opening_made setup created conferences users uploads size = record { setup = setup; created = created; conferences = conferences; users = users; uploads = uploads; size = size }
+abbrev opening_made : Version → Setup → ℕ → ℕ → ℕ → ℕ → ℕ → Opening
+opening_made version setup created conferences users uploads size = record { version = version; setup = setup; created = created; conferences = conferences; users = users; uploads = uploads; size = size }
 
-pub opening_read : (bytes : List ℕ) (setup : Setup) (created conferences users uploads size : ℕ) → None ≡ first_broken (fixed_rules bytes) → behind bytes ≡ Ok (setup, size)
-    → created ≡ u32_at 16 bytes → conferences ≡ u16_at 6 bytes → users ≡ u16_at 8 bytes → uploads ≡ u32_at 12 bytes
-    → opening_at bytes ≡ Ok (opening_made setup created conferences users uploads size)
+pub opening_read : (bytes : List ℕ) (version : Version) (setup : Setup) (created conferences users uploads size : ℕ) → None ≡ first_broken (fixed_rules bytes) → behind bytes ≡ Ok (setup, size)
+    → version ≡ version_of (u16_at 4 bytes) → created ≡ u32_at 16 bytes → conferences ≡ u16_at 6 bytes → users ≡ u16_at 8 bytes → uploads ≡ u32_at 12 bytes
+    → opening_at bytes ≡ Ok (opening_made version setup created conferences users uploads size)
 unfolding opening_of
-opening_read bytes setup created conferences users uploads size passed h a b c d =
+opening_read bytes version setup created conferences users uploads size passed h v a b c d =
     let is : (setup_of bytes, (places_of bytes).end) ≡ (setup, size) = (rules_kept 0 0 (setup_rules bytes (setup_of bytes)) (setup_of bytes, (places_of bytes).end) (setup, size) h).1 in
     in_two bytes passed ∙ (ap (λ r. r >>= λ x. Ok (opening_of bytes)) h
-    ∙ λ i. Ok (opening_made (is i).0 (sym a i) (sym b i) (sym c i) (sym d i) (is i).1))
+    ∙ λ i. Ok (opening_made (sym v i) (is i).0 (sym a i) (sym b i) (sym c i) (sym d i) (is i).1))
 
 -- ---- the counts are in their ranges
 pub record CountsFit (bytes : List ℕ) : Type 0 where

@@ -21,7 +21,7 @@ abbrev pub conferences_in : List ℕ → Opening → Result (List Conference × 
 conferences_in bytes o = records_at conference_at o.conferences [] (drop o.size bytes)
 
 abbrev pub users_in : Opening → List ℕ → Result (List User × List ℕ) Damage
-users_in o bytes = records_at (user_at o.conferences) o.users [] bytes
+users_in o bytes = records_at (user_at o.version o.conferences) o.users [] bytes
 
 abbrev pub uploads_in : Opening → List ℕ → Result (List UploadRecord × List ℕ) Damage
 uploads_in o bytes = records_at (upload_at (1 + o.conferences + o.users) o.users) o.uploads [] bytes

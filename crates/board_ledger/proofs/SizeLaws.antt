@@ -1,22 +1,27 @@
 -- How long the parts of a ledger's text are.
-use Rattle.std.proofs.Common.{◌≡◌, ℕ, ◌+◌, ◌*◌, ◌<◌, List, [], ◌∷◌, ◌++◌, length, get_or, take, cond, refl, sym, ap, ◌∙◌, arith, length-append}
+use Rattle.std.proofs.Common.{◌≡◌, ℕ, ◌+◌, ◌*◌, ◌<◌, ◌≤◌, List, [], ◌∷◌, ◌++◌, length, get_or, take, cond, refl, sym, ap, ◌∙◌, arith, length-append}
 use Rattle.std.specs.Prelude.{All}
 use Rattle.std.specs.List.{flat_map}
 use Rattle.std.proofs.lemmas.List.{take_more, flat_map_more}
-use Rattle.std.proofs.lemmas.List.Elements.{All-drop}
+use Rattle.std.proofs.lemmas.List.Elements.{All-drop, All-head, All-tail}
 use Rattle.byteorder.specs.Endian.{little_bytes}
 use Rattle.record_numbers.specs.Numbers.{u32_text, u32s_text}
 use Rattle.setup_file.specs.declared.conference.Conference.{Conference}
 use Rattle.setup_file.specs.declared.setup.Setup.{Setup}
-use Rattle.board_ledger.specs.Texts.{sized_text, u64_text}
+use Rattle.open_offers.specs.Offers.{behind_last, behind_size, cell_count, cell_text, cells_for, cells_size}
+use Rattle.open_offers.specs.Texts.{sized_text}
 use Rattle.board_ledger.specs.Opening.{fixed_text, setup_text}
 use Rattle.board_ledger.specs.Conferences.{conference_text}
-use Rattle.board_ledger.specs.Users.{user_text}
+use Rattle.board_ledger.specs.Users.{user_text, users_text, behind_name, IsUser}
 use Rattle.board_ledger.specs.Uploads.{upload_text}
-use Rattle.board_ledger.specs.Ledger.{ledger_text}
+use Rattle.board_ledger.specs.Ledger.{text_in}
 use Rattle.board_ledger.specs.declared.ledger.Ledger.{Ledger}
+use Rattle.open_offers.specs.declared.offer.OpenOffer.{OpenOffer}
 use Rattle.board_ledger.specs.declared.upload.UploadRecord.{UploadRecord}
 use Rattle.board_ledger.specs.declared.user.User.{User}
+use Rattle.open_offers.specs.declared.version.Version.{Version}
+use Rattle.open_offers.specs.declared.version.Version.TheVariants.{First, Second}
+use Rattle.open_offers.proofs.OfferLaws.{CellFits, HasCells, has_cells}
 
 -- records of one length
 pub flat_length : {A : Type 0} (f : A → List ℕ) (size : ℕ) (xs : List A) → All (λ x. length (f x) ≡ size) xs → length (flat_map f xs) ≡ size * length xs
@@ -53,31 +58,55 @@ setup_length s =
     let a = sized_length s.board (sized_text s.city ++ (sized_text s.phone ++ (sized_text s.sysop ++ (sized_text s.bbsid ++ zones)))) in
     omega (arith, a, b, c, d, e, u16s_length s.zones)
 
-pub fixed_length : (l : Ledger) → length (fixed_text l) ≡ 24
+pub fixed_length : (v : Version) (l : Ledger) → length (fixed_text v l) ≡ 24
 unfolding fixed_text
-fixed_length l = omega arith
+fixed_length v l = omega arith
 
 pub conference_length : (c : Conference) → length (conference_text c) ≡ 4 + (2 + length c.name)
 unfolding conference_text
 conference_length c = omega arith
 
-pub user_length : (u : User) → length (user_text u) ≡ (2 + length u.name) + (17 + 4 * length u.highs)
+-- the cells of a record, and what stands behind the last packet
+cells_length : (count : ℕ) (cells : List OpenOffer) → All (CellFits count) cells → length (flat_map cell_text cells) ≡ cells_size count (length cells)
+cells_length count [] each = refl
+cells_length count (o ∷ cells) each =
+    let highs = u32s_length o.highs in
+    let fits = All-head (CellFits count) o cells each in
+    let others = cells_length count cells (All-tail (CellFits count) o cells each) in
+    omega (arith, highs, fits.many, others, length-append (cell_text o) (flat_map cell_text cells))
+
+behind_length : (v : Version) (count members : ℕ) (cells : List OpenOffer) → HasCells v count cells → length (behind_last v members cells) ≡ behind_size v count
+behind_length First count members [] has = absurd (let none = has.many in cc none)
+behind_length First count members (o ∷ []) has =
+    let highs = u32s_length o.highs in
+    let fits = All-head (CellFits count) o [] has.each in
+    omega (arith, highs, fits.many)
+behind_length First count members (o ∷ p ∷ cells) has = absurd (let more = has.many in cc more)
+behind_length Second count members cells has = omega (arith, cells_length count cells has.each, ap (cells_size count) has.many)
+
+pub user_length : (v : Version) (count : ℕ) (u : User) → IsUser count u → length (user_text v count u) ≡ (2 + length u.name) + behind_name v count
 unfolding user_text
-user_length u =
-    let highs = u32s_length u.highs in
-    let rest : List ℕ = cond u.net 1 0 ∷ (u32_text u.last ++ (u32_text u.offered ++ (u64_text u.members ++ u32s_text u.highs))) in
-    omega (arith, highs, length-append u.name rest)
+user_length v count u ok =
+    let cells : List OpenOffer = cells_for count (cell_count v) u.offers in
+    let behind = behind_length v count u.members cells (has_cells v count u.members u.last u.offers ok.last ok.offers) in
+    omega (arith, behind, length-append u.name (cond u.net 1 0 ∷ (u32_text u.last ++ behind_last v u.members cells)))
+
+-- at most what it has where there are 64 conferences
+pub behind_most : (v : Version) (count : ℕ) → count ≤ 64 → behind_name v count ≤ 1053
+behind_most First count few = omega arith
+behind_most Second count few = omega arith
 
 pub upload_length : (r : UploadRecord) → length r.digest ≡ 32 → length (upload_text r) ≡ 42
 unfolding upload_text
 upload_length r digest = omega (arith, digest, length-append r.digest (u32_text r.counts.posted ++ u32_text r.counts.refused))
 
-pub ledger_length : (l : Ledger) → All (λ r. length r.digest ≡ 32) l.uploads
-    → length (ledger_text l) ≡ 24 + (length (setup_text l.setup) + length (flat_map conference_text l.setup.conferences)) + length (flat_map user_text l.users) + 42 * length l.uploads
-unfolding ledger_text
-ledger_length l digests =
+pub ledger_length : (v : Version) (l : Ledger) → All (λ r. length r.digest ≡ 32) l.uploads
+    → length (text_in v l)
+    ≡ 24 + (length (setup_text l.setup) + length (flat_map conference_text l.setup.conferences)) + length (users_text v (length l.setup.conferences) l.users) + 42 * length l.uploads
+unfolding text_in
+ledger_length v l digests =
     let uploads = flat_length upload_text 42 l.uploads (λ k d within. upload_length _ (digests k d within)) in
     let c : List ℕ = flat_map conference_text l.setup.conferences in
-    let u : List ℕ = flat_map user_text l.users in
+    let u : List ℕ = users_text v (length l.setup.conferences) l.users in
     let r : List ℕ = flat_map upload_text l.uploads in
-    omega (arith, uploads, fixed_length l, length-append (fixed_text l) (setup_text l.setup), length-append (fixed_text l ++ setup_text l.setup) (c ++ (u ++ r)), length-append c (u ++ r), length-append u r)
+    omega (arith, uploads, fixed_length v l, length-append (fixed_text v l) (setup_text l.setup), length-append (fixed_text v l ++ setup_text l.setup) (c ++ (u ++ r)), length-append c (u ++ r), length-append u r)

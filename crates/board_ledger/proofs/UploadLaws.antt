@@ -13,7 +13,7 @@ use Rattle.board_ledger.specs.Uploads.{upload_text, upload_of, wrong_user, too_m
 use Rattle.board_ledger.specs.declared.upload.UploadRecord.{UploadRecord}
 use Rattle.board_ledger.proofs.BoolTests.{or_false, both_false}
 use Rattle.board_ledger.proofs.SizeLaws.{upload_length}
-use Rattle.board_ledger.proofs.TextLaws.{glue, split, u16_again, u32_again}
+use Rattle.open_offers.proofs.TextLaws.{glue, split, u16_again, u32_again}
 
 -- an upload record that is right behind those before
 abbrev pub UploadRight : ℕ → List UploadRecord → UploadRecord → Type 0

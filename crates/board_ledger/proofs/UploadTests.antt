@@ -16,7 +16,7 @@ use Rattle.damage_rules.specs.Rules.{by_rules}
 use Rattle.board_ledger.specs.Uploads.{upload_of, wrong_user, too_many, is_repeated, upload_rules, upload_at}
 use Rattle.board_ledger.specs.declared.upload.UploadRecord.{UploadRecord}
 use Rattle.board_ledger.proofs.BoolTests.{both_pass, same_tests}
-use Rattle.board_ledger.proofs.TextLaws.{u16_small}
+use Rattle.open_offers.proofs.TextLaws.{u16_small}
 
 -- the bytes of a user and a digest, by which records are told apart
 abbrev pub pair_of : UploadRecord → List ℕ

@@ -1,26 +1,30 @@
--- A user's record is read exactly where its text stands.
-use Rattle.std.proofs.Common.{◌≡◌, ℕ, zero, suc, ◌+◌, ◌*◌, ◌^◌, ◌≤◌, ◌<◌, Bool, true, false, cond, not, ◌||◌, eqb, ltb, List, ◌∷◌, ◌++◌, length, get_or, drop, Ok, refl, sym, ap, ◌∙◌, subst, arith, length-append}
+-- A user's record is read exactly where its text stands, in either version.
+use Rattle.std.proofs.Common.{◌≡◌, ℕ, zero, suc, ◌+◌, ◌^◌, ◌≤◌, ◌<◌, Bool, true, false, cond, not, eqb, ltb, List, ◌∷◌, ◌++◌, length, get_or, drop, Ok, refl, sym, ap, ◌∙◌, subst, arith, length-append}
 use Rattle.std.specs.Prelude.{All}
 use Rattle.std.proofs.Math.Nat.{pow-le-pow_right}
 use Rattle.std.proofs.lemmas.Bool.{ltb-false, ltb-true, le-ltb, and_parts}
-use Rattle.std.proofs.lemmas.Bool.Decides.{nat_tests}
-use Rattle.std.proofs.lemmas.List.Elements.{All-cons, All-nil}
 use Rattle.byte_lists.specs.Byte.{IsByte}
-use Rattle.record_numbers.specs.Numbers.{u32_at, u32_text, u32s_text, IsU32}
+use Rattle.record_numbers.specs.Numbers.{u32_at, u32_text, IsU32}
 use Rattle.record_numbers.proofs.NumberFronts.{u32_front, u32_small}
 use Rattle.damage_rules.proofs.KeptRules.{Kept, rules_kept, kept_rules}
 use Rattle.setup_file.specs.Texts.{is_user_name}
-use Rattle.board_ledger.specs.Texts.{sized_text, text_at, text_end, u32s_at, u64_at, u64_text}
-use Rattle.board_ledger.specs.Users.{user_text, user_end, user_of, is_taken, right_members, right_highs, right_offer, user_rules, user_at, IsUser}
+use Rattle.open_offers.specs.Offers.{behind_last, behind_size, cell_count, cells_behind, cells_for, members_at, open_in}
+use Rattle.open_offers.specs.Texts.{sized_text, text_at, text_end}
+use Rattle.board_ledger.specs.Users.{behind_name, user_text, user_end, record_of, user_of, with_open, is_taken, right_members, right_offers, user_rules, user_at, IsUser, IsOldUser}
+use Rattle.open_offers.specs.declared.offer.OpenOffer.{OpenOffer}
 use Rattle.board_ledger.specs.declared.user.User.{User}
+use Rattle.open_offers.specs.declared.version.Version.{Version}
+use Rattle.open_offers.specs.declared.version.Version.TheVariants.{First}
 use Rattle.board_ledger.proofs.BoolTests.{passes}
+use Rattle.open_offers.proofs.CellBytes.{behind_again, behind_front, has_read}
+use Rattle.open_offers.proofs.OfferLaws.{HasCells, has_cells, offers_again, read_offers, read_old, right_again, written_cells}
 use Rattle.board_ledger.proofs.SetupBounds.{user_small}
 use Rattle.board_ledger.proofs.SizeLaws.{user_length}
-use Rattle.board_ledger.proofs.TextLaws.{glue, split, byte_front, byte_again, u64_front, u32_again, u64_again, text_front, text_again, u32s_front, u32s_again}
+use Rattle.open_offers.proofs.TextLaws.{glue, split, byte_front, byte_again, u32_again, text_front, text_again}
 
--- a user that is right behind those before
-abbrev pub UserRight : ℕ → List User → User → Type 0
-UserRight count before u = IsUser count u × (is_taken before u.name ≡ false)
+-- a user that is right behind those before, in a version
+abbrev pub UserRight : Version → ℕ → List User → User → Type 0
+UserRight v count before u = (IsUser count u × (v ≡ First → IsOldUser u)) × (is_taken before u.name ≡ false)
 
 -- ---- what is read is written so
 flag_same : (n : ℕ) → n ≤ 1 → cond (eqb n 1) 1 0 ≡ n
@@ -29,84 +33,60 @@ flag_same (suc zero) most = refl
 flag_same (suc (suc n)) most = absurd (omega arith)
 
 -- what is behind a name that ends at a place
-behind_front : (place count : ℕ) (bytes : List ℕ) → All IsByte bytes → place + (17 + 4 * count) ≤ length bytes → get_or bytes place 0 ≤ 1
-    → drop place bytes ≡ (cond (eqb (get_or bytes place 0) 1) 1 0 ∷ (u32_text (u32_at (place + 1) bytes) ++ (u32_text (u32_at (place + 5) bytes) ++ (u64_text (u64_at (place + 9) bytes) ++ u32s_text (u32s_at (place + 17) count bytes))))) ++ drop (place + (17 + 4 * count)) bytes
-behind_front place count bytes all long flag =
+name_front : (v : Version) (place count : ℕ) (bytes : List ℕ) → All IsByte bytes → place + behind_name v count ≤ length bytes → get_or bytes place 0 ≤ 1
+    → drop place bytes
+    ≡ (cond (eqb (get_or bytes place 0) 1) 1 0 ∷ (u32_text (u32_at (place + 1) bytes) ++ behind_last v (members_at v (place + 5) bytes) (cells_behind v (place + 5) count bytes)))
+    ++ drop (place + behind_name v count) bytes
+name_front v place count bytes all long flag =
     let last : List ℕ = u32_text (u32_at (place + 1) bytes) in
-    let offered : List ℕ = u32_text (u32_at (place + 5) bytes) in
-    let members : List ℕ = u64_text (u64_at (place + 9) bytes) in
-    let highs : List ℕ = u32s_text (u32s_at (place + 17) count bytes) in
-    let end : List ℕ = drop (place + (17 + 4 * count)) bytes in
+    let rest : List ℕ = behind_last v (members_at v (place + 5) bytes) (cells_behind v (place + 5) count bytes) in
+    let end : List ℕ = drop (place + behind_name v count) bytes in
     let at5 : drop (place + 1 + 4) bytes ≡ drop (place + 5) bytes = ap (λ k. drop k bytes) (omega arith) in
-    let at9 : drop (place + 5 + 4) bytes ≡ drop (place + 9) bytes = ap (λ k. drop k bytes) (omega arith) in
-    let at17 : drop (place + 9 + 8) bytes ≡ drop (place + 17) bytes = ap (λ k. drop k bytes) (omega arith) in
-    let at_end : drop (place + 17 + 4 * count) bytes ≡ end = ap (λ k. drop k bytes) (omega arith) in
+    let at_end : drop (place + 5 + behind_size v count) bytes ≡ end = ap (λ k. drop k bytes) (omega arith) in
     let a : drop place bytes ≡ cond (eqb (get_or bytes place 0) 1) 1 0 ∷ drop (place + 1) bytes = byte_front place bytes (omega arith) ∙ ap (λ n. n ∷ drop (place + 1) bytes) (sym (flag_same (get_or bytes place 0) flag)) in
     let b : drop (place + 1) bytes ≡ last ++ drop (place + 5) bytes = u32_front (place + 1) bytes all (omega arith) ∙ ap (λ xs. last ++ xs) at5 in
-    let d : drop (place + 5) bytes ≡ offered ++ drop (place + 9) bytes = u32_front (place + 5) bytes all (omega arith) ∙ ap (λ xs. offered ++ xs) at9 in
-    let e : drop (place + 9) bytes ≡ members ++ drop (place + 17) bytes = u64_front (place + 9) bytes all (omega arith) ∙ ap (λ xs. members ++ xs) at17 in
-    let f : drop (place + 17) bytes ≡ highs ++ end = u32s_front (place + 17) count bytes all (omega arith) ∙ ap (λ xs. highs ++ xs) at_end in
-    let tail = glue (drop (place + 9) bytes) members highs end (drop (place + 17) bytes) e f in
-    let more = glue (drop (place + 5) bytes) offered (members ++ highs) end (drop (place + 9) bytes) d tail in
-    let rest = glue (drop (place + 1) bytes) last (offered ++ (members ++ highs)) end (drop (place + 5) bytes) b more in
-    a ∙ ap (λ xs. cond (eqb (get_or bytes place 0) 1) 1 0 ∷ xs) rest
+    let d : drop (place + 5) bytes ≡ rest ++ end = behind_front v (place + 5) count bytes all (omega arith) ∙ ap (λ xs. rest ++ xs) at_end in
+    a ∙ ap (λ xs. cond (eqb (get_or bytes place 0) 1) 1 0 ∷ xs) (glue (drop (place + 1) bytes) last rest end (drop (place + 5) bytes) b d)
 
-user_front : (count : ℕ) (bytes : List ℕ) → All IsByte bytes → user_end count bytes ≤ length bytes → get_or bytes (text_end 0 bytes) 0 ≤ 1 → bytes ≡ user_text (user_of count bytes) ++ drop (user_end count bytes) bytes
-unfolding user_text user_of user_end
-user_front count bytes all long flag =
+-- the numbers and the cells that are read
+numbers_fit : (v : Version) (count : ℕ) (bytes : List ℕ) → All IsByte bytes → IsU32 (record_of v count bytes).last × HasCells v count (record_of v count bytes).offers
+unfolding record_of
+numbers_fit v count bytes all = (u32_small (text_end 0 bytes + 1) bytes all, has_read v (text_end 0 bytes + 5) count bytes all)
+
+user_front : (v : Version) (count : ℕ) (bytes : List ℕ) → All IsByte bytes → user_end v count bytes ≤ length bytes → get_or bytes (text_end 0 bytes) 0 ≤ 1 → right_offers v (record_of v count bytes) ≡ true
+    → bytes ≡ user_text v count (user_of v count bytes) ++ drop (user_end v count bytes) bytes
+unfolding user_text record_of user_end
+user_front v count bytes all long flag right =
     let place : ℕ = text_end 0 bytes in
-    glue bytes (sized_text (text_at 0 bytes)) _ (drop (place + (17 + 4 * count)) bytes) (drop place bytes) (text_front 0 bytes all (omega arith)) (behind_front place count bytes all long flag)
+    let cells : List OpenOffer = cells_behind v (place + 5) count bytes in
+    let again : cells ≡ cells_for count (cell_count v) (open_in cells) =
+    sym (written_cells v count (members_at v (place + 5) bytes) (u32_at (place + 1) bytes) cells (has_read v (place + 5) count bytes all) right) in
+    let behind : drop place bytes ≡ (cond (eqb (get_or bytes place 0) 1) 1 0 ∷ (u32_text (u32_at (place + 1) bytes) ++ behind_last v (members_at v (place + 5) bytes) (cells_for count (cell_count v) (open_in cells)))) ++ drop (place + behind_name v count) bytes =
+    name_front v place count bytes all long flag
+    ∙ ap (λ (os : List OpenOffer). (cond (eqb (get_or bytes place 0) 1) 1 0 ∷ (u32_text (u32_at (place + 1) bytes) ++ behind_last v (members_at v (place + 5) bytes) os)) ++ drop (place + behind_name v count) bytes) again in
+    glue bytes (sized_text (text_at 0 bytes)) _ (drop (place + behind_name v count) bytes) (drop place bytes) (text_front 0 bytes all (omega arith)) behind
 
--- ---- the numbers that are read
-highs_count : (place n : ℕ) (bytes : List ℕ) → length (u32s_at place n bytes) ≡ n
-highs_count place zero bytes = refl
-highs_count place (suc n) bytes = ap suc (highs_count (place + 4) n bytes)
-
-highs_small : (place n : ℕ) (bytes : List ℕ) → All IsByte bytes → All IsU32 (u32s_at place n bytes)
-highs_small place zero bytes all = All-nil IsU32
-highs_small place (suc n) bytes all = All-cons IsU32 (u32_at place bytes) (u32s_at (place + 4) n bytes) (u32_small place bytes all) (highs_small (place + 4) n bytes all)
-
-pub record NumbersFit (count : ℕ) (u : User) : Type 0 where
-  pub last : IsU32 u.last
-  pub many : length u.highs ≡ count
-  pub small : All IsU32 u.highs
-
-numbers_fit : (count : ℕ) (bytes : List ℕ) → All IsByte bytes → NumbersFit count (user_of count bytes)
-unfolding user_of
-numbers_fit count bytes all = record {
-  last = u32_small (text_end 0 bytes + 1) bytes all;
-  many = highs_count (text_end 0 bytes + 17) count bytes;
-  small = highs_small (text_end 0 bytes + 17) count bytes all;
-}
-
-pub user_takes : (count : ℕ) (before : List User) (bytes : List ℕ) (x : User × ℕ) → All IsByte bytes → user_at count before bytes ≡ Ok x → (bytes ≡ user_text x.0 ++ drop x.1 bytes) × UserRight count before x.0
+pub user_takes : (v : Version) (count : ℕ) (before : List User) (bytes : List ℕ) (x : User × ℕ) → All IsByte bytes → user_at v count before bytes ≡ Ok x → (bytes ≡ user_text v count x.0 ++ drop x.1 bytes) × UserRight v count before x.0
 unfolding user_at user_rules
-user_takes count before bytes x all e =
-    let u : User = user_of count bytes in
-    let k = rules_kept 0 (1 + count + length before) (user_rules count before bytes) (u, user_end count bytes) x e in
-    let long : user_end count bytes ≤ length bytes = ltb-false (length bytes) (user_end count bytes) k.0.0 in
+user_takes v count before bytes x all e =
+    let u : User = record_of v count bytes in
+    let k = rules_kept 0 (1 + count + length before) (user_rules v count before bytes) (user_of v count bytes, user_end v count bytes) x e in
+    let long : user_end v count bytes ≤ length bytes = ltb-false (length bytes) (user_end v count bytes) k.0.0 in
     let flag = ltb-false 1 (get_or bytes (text_end 0 bytes) 0) k.0.1.1.1.0 in
-    let fit = numbers_fit count bytes all in
-    let ok : IsUser count u = record {
+    let right : right_offers v u ≡ true = passes _ k.0.1.1.1.1.1.0 in
+    let fit = numbers_fit v count bytes all in
+    let ok : IsUser count (user_of v count bytes) = record {
       name = passes _ k.0.1.0;
       members = passes _ k.0.1.1.1.1.0;
-      last = fit.last;
-      offer = passes _ k.0.1.1.1.1.1.0;
-      one_high_each = fit.many;
-      highs = fit.small;
+      last = fit.0;
+      offers = read_offers v count u.members u.last u.offers fit.1 right;
     } in
-    subst (λ (y : User × ℕ). (bytes ≡ user_text y.0 ++ drop y.1 bytes) × UserRight count before y.0) k.1 (user_front count bytes all long flag, (ok, k.0.1.1.0))
+    let old : v ≡ First → IsOldUser (user_of v count bytes) = read_old v count u.members u.last u.offers fit.1 right in
+    subst (λ (y : User × ℕ). (bytes ≡ user_text v count y.0 ++ drop y.1 bytes) × UserRight v count before y.0) k.1 (user_front v count bytes all long flag right, ((ok, old), k.0.1.1.0))
 
 -- ---- what is written is read
-either_small : (m n : ℕ) → (eqb m 0 || eqb m n) ≡ true → n < 2 ^ 32 → m < 2 ^ 32
-either_small m n e small = grind (arith, nat_tests)
-
 pow_grows : (m n : ℕ) → m ≤ n → 2 ^ m ≤ 2 ^ n
 pow_grows m n le = pow-le-pow_right (omega arith) le
-
-offered_small : (u : User) → right_offer u ≡ true → IsU32 u.last → IsU32 u.offered
-unfolding right_offer
-offered_small u e last = either_small u.offered u.last (and_parts (eqb u.offered 0 || eqb u.offered u.last) (right_highs u 0 u.highs) e).0 last
 
 members_small : (count members : ℕ) → count ≤ 64 → right_members count members ≡ true → members < 2 ^ 64
 unfolding right_members
@@ -119,53 +99,52 @@ flag_back : (net : Bool) → (eqb (cond net 1 0) 1 ≡ net) × (cond net 1 0 ≤
 flag_back true = (refl, omega arith)
 flag_back false = (refl, omega arith)
 
-abbrev made : List ℕ → Bool → ℕ → ℕ → ℕ → List ℕ → User
-made name net members last offered highs = record { name = name; net = net; members = members; last = last; offered = offered; highs = highs }
+abbrev made : List ℕ → Bool → ℕ → ℕ → List OpenOffer → User
+made name net members last offers = record { name = name; net = net; members = members; last = last; offers = offers }
 
-pub record Stands (count : ℕ) (bytes : List ℕ) (u : User) : Type 0 where
-  pub is : user_of count bytes ≡ u
+-- the user as the record has him, with all cells as his offers
+abbrev with_cells : Version → ℕ → User → User
+with_cells v count u = record u { offers = cells_for count (cell_count v) u.offers }
+
+pub record Stands (v : Version) (count : ℕ) (bytes : List ℕ) (u : User) : Type 0 where
+  pub is : record_of v count bytes ≡ with_cells v count u
   pub flag : get_or bytes (text_end 0 bytes) 0 ≤ 1
-  pub end : user_end count bytes ≡ (2 + length u.name) + (17 + 4 * count)
+  pub end : user_end v count bytes ≡ (2 + length u.name) + behind_name v count
 
-user_back : (count : ℕ) (u : User) (rest : List ℕ) → length u.name < 2 ^ 16 → u.members < 2 ^ 64 → IsU32 u.last → IsU32 u.offered → All IsU32 u.highs → length u.highs ≡ count → Stands count (user_text u ++ rest) u
-unfolding user_text user_of user_end
-user_back count u rest name members last offered highs many =
+user_back : (v : Version) (count : ℕ) (u : User) (rest : List ℕ) → length u.name < 2 ^ 16 → u.members < 2 ^ 64 → IsU32 u.last → HasCells v count (cells_for count (cell_count v) u.offers) → Stands v count (user_text v count u ++ rest) u
+unfolding user_text record_of user_end
+user_back v count u rest name members last cells =
     let flag : ℕ = cond u.net 1 0 in
-    let h : List ℕ = u32s_text u.highs in
-    let m : List ℕ = u64_text u.members in
-    let o : List ℕ = u32_text u.offered in
     let l : List ℕ = u32_text u.last in
-    let whole : List ℕ = (sized_text u.name ++ (flag ∷ (l ++ (o ++ (m ++ h))))) ++ rest in
-    let t = text_again 0 whole u.name ((flag ∷ (l ++ (o ++ (m ++ h)))) ++ rest) name (split whole (sized_text u.name) (flag ∷ (l ++ (o ++ (m ++ h)))) rest refl) in
+    let c : List ℕ = behind_last v u.members (cells_for count (cell_count v) u.offers) in
+    let whole : List ℕ = (sized_text u.name ++ (flag ∷ (l ++ c))) ++ rest in
+    let t = text_again 0 whole u.name ((flag ∷ (l ++ c)) ++ rest) name (split whole (sized_text u.name) (flag ∷ (l ++ c)) rest refl) in
     let place : ℕ = text_end 0 whole in
-    let a = byte_again place whole flag ((l ++ (o ++ (m ++ h))) ++ rest) t.behind in
-    let b = u32_again (place + 1) whole u.last ((o ++ (m ++ h)) ++ rest) last (split (drop (place + 1) whole) l (o ++ (m ++ h)) rest a.1) in
-    let at5 : drop (place + 5) whole ≡ (o ++ (m ++ h)) ++ rest = ap (λ k. drop k whole) (omega arith) ∙ b.1 in
-    let d = u32_again (place + 5) whole u.offered ((m ++ h) ++ rest) offered (split (drop (place + 5) whole) o (m ++ h) rest at5) in
-    let at9 : drop (place + 9) whole ≡ (m ++ h) ++ rest = ap (λ k. drop k whole) (omega arith) ∙ d.1 in
-    let e = u64_again (place + 9) whole u.members (h ++ rest) members (split (drop (place + 9) whole) m h rest at9) in
-    let at17 : drop (place + 17) whole ≡ h ++ rest = ap (λ k. drop k whole) (omega arith) ∙ e.1 in
-    let f = u32s_again (place + 17) whole u.highs rest highs at17 in
-    let all : u32s_at (place + 17) count whole ≡ u.highs = ap (λ n. u32s_at (place + 17) n whole) (sym many) ∙ f.0 in
+    let a = byte_again place whole flag ((l ++ c) ++ rest) t.behind in
+    let b = u32_again (place + 1) whole u.last (c ++ rest) last (split (drop (place + 1) whole) l c rest a.1) in
+    let at5 : drop (place + 5) whole ≡ c ++ rest = ap (λ k. drop k whole) (omega arith) ∙ b.1 in
+    let d = behind_again v (place + 5) count whole u.members (cells_for count (cell_count v) u.offers) rest cells members at5 in
     let back = flag_back u.net in
     let net : eqb (get_or whole place 0) 1 ≡ u.net = ap (λ n. eqb n 1) a.0 ∙ back.0 in
     record {
-      is = λ i. made (t.is i) (net i) (e.0 i) (b.0 i) (d.0 i) (all i);
+      is = λ i. made (t.is i) (net i) (d.members_are i) (b.0 i) (d.cells_are i);
       flag = omega (arith, a.0, back.1);
       end = omega (arith, t.end);
     }
 
-pub user_again : (count : ℕ) (before : List User) (u : User) (rest : List ℕ) → count ≤ 64 → UserRight count before u → user_at count before (user_text u ++ rest) ≡ Ok (u, length (user_text u))
+pub user_again : (v : Version) (count : ℕ) (before : List User) (u : User) (rest : List ℕ) → count ≤ 64 → UserRight v count before u → user_at v count before (user_text v count u ++ rest) ≡ Ok (u, length (user_text v count u))
 unfolding user_at user_rules
-user_again count before u rest few right =
-    let ok = right.0 in
-    let whole : List ℕ = user_text u ++ rest in
+user_again v count before u rest few right =
+    let ok = right.0.0 in
+    let old = right.0.1 in
+    let whole : List ℕ = user_text v count u ++ rest in
     let small = user_small u.name ok.name in
-    let back = user_back count u rest (omega (arith, small)) (members_small count u.members few ok.members) ok.last (offered_small u ok.offer ok.last) ok.highs ok.one_high_each in
-    let size = user_length u in
-    let end : user_end count whole ≡ length (user_text u) = omega (arith, back.end, size, ok.one_high_each) in
-    let long : user_end count whole ≤ length whole = omega (arith, length-append (user_text u) rest, end) in
-    let kept : Kept (user_rules count before whole) = (
+    let back = user_back v count u rest (omega (arith, small)) (members_small count u.members few ok.members) ok.last (has_cells v count u.members u.last u.offers ok.last ok.offers) in
+    let size = user_length v count u ok in
+    let end : user_end v count whole ≡ length (user_text v count u) = omega (arith, back.end, size) in
+    let long : user_end v count whole ≤ length whole = omega (arith, length-append (user_text v count u) rest, end) in
+    let is : user_of v count whole ≡ u = ap with_open back.is ∙ ap (λ (os : List OpenOffer). made u.name u.net u.members u.last os) (offers_again v count u.members u.last u.offers ok.offers old) in
+    let kept : Kept (user_rules v count before whole) = (
       le-ltb _ _ long,
       (
         ap (λ (x : User). not (is_user_name x.name)) back.is ∙ ap not ok.name,
@@ -175,10 +154,10 @@ user_again count before u rest few right =
             le-ltb _ _ back.flag,
             (
               ap (λ (x : User). not (right_members count x.members)) back.is ∙ ap not ok.members,
-              (ap (λ (x : User). not (right_offer x)) back.is ∙ ap not ok.offer, tt),
+              (ap (λ (x : User). not (right_offers v x)) back.is ∙ ap not (right_again v count u.members u.last u.offers ok.offers old), tt),
             ),
           ),
         ),
       ),
     ) in
-    kept_rules 0 (1 + count + length before) (user_rules count before whole) (user_of count whole, user_end count whole) kept ∙ λ i. Ok (back.is i, end i)
+    kept_rules 0 (1 + count + length before) (user_rules v count before whole) (user_of v count whole, user_end v count whole) kept ∙ λ i. Ok (is i, end i)

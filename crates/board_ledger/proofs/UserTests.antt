@@ -1,20 +1,20 @@
 -- The tests of a user's record in the code are those of its rules.
-use Rattle.std.proofs.Common.{◌≡◌, ℕ, zero, suc, ◌+◌, ◌*◌, ◌/◌, ◌%◌, ◌^◌, ◌<◌, ◌≤◌, Bool, true, false, not, ◌&&◌, eqb, ltb, List, [], ◌∷◌, length, get_or, drop, Option, Some, None, Result, Err, refl, sym, ap, ◌∙◌, inl, inr, arith}
+use Rattle.std.proofs.Common.{◌≡◌, ℕ, zero, suc, ◌+◌, ◌*◌, ◌/◌, ◌%◌, ◌^◌, ◌<◌, ◌≤◌, Bool, true, false, not, eqb, ltb, List, [], ◌∷◌, length, Option, Some, None, Result, Err, refl, sym, ap, ◌∙◌, inl, inr, arith}
 use Rattle.std.specs.Prelude.{nat_lt, slice_index}
 use Rattle.std.proofs.Math.Nat.{div-eq_of_lt, div-add-mod', mod-lt}
 use Rattle.std.proofs.lemmas.Bool.{cases_lt, cases_eq, le-ltb}
 use Rattle.std.proofs.lemmas.Bool.Decides.{nat_tests}
 use Rattle.std.proofs.lemmas.Nat.{pow_pos}
-use Rattle.std.proofs.lemmas.List.{drop_all, drop_more}
 use Rattle.damage_rules.specs.Rules.{Rules, first_broken}
 use Rattle.damage_rules.proofs.KeptRules.{kept_none, then_fails}
 use Rattle.jam_records.specs.declared.damage.Damage.{Damage}
 use Rattle.jam_records.specs.declared.damage.DamageRule.{DamageRule}
 use Rattle.jam_records.specs.declared.damage.DamageRule.TheVariants.{Short, Name, Twice, Flags, Member, Offer}
 use Rattle.setup_file.specs.Texts.{is_user_name}
-use Rattle.board_ledger.specs.Texts.{text_end}
-use Rattle.board_ledger.specs.Users.{behind_name, is_taken, right_high, right_highs, right_members, right_offer, user_at, user_end, user_of, user_rules}
+use Rattle.open_offers.specs.Texts.{text_end}
+use Rattle.board_ledger.specs.Users.{behind_name, is_taken, record_of, right_members, right_offers, user_at, user_end, user_of, user_rules}
 use Rattle.board_ledger.specs.declared.user.User.{User}
+use Rattle.open_offers.specs.declared.version.Version.{Version}
 
 abbrev none : Option DamageRule
 none = None
@@ -61,42 +61,26 @@ none_past members count =
           some_tests (members / 2 ^ count) (not_zero members (2 ^ count) power past) ∙ sym (le-ltb _ _ past)
     ]
 
--- ---- highs, one after the other
-pub high_here : (u : User) (place : ℕ) (high : ℕ) (highs : List ℕ) → place < length highs → high ≡ get_or highs place 0
-    → right_highs u place (drop place highs) ≡ (right_high u place high && right_highs u (place + 1) (drop (place + 1) highs))
-high_here u place high highs within is = ap (right_highs u place) (drop_more highs place 0 within) ∙ ap (λ h. right_high u place h && right_highs u (place + 1) (drop (place + 1) highs)) (sym is)
-
-pub high_wrong : (u : User) (place : ℕ) (high : ℕ) (highs : List ℕ) → place < length highs → high ≡ get_or highs place 0 → right_high u place high ≡ false
-    → right_highs u place (drop place highs) ≡ false
-high_wrong u place high highs within is wrong = high_here u place high highs within is ∙ ap (λ b. b && right_highs u (place + 1) (drop (place + 1) highs)) wrong
-
-pub high_right : (u : User) (place : ℕ) (high : ℕ) (highs : List ℕ) → place < length highs → high ≡ get_or highs place 0 → right_high u place high ≡ true
-    → right_highs u place (drop place highs) ≡ right_highs u (place + 1) (drop (place + 1) highs)
-high_right u place high highs within is right = high_here u place high highs within is ∙ ap (λ b. b && right_highs u (place + 1) (drop (place + 1) highs)) right
-
-pub highs_done : (u : User) (place : ℕ) (highs : List ℕ) → length highs ≤ place → right_highs u place (drop place highs) ≡ true
-highs_done u place highs past = ap (right_highs u place) (drop_all place highs past)
-
 -- ---- the rules behind the record's length, with what the code tests
-abbrev rules_behind : ℕ → Bool → ℕ → User → Rules
-rules_behind count met flags u =
+abbrev rules_behind : Version → ℕ → Bool → ℕ → User → Rules
+rules_behind v count met flags u =
     (Name, not (is_user_name u.name))
     ∷ (Twice, met)
     ∷ (Flags, nat_lt 1 flags)
     ∷ (Member, not (right_members count u.members))
-    ∷ (Offer, not (right_offer u))
+    ∷ (Offer, not (right_offers v u))
     ∷ []
 
-pub user_broken : (count : ℕ) (before : List User) (bytes : List ℕ) (u : User) (met : Bool) (from place behind : ℕ) (rule : DamageRule)
-    → from ≡ count → u ≡ user_of count bytes → place ≡ text_end 0 bytes → behind ≡ behind_name count → place + behind ≤ length bytes → met ≡ is_taken before u.name
-    → first_broken (rules_behind count met (slice_index bytes place) u) ≡ Some rule → user_at count before bytes ≡ Err (record { file = 0; item = 1 + from + length before; rule = rule })
+pub user_broken : (v : Version) (count : ℕ) (before : List User) (bytes : List ℕ) (u : User) (met : Bool) (from place behind : ℕ) (rule : DamageRule)
+    → from ≡ count → u ≡ record_of v count bytes → place ≡ text_end 0 bytes → behind ≡ behind_name v count → place + behind ≤ length bytes → met ≡ is_taken before u.name
+    → first_broken (rules_behind v count met (slice_index bytes place) u) ≡ Some rule → user_at v count before bytes ≡ Err (record { file = 0; item = 1 + from + length before; rule = rule })
 unfolding user_at user_rules user_end
-user_broken count before bytes u met from place behind rule counted is at size whole taken broken =
-    let all : text_end 0 bytes + behind_name count ≤ length bytes = omega (arith, at, size, whole) in
-    let short : first_broken ((Short, nat_lt (length bytes) (text_end 0 bytes + behind_name count)) ∷ []) ≡ none = kept_none ((Short, nat_lt (length bytes) (text_end 0 bytes + behind_name count)) ∷ []) (le-ltb _ _ all, tt) in
-    let named : met ≡ is_taken before (user_of count bytes).name = taken ∙ ap (λ (v : User). is_taken before v.name) is in
-    let same : first_broken (rules_behind count met (slice_index bytes place) u) ≡ first_broken (rules_behind count (is_taken before (user_of count bytes).name) (slice_index bytes (text_end 0 bytes)) (user_of count bytes)) =
-    λ i. first_broken (rules_behind count (named i) (slice_index bytes (at i)) (is i)) in
-    then_fails 0 (1 + count + length before) ((Short, nat_lt (length bytes) (text_end 0 bytes + behind_name count)) ∷ [])
-    (rules_behind count (is_taken before (user_of count bytes).name) (slice_index bytes (text_end 0 bytes)) (user_of count bytes)) rule (user_of count bytes, user_end count bytes) short (sym same ∙ broken)
+user_broken v count before bytes u met from place behind rule counted is at size whole taken broken =
+    let all : text_end 0 bytes + behind_name v count ≤ length bytes = omega (arith, at, size, whole) in
+    let short : first_broken ((Short, nat_lt (length bytes) (text_end 0 bytes + behind_name v count)) ∷ []) ≡ none = kept_none ((Short, nat_lt (length bytes) (text_end 0 bytes + behind_name v count)) ∷ []) (le-ltb _ _ all, tt) in
+    let named : met ≡ is_taken before (record_of v count bytes).name = taken ∙ ap (λ (w : User). is_taken before w.name) is in
+    let same : first_broken (rules_behind v count met (slice_index bytes place) u) ≡ first_broken (rules_behind v count (is_taken before (record_of v count bytes).name) (slice_index bytes (text_end 0 bytes)) (record_of v count bytes)) =
+    λ i. first_broken (rules_behind v count (named i) (slice_index bytes (at i)) (is i)) in
+    then_fails 0 (1 + count + length before) ((Short, nat_lt (length bytes) (text_end 0 bytes + behind_name v count)) ∷ [])
+    (rules_behind v count (is_taken before (record_of v count bytes).name) (slice_index bytes (text_end 0 bytes)) (record_of v count bytes)) rule (user_of v count bytes, user_end v count bytes) short (sym same ∙ broken)
     ∙ ap (λ (n : ℕ). fails (record { file = 0; item = 1 + n + length before; rule = rule })) (sym counted)

@@ -8,7 +8,7 @@ use Rattle.jam_records.specs.declared.message.Kind.TheVariants.{Local, Echo, Net
 use Rattle.damage_rules.specs.Rules.{Rules, by_rules}
 use Rattle.setup_file.specs.Texts.{is_conference_name}
 use Rattle.setup_file.specs.declared.conference.Conference.{Conference}
-use Rattle.board_ledger.specs.Texts.{sized_text, text_at, text_end}
+use Rattle.open_offers.specs.Texts.{sized_text, text_at, text_end}
 
 -- 0 local, 1 echo, 2 net
 abbrev pub kind_number : Kind → ℕ

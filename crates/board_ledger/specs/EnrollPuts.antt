@@ -6,8 +6,7 @@ use Rattle.intent_journal.specs.declared.patch.Patch.TheVariants.{Put}
 use Rattle.door_outside.specs.File.{ledger_file}
 use Rattle.record_numbers.specs.Numbers.{u16_text}
 use Rattle.board_ledger.specs.Uploads.{upload_text}
-use Rattle.board_ledger.specs.UserPuts.{user_place}
-use Rattle.board_ledger.specs.Users.{user_text}
+use Rattle.board_ledger.specs.UserPuts.{record_in, user_place}
 use Rattle.board_ledger.specs.declared.ledger.Ledger.{Ledger}
 use Rattle.board_ledger.specs.declared.user.User.{User}
 
@@ -19,5 +18,5 @@ with_user u l = record l { users = l.users ++ u ∷ [] }
 abbrev pub enroll_puts : Ledger → User → List Patch
 enroll_puts l u =
     Put ledger_file 8 (u16_text (length l.users + 1))
-    ∷ Put ledger_file (user_place (length l.users) l) (user_text u ++ flat_map upload_text l.uploads)
+    ∷ Put ledger_file (user_place (length l.users) l) (record_in l u ++ flat_map upload_text l.uploads)
     ∷ []

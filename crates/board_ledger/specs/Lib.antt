@@ -1,6 +1,5 @@
 pub mod Rules
 pub mod Met
-pub mod Texts
 pub mod Records
 pub mod Opening
 pub mod Conferences

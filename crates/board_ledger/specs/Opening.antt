@@ -5,25 +5,27 @@ use Rattle.std.specs.Str.{bytes_eq}
 use Rattle.byteorder.specs.Endian.{little_bytes}
 use Rattle.record_numbers.specs.Numbers.{u16_at, u32_at, u32s_text}
 use Rattle.jam_records.specs.declared.damage.Damage.{Damage}
-use Rattle.jam_records.specs.declared.damage.DamageRule.TheVariants.{Short, Magic, Version, Count, Number, Text, Id, Zones}
+use Rattle.jam_records.specs.declared.damage.DamageRule.TheVariants.{Short, Magic, Version as WrongVersion, Count, Number, Text, Id, Zones}
 use Rattle.damage_rules.specs.Rules.{Rules, by_rules}
 use Rattle.setup_file.specs.Texts.{is_board_text, is_user_name, is_bbsid}
 use Rattle.setup_file.specs.Zones.{are_zones}
 use Rattle.setup_file.specs.declared.setup.Setup.{Setup}
-use Rattle.board_ledger.specs.Texts.{sized_text, text_at, text_end, u16s_at}
+use Rattle.open_offers.specs.Texts.{sized_text, text_at, text_end, u16s_at}
+use Rattle.open_offers.specs.Versions.{version_number, version_of, wrong_version}
 use Rattle.board_ledger.specs.declared.ledger.Ledger.{Ledger}
 use Rattle.board_ledger.specs.declared.opening.Opening.{Opening}
 use Rattle.board_ledger.specs.declared.opening.Places.{Places}
+use Rattle.open_offers.specs.declared.version.Version.{Version}
 
 -- `QMDL`
 abbrev pub magic : List ℕ
 magic = 0x51 ∷ 0x4D ∷ 0x44 ∷ 0x4C ∷ []
 
 -- the first 24 bytes: magic, version, the counts of conferences, users, zones and upload records, created, serial
-unfoldable pub fixed_text : Ledger → List ℕ
-fixed_text l =
+unfoldable pub fixed_text : Version → Ledger → List ℕ
+fixed_text v l =
     magic
-    ++ (flat_map (little_bytes 2) (1 ∷ length l.setup.conferences ∷ length l.users ∷ length l.setup.zones ∷ [])
+    ++ (flat_map (little_bytes 2) (version_number v ∷ length l.setup.conferences ∷ length l.users ∷ length l.setup.zones ∷ [])
     ++ u32s_text (length l.uploads ∷ l.created ∷ l.setup.serial ∷ []))
 
 -- then board, city, phone, sysop and bbsid, and the zones
@@ -31,8 +33,8 @@ abbrev pub setup_text : Setup → List ℕ
 setup_text s =
     sized_text s.board ++ (sized_text s.city ++ (sized_text s.phone ++ (sized_text s.sysop ++ (sized_text s.bbsid ++ flat_map (little_bytes 2) s.zones))))
 
-abbrev pub opening_text : Ledger → List ℕ
-opening_text l = fixed_text l ++ setup_text l.setup
+abbrev pub opening_text : Version → Ledger → List ℕ
+opening_text v l = fixed_text v l ++ setup_text l.setup
 
 -- where the texts behind the first, the zones and the record's end are, as lengths and counts say
 unfoldable pub places_of : List ℕ → Places
@@ -61,6 +63,7 @@ setup_of bytes =
 
 unfoldable pub opening_of : List ℕ → Opening
 opening_of bytes = record {
+  version = version_of (u16_at 4 bytes);
   setup = setup_of bytes;
   created = u32_at 16 bytes;
   conferences = u16_at 6 bytes;
@@ -83,7 +86,7 @@ unfoldable pub fixed_rules : List ℕ → Rules
 fixed_rules bytes =
     (Short, nat_lt (length bytes) 24)
     ∷ (Magic, not (bytes_eq (take 4 bytes) magic))
-    ∷ (Version, not (u16_at 4 bytes == 1))
+    ∷ (WrongVersion, wrong_version (u16_at 4 bytes))
     ∷ (Count, wrong_counts bytes)
     ∷ (Number, nat_lt 99999 (u32_at 20 bytes))
     ∷ []

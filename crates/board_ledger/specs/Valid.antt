@@ -1,9 +1,10 @@
--- What a valid ledger is: the rules of a board that speak of its setup, its users and its upload records.
-use Rattle.std.specs.Prelude.{◌≡◌, ◌≤◌, List, [], length, All, false}
+-- What a valid ledger is: the rules of a board that speak of its setup, its users and its upload records. And which
+-- ledgers a file has.
+use Rattle.std.specs.Prelude.{◌≡◌, ◌≤◌, ◌⊎◌, List, [], length, All, false}
 use Rattle.record_numbers.specs.Numbers.{IsU32}
 use Rattle.setup_file.specs.Valid.{IsSetup}
 use Rattle.board_ledger.specs.Records.{EachBehind}
-use Rattle.board_ledger.specs.Users.{is_taken, IsUser}
+use Rattle.board_ledger.specs.Users.{is_taken, IsUser, IsOldUser}
 use Rattle.board_ledger.specs.Uploads.{is_repeated, IsUpload}
 use Rattle.board_ledger.specs.declared.ledger.Ledger.{Ledger}
 use Rattle.board_ledger.specs.declared.upload.UploadRecord.{UploadRecord}
@@ -17,7 +18,9 @@ NamesDiffer users = EachBehind (λ before u. is_taken before u.name ≡ false) [
 abbrev pub PairsDiffer : List UploadRecord → Type 0
 PairsDiffer uploads = EachBehind (λ before r. is_repeated before r ≡ false) [] uploads
 
+-- a ledger of version 2
 pub record IsLedger (l : Ledger) : Type 0 where
+  pub version : l.version ≡ 2
   pub setup : IsSetup l.setup
   pub created : IsU32 l.created
   pub few_users : length l.users ≤ 500
@@ -26,3 +29,17 @@ pub record IsLedger (l : Ledger) : Type 0 where
   pub few_uploads : length l.uploads ≤ 100000
   pub uploads : All (IsUpload (length l.users)) l.uploads
   pub pairs : PairsDiffer l.uploads
+
+-- the ledger in version 2
+abbrev pub today : Ledger → Ledger
+today l = record l { version = 2 }
+
+-- a ledger of version 1, where each user has no open offer, or that of his last packet alone
+pub record IsOldLedger (l : Ledger) : Type 0 where
+  pub version : l.version ≡ 1
+  pub valid : IsLedger (today l)
+  pub offers : All IsOldUser l.users
+
+-- a ledger as a file has it, in version 2 or 1
+abbrev pub IsStored : Ledger → Type 0
+IsStored l = IsLedger l ⊎ IsOldLedger l

@@ -7,9 +7,9 @@ ghost use Rattle.setup_file.specs.Valid.{IsSetupConference};
 
 use crate::damaged::damaged;
 use crate::error::LedgerError;
-use crate::texts::{add_byte, add_text, add_u16, text_at, text_end};
 use byte_lists::Bytes;
 use jam_records::{DamageRule, Kind};
+use open_offers::{add_byte, add_text, add_u16, text_at, text_end};
 use record_numbers::u16_at;
 use setup_file::{Conference, Conferences, is_conference_name};
 use std::alloc::{AllocError, Global};
@@ -56,7 +56,7 @@ fn out_of_order(before: &[Conference], number: u16) -> bool
 }
 
 /// The conference at the front, behind those before, and the length of its record.
-#[tactic(auto, unfolding(crate::specs::Conferences::conference_at, crate::specs::Conferences::conference_record_rules, crate::specs::Conferences::conference_fields, crate::specs::Texts::text_end))]
+#[tactic(auto, unfolding(crate::specs::Conferences::conference_at, crate::specs::Conferences::conference_record_rules, crate::specs::Conferences::conference_fields, open_offers::specs::Texts::text_end))]
 fn conference_of(
     alloc: Global,
     before: &[Conference],

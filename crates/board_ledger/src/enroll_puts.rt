@@ -1,4 +1,4 @@
-ghost use Rattle.std.specs.Prelude.{◌≡◌, ◌+◌, ◌*◌, ◌<◌, ◌^◌, ◌++◌, length, IfOk};
+ghost use Rattle.std.specs.Prelude.{◌≡◌, ◌≤◌, ◌+◌, ◌*◌, ◌<◌, ◌^◌, ◌++◌, length, IfOk};
 ghost use Rattle.std.specs.List.{flat_map};
 ghost use Rattle.record_numbers.specs.Numbers.{u16_text};
 ghost use Rattle.intent_journal.specs.declared.patch.Patch.{Patch};
@@ -8,18 +8,17 @@ ghost use Rattle.board_ledger.specs.EnrollPuts.{with_user, enroll_puts as puts_o
 ghost use Rattle.board_ledger.specs.Ledger.{ledger_text};
 ghost use Rattle.board_ledger.specs.OneFile.{TurnsFile};
 ghost use Rattle.board_ledger.specs.Uploads.{upload_text};
-ghost use Rattle.board_ledger.specs.UserPuts.{user_place as user_place_of};
-ghost use Rattle.board_ledger.specs.Users.{user_text};
+ghost use Rattle.board_ledger.specs.UserPuts.{record_in, user_place as user_place_of};
 ghost use Rattle.board_ledger.specs.Valid.{IsLedger};
 
 use crate::ledger::Ledger;
 use crate::size::user_place;
-use crate::texts::add_u16;
 use crate::uploads::add_uploads;
 use crate::user::User;
 use byte_lists::Bytes;
 use door_outside::FileId;
 use intent_journal::{Patch, Patches};
+use open_offers::add_u16;
 use std::alloc::{AllocError, Global};
 
 /// The patch of the count of users, which is one more.
@@ -37,10 +36,12 @@ fn count_put(alloc: Global, ledger: &Ledger) -> Result<Patch, AllocError>
 fn records_put(alloc: Global, ledger: &Ledger, user: &User) -> Result<Patch, AllocError>
     requires ledger { IsLedger ledger.now }
     requires name { length user.now.name < 2 ^ 16 }
-    ensures { IfOk result (λ patch. patch ≡ Patch.Put ledger_file (user_place_of (length ledger.now.users) ledger.now) (user_text user.now ++ flat_map upload_text ledger.now.uploads)) }
+    requires offers { length user.now.offers ≤ 4 }
+    ensures { IfOk result (λ patch. patch ≡ Patch.Put ledger_file (user_place_of (length ledger.now.users) ledger.now) (record_in ledger.now user.now ++ flat_map upload_text ledger.now.uploads)) }
 {
+    let conferences = ledger.setup.conferences.len() as u16;
     let mut bytes = Bytes::new(alloc);
-    user.write(&mut bytes)?;
+    user.write(&mut bytes, conferences)?;
     add_uploads(&mut bytes, ledger.uploads.as_slice())?;
     let file = FileId::ledger();
     let at = user_place(ledger, ledger.users.len()) as u32;
@@ -56,7 +57,7 @@ pub fn enroll_patches(alloc: Global, ledger: &Ledger, user: &User) -> Result<Pat
     requires longer { IsLedger (with_user user.now ledger.now) }
     ensures puts { IfOk result (λ patches. patches ≡ puts_of ledger.now user.now) }
     ensures files { IfOk result (λ patches. TurnsFile ledger_file (ledger_text ledger.now) (ledger_text (with_user user.now ledger.now)) patches) }
-    ensures costs { IfOk result (λ patches. (length patches ≡ 2) × (byte_count patches ≡ 2 + length (user_text user.now) + 42 * length ledger.now.uploads)) }
+    ensures costs { IfOk result (λ patches. (length patches ≡ 2) × (byte_count patches ≡ 2 + length (record_in ledger.now user.now) + 42 * length ledger.now.uploads)) }
 {
     let mut patches = Patches::new(alloc);
     patches.add(count_put(alloc, ledger)?)?;

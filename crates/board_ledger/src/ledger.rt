@@ -1,8 +1,8 @@
 ghost use Rattle.std.specs.Prelude.{◌≡◌, ℕ, List, length, IfOk, Some, Ok, Err};
 ghost use Rattle.jam_records.specs.declared.damage.Damage.{Damage};
 ghost use Rattle.board_ledger.specs.Rules.{UnlessMemory};
-ghost use Rattle.board_ledger.specs.Ledger.{ledger_text, ledger_damage};
-ghost use Rattle.board_ledger.specs.Valid.{IsLedger};
+ghost use Rattle.board_ledger.specs.Ledger.{ledger_text, ledger_damage, stored_text};
+ghost use Rattle.board_ledger.specs.Valid.{IsStored};
 
 use crate::error::LedgerError;
 use crate::read::ledger_of;
@@ -14,10 +14,13 @@ use byte_lists::Bytes;
 use setup_file::Setup;
 use std::alloc::{AllocError, Global};
 
-/// All of a board but its messages. A valid ledger has a valid setup, at most 500 users whose names differ
-/// ignoring ASCII case, and at most 100,000 upload records of these users, no two of one user and digest.
+/// All of a board but its messages. A valid ledger has version 2, a valid setup, at most 500 users whose names differ
+/// ignoring ASCII case, and at most 100,000 upload records of these users, no two of one user and digest. One of version
+/// 1 is valid but for its version, and in it each user has at most one open offer, which is that of his last packet.
 #[derive(Debug, Drop)]
 pub struct Ledger {
+    /// The version of its file: 1 or 2 where it was read, and 2 where it is made.
+    pub version: u8,
     /// What the board is made of.
     pub setup: Setup,
     /// When it was made, in Unix seconds.
@@ -29,31 +32,40 @@ pub struct Ledger {
 }
 
 impl Ledger {
-    /// The ledger whose text the bytes are (version 1).
+    /// The ledger whose text the bytes are, in version 1 or 2.
     ///
-    /// `Damaged` comes where they are the text of no valid ledger, with the first rule that they break, in file
+    /// `Damaged` comes where they are the text of no such ledger, with the first rule that they break, in file
     /// 0: record 0 is all before the conferences, then there is one record for each conference, user and upload.
     /// `OutOfMemory` comes where there is no memory. Where both meet, either may be answered.
     pub fn read(alloc: Global, bytes: &[u8]) -> Result<Ledger, LedgerError>
-        ensures ok { IfOk result (λ l. IsLedger l × (bytes.now ≡ ledger_text l)) }
-        ensures only_ok { (l : Ledger) → IsLedger l → bytes.now ≡ ledger_text l → UnlessMemory result (Ok l) }
+        ensures ok { IfOk result (λ l. IsStored l × (bytes.now ≡ stored_text l)) }
+        ensures only_ok { (l : Ledger) → IsStored l → bytes.now ≡ stored_text l → UnlessMemory result (Ok l) }
         ensures damaged { (d : Damage) → result ≡ Err (LedgerError.Damaged d) → ledger_damage bytes.now ≡ Some d }
         ensures only_damaged { (d : Damage) → ledger_damage bytes.now ≡ Some d → UnlessMemory result (Err (LedgerError.Damaged d)) }
     {
         ledger_of(alloc, bytes)
     }
 
-    /// The text of the ledger, which is valid.
+    /// The version of its file: 1 or 2 where it was read, and 2 where it is made.
+    pub fn version(&self) -> u8
+        ensures { result ≡ self.now.version }
+    {
+        self.version
+    }
+
+    /// The text in version 2 of the ledger, which is valid or of version 1.
+    ///
+    /// The error comes where there is no memory.
     pub fn write(&self, alloc: Global) -> Result<Bytes, AllocError>
-        requires { IsLedger self.now }
+        requires { IsStored self.now }
         ensures { IfOk result (λ bytes. bytes ≡ ledger_text self.now) }
     {
         text_of(alloc, self)
     }
 
-    /// How many bytes the text of the ledger has, which is valid. It takes no memory.
+    /// How many bytes the text in version 2 of the ledger has, which is valid or of version 1. It takes no memory.
     pub fn size(&self) -> u64
-        requires { IsLedger self.now }
+        requires { IsStored self.now }
         ensures { result ≡ length (ledger_text self.now) }
     {
         ledger_size(self)

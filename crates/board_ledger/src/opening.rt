@@ -2,14 +2,16 @@ ghost use Rattle.std.specs.Prelude.{◌≡◌, ◌≤◌, ◌<◌, ◌++◌, [],
 ghost use Rattle.damage_rules.specs.Rules.{first_broken, by_rules};
 ghost use Rattle.setup_file.specs.Texts.{is_bbsid as is_bbsid_text};
 ghost use Rattle.setup_file.specs.Zones.{are_zones as are_zone_numbers};
+ghost use Rattle.record_numbers.specs.Numbers.{u16_at as u16_in};
 ghost use Rattle.board_ledger.specs.Rules.{Gives};
+ghost use Rattle.open_offers.specs.Versions.{wrong_version as version_wrong};
 ghost use Rattle.board_ledger.specs.Opening.{places_of as places_in, setup_of as setup_in, opening_of as opening_in, opening_at as opening_read, wrong_counts as counts_wrong, wrong_texts as texts_wrong, fixed_rules, setup_rules};
 
 use crate::damaged::damaged;
 use crate::error::LedgerError;
-use crate::texts::{text_at, text_end, u16s_at};
 use byte_lists::Bytes;
 use jam_records::DamageRule;
+use open_offers::{Version, text_at, text_end, u16s_at};
 use record_numbers::{u16_at, u32_at};
 use setup_file::{Conferences, Setup, are_zones, is_bbsid, is_board_text, is_user_name};
 use std::alloc::{AllocError, Global};
@@ -28,9 +30,10 @@ pub(crate) struct Places {
     pub(crate) end: usize,
 }
 
-/// Record 0: the setup without its conferences, the counts of the other records, and its length.
+/// Record 0: the version, the setup without its conferences, the counts of the other records, and its length.
 #[derive(Drop)]
 pub(crate) struct Opening {
+    pub(crate) version: Version,
     pub(crate) setup: Setup,
     pub(crate) created: u32,
     pub(crate) conferences: u16,
@@ -40,7 +43,7 @@ pub(crate) struct Opening {
 }
 
 /// The places in record 0, or None where it passes the end.
-#[tactic(auto, unfolding(crate::specs::Opening::places_of, crate::specs::Texts::text_end))]
+#[tactic(auto, unfolding(crate::specs::Opening::places_of, open_offers::specs::Texts::text_end))]
 fn places_of(bytes: &[u8]) -> Option<Places>
     requires { 24 ≤ length bytes.now }
     ensures { MatchOption result (length bytes.now < (places_in bytes.now).end) (λ places. (places ≡ places_in bytes.now) × (places.end ≤ length bytes.now)) }
@@ -85,6 +88,15 @@ fn setup_of(alloc: Global, places: &Places, bytes: &[u8]) -> Result<Setup, Alloc
     })
 }
 
+/// Whether the version is neither 1 nor 2.
+fn wrong_version(bytes: &[u8]) -> bool
+    requires { 24 ≤ length bytes.now }
+    ensures { result ≡ version_wrong (u16_in 4 bytes.now) }
+{
+    let version = u16_at(bytes, 4);
+    !(version == 1 || version == 2)
+}
+
 /// Whether a count is out of its range.
 #[tactic(auto, unfolding(crate::specs::Opening::wrong_counts))]
 fn wrong_counts(bytes: &[u8]) -> bool
@@ -120,7 +132,7 @@ fn broken_fixed(bytes: &[u8]) -> Option<DamageRule>
     if &bytes[..4] != b"QMDL".as_slice() {
         return Some(DamageRule::Magic);
     }
-    if u16_at(bytes, 4) != 1 {
+    if wrong_version(bytes) {
         return Some(DamageRule::Version);
     }
     if wrong_counts(bytes) {
@@ -176,6 +188,7 @@ pub(crate) fn opening_of(alloc: Global, bytes: &[u8]) -> Result<Opening, LedgerE
     }
     let (setup, size) = setup_behind(alloc, bytes)?;
     Ok(Opening {
+        version: Version::of_number(u16_at(bytes, 4)),
         setup,
         created: u32_at(bytes, 16),
         conferences: u16_at(bytes, 6),

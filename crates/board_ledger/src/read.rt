@@ -38,7 +38,13 @@ fn records_of(
     ensures { Gives (λ x. ledger_with opening.now x.0 x.1 x.2) result (ledger_in bytes.now) }
 {
     let (conferences, rest) = conferences_of(alloc, opening.conferences, &bytes[opening.size..])?;
-    let (users, rest) = users_of(alloc, opening.conferences, opening.users, rest)?;
+    let (users, rest) = users_of(
+        alloc,
+        opening.version,
+        opening.conferences,
+        opening.users,
+        rest,
+    )?;
     let first = 1 + u32::from(opening.conferences) + u32::from(opening.users);
     let (uploads, rest) = uploads_of(alloc, first, opening.users, opening.uploads, rest)?;
     if !rest.is_empty() {
@@ -54,6 +60,7 @@ pub(crate) fn ledger_of(alloc: Global, bytes: &[u8]) -> Result<Ledger, LedgerErr
     let opening = opening_of(alloc, bytes)?;
     let (conferences, users, uploads) = records_of(alloc, &opening, bytes)?;
     Ok(Ledger {
+        version: opening.version.number(),
         setup: with_conferences(opening.setup, conferences),
         created: opening.created,
         users,

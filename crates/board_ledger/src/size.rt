@@ -2,16 +2,18 @@ ghost use Rattle.std.specs.Prelude.{◌≡◌, ◌≤◌, ◌+◌, ◌*◌, leng
 ghost use Rattle.std.specs.List.{flat_map};
 ghost use Rattle.board_ledger.specs.Opening.{opening_text, setup_text};
 ghost use Rattle.board_ledger.specs.Conferences.{conference_text};
-ghost use Rattle.board_ledger.specs.Users.{user_text, IsUser};
+ghost use Rattle.board_ledger.specs.Users.{users_text, IsUser};
 ghost use Rattle.board_ledger.specs.Ledger.{ledger_text as text_of};
 ghost use Rattle.board_ledger.specs.UserPuts.{user_place as user_place_of};
-ghost use Rattle.board_ledger.specs.Valid.{IsLedger};
+ghost use Rattle.board_ledger.specs.Valid.{IsLedger, today};
+ghost use Rattle.open_offers.specs.declared.version.Version.TheVariants.{Second};
 ghost use Rattle.setup_file.specs.Valid.{IsSetup, IsSetupConference};
 
 use crate::ledger::Ledger;
 use crate::uploads::UPLOAD;
 use crate::user::User;
 use byte_lists::Bytes;
+use open_offers::Version;
 use setup_file::{Conference, Setup};
 
 /// How many bytes a text of at most 60 bytes has with its length.
@@ -48,46 +50,46 @@ fn conferences_size(conferences: &[Conference]) -> usize
     size
 }
 
-/// How many bytes the records of users have, where there are so many conferences.
+/// How many bytes the records of users have in version 2, where there are so many conferences.
 fn users_size(conferences: u16, users: &[User]) -> usize
     requires each { All (IsUser conferences) users.now }
     requires conferences { conferences ≤ 64 }
     requires many { length users.now ≤ 500 }
-    ensures size { result ≡ length (flat_map user_text users.now) }
-    ensures small { result ≤ 400 * length users.now }
+    ensures size { result ≡ length (users_text Second conferences users.now) }
+    ensures small { result ≤ 1080 * length users.now }
 {
     let mut size = 0;
     for user in users {
-        size += text_size(&user.name) + User::size_behind_name(conferences);
+        size += text_size(&user.name) + User::size_behind_name(Version::Second, conferences);
     }
     size
 }
 
 /// How many bytes of the text of a ledger stand before the records of its users.
 fn opening_size(ledger: &Ledger) -> usize
-    requires { IsLedger ledger.now }
-    ensures size { result ≡ length (opening_text ledger.now) + length (flat_map conference_text ledger.now.setup.conferences) }
+    requires { IsLedger (today ledger.now) }
+    ensures size { result ≡ length (opening_text Second ledger.now) + length (flat_map conference_text ledger.now.setup.conferences) }
     ensures small { result ≤ 2000 }
 {
     let conferences = ledger.setup.conferences.as_slice();
     24 + setup_size(&ledger.setup) + conferences_size(conferences)
 }
 
-/// Where the record of the user in a place, from 0, begins in the text of a ledger.
+/// Where the record of the user in a place, from 0, begins in the text of a ledger in version 2.
 pub(crate) fn user_place(ledger: &Ledger, place: usize) -> usize
-    requires ledger { IsLedger ledger.now }
+    requires ledger { IsLedger (today ledger.now) }
     requires within { place ≤ length ledger.now.users }
     ensures place { result ≡ user_place_of place ledger.now }
-    ensures small { result ≤ 2000 + 400 * length ledger.now.users }
+    ensures small { result ≤ 2000 + 1080 * length ledger.now.users }
 {
     let conferences = ledger.setup.conferences.len() as u16;
     let before = &ledger.users.as_slice()[..place];
     opening_size(ledger) + users_size(conferences, before)
 }
 
-/// How many bytes the text of a ledger has.
+/// How many bytes the text of a ledger in version 2 has.
 pub(crate) fn ledger_size(ledger: &Ledger) -> u64
-    requires { IsLedger ledger.now }
+    requires { IsLedger (today ledger.now) }
     ensures { result ≡ length (text_of ledger.now) }
 {
     let uploads = UPLOAD * ledger.uploads.len();

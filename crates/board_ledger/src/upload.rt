@@ -1,8 +1,8 @@
 ghost use Rattle.std.specs.Prelude.{◌≡◌, ◌≤◌, ◌<◌, ◌^◌, ◌++◌, length, IfOk, OnOk};
 ghost use Rattle.board_ledger.specs.Uploads.{upload_text, upload_of as upload_in, wrong_user as user_wrong, too_many as counts_wrong};
 
-use crate::texts::{add_u16, add_u32};
 use byte_lists::{Bytes, Duplicate, List};
+use open_offers::{add_u16, add_u32};
 use record_numbers::{u16_at, u32_at};
 use std::alloc::{AllocError, Global};
 

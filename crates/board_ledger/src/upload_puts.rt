@@ -11,11 +11,11 @@ ghost use Rattle.board_ledger.specs.Valid.{IsLedger};
 
 use crate::ledger::Ledger;
 use crate::size::ledger_size;
-use crate::texts::add_u32;
 use crate::upload::UploadRecord;
 use byte_lists::Bytes;
 use door_outside::FileId;
 use intent_journal::{Patch, Patches};
+use open_offers::add_u32;
 use std::alloc::{AllocError, Global};
 
 /// The patch of the count of upload records, which is one more.

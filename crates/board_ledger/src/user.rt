@@ -1,10 +1,13 @@
-ghost use Rattle.std.specs.Prelude.{◌≡◌, ◌≤◌, ◌<◌, ◌+◌, ◌^◌, ◌++◌, length, nat_lt, IfOk, OnOk};
-ghost use Rattle.record_numbers.specs.Numbers.{u32s_text};
-ghost use Rattle.board_ledger.specs.Texts.{text_end as end_of};
-ghost use Rattle.board_ledger.specs.Users.{user_text, behind_name as size_behind_name, user_of as user_in, user_end, right_members as members_right, right_high as high_right, right_highs as highs_right, right_offer as offer_right, is_member as member_at};
+ghost use Rattle.std.specs.Prelude.{◌≡◌, ◌≤◌, ◌<◌, ◌+◌, ◌^◌, ◌++◌, length, nat_lt, All, IfOk, OnOk};
+ghost use Rattle.open_offers.specs.Texts.{text_end as end_of};
+ghost use Rattle.board_ledger.specs.Users.{user_text, behind_name as size_behind_name, record_of as record_in, user_end, right_members as members_right, right_offers as offers_right, is_member as member_at, with_open as with_open_offers};
+ghost use Rattle.open_offers.specs.declared.version.Version.TheVariants.{Second};
 
-use crate::texts::{add_byte, add_text, add_u32, add_u64, text_at, u32s_at, u64_at};
 use byte_lists::{Bytes, Duplicate, List};
+use open_offers::{
+    Offers, Version, add_byte, add_cells, add_text, add_u32, add_u64, cells_behind, is_in_set,
+    members_at, open_in, right_cells, size_behind_last, text_at,
+};
 use record_numbers::u32_at;
 use std::alloc::{AllocError, Global};
 
@@ -19,14 +22,10 @@ pub struct User {
     pub members: u64,
     /// The number of the last packet, 0 before the first.
     pub last: u32,
-    /// The number of the packet that is offered, which is the last one, or 0 where none is.
-    pub offered: u32,
-    /// For each conference the greatest message number that is offered, or 0.
-    pub highs: Highs,
+    /// The packets that the user may acknowledge, in rising number: at most four, from 1 to the last. A high is 0 in a
+    /// conference whose member the user isn't.
+    pub offers: Offers,
 }
-
-/// One message number for each conference, by place.
-pub type Highs = List<u32>;
 
 /// The users of a board, by id from 1.
 pub type Users = List<User>;
@@ -38,8 +37,7 @@ impl Duplicate for User {
             net: self.net,
             members: self.members,
             last: self.last,
-            offered: self.offered,
-            highs: self.highs.copy(alloc)?,
+            offers: self.offers.copy(alloc)?,
         })
     }
 }
@@ -68,33 +66,45 @@ pub fn are_members(members: u64, conferences: u16) -> bool
 
 impl User {
     /// How many bytes of a user's record stand behind the name, where there are so many conferences.
-    pub(crate) fn size_behind_name(conferences: u16) -> usize
-        ensures { result ≡ size_behind_name conferences }
+    pub(crate) fn size_behind_name(version: Version, conferences: u16) -> usize
+        ensures { result ≡ size_behind_name version conferences }
     {
-        17 + 4 * usize::from(conferences)
+        5 + size_behind_last(version, conferences)
     }
 
-    /// The user at the front, whose name ends at a place, where there are so many conferences.
-    #[tactic(auto, unfolding(crate::specs::Users::user_of, crate::specs::Users::user_end))]
+    /// The user of the record at the front, whose name ends at a place, where there are so many conferences. His offers
+    /// are all cells of the record.
+    #[tactic(auto, unfolding(crate::specs::Users::record_of, crate::specs::Users::user_end))]
     pub(crate) fn read(
         alloc: Global,
+        version: Version,
         conferences: u16,
         place: usize,
         bytes: &[u8],
     ) -> Result<User, AllocError>
+        requires conferences { conferences ≤ 64 }
         requires place { place ≡ end_of 0 bytes.now }
-        requires whole { user_end conferences bytes.now ≤ length bytes.now }
-        ensures user { IfOk result (λ user. user ≡ user_in conferences bytes.now) }
-        ensures highs { IfOk result (λ user. length user.highs ≡ conferences) }
+        requires whole { user_end version conferences bytes.now ≤ length bytes.now }
+        ensures user { IfOk result (λ user. user ≡ record_in version conferences bytes.now) }
+        ensures highs { IfOk result (λ user. All (λ o. length o.highs ≤ 64) user.offers) }
     {
         Ok(User {
             name: Bytes::from_slice(alloc, text_at(bytes, 0))?,
             net: bytes[place] == 1,
-            members: u64_at(bytes, place + 9),
+            members: members_at(version, bytes, place + 5),
             last: u32_at(bytes, place + 1),
-            offered: u32_at(bytes, place + 5),
-            highs: u32s_at(alloc, bytes, place + 17, usize::from(conferences))?,
+            offers: cells_behind(alloc, version, bytes, place + 5, conferences)?,
         })
+    }
+
+    /// The user with the open offers of the cells.
+    pub(crate) fn with_open(self) -> User
+        ensures { result ≡ with_open_offers self }
+    {
+        User {
+            offers: open_in(self.offers),
+            ..self
+        }
     }
 
     /// Whether the user is a member of the conference in a place, from 0 to 63.
@@ -102,7 +112,7 @@ impl User {
         requires { place < 64 }
         ensures { result ≡ member_at self.now place }
     {
-        (self.members >> place) & 1 == 1
+        is_in_set(self.members, place)
     }
 
     /// Whether the user is a member somewhere, and of no place past the conferences.
@@ -113,58 +123,25 @@ impl User {
         are_members(self.members, conferences)
     }
 
-    /// Whether the high of a place is 0 where the user isn't a member and where no packet is offered.
-    fn right_high(&self, place: u32, high: u32) -> bool
-        requires { place < 64 }
-        ensures { result ≡ high_right self.now place high }
+    /// Whether the cells of the user's record are right.
+    pub(crate) fn right_offers(&self, version: Version) -> bool
+        requires { All (λ o. length o.highs ≤ 64) self.now.offers }
+        ensures { result ≡ offers_right version self.now }
     {
-        high == 0 || (self.offered != 0 && self.is_member(place))
+        right_cells(version, self.members, self.last, self.offers.as_slice())
     }
 
-    /// Whether each high is 0 where the user isn't a member and where no packet is offered.
-    fn right_highs(&self) -> bool
-        requires { length self.now.highs ≤ 64 }
-        ensures { result ≡ highs_right self.now 0 self.now.highs }
-    {
-        for (place, high) in self.highs.as_slice().iter().enumerate() {
-            if !self.right_high(place as u32, *high) {
-                return false;
-            }
-        }
-        true
-    }
-
-    /// Whether the offered packet is 0 or the last one, and the highs are right.
-    #[tactic(auto, unfolding(crate::specs::Users::right_offer))]
-    pub(crate) fn right_offer(&self) -> bool
-        requires { length self.now.highs ≤ 64 }
-        ensures { result ≡ offer_right self.now }
-    {
-        let highs = self.right_highs();
-        (self.offered == 0 || self.offered == self.last) && highs
-    }
-
-    /// Adds the highs.
-    fn write_highs(&self, out: &mut Bytes) -> Result<(), AllocError>
-        ensures { OnOk result (out.new ≡ out.old ++ u32s_text self.now.highs) }
-    {
-        for high in self.highs.as_slice() {
-            add_u32(out, *high)?;
-        }
-        Ok(())
-    }
-
-    /// Adds the record of the user.
+    /// Adds the record of the user in version 2, where there are so many conferences.
     #[tactic(auto, unfolding(crate::specs::Users::user_text))]
-    pub(crate) fn write(&self, out: &mut Bytes) -> Result<(), AllocError>
-        requires { length self.now.name < 2 ^ 16 }
-        ensures { OnOk result (out.new ≡ out.old ++ user_text self.now) }
+    pub(crate) fn write(&self, out: &mut Bytes, conferences: u16) -> Result<(), AllocError>
+        requires name { length self.now.name < 2 ^ 16 }
+        requires offers { length self.now.offers ≤ 4 }
+        ensures { OnOk result (out.new ≡ out.old ++ user_text Second conferences self.now) }
     {
         add_text(out, self.name.as_slice())?;
         add_byte(out, u8::from(self.net))?;
         add_u32(out, self.last)?;
-        add_u32(out, self.offered)?;
         add_u64(out, self.members)?;
-        self.write_highs(out)
+        add_cells(out, conferences, self.offers.as_slice())
     }
 }

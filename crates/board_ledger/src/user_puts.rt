@@ -15,7 +15,7 @@ use intent_journal::{Patch, Patches};
 use std::alloc::{AllocError, Global};
 
 /// The patches that turn the file of this ledger into that of the ledger with this user in a place, from 0, whose
-/// record is as long as that of the user there. Both ledgers are valid.
+/// name is as long as that of the user there, as then the record is. Both ledgers are valid.
 ///
 /// The error comes where there is no memory.
 pub fn user_patches(
@@ -29,10 +29,11 @@ pub fn user_patches(
     requires room { IsAsLong place user.now ledger.now }
     ensures puts { IfOk result (λ patches. patches ≡ puts_of place user.now ledger.now) }
     ensures files { IfOk result (λ patches. TurnsFile ledger_file (ledger_text ledger.now) (ledger_text (with_user_at place user.now ledger.now)) patches) }
-    ensures costs { IfOk result (λ patches. (length patches ≡ 1) × (byte_count patches ≤ 300)) }
+    ensures costs { IfOk result (λ patches. (length patches ≡ 1) × (byte_count patches ≤ 1080)) }
 {
+    let conferences = ledger.setup.conferences.len() as u16;
     let mut bytes = Bytes::new(alloc);
-    user.write(&mut bytes)?;
+    user.write(&mut bytes, conferences)?;
     let file = FileId::ledger();
     let at = user_place(ledger, place) as u32;
     let mut patches = Patches::new(alloc);

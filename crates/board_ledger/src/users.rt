@@ -1,20 +1,21 @@
 ghost use Rattle.std.specs.Prelude.{◌≡◌, ◌≤◌, ◌<◌, ◌+◌, ◌^◌, ◌++◌, ◌||◌, ℕ, List, [], ◌∷◌, length, map, nat_lt, not, All, IfOk, OnOk, Ok, None};
-ghost use Rattle.std.specs.List.{flat_map, list_any};
+ghost use Rattle.std.specs.List.{list_any};
 ghost use Rattle.std.specs.Str.{bytes_eq};
 ghost use Rattle.damage_rules.specs.Rules.{first_broken};
 ghost use Rattle.setup_file.specs.Texts.{is_user_name as is_name};
 ghost use Rattle.board_ledger.specs.Rules.{Gives};
 ghost use Rattle.board_ledger.specs.Met.{is_met};
 ghost use Rattle.board_ledger.specs.Records.{records_at};
-ghost use Rattle.board_ledger.specs.Users.{lowered as lowered_name, right_members, right_offer, user_text, user_at, IsUser};
+ghost use Rattle.board_ledger.specs.Users.{lowered as lowered_name, right_members, right_offers, users_text, user_at};
+ghost use Rattle.open_offers.specs.declared.version.Version.TheVariants.{Second};
 
 use crate::damaged::damaged;
 use crate::error::LedgerError;
 use crate::met::Met;
-use crate::texts::text_end;
 use crate::user::{User, Users};
 use byte_lists::Bytes;
 use jam_records::DamageRule;
+use open_offers::{Version, text_end};
 use setup_file::is_user_name;
 use std::alloc::{AllocError, Global};
 
@@ -26,10 +27,15 @@ fn lowered(alloc: Global, name: &[u8]) -> Result<Vec<u8>, AllocError>
 }
 
 /// The first rule that the user of a record breaks behind the name, where the flags are this byte.
-fn broken_behind_name(conferences: u16, user: &User, flags: u8) -> Option<DamageRule>
+fn broken_behind_name(
+    version: Version,
+    conferences: u16,
+    user: &User,
+    flags: u8,
+) -> Option<DamageRule>
     requires conferences { conferences ≤ 64 }
-    requires highs { length user.now.highs ≡ conferences }
-    ensures { result ≡ first_broken ((DamageRule.Flags, nat_lt 1 flags) ∷ (DamageRule.Member, not (right_members conferences user.now.members)) ∷ (DamageRule.Offer, not (right_offer user.now)) ∷ []) }
+    requires highs { All (λ o. length o.highs ≤ 64) user.now.offers }
+    ensures { result ≡ first_broken ((DamageRule.Flags, nat_lt 1 flags) ∷ (DamageRule.Member, not (right_members conferences user.now.members)) ∷ (DamageRule.Offer, not (right_offers version user.now)) ∷ []) }
 {
     if flags > 1 {
         return Some(DamageRule::Flags);
@@ -37,7 +43,7 @@ fn broken_behind_name(conferences: u16, user: &User, flags: u8) -> Option<Damage
     if !user.right_members(conferences) {
         return Some(DamageRule::Member);
     }
-    if !user.right_offer() {
+    if !user.right_offers(version) {
         return Some(DamageRule::Offer);
     }
     None
@@ -46,14 +52,15 @@ fn broken_behind_name(conferences: u16, user: &User, flags: u8) -> Option<Damage
 /// The first rule that the user of a record breaks, where the flags are this byte and the names before were met.
 fn broken_user(
     alloc: Global,
+    version: Version,
     conferences: u16,
     user: &User,
     flags: u8,
     names: &mut Met,
 ) -> Result<Option<DamageRule>, AllocError>
     requires conferences { conferences ≤ 64 }
-    requires highs { length user.now.highs ≡ conferences }
-    ensures rule { IfOk result (λ rule. rule ≡ first_broken ((DamageRule.Name, not (is_name user.now.name)) ∷ (DamageRule.Twice, is_met names.old (lowered_name user.now.name)) ∷ (DamageRule.Flags, nat_lt 1 flags) ∷ (DamageRule.Member, not (right_members conferences user.now.members)) ∷ (DamageRule.Offer, not (right_offer user.now)) ∷ [])) }
+    requires highs { All (λ o. length o.highs ≤ 64) user.now.offers }
+    ensures rule { IfOk result (λ rule. rule ≡ first_broken ((DamageRule.Name, not (is_name user.now.name)) ∷ (DamageRule.Twice, is_met names.old (lowered_name user.now.name)) ∷ (DamageRule.Flags, nat_lt 1 flags) ∷ (DamageRule.Member, not (right_members conferences user.now.members)) ∷ (DamageRule.Offer, not (right_offers version user.now)) ∷ [])) }
     ensures added { result ≡ Ok None → (key : List ℕ) → is_met names.new key ≡ (bytes_eq (lowered_name user.now.name) key || is_met names.old key) }
 {
     let name = user.name.as_slice();
@@ -63,13 +70,14 @@ fn broken_user(
     if names.add(alloc, &lowered(alloc, name)?)? {
         return Ok(Some(DamageRule::Twice));
     }
-    Ok(broken_behind_name(conferences, user, flags))
+    Ok(broken_behind_name(version, conferences, user, flags))
 }
 
 /// The user at the front, behind those before, whose names were met, and the length of the record.
-#[tactic(auto, unfolding(crate::specs::Users::user_at, crate::specs::Users::user_rules, crate::specs::Users::user_end, crate::specs::Users::user_of))]
+#[tactic(auto, unfolding(crate::specs::Users::user_at, crate::specs::Users::user_rules, crate::specs::Users::user_end, crate::specs::Users::record_of))]
 fn user_of(
     alloc: Global,
+    version: Version,
     conferences: u16,
     before: &[User],
     names: &mut Met,
@@ -78,7 +86,7 @@ fn user_of(
     requires conferences { conferences ≤ 64 }
     requires few { length before.now < 500 }
     requires met { (key : List ℕ) → is_met names.old key ≡ list_any (λ u. bytes_eq (lowered_name u.name) key) before.now }
-    ensures gives { Gives (λ x. x) result (user_at conferences before.now bytes.now) }
+    ensures gives { Gives (λ x. x) result (user_at version conferences before.now bytes.now) }
     ensures size { IfOk result (λ x. x.1 ≤ length bytes.now) }
     ensures added { IfOk result (λ x. (key : List ℕ) → is_met names.new key ≡ (bytes_eq (lowered_name x.0.name) key || is_met names.old key)) }
 {
@@ -86,46 +94,55 @@ fn user_of(
     let Some(place) = text_end(bytes, 0) else {
         return Err(damaged(item, DamageRule::Short));
     };
-    let end = place + User::size_behind_name(conferences);
+    let end = place + User::size_behind_name(version, conferences);
     if bytes.len() < end {
         return Err(damaged(item, DamageRule::Short));
     }
-    let user = User::read(alloc, conferences, place, bytes)?;
-    match broken_user(alloc, conferences, &user, bytes[place], names)? {
+    let user = User::read(alloc, version, conferences, place, bytes)?;
+    match broken_user(alloc, version, conferences, &user, bytes[place], names)? {
         Some(rule) => Err(damaged(item, rule)),
-        None => Ok((user, end)),
+        None => Ok((user.with_open(), end)),
     }
 }
 
 /// So many users, where there are so many conferences, and the bytes behind the last.
 pub(crate) fn users_of(
     alloc: Global,
+    version: Version,
     conferences: u16,
     count: u16,
     bytes: &[u8],
 ) -> Result<(Users, &[u8]), LedgerError>
     requires conferences { conferences ≤ 64 }
     requires count { count ≤ 500 }
-    ensures { Gives (λ x. (x.0, x.1.now)) result (records_at (user_at conferences) count [] bytes.now) }
+    ensures { Gives (λ x. (x.0, x.1.now)) result (records_at (user_at version conferences) count [] bytes.now) }
 {
     let mut users = Users::new(alloc);
     let mut names = Met::new(alloc);
     let mut rest = bytes;
     for _ in 0..count {
-        let (user, size) = user_of(alloc, conferences, users.as_slice(), &mut names, rest)?;
+        let (user, size) = user_of(
+            alloc,
+            version,
+            conferences,
+            users.as_slice(),
+            &mut names,
+            rest,
+        )?;
         users.add(user)?;
         rest = &rest[size..];
     }
     Ok((users, rest))
 }
 
-/// Adds the records of users.
-pub(crate) fn add_users(out: &mut Bytes, users: &[User]) -> Result<(), AllocError>
-    requires { All (λ u. length u.name < 2 ^ 16) users.now }
-    ensures { OnOk result (out.new ≡ out.old ++ flat_map user_text users.now) }
+/// Adds the records of users in version 2, where there are so many conferences.
+pub(crate) fn add_users(out: &mut Bytes, conferences: u16, users: &[User]) -> Result<(), AllocError>
+    requires names { All (λ u. length u.name < 2 ^ 16) users.now }
+    requires offers { All (λ u. length u.offers ≤ 4) users.now }
+    ensures { OnOk result (out.new ≡ out.old ++ users_text Second conferences users.now) }
 {
     for user in users {
-        user.write(out)?;
+        user.write(out, conferences)?;
     }
     Ok(())
 }

@@ -3,28 +3,29 @@ ghost use Rattle.std.specs.List.{flat_map};
 ghost use Rattle.byteorder.specs.Endian.{little_bytes};
 ghost use Rattle.board_ledger.specs.Opening.{fixed_text, setup_text};
 ghost use Rattle.board_ledger.specs.Ledger.{ledger_text as text_of};
-ghost use Rattle.board_ledger.specs.Valid.{IsLedger};
+ghost use Rattle.open_offers.specs.declared.version.Version.TheVariants.{Second};
+ghost use Rattle.board_ledger.specs.Valid.{IsLedger, today};
 ghost use Rattle.setup_file.specs.Valid.{IsSetup};
 
 use crate::conferences::add_conferences;
 use crate::ledger::Ledger;
-use crate::texts::{add_text, add_u16};
 use crate::uploads::add_uploads;
 use crate::users::add_users;
 use byte_lists::Bytes;
 use byteorder::{ByteOrder, LittleEndian};
+use open_offers::{add_text, add_u16};
 use setup_file::Setup;
 use std::alloc::{AllocError, Global};
 
-/// The first 24 bytes: the magic, the version, the counts, the moment and the serial number.
+/// Adds the first 24 bytes: the magic, version 2, the counts, the moment and the serial number.
 #[tactic(auto, unfolding(crate::specs::Opening::fixed_text))]
 fn add_fixed(out: &mut Bytes, ledger: &Ledger) -> Result<(), AllocError>
-    requires { IsLedger ledger.now }
-    ensures { OnOk result (out.new ≡ out.old ++ fixed_text ledger.now) }
+    requires { IsLedger (today ledger.now) }
+    ensures { OnOk result (out.new ≡ out.old ++ fixed_text Second ledger.now) }
 {
     let setup = &ledger.setup;
     let counts = [
-        1,
+        2,
         setup.conferences.len() as u16,
         ledger.users.len() as u16,
         setup.zones.len() as u16,
@@ -62,17 +63,18 @@ fn add_setup(out: &mut Bytes, setup: &Setup) -> Result<(), AllocError>
     add_zones(out, setup.zones.as_slice())
 }
 
-/// The text of a ledger.
-#[tactic(auto, unfolding(crate::specs::Ledger::ledger_text))]
+/// The text of a ledger in version 2.
+#[tactic(auto, unfolding(crate::specs::Ledger::text_in))]
 pub(crate) fn ledger_text(alloc: Global, ledger: &Ledger) -> Result<Bytes, AllocError>
-    requires { IsLedger ledger.now }
+    requires { IsLedger (today ledger.now) }
     ensures { IfOk result (λ bytes. bytes ≡ text_of ledger.now) }
 {
+    let conferences = ledger.setup.conferences.as_slice();
     let mut out = Bytes::new(alloc);
     add_fixed(&mut out, ledger)?;
     add_setup(&mut out, &ledger.setup)?;
-    add_conferences(&mut out, ledger.setup.conferences.as_slice())?;
-    add_users(&mut out, ledger.users.as_slice())?;
+    add_conferences(&mut out, conferences)?;
+    add_users(&mut out, conferences.len() as u16, ledger.users.as_slice())?;
     add_uploads(&mut out, ledger.uploads.as_slice())?;
     Ok(out)
 }

@@ -12,6 +12,9 @@ use Rattle.board_ledger.proofs.enroll_puts.enroll_patches.Goals as goal
 pub records_put-requires-clause-name : goal.records_put-requires-clause-name
 records_put-requires-clause-name c = omega (arith, user_small c.args.user.now.name (last_user c.args.ledger.now c.args.user.now c.requires.longer).name)
 
+pub records_put-requires-clause-offers : goal.records_put-requires-clause-offers
+records_put-requires-clause-offers c = (last_user c.args.ledger.now c.args.user.now c.requires.longer).offers.few
+
 pub returns-clause-puts : goal.returns-clause-puts
 returns-clause-puts c =
     two_patches c.new-patches.result c.add.new.self c.add-2.new.self c.in_ok-count_put.field-0 c.in_ok-records_put.field-0 _ _

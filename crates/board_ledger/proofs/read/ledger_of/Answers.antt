@@ -1,6 +1,5 @@
-use Rattle.std.proofs.Common.{◌∙◌, sym, ap, Ok}
+use Rattle.std.proofs.Common.{◌∙◌, sym, Ok}
 use Rattle.std.proofs.lemmas.Result.{err_from_is_err_and}
-use Rattle.setup_file.specs.declared.setup.Setup.{Setup}
 use Rattle.board_ledger.specs.Rules.{told}
 use Rattle.board_ledger.proofs.ReadingSteps.{opening_fails}
 use Rattle.board_ledger.proofs.read.ledger_of.Goals as goal
@@ -16,4 +15,4 @@ returns-in_err-conferences c =
     rw (p.1, p.2) c.in_err-conferences.ensures
 
 pub returns : goal.returns
-returns c = c.in_ok-conferences.ensures ∙ ap (λ (s : Setup). Ok (record { setup = s; created = c.in_ok-opening.opening.created; users = c.in_ok-conferences.users; uploads = c.in_ok-conferences.uploads })) (sym c.with_conferences.ensures)
+returns c = c.in_ok-conferences.ensures ∙ λ i. Ok (record { version = sym c.number.ensures i; setup = sym c.with_conferences.ensures i; created = c.in_ok-opening.opening.created; users = c.in_ok-conferences.users; uploads = c.in_ok-conferences.uploads })

@@ -14,14 +14,14 @@ use Rattle.board_ledger.proofs.users.users_of.Goals as goal
 pub returns-in_err-user : goal.returns-in_err-user
 returns-in_err-user c =
     let p = err_from_is_err_and c.from_residual.result c.from_residual.ensures.1 in
-    let failed = subst (λ (xs : List User). Stops (told c.in_err-user.field-0.0) (user_at c.args.conferences xs c.loop.rest.now)) c.as_slice.ensures c.in_err-user.ensures.gives in
-    rw (p.1, p.2) (records_fail (user_at c.args.conferences) (c.args.count - c.loop.counter) (c.args.count - (c.loop.counter + 1)) c.loop.users c.loop.rest.now (told c.in_err-user.field-0.0) _ (omega arith) failed c.loop.invariant.read)
+    let failed = subst (λ (xs : List User). Stops (told c.in_err-user.field-0.0) (user_at c.args.version c.args.conferences xs c.loop.rest.now)) c.as_slice.ensures c.in_err-user.ensures.gives in
+    rw (p.1, p.2) (records_fail (user_at c.args.version c.args.conferences) (c.args.count - c.loop.counter) (c.args.count - (c.loop.counter + 1)) c.loop.users c.loop.rest.now (told c.in_err-user.field-0.0) _ (omega arith) failed c.loop.invariant.read)
 
 pub loop-preserved : goal.loop-preserved
 loop-preserved c =
-    let read = ap (λ (xs : List User). user_at c.args.conferences xs c.loop.rest.now) (sym c.as_slice.ensures) ∙ c.in_ok-user.ensures.gives in
+    let read = ap (λ (xs : List User). user_at c.args.version c.args.conferences xs c.loop.rest.now) (sym c.as_slice.ensures) ∙ c.in_ok-user.ensures.gives in
     record {
-      read = records_more (user_at c.args.conferences) (c.args.count - c.loop.counter) (c.args.count - (c.loop.counter + 1)) c.loop.users c.add.new.self c.loop.rest.now _ (c.in_ok-user.user, c.in_ok-user.size) _ (omega arith) read c.in_ok-add.ensures.ok (take_rest c.loop.rest.now c.in_ok-user.size) c.loop.invariant.read;
+      read = records_more (user_at c.args.version c.args.conferences) (c.args.count - c.loop.counter) (c.args.count - (c.loop.counter + 1)) c.loop.users c.add.new.self c.loop.rest.now _ (c.in_ok-user.user, c.in_ok-user.size) _ (omega arith) read c.in_ok-add.ensures.ok (take_rest c.loop.rest.now c.in_ok-user.size) c.loop.invariant.read;
       many = ap length c.in_ok-add.ensures.ok ∙ (length_push c.loop.users c.in_ok-user.user ∙ ap (λ n. n + 1) c.loop.invariant.many);
       met = λ key.
           c.in_ok-user.ensures.added key ∙ (ap (λ b. bytes_eq (lowered c.in_ok-user.user.name) key || b) (c.loop.invariant.met key)
@@ -29,4 +29,4 @@ loop-preserved c =
     }
 
 pub returns : goal.returns
-returns c = records_done (user_at c.args.conferences) (c.args.count - c.loop.counter) c.loop.users c.loop.rest.now _ (omega arith) c.loop.invariant.read
+returns c = records_done (user_at c.args.version c.args.conferences) (c.args.count - c.loop.counter) c.loop.users c.loop.rest.now _ (omega arith) c.loop.invariant.read

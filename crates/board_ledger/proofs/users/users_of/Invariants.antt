@@ -9,7 +9,7 @@ use Rattle.board_ledger.proofs.users.users_of.Given as goal
 -- the users so far, and those that are still read, are those of the bytes, and the names so far were met
 abbrev pub invariant-loop : goal.invariant-loop
 invariant-loop l = record {
-  read : records_at (user_at l.conferences) (l.count - l.counter) l.users l.rest ≡ records_at (user_at l.conferences) l.count [] l.bytes;
+  read : records_at (user_at l.version l.conferences) (l.count - l.counter) l.users l.rest ≡ records_at (user_at l.version l.conferences) l.count [] l.bytes;
   many : length l.users ≡ l.counter;
   met : (key : List ℕ) → is_met l.names key ≡ list_any (λ u. bytes_eq (lowered u.name) key) l.users;
 }

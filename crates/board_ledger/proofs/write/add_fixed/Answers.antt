@@ -5,7 +5,7 @@ use Rattle.record_numbers.specs.Numbers.{u32s_text}
 use Rattle.board_ledger.specs.Opening.{magic, fixed_text}
 use Rattle.board_ledger.specs.declared.ledger.Ledger.{Ledger}
 use Rattle.board_ledger.proofs.SetupBounds.{zones_few}
-use Rattle.board_ledger.proofs.WritingLaws.{on_ok}
+use Rattle.open_offers.proofs.WritingLaws.{on_ok}
 use Rattle.board_ledger.proofs.write.add_fixed.Goals as goal
 
 pub overflow_cast-counts-3 : goal.overflow_cast-counts-3
@@ -18,8 +18,8 @@ three_parts : (out o1 o2 o3 a b c : List ℕ) → o1 ≡ out ++ a → o2 ≡ o1 
 three_parts out o1 o2 o3 a b c p q r = r ∙ (ap (λ x. x ++ c) (q ∙ ap (λ x. x ++ b) p) ∙ regroup out a b c)
 
 counted : (n m k : ℕ) (l : Ledger) → n ≡ length l.setup.conferences → m ≡ length l.users → k ≡ length l.setup.zones
-    → flat_map (little_bytes 2) (1 ∷ n ∷ m ∷ k ∷ []) ≡ flat_map (little_bytes 2) (1 ∷ length l.setup.conferences ∷ length l.users ∷ length l.setup.zones ∷ [])
-counted n m k l a b d = λ i. flat_map (little_bytes 2) (1 ∷ a i ∷ b i ∷ d i ∷ [])
+    → flat_map (little_bytes 2) (2 ∷ n ∷ m ∷ k ∷ []) ≡ flat_map (little_bytes 2) (2 ∷ length l.setup.conferences ∷ length l.users ∷ length l.setup.zones ∷ [])
+counted n m k l a b d = λ i. flat_map (little_bytes 2) (2 ∷ a i ∷ b i ∷ d i ∷ [])
 
 pub returns : goal.returns
 unfolding fixed_text
@@ -27,7 +27,7 @@ returns c =
     let l : Ledger = c.args.ledger.now in
     on_ok c.add-3.result _ _ c.add-3.ensures.ok (λ last.
     three_parts c.args.out.now c.add.new.self c.add-2.new.self c.add-3.new.self magic
-    (flat_map (little_bytes 2) (1 ∷ length l.setup.conferences ∷ length l.users ∷ length l.setup.zones ∷ [])) (u32s_text (length l.uploads ∷ l.created ∷ l.setup.serial ∷ []))
+    (flat_map (little_bytes 2) (2 ∷ length l.setup.conferences ∷ length l.users ∷ length l.setup.zones ∷ [])) (u32s_text (length l.uploads ∷ l.created ∷ l.setup.serial ∷ []))
     c.in_ok-add.ensures.ok
     (c.in_ok-add-2.ensures.ok ∙ ap (λ x. c.add.new.self ++ x) (c.write_u16_into.ensures ∙ counted c.len.result c.len-2.result c.len-3.result l c.len.ensures c.len-2.ensures c.len-3.ensures))
     (last ∙ ap (λ x. c.add-2.new.self ++ x) (c.write_u32_into.ensures ∙ ap (λ n. u32s_text (n ∷ l.created ∷ l.setup.serial ∷ [])) c.len-4.ensures)))

@@ -1,6 +1,6 @@
 use Rattle.std.proofs.Common.{◌≡◌}
-use Rattle.board_ledger.specs.Texts.{u16s_at}
-use Rattle.board_ledger.proofs.texts.u16s_at.Given as goal
+use Rattle.open_offers.specs.Texts.{u16s_at}
+use Rattle.open_offers.proofs.texts.u16s_at.Given as goal
 
 -- the numbers so far
 abbrev pub invariant-loop-i : goal.invariant-loop-i

@@ -1,6 +1,6 @@
 ghost use Rattle.std.specs.Prelude.{◌≡◌, ◌≤◌, ◌<◌, ◌+◌, ◌*◌, ◌^◌, ◌++◌, ◌∷◌, [], length, IfOk, OnOk, MatchOption};
 ghost use Rattle.record_numbers.specs.Numbers.{u16_text, u32_text};
-ghost use Rattle.board_ledger.specs.Texts.{sized_text, text_at as text_of, text_end as end_of, u16s_at as u16s_of, u32s_at as u32s_of, u64_at as u64_of, u64_text};
+ghost use Rattle.open_offers.specs.Texts.{sized_text, text_at as text_of, text_end as end_of, u16s_at as u16s_of, u32s_at as u32s_of, u64_at as u64_of, u64_text};
 
 use byte_lists::{Bytes, List};
 use byteorder::{ByteOrder, LittleEndian};
@@ -9,7 +9,7 @@ use std::alloc::{AllocError, Global};
 
 /// Where the text at a place ends, or None where it passes the end of the bytes.
 #[tactic(auto, unfolding(crate::specs::Texts::text_end))]
-pub(crate) fn text_end(bytes: &[u8], place: usize) -> Option<usize>
+pub fn text_end(bytes: &[u8], place: usize) -> Option<usize>
     requires { place ≤ length bytes.now }
     ensures { MatchOption result (length bytes.now < end_of place bytes.now) (λ end. (end ≡ end_of place bytes.now) × (end ≤ length bytes.now)) }
 {
@@ -25,7 +25,7 @@ pub(crate) fn text_end(bytes: &[u8], place: usize) -> Option<usize>
 
 /// The text at a place, which ends within the bytes.
 #[tactic(auto, unfolding(crate::specs::Texts::text_end, crate::specs::Texts::text_at))]
-pub(crate) fn text_at(bytes: &[u8], place: usize) -> &[u8]
+pub fn text_at(bytes: &[u8], place: usize) -> &[u8]
     requires { end_of place bytes.now ≤ length bytes.now }
     ensures { result.now ≡ text_of place bytes.now }
 {
@@ -35,7 +35,7 @@ pub(crate) fn text_at(bytes: &[u8], place: usize) -> &[u8]
 
 /// So many numbers of two bytes from a place on.
 #[tactic(auto, using(crate::proofs::TextLaws::u16s_more))]
-pub(crate) fn u16s_at(
+pub fn u16s_at(
     alloc: Global,
     bytes: &[u8],
     place: usize,
@@ -80,14 +80,14 @@ pub(crate) fn u64_at(bytes: &[u8], place: usize) -> u64
 }
 
 /// Adds a byte.
-pub(crate) fn add_byte(out: &mut Bytes, byte: u8) -> Result<(), AllocError>
+pub fn add_byte(out: &mut Bytes, byte: u8) -> Result<(), AllocError>
     ensures { OnOk result (out.new ≡ out.old ++ byte ∷ []) }
 {
     out.add(&[byte])
 }
 
 /// Adds the two bytes of a number.
-pub(crate) fn add_u16(out: &mut Bytes, n: u16) -> Result<(), AllocError>
+pub fn add_u16(out: &mut Bytes, n: u16) -> Result<(), AllocError>
     ensures { OnOk result (out.new ≡ out.old ++ u16_text n) }
 {
     let mut bytes = [0; 2];
@@ -96,7 +96,7 @@ pub(crate) fn add_u16(out: &mut Bytes, n: u16) -> Result<(), AllocError>
 }
 
 /// Adds the four bytes of a number.
-pub(crate) fn add_u32(out: &mut Bytes, n: u32) -> Result<(), AllocError>
+pub fn add_u32(out: &mut Bytes, n: u32) -> Result<(), AllocError>
     ensures { OnOk result (out.new ≡ out.old ++ u32_text n) }
 {
     let mut bytes = [0; 4];
@@ -105,7 +105,7 @@ pub(crate) fn add_u32(out: &mut Bytes, n: u32) -> Result<(), AllocError>
 }
 
 /// Adds the eight bytes of a number.
-pub(crate) fn add_u64(out: &mut Bytes, n: u64) -> Result<(), AllocError>
+pub fn add_u64(out: &mut Bytes, n: u64) -> Result<(), AllocError>
     ensures { OnOk result (out.new ≡ out.old ++ u64_text n) }
 {
     let mut bytes = [0; 8];
@@ -114,7 +114,7 @@ pub(crate) fn add_u64(out: &mut Bytes, n: u64) -> Result<(), AllocError>
 }
 
 /// Adds a text with its length.
-pub(crate) fn add_text(out: &mut Bytes, text: &[u8]) -> Result<(), AllocError>
+pub fn add_text(out: &mut Bytes, text: &[u8]) -> Result<(), AllocError>
     requires { length text.now < 2 ^ 16 }
     ensures { OnOk result (out.new ≡ out.old ++ sized_text text.now) }
 {

@@ -10,7 +10,7 @@ use Rattle.byte_lists.specs.Byte.{IsByte}
 use Rattle.record_numbers.specs.Numbers.{u16_at, u32_at, u16_text, u32_text, u32s_text}
 use Rattle.record_numbers.proofs.NumberFronts.{byte_small, u16_front, u32_front}
 use Rattle.record_numbers.proofs.NumberLemmas.{bytes_of_number, number_of_bytes}
-use Rattle.board_ledger.specs.Texts.{sized_text, text_at, text_end, u16s_at, u32s_at, u64_at, u64_text}
+use Rattle.open_offers.specs.Texts.{sized_text, text_at, text_end, u16s_at, u32s_at, u64_at, u64_text}
 
 -- ---- parts one behind the other
 pub glue : (whole a b rest behind : List ℕ) → whole ≡ a ++ behind → behind ≡ b ++ rest → whole ≡ (a ++ b) ++ rest

@@ -1,6 +1,6 @@
 use Rattle.std.proofs.Common.{◌≡◌, length}
-use Rattle.board_ledger.specs.Texts.{u32s_at}
-use Rattle.board_ledger.proofs.texts.u32s_at.Given as goal
+use Rattle.open_offers.specs.Texts.{u32s_at}
+use Rattle.open_offers.proofs.texts.u32s_at.Given as goal
 
 -- the numbers so far
 abbrev pub invariant-loop-i : goal.invariant-loop-i

@@ -1,8 +1,8 @@
 use Rattle.std.proofs.Common.{◌+◌, ◌∙◌, ◌++◌, ◌∷◌, [], ap, sym, length}
 use Rattle.std.proofs.lemmas.List.{length_push}
-use Rattle.board_ledger.specs.Texts.{u32s_at}
-use Rattle.board_ledger.proofs.TextLaws.{u32s_more}
-use Rattle.board_ledger.proofs.texts.u32s_at.Goals as goal
+use Rattle.open_offers.specs.Texts.{u32s_at}
+use Rattle.open_offers.proofs.TextLaws.{u32s_more}
+use Rattle.open_offers.proofs.texts.u32s_at.Goals as goal
 
 pub loop-i-preserved : goal.loop-i-preserved
 loop-i-preserved c = record {
