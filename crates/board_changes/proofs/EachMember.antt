@@ -4,12 +4,12 @@ use Rattle.std.specs.Prelude.{slice_get}
 use Rattle.std.specs.Int.{bit_at}
 use Rattle.std.proofs.lemmas.List.{append-nil}
 use Rattle.board_changes.proofs.EachBase.{turns_as}
-use Rattle.board_changes.proofs.EachBoard.{gathered_leads, leads_as, step_each}
+use Rattle.board_changes.proofs.EachBoard.{gathered_leads, step_each}
 use Rattle.board_changes.proofs.LedgerPuts.{gathered_enroll}
 use Rattle.board_changes.proofs.MemberLaws.{joined_is, next_base, next_in, same_base}
 use Rattle.board_changes.proofs.PlaceSteps.{step_joins}
 use Rattle.board_changes.proofs.UserSizes.{members_are}
-use Rattle.board_changes.specs.Changed.{enrolled, joined_from, joined_in, new_user, with_member, with_user}
+use Rattle.board_changes.specs.Changed.{joined_from, joined_in, with_member, with_user}
 use Rattle.board_changes.specs.Gathered.{Gathered, Joins}
 use Rattle.board_changes.specs.Outlined.{ChangesEach, GatheredEach, KeepsEach, LeadsEach}
 use Rattle.board_layout.proofs.OneOutline.{alike_ledger, alike_valid}
@@ -105,8 +105,3 @@ member_begun b u intent is = record {
 
 pub member_leads : (b : Board) (u : User) (intent : List Patch) → IsBoard (with_member u b) → GatheredEach b (with_member u) (length b.conferences) intent → LeadsEach b (with_member u) intent
 member_leads b u intent next gathered = gathered_leads b (with_member u) intent (member_keeps b u next) (λ other alike. refl) gathered
-
-pub enrolled_leads : (b : Board) (name : List ℕ) (net : Bool) (members : ℕ) (intent : List Patch) → LeadsEach b (with_member (new_user name net members (length b.ledger.setup.conferences))) intent → LeadsEach b (enrolled name net members) intent
-enrolled_leads b name net members intent each =
-    leads_as b (with_member (new_user name net members (length b.ledger.setup.conferences))) (enrolled name net members) intent
-    (λ other alike. ap (λ (l : Ledger). with_member (new_user name net members (length l.setup.conferences)) other) (sym (alike_ledger other b alike))) each

@@ -1,25 +1,26 @@
 -- A board with a user more is valid just where the user may be enrolled and the files stay small enough.
-use Rattle.std.proofs.Common.{◌≡◌, ℕ, zero, suc, ◌+◌, ◌<◌, ◌≤◌, Bool, true, false, ◌&&◌, not, List, [], ◌∷◌, ◌++◌, length, replicate, refl, sym, ◌∙◌, subst, arith, append_assoc, length-append, rules}
+use Rattle.std.proofs.Common.{◌≡◌, ℕ, ◌+◌, ◌<◌, ◌≤◌, Bool, true, false, ◌&&◌, not, List, [], ◌∷◌, ◌++◌, length, refl, sym, ◌∙◌, subst, arith, append_assoc, length-append}
 use Rattle.std.specs.Prelude.{All, nat_le, nat_lt}
-use Rattle.std.proofs.Math.ListN.{length-replicate}
+use Rattle.std.specs.List.{list_all}
 use Rattle.std.proofs.lemmas.Bool.{and_from, and_parts, ltb-true, lt-ltb, not-true, not_from_false}
 use Rattle.std.proofs.lemmas.List.{append-nil}
-use Rattle.std.proofs.lemmas.List.Elements.{All-append, All-nil, All-cons, All-drop, All-replicate}
+use Rattle.std.proofs.lemmas.List.Elements.{All-append, All-nil, All-cons, All-drop}
 use Rattle.board_changes.specs.Changed.{joined_from, new_user, with_user, enrolled}
 use Rattle.board_changes.specs.Enrolling.{is_free, may_enroll}
 use Rattle.board_changes.proofs.UserSizes.{slots_stay, members_are}
 use Rattle.board_layout.specs.Board.{Board}
 use Rattle.board_layout.specs.Layout.{board_size}
-use Rattle.board_layout.specs.Valid.{IsBoard, board_limit, highs_fit}
+use Rattle.board_layout.specs.Valid.{IsBoard, board_limit, highs_fit, offers_fit}
+use Rattle.open_offers.specs.Offers.{IsOffer}
 use Rattle.board_ledger.specs.Records.{EachBehind}
 use Rattle.board_ledger.specs.Uploads.{IsUpload}
-use Rattle.board_ledger.specs.Users.{IsUser, is_taken, right_members, right_highs, right_offer}
+use Rattle.board_ledger.specs.Users.{IsUser, is_taken, right_members}
 use Rattle.board_ledger.specs.Valid.{IsLedger}
 use Rattle.board_ledger.specs.declared.ledger.Ledger.{Ledger}
+use Rattle.open_offers.specs.declared.offer.OpenOffer.{OpenOffer}
 use Rattle.board_ledger.specs.declared.upload.UploadRecord.{UploadRecord}
 use Rattle.board_ledger.specs.declared.user.User.{User}
 use Rattle.jam_layout.specs.declared.conference.Conference.{Conference}
-use Rattle.record_numbers.specs.Numbers.{IsU32}
 use Rattle.setup_file.specs.Texts.{is_user_name}
 
 -- ---- highs
@@ -28,25 +29,16 @@ highs_stay members place [] highs = refl
 highs_stay members place (c ∷ conferences) [] = refl
 highs_stay members place (c ∷ conferences) (high ∷ highs) = λ i. nat_le high (length (slots_stay members place c i)) && highs_stay members (place + 1) conferences highs i
 
-pub zeros_fit : (conferences : List Conference) (count : ℕ) → highs_fit conferences (replicate count 0) ≡ true
-zeros_fit [] count = refl
-zeros_fit (c ∷ conferences) zero = refl
-zeros_fit (c ∷ conferences) (suc n) = and_from (nat_le 0 (length c.slots)) (highs_fit conferences (replicate n 0)) (search rules) (zeros_fit conferences n)
+offers_stay : (members place : ℕ) (conferences : List Conference) (offers : List OpenOffer) → offers_fit (joined_from members place conferences) offers ≡ offers_fit conferences offers
+offers_stay members place conferences offers = λ i. list_all (λ o. highs_stay members place conferences o.highs i) offers
 
 -- ---- the new user
-pub zeros_right : (u : User) (place n : ℕ) → right_highs u place (replicate n 0) ≡ true
-zeros_right u place zero = refl
-zeros_right u place (suc n) = zeros_right u (place + 1) n
-
-new_user_is : (name : List ℕ) (net : Bool) (members count : ℕ) → is_user_name name ≡ true → right_members count members ≡ true → IsUser count (new_user name net members count)
-unfolding right_offer
+new_user_is : (name : List ℕ) (net : Bool) (members count : ℕ) → is_user_name name ≡ true → right_members count members ≡ true → IsUser count (new_user name net members)
 new_user_is name net members count named placed = record {
   name = named;
   members = placed;
   last = omega arith;
-  offer = zeros_right (new_user name net members count) 0 count;
-  one_high_each = length-replicate {A = ℕ} count 0;
-  highs = All-replicate IsU32 count 0 (omega arith);
+  offers = record { few = omega arith; each = All-nil (IsOffer count members); rise = tt };
 }
 
 -- ---- one item behind others
@@ -82,6 +74,7 @@ parts l u may =
 
 ledger_is : (l : Ledger) (u : User) → IsLedger l → IsUser (length l.setup.conferences) u → MayHave l u → IsLedger (with_user u l)
 ledger_is l u ok user may = record {
+  version = ok.version;
   setup = ok.setup;
   created = ok.created;
   few_users = omega (arith, length-append l.users (u ∷ []), may.few);
@@ -107,7 +100,7 @@ was_enrollable l u next =
 -- ---- the whole board
 module _ (b : Board) (name : List ℕ) (net : Bool) (members : ℕ) where
   user : User
-  user = new_user name net members (length b.ledger.setup.conferences)
+  user = new_user name net members
 
   pub board_fits : IsBoard b → may_enroll b.ledger name members ≡ true → board_size (enrolled name net members b) ≤ board_limit → IsBoard (enrolled name net members b)
   unfolding user
@@ -117,9 +110,9 @@ module _ (b : Board) (name : List ℕ) (net : Bool) (members : ℕ) where
       record {
         ledger = ledger_is b.ledger user ok.ledger new has;
         conferences = members_are b user ok;
-        highs = All-append (λ (u : User). highs_fit (joined_from members 0 b.conferences) u.highs ≡ true) b.ledger.users (user ∷ [])
-            (λ k d within. highs_stay members 0 b.conferences _ ∙ ok.highs k d within)
-            (one_all (λ (u : User). highs_fit (joined_from members 0 b.conferences) u.highs ≡ true) user (highs_stay members 0 b.conferences _ ∙ zeros_fit b.conferences (length b.ledger.setup.conferences)));
+        highs = All-append (λ (u : User). offers_fit (joined_from members 0 b.conferences) u.offers ≡ true) b.ledger.users (user ∷ [])
+            (λ k d within. offers_stay members 0 b.conferences _ ∙ ok.highs k d within)
+            (one_all (λ (u : User). offers_fit (joined_from members 0 b.conferences) u.offers ≡ true) user refl);
         small = small;
       }
 

@@ -6,12 +6,13 @@ use Rattle.std.proofs.lemmas.List.Elements.{All-drop}
 use Rattle.board_ledger.specs.Conferences.{conference_text}
 use Rattle.board_ledger.specs.Ledger.{ledger_text}
 use Rattle.board_ledger.specs.Opening.{setup_text}
-use Rattle.board_ledger.specs.Users.{user_text, IsUser}
+use Rattle.board_ledger.specs.Users.{user_text, users_text, IsUser}
 use Rattle.board_ledger.specs.Valid.{IsLedger}
 use Rattle.board_ledger.specs.declared.ledger.Ledger.{Ledger}
 use Rattle.board_ledger.specs.declared.user.User.{User}
+use Rattle.open_offers.specs.declared.version.Version.TheVariants.{Second}
 use Rattle.board_ledger.proofs.SetupBounds.{board_small, user_small, bbsid_small, name_small, zones_few}
-use Rattle.board_ledger.proofs.SizeLaws.{ledger_length, setup_length, conference_length, user_length}
+use Rattle.board_ledger.proofs.SizeLaws.{behind_most, ledger_length, setup_length, conference_length, user_length}
 use Rattle.setup_file.specs.Valid.{IsSetup, IsSetupConference}
 use Rattle.setup_file.specs.declared.conference.Conference.{Conference as SetupConference}
 use Rattle.setup_file.specs.declared.setup.Setup.{Setup}
@@ -40,24 +41,23 @@ conferences_at_most (c ∷ conferences) each =
       conferences_at_most conferences (All-drop IsSetupConference 1 (c ∷ conferences) each),
     )
 
-users_at_most : (count : ℕ) (users : List User) → count ≤ 64 → All (IsUser count) users → length (flat_map user_text users) ≤ 300 * length users
+users_at_most : (count : ℕ) (users : List User) → count ≤ 64 → All (IsUser count) users → length (users_text Second count users) ≤ 1080 * length users
 users_at_most count [] many each = omega arith
 users_at_most count (u ∷ users) many each =
     let here : IsUser count u = each 0 u (omega arith) in
     omega (
       arith,
-      length-append (user_text u) (flat_map user_text users),
-      user_length u,
+      length-append (user_text Second count u) (users_text Second count users),
+      user_length Second count u here,
       user_small u.name here.name,
-      here.one_high_each,
-      many,
+      behind_most Second count many,
       users_at_most count users many (All-drop (IsUser count) 1 (u ∷ users) each),
     )
 
 pub ledger_at_most : (l : Ledger) → IsLedger l → length (ledger_text l) ≤ 5000000
 ledger_at_most l ok = omega (
   arith,
-  ledger_length l (λ k d within. (ok.uploads k d within).digest),
+  ledger_length Second l (λ k d within. (ok.uploads k d within).digest),
   setup_at_most l.setup ok.setup,
   conferences_at_most l.setup.conferences ok.setup.conferences.each,
   users_at_most (length l.setup.conferences) l.users ok.setup.conferences.many ok.users,

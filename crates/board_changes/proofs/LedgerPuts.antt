@@ -13,8 +13,7 @@ use Rattle.board_ledger.specs.EnrollPuts.{enroll_puts}
 use Rattle.board_ledger.specs.Ledger.{ledger_text}
 use Rattle.board_ledger.specs.OneFile.{TurnsFile}
 use Rattle.board_ledger.specs.Uploads.{upload_text}
-use Rattle.board_ledger.specs.UserPuts.{user_place}
-use Rattle.board_ledger.specs.Users.{user_text}
+use Rattle.board_ledger.specs.UserPuts.{record_in, user_place}
 use Rattle.board_ledger.specs.Valid.{IsLedger}
 use Rattle.board_ledger.specs.declared.ledger.Ledger.{Ledger}
 use Rattle.board_ledger.specs.declared.user.User.{User}
@@ -95,7 +94,7 @@ two_begin next bytes others at place ends then short =
 module _ (l : Ledger) (u : User) where
   enroll_begins : Begins (ledger_text (with_user u l)) (enroll_puts l u)
   enroll_begins =
-      let put : List ℕ = user_text u ++ flat_map upload_text l.uploads in
+      let put : List ℕ = record_in l u ++ flat_map upload_text l.uploads in
       let late = put_begins l u in
       let ends = put_ends l u in
       two_begin (ledger_text (with_user u l)) (u16_text (length l.users + 1)) put 8 (user_place (length l.users) l) (omega (arith, late, ends)) (omega (arith, ends)) (omega (arith, late, ends))

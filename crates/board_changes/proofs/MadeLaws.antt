@@ -15,7 +15,7 @@ use Rattle.board_changes.proofs.PlaceLaws.{empty_in, layout_in}
 use Rattle.board_layout.proofs.BasePlaces.{shapes_count, layouts_count}
 use Rattle.board_layout.specs.Board.{shape_of, shapes_from, shapes_of}
 use Rattle.board_layout.specs.Layout.{AreEmpty, layouts}
-use Rattle.board_layout.specs.Valid.{IsBoard, highs_fit}
+use Rattle.board_layout.specs.Valid.{IsBoard, offers_fit}
 use Rattle.board_ledger.specs.Ledger.{ledger_text}
 use Rattle.board_ledger.specs.Uploads.{IsUpload}
 use Rattle.board_ledger.specs.Users.{IsUser}
@@ -23,6 +23,7 @@ use Rattle.board_ledger.specs.Valid.{IsLedger}
 use Rattle.board_ledger.specs.declared.ledger.Ledger.{Ledger}
 use Rattle.board_ledger.specs.declared.upload.UploadRecord.{UploadRecord}
 use Rattle.board_ledger.specs.declared.user.User.{User}
+use Rattle.open_offers.specs.declared.version.Version.TheVariants.{Second}
 use Rattle.board_ledger.proofs.SizeLaws.{ledger_length}
 use Rattle.intent_journal.specs.declared.patch.Patch.{Patch}
 use Rattle.jam_base.specs.Change.{Turns, SuitsIntent}
@@ -42,6 +43,7 @@ use Rattle.setup_file.specs.declared.setup.Setup.{Setup}
 -- ---- the ledger
 pub new_is_ledger : (setup : Setup) (created : ℕ) → IsSetup setup → IsU32 created → IsLedger (new_ledger setup created)
 new_is_ledger setup created ok small = record {
+  version = refl;
   setup = ok;
   created = small;
   few_users = omega arith;
@@ -55,7 +57,7 @@ new_is_ledger setup created ok small = record {
 ledger_small : (setup : Setup) (created : ℕ) → IsSetup setup → length (ledger_text (new_ledger setup created)) ≤ 2000
 ledger_small setup created ok = omega (
   arith,
-  ledger_length (new_ledger setup created) (All-nil (λ (r : UploadRecord). length r.digest ≡ 32)),
+  ledger_length Second (new_ledger setup created) (All-nil (λ (r : UploadRecord). length r.digest ≡ 32)),
   setup_at_most setup ok,
   conferences_at_most setup.conferences ok.conferences.each,
   ok.conferences.many,
@@ -132,7 +134,7 @@ new_is_board setup created ok small =
     record {
       ledger = new_is_ledger setup created ok small;
       conferences = are_conferences (shapes_of l);
-      highs = All-nil (λ (u : User). IsTrue (highs_fit (empty_conferences (shapes_of l)) u.highs));
+      highs = All-nil (λ (u : User). IsTrue (offers_fit (empty_conferences (shapes_of l)) u.offers));
       small = omega (arith, ledger_small setup created ok, files_small setup created 0 setup.conferences, ok.conferences.many);
     }
 

@@ -19,8 +19,9 @@ use Rattle.board_layout.proofs.SizeLaws.{size_in}
 use Rattle.board_layout.specs.Board.{Board, board_with, conferences_in, shapes_in, shapes_of}
 use Rattle.board_layout.specs.Layout.{IsLayout, base_files, base_size, board_size, files_in, layouts}
 use Rattle.board_layout.specs.Renewed.{contents, contents_of, renewed}
-use Rattle.board_layout.specs.Valid.{IsBoard, board_limit, highs_fit}
+use Rattle.board_layout.specs.Valid.{IsBoard, board_limit, highs_fit, offers_fit}
 use Rattle.board_ledger.specs.Ledger.{ledger_text}
+use Rattle.open_offers.specs.declared.offer.OpenOffer.{OpenOffer}
 use Rattle.board_ledger.specs.declared.user.User.{User}
 use Rattle.jam_base.specs.Change.{SuitsIntent, Turns}
 use Rattle.jam_base.specs.Contents.{Contents}
@@ -88,6 +89,13 @@ highs_set (b ∷ bases) (suc place) old new (high ∷ highs) here more fit =
     let parts = and_parts (leb high (length b.conference.slots)) (highs_fit (conferences_in bases) highs) fit in
     and_from (leb high (length b.conference.slots)) (highs_fit (conferences_in (set bases place new)) highs) parts.0 (highs_set bases place old new highs here more parts.1)
 
+-- offers whose highs fit old conferences fit new ones, where all highs do
+pub still_fit : (old new : List Conference) → ((highs : List ℕ) → highs_fit old highs ≡ true → highs_fit new highs ≡ true) → (offers : List OpenOffer) → offers_fit old offers ≡ true → offers_fit new offers ≡ true
+still_fit old new still [] fit = refl
+still_fit old new still (o ∷ offers) fit =
+    let parts = and_parts (highs_fit old o.highs) (offers_fit old offers) fit in
+    and_from (highs_fit new o.highs) (offers_fit new offers) (still o.highs parts.0) (still_fit old new still offers parts.1)
+
 -- ---- bases anew
 renewed_nones : (olds : List Contents) (n : ℕ) → renewed olds (replicate n None) ≡ olds
 renewed_nones olds zero = none_new olds
@@ -148,10 +156,13 @@ module _ (b : Board) (place : ℕ) (old new : Contents) (ok : IsBoard b) (here :
       record {
         ledger = ok.ledger;
         conferences = subst (λ (s : List Shape). AllZip IsConference s (conferences_in (set (contents_of b) place new))) shapes_stay (zipped (set (contents_of b) place new) all);
-        highs = All-weaker (λ (u : User). highs_fit b.conferences u.highs ≡ true) (λ (u : User). highs_fit (conferences_in (set (contents_of b) place new)) u.highs ≡ true)
-            (λ u fit. highs_set (contents_of b) place old new u.highs here more (subst (λ (cs : List Conference). highs_fit cs u.highs ≡ true) (sym conferences_are) fit)) b.ledger.users ok.highs;
+        highs = All-weaker (λ (u : User). offers_fit b.conferences u.offers ≡ true) (λ (u : User). offers_fit (conferences_in (set (contents_of b) place new)) u.offers ≡ true)
+            (λ u fit. still_fit b.conferences (conferences_in (set (contents_of b) place new)) still u.offers fit) b.ledger.users ok.highs;
         small = small;
       }
+    where
+      still : (highs : List ℕ) → highs_fit b.conferences highs ≡ true → highs_fit (conferences_in (set (contents_of b) place new)) highs ≡ true
+      still highs fit = highs_set (contents_of b) place old new highs here more (subst (λ (cs : List Conference). highs_fit cs highs ≡ true) (sym conferences_are) fit)
 
   new_there : slice_get (set (contents_of b) place new) place ≡ Some new
   new_there = set_there (contents_of b) place old new here

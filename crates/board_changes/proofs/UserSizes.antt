@@ -1,12 +1,12 @@
 -- What a user more makes of the conferences of a board, and how many bytes it adds to the files.
-use Rattle.std.proofs.Common.{◌≡◌, ℕ, zero, suc, ◌+◌, ◌*◌, ◌≤◌, Bool, true, false, cond, eqb, List, [], ◌∷◌, ◌++◌, length, refl, sym, ap, ◌∙◌, subst, arith, length-append}
+use Rattle.std.proofs.Common.{◌≡◌, ℕ, zero, suc, ◌+◌, ◌*◌, ◌≤◌, Bool, true, false, cond, eqb, List, [], ◌∷◌, ◌++◌, length, replicate, refl, sym, ap, ◌∙◌, subst, arith, length-append}
 use Rattle.std.specs.Prelude.{All, sum_by}
-use Rattle.std.specs.List.{AllZip, flat_map}
+use Rattle.std.specs.List.{AllZip}
 use Rattle.std.specs.Int.{bit_at}
-use Rattle.std.proofs.lemmas.List.{append-nil}
+use Rattle.std.proofs.lemmas.List.{append-nil, length-replicate}
 use Rattle.std.proofs.lemmas.List.Sums.{sum_by-cons}
-use Rattle.std.proofs.lemmas.List.Elements.{All-append, All-nil, All-cons}
-use Rattle.board_changes.specs.Changed.{joined_in, joined_from, with_user, with_member}
+use Rattle.std.proofs.lemmas.List.Elements.{All-append, All-nil, All-cons, All-replicate}
+use Rattle.board_changes.specs.Changed.{joined_in, joined_from, new_user, with_user, with_member}
 use Rattle.board_changes.specs.Enrolling.{one_if_joined, joined_count}
 use Rattle.board_changes.proofs.LeadLaws.{zipped_count}
 use Rattle.board_changes.proofs.MemberLaws.{readers_more}
@@ -14,12 +14,16 @@ use Rattle.board_layout.proofs.BasePlaces.{shapes_count}
 use Rattle.board_layout.specs.Board.{Board, reader_of, readers_from, shape_of, shapes_from, shapes_of}
 use Rattle.board_layout.specs.Layout.{board_size, layouts}
 use Rattle.board_layout.specs.Valid.{IsBoard}
-use Rattle.board_ledger.proofs.SizeLaws.{ledger_length, user_length}
+use Rattle.board_ledger.proofs.SizeLaws.{flat_length, ledger_length}
 use Rattle.board_ledger.specs.Ledger.{ledger_text}
-use Rattle.board_ledger.specs.Users.{user_text}
+use Rattle.open_offers.specs.Offers.{behind_last, cell_text, cells_for, no_offer}
+use Rattle.board_ledger.specs.UserPuts.{record_in}
+use Rattle.board_ledger.specs.Users.{user_text, users_text}
 use Rattle.board_ledger.specs.Valid.{IsLedger}
 use Rattle.board_ledger.specs.declared.ledger.Ledger.{Ledger}
+use Rattle.open_offers.specs.declared.offer.OpenOffer.{OpenOffer}
 use Rattle.board_ledger.specs.declared.user.User.{User}
+use Rattle.open_offers.specs.declared.version.Version.TheVariants.{Second}
 use Rattle.jam_layout.proofs.SlotSizes.{size_is}
 use Rattle.jam_layout.specs.Layout.{layout, files_size}
 use Rattle.jam_layout.specs.Sizes.{slot_size}
@@ -29,6 +33,7 @@ use Rattle.jam_layout.specs.declared.reader.Reader.{Reader}
 use Rattle.jam_layout.specs.declared.shape.Shape.{Shape}
 use Rattle.jam_records.specs.declared.message.Kind.{Kind}
 use Rattle.jam_records.specs.declared.message.Slot.{Slot}
+use Rattle.record_numbers.specs.Numbers.{u32_text}
 use Rattle.setup_file.specs.declared.conference.Conference.{Conference as SetupConference}
 
 -- ---- the conference of a place
@@ -105,16 +110,31 @@ joined_sizes l u place (c ∷ cs) (d ∷ conferences) all =
     omega (arith, here, others, old, new)
 
 -- ---- the ledger
-users_length : (users : List User) (u : User) → length (flat_map user_text (users ++ u ∷ [])) ≡ length (flat_map user_text users) + length (user_text u)
-users_length [] u = omega (arith, length-append (user_text u) [])
-users_length (v ∷ users) u =
-    omega (arith, users_length users u, length-append (user_text v) (flat_map user_text (users ++ u ∷ [])), length-append (user_text v) (flat_map user_text users))
+users_length : (count : ℕ) (users : List User) (u : User) → length (users_text Second count (users ++ u ∷ [])) ≡ length (users_text Second count users) + length (user_text Second count u)
+users_length count [] u = omega (arith, length-append (user_text Second count u) [])
+users_length count (v ∷ users) u =
+    omega (arith, users_length count users u, length-append (user_text Second count v) (users_text Second count (users ++ u ∷ [])), length-append (user_text Second count v) (users_text Second count users))
 
-user_ledger : (l : Ledger) (u : User) → IsLedger l → length (ledger_text (with_user u l)) ≡ length (ledger_text l) + (2 + length u.name + (17 + 4 * length u.highs))
+user_ledger : (l : Ledger) (u : User) → IsLedger l → length (ledger_text (with_user u l)) ≡ length (ledger_text l) + length (record_in l u)
 user_ledger l u ok =
-    let old = ledger_length l (λ k d within. (ok.uploads k d within).digest) in
-    let new = ledger_length (with_user u l) (λ k d within. (ok.uploads k d within).digest) in
-    omega (arith, old, new, users_length l.users u, user_length u)
+    let old = ledger_length Second l (λ k d within. (ok.uploads k d within).digest) in
+    let new = ledger_length Second (with_user u l) (λ k d within. (ok.uploads k d within).digest) in
+    omega (arith, old, new, users_length (length l.setup.conferences) l.users u)
+
+no_offer_length : (count : ℕ) → length (cell_text (no_offer count)) ≡ 4 + 4 * count
+no_offer_length count =
+    let zeros = flat_length u32_text 4 (replicate count 0) (λ k d within. refl) in
+    omega (arith, zeros, length-replicate {A = ℕ} count 0)
+
+-- the record of a user who was never offered a packet
+pub new_length : (count : ℕ) (name : List ℕ) (net : Bool) (members : ℕ) → length (user_text Second count (new_user name net members)) ≡ 31 + length name + 16 * count
+unfolding user_text
+new_length count name net members =
+    let cells : List OpenOffer = cells_for count 4 [] in
+    let none = no_offer_length count in
+    let behind = flat_length cell_text (4 + 4 * count) cells (All-replicate (λ (o : OpenOffer). length (cell_text o) ≡ 4 + 4 * count) 4 (no_offer count) none) in
+    let product : (4 + 4 * count) * 4 ≡ 16 + 16 * count = omega arith in
+    omega (arith, behind, product, length-append name (cond net 1 0 ∷ (u32_text 0 ++ behind_last Second members cells)))
 
 -- ---- the places of a member set, counted one by one
 pub one_at_most : (members place : ℕ) → one_if_joined members place ≤ 1
@@ -144,7 +164,7 @@ joined_more members n =
 pub conferences_count : (b : Board) → IsBoard b → length b.conferences ≡ length b.ledger.setup.conferences
 conferences_count b ok = sym (zipped_count IsConference (shapes_of b.ledger) b.conferences ok.conferences) ∙ shapes_count b.ledger 0 b.ledger.setup.conferences
 
-pub member_size : (b : Board) (u : User) → IsBoard b → board_size (with_member u b) ≡ board_size b + (2 + length u.name + (17 + 4 * length u.highs)) + 16 * joined_count u.members 0 (length b.conferences)
+pub member_size : (b : Board) (u : User) → IsBoard b → board_size (with_member u b) ≡ board_size b + length (record_in b.ledger u) + 16 * joined_count u.members 0 (length b.conferences)
 member_size b u ok =
     let ledger = user_ledger b.ledger u ok.ledger in
     let files = joined_sizes b.ledger u 0 b.ledger.setup.conferences b.conferences ok.conferences in

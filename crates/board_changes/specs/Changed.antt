@@ -1,5 +1,5 @@
 -- Boards after a change.
-use Rattle.std.specs.Prelude.{ℕ, ◌+◌, List, [], ◌∷◌, ◌++◌, length, replicate, slice_get, slice_set, Option, Some, None, Bool, ◌==◌, if◌then◌else◌}
+use Rattle.std.specs.Prelude.{ℕ, ◌+◌, List, [], ◌∷◌, ◌++◌, slice_get, slice_set, Option, Some, None, Bool, ◌==◌, if◌then◌else◌}
 use Rattle.std.specs.Int.{bit_at}
 use Rattle.board_ledger.specs.declared.ledger.Ledger.{Ledger}
 use Rattle.board_ledger.specs.declared.user.User.{User}
@@ -12,7 +12,7 @@ use Rattle.setup_file.specs.declared.setup.Setup.{Setup}
 
 -- ---- a new board
 abbrev pub new_ledger : Setup → ℕ → Ledger
-new_ledger setup created = record { setup = setup; created = created; users = []; uploads = [] }
+new_ledger setup created = record { version = 2; setup = setup; created = created; users = []; uploads = [] }
 
 -- a conference without slots for each shape
 abbrev pub empty_conferences : List Shape → List Conference
@@ -24,15 +24,14 @@ abbrev pub made : Setup → ℕ → Board
 made setup created = record { ledger = new_ledger setup created; conferences = empty_conferences (shapes_of (new_ledger setup created)) }
 
 -- ---- a user more
--- a user who was never offered a packet, on a board of so many conferences
-abbrev pub new_user : List ℕ → Bool → ℕ → ℕ → User
-new_user name net members count = record {
+-- a user who was never offered a packet
+abbrev pub new_user : List ℕ → Bool → ℕ → User
+new_user name net members = record {
   name = name;
   net = net;
   members = members;
   last = 0;
-  offered = 0;
-  highs = replicate count 0;
+  offers = [];
 }
 
 -- the pointer of a new member in this place is 0
@@ -53,7 +52,7 @@ with_member user b = record { ledger = with_user user b.ledger; conferences = jo
 
 -- the board with a user of this name behind the others, a member of a set of places
 abbrev pub enrolled : List ℕ → Bool → ℕ → Board → Board
-enrolled name net members b = with_member (new_user name net members (length b.ledger.setup.conferences)) b
+enrolled name net members b = with_member (new_user name net members) b
 
 -- ---- one conference changed
 -- the base of a place, where there is one

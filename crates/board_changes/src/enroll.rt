@@ -12,31 +12,22 @@ use crate::change::BoardChange;
 use crate::copy::copy_of;
 use crate::gather::{add_all, intent_with};
 use board_layout::StoredBoard;
-use board_ledger::{Highs, Ledger, User, enroll_patches};
+use board_ledger::{Ledger, Offers, User, enroll_patches};
 use byte_lists::{Bytes, Duplicate, List};
 use intent_journal::Intent;
 use jam_base::Base;
 use std::alloc::{AllocError, Global};
 
-/// A user whom no packet was ever offered, on a board of so many conferences.
-fn new_user(
-    alloc: Global,
-    name: &[u8],
-    net: bool,
-    members: u64,
-    count: usize,
-) -> Result<User, AllocError>
-    ensures { IfOk result (λ user. user ≡ new_user_of name.now net members count) }
+/// A user whom no packet was ever offered.
+fn new_user(alloc: Global, name: &[u8], net: bool, members: u64) -> Result<User, AllocError>
+    ensures { IfOk result (λ user. user ≡ new_user_of name.now net members) }
 {
-    let mut highs = Highs::new(alloc);
-    highs.fill(alloc, &0, count)?;
     Ok(User {
         name: Bytes::from_slice(alloc, name)?,
         net,
         members,
         last: 0,
-        offered: 0,
-        highs,
+        offers: Offers::new(alloc),
     })
 }
 
@@ -138,7 +129,6 @@ pub fn enrolled(
     ensures becomes { IfOk result (λ change. Becomes board.now (enrolled_of name.now net members board.now) change) }
     ensures each { IfOk result (λ change. LeadsEach board.now (enrolled_of name.now net members) change.intent) }
 {
-    let count = board.ledger().setup.conferences.len();
-    let user = new_user(alloc, name, net, members, count)?;
+    let user = new_user(alloc, name, net, members)?;
     enrolled_as(alloc, board, &user)
 }

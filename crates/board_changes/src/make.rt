@@ -72,6 +72,7 @@ pub fn made(alloc: Global, setup: Setup, created: u32) -> Result<NewBoard, Alloc
     ensures leads { IfOk result (λ new. Leads AreEmpty (made_of setup created) new.intent) }
 {
     let ledger = Ledger {
+        version: 2,
         setup,
         created,
         users: Users::new(alloc),

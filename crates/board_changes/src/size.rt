@@ -9,11 +9,11 @@ use board_layout::StoredBoard;
 /// How many bytes a reader's record has.
 const READER_SIZE: u64 = 16;
 
-/// How many bytes a user's record has besides the name and the highs.
-const USER_SIZE: u64 = 19;
+/// How many bytes a user's record has besides the name and the highs of four offers.
+const USER_SIZE: u64 = 31;
 
-/// How many bytes a high has.
-const HIGH_SIZE: u64 = 4;
+/// How many bytes its highs have for each conference, one in each of four offers.
+const HIGHS_SIZE: u64 = 16;
 
 /// Whether a place is in a member set, bit k for place k.
 fn is_joined(members: u64, place: u32) -> bool
@@ -43,6 +43,6 @@ pub fn size_with_user(board: &StoredBoard, name: &[u8], net: bool, members: u64)
 {
     let count = board.ledger().setup.conferences.len();
     let readers = READER_SIZE * joined_count(members, count as u32);
-    let record = USER_SIZE + HIGH_SIZE * count as u64;
+    let record = USER_SIZE + HIGHS_SIZE * count as u64;
     (board.size() + readers + record).saturating_add(name.len() as u64)
 }

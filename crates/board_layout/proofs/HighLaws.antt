@@ -1,4 +1,4 @@
--- No high of a user is above the count of slots of its conference.
+-- No high of an open offer is above the count of slots of its conference.
 use Rattle.std.proofs.Common.{◌≡◌, inl, inr, ℕ, ◌+◌, not, min, true, false, List, [], ◌∷◌, length, drop, Ok, refl, ap, ◌∙◌, arith, length-drop}
 use Rattle.std.specs.Prelude.{All, IsTrue}
 use Rattle.std.proofs.lemmas.Bool.{cases_lt, not-false}
@@ -13,26 +13,26 @@ use Rattle.jam_layout.specs.declared.conference.Conference.{Conference}
 use Rattle.jam_records.specs.declared.damage.DamageRule.TheVariants.{High}
 use Rattle.board_layout.specs.Board.{conferences_in}
 use Rattle.board_layout.specs.Damage.{highs_of}
-use Rattle.board_layout.specs.Valid.{highs_fit}
+use Rattle.board_layout.specs.Valid.{highs_fit, offers_fit}
 
 abbrev HasHighs : List Conference → User → Type 0
-HasHighs conferences u = IsTrue (highs_fit conferences u.highs)
+HasHighs conferences u = IsTrue (offers_fit conferences u.offers)
 
 abbrev rules_of : List Conference → User → Rules
-rules_of conferences u = (High, not (highs_fit conferences u.highs)) ∷ []
+rules_of conferences u = (High, not (offers_fit conferences u.offers)) ∷ []
 
 pub highs_take : (conferences : List Conference) (item : ℕ) (users : List User) (x : Unit {0}) → highs_of conferences item users ≡ Ok x → All (HasHighs conferences) users
 highs_take conferences item [] x e = All-nil (HasHighs conferences)
 highs_take conferences item (u ∷ users) x e =
     let a = bind_ok (by_rules ledger_file item (rules_of conferences u) (tt {0})) (λ one. highs_of conferences (item + 1) users) x e in
     let k = rules_kept ledger_file item (rules_of conferences u) (tt {0}) a.0 a.1 in
-    All-cons (HasHighs conferences) u users (not-false (highs_fit conferences u.highs) k.0.0) (highs_take conferences (item + 1) users x a.2)
+    All-cons (HasHighs conferences) u users (not-false (offers_fit conferences u.offers) k.0.0) (highs_take conferences (item + 1) users x a.2)
 
 pub highs_again : (conferences : List Conference) (item : ℕ) (users : List User) → All (HasHighs conferences) users → highs_of conferences item users ≡ Ok (tt {0})
 highs_again conferences item [] all = refl
 highs_again conferences item (u ∷ users) all =
-    let one : IsTrue (highs_fit conferences u.highs) = all 0 u (omega arith) in
-    let kept : not (highs_fit conferences u.highs) ≡ false = ap not one in
+    let one : IsTrue (offers_fit conferences u.offers) = all 0 u (omega arith) in
+    let kept : not (offers_fit conferences u.offers) ≡ false = ap not one in
     ap (λ r. r >>= λ one. highs_of conferences (item + 1) users) (kept_rules ledger_file item (rules_of conferences u) (tt {0}) (kept, tt))
     ∙ highs_again conferences (item + 1) users (All-drop (HasHighs conferences) 1 (u ∷ users) all)
 
@@ -41,7 +41,7 @@ pub highs_asked : (slice bases : List Contents) (first wanted : ℕ) (others use
     → highs_of (conferences_in slice) first others ≡ highs_of (conferences_in bases) wanted users
 highs_asked slice bases first wanted others users a b c = λ i. highs_of (conferences_in (a i)) (b i) (c i)
 
--- ---- a loop over the highs of a user
+-- ---- a loop over the highs of an offer
 no_conferences : (conferences : List Conference) (highs : List ℕ) → length conferences ≡ 0 → highs_fit conferences highs ≡ true
 no_conferences [] highs none = refl
 no_conferences (c ∷ conferences) highs none = absurd (omega arith)

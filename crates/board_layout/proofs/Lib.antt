@@ -1,6 +1,8 @@
 pub mod LedgerShapes
 pub mod BasePlaces
 pub mod SizeLaws
+pub mod StoredLedgers
+pub mod FirstBytes
 pub mod RenewedBases
 pub mod RestLaws
 pub mod HighLaws

@@ -2,7 +2,7 @@
 -- conferences are.
 use Rattle.std.proofs.Common.{◌≡◌, ℕ, Bool, List, [], ◌∷◌, length, map, Option, Some, None, refl, sym, ap, ◌∙◌, subst, arith}
 use Rattle.std.specs.Prelude.{All, IsTrue, slice_get, unwrap_or, option_map}
-use Rattle.std.specs.List.{AllZip}
+use Rattle.std.specs.List.{AllZip, list_all}
 use Rattle.std.proofs.lemmas.List.{length-map, length-replicate}
 use Rattle.std.proofs.lemmas.List.Elements.{All-nil, All-cons, All-head, All-tail}
 use Rattle.board_layout.proofs.OutlineLaws.{base_size_outline, highs_outline, outline_base, outline_size, outline_valid}
@@ -83,7 +83,7 @@ outline_back b ok conferences =
     record {
       ledger = ok.ledger;
       conferences = conferences;
-      highs = subst (λ (fit : List ℕ → Bool). All (λ u. IsTrue (fit u.highs)) b.ledger.users) (λ i highs. highs_outline b.conferences highs i) ok.highs;
+      highs = subst (λ (fit : List ℕ → Bool). All (λ u. IsTrue (list_all (λ o. fit o.highs) u.offers)) b.ledger.users) (λ i highs. highs_outline b.conferences highs i) ok.highs;
       small = omega (arith, outline_size b, small);
     }
 

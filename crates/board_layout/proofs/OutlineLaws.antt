@@ -1,7 +1,7 @@
 -- What the outline of a board shares with it: it is a board of the same size, with the same pointers, slots and messages.
 use Rattle.std.proofs.Common.{◌≡◌, ℕ, zero, suc, ◌+◌, ◌-◌, Bool, true, false, cond, ◌&&◌, List, [], ◌∷◌, length, map, get_or, Option, Some, None, refl, sym, ap, ◌∙◌, subst, arith}
 use Rattle.std.specs.Prelude.{All, IsTrue, sum_by, slice_get, option_map, option_and_then, nat_le, ◌==◌}
-use Rattle.std.specs.List.{AllZip, fold}
+use Rattle.std.specs.List.{AllZip, fold, list_all}
 use Rattle.std.proofs.lemmas.List.{length-map, length-replicate}
 use Rattle.std.proofs.lemmas.List.Sums.{sum_by-cons}
 use Rattle.std.proofs.lemmas.Option.{slice_get-map}
@@ -64,7 +64,7 @@ outline_valid b ok =
     record {
       ledger = ok.ledger;
       conferences = conferences_outline (shapes_of b.ledger) b.conferences ok.conferences;
-      highs = subst (λ (fit : List ℕ → Bool). All (λ u. IsTrue (fit u.highs)) b.ledger.users) (λ i highs. sym (highs_outline b.conferences highs) i) ok.highs;
+      highs = subst (λ (fit : List ℕ → Bool). All (λ u. IsTrue (list_all (λ o. fit o.highs) u.offers)) b.ledger.users) (λ i highs. sym (highs_outline b.conferences highs) i) ok.highs;
       small = omega (arith, outline_size b, small);
     }
 

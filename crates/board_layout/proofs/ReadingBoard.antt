@@ -7,11 +7,10 @@ use Rattle.intent_journal.specs.Patches.{Files}
 use Rattle.jam_records.specs.declared.damage.Damage.{Damage}
 use Rattle.jam_records.specs.declared.damage.DamageRule.TheVariants.{Size}
 use Rattle.board_layout.specs.Board.{Board}
-use Rattle.board_layout.specs.Damage.{parts_of, board_of, some_board, board_in}
+use Rattle.board_layout.specs.Damage.{parts_of, size_limit, board_of, some_board, board_in}
 use Rattle.board_layout.specs.Layout.{data_size}
-use Rattle.board_layout.specs.Valid.{board_limit}
 
-by_size : (files : Files) (long : Bool) → ltb board_limit (data_size files) ≡ long → board_of files ≡ (by_rules ledger_file 0 ((Size, long) ∷ []) (tt {0}) >>= λ sized. parts_of files)
+by_size : (files : Files) (long : Bool) → ltb (size_limit (files ledger_file)) (data_size files) ≡ long → board_of files ≡ (by_rules ledger_file 0 ((Size, long) ∷ []) (tt {0}) >>= λ sized. parts_of files)
 unfolding board_of
 by_size files long e = ap (λ (b : Bool). by_rules ledger_file 0 ((Size, b) ∷ []) (tt {0}) >>= λ sized. parts_of files) e
 
@@ -23,12 +22,12 @@ some_fails None read h = tt
 some_fails (Some d) read h = ap some_board h
 
 module _ (files : Files) (some : data_size files ≡ 0 → ⊥) where
-  pub too_long : board_limit < data_size files → board_in files ≡ Err (record { file = 0; item = 0; rule = Size })
-  too_long long = some_bytes files some ∙ ap some_board (by_size files true (lt-ltb board_limit (data_size files) long))
+  pub too_long : size_limit (files ledger_file) < data_size files → board_in files ≡ Err (record { file = 0; item = 0; rule = Size })
+  too_long long = some_bytes files some ∙ ap some_board (by_size files true (lt-ltb (size_limit (files ledger_file)) (data_size files) long))
 
-  module _ (short : data_size files ≤ board_limit) where
+  module _ (short : data_size files ≤ size_limit (files ledger_file)) where
     in_parts : board_in files ≡ some_board (parts_of files)
-    in_parts = some_bytes files some ∙ ap some_board (by_size files false (le-ltb board_limit (data_size files) short))
+    in_parts = some_bytes files some ∙ ap some_board (by_size files false (le-ltb (size_limit (files ledger_file)) (data_size files) short))
 
     pub parts_fail : (e : Option Damage) → Stops e (parts_of files) → Stops e (board_in files)
     parts_fail e h = subst (Stops e) (sym in_parts) (some_fails e (parts_of files) h)

@@ -1,7 +1,7 @@
 -- What a base and a ledger are read as, from the clauses of `read_base` and `Ledger::read`; and what calls leave.
 use Rattle.std.proofs.Common.{◌≡◌, inl, inr, ℕ, List, Ok, sym, ap, ◌∙◌, subst}
-use Rattle.board_ledger.specs.Ledger.{ledger_text, ledger_of}
-use Rattle.board_ledger.specs.Valid.{IsLedger}
+use Rattle.board_ledger.specs.Ledger.{ledger_of, stored_text}
+use Rattle.board_ledger.specs.Valid.{IsStored}
 use Rattle.board_ledger.specs.declared.ledger.Ledger.{Ledger}
 use Rattle.board_ledger.proofs.LedgerLaws.{ledger_again}
 use Rattle.door_outside.specs.Disk.{Disk, Unchanged}
@@ -18,7 +18,7 @@ pub base_read : (shape wanted : Shape) (files read : BaseFiles) (c : Conference)
 base_read shape wanted files read c same from fits ok laid =
     (λ i. conference_of (sym same i) (from i)) ∙ (ap (conference_of shape) laid ∙ is_layout shape c (subst ShapeFits (sym same) fits) ok)
 
-pub ledger_read : (bytes read : List ℕ) (l : Ledger) → bytes ≡ read → IsLedger l → read ≡ ledger_text l → ledger_of bytes ≡ Ok l
+pub ledger_read : (bytes read : List ℕ) (l : Ledger) → bytes ≡ read → IsStored l → read ≡ stored_text l → ledger_of bytes ≡ Ok l
 ledger_read bytes read l from ok text = ap ledger_of (from ∙ text) ∙ ledger_again l ok
 
 pub kept_at_ok : {T : Type 0} (x : T) (before now : ℕ) → HasReadCause {T = T} before now (Ok x) → now ≡ before

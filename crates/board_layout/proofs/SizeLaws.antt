@@ -3,7 +3,7 @@ use Rattle.std.proofs.Common.{◌≡◌, ◌↔◌, ℕ, zero, suc, ◌+◌, ◌
 use Rattle.std.specs.Prelude.{sum_by}
 use Rattle.std.proofs.lemmas.List.{nil_from_length, take_all}
 use Rattle.std.proofs.lemmas.List.Sums.{sum_by-cons}
-use Rattle.board_ledger.specs.Ledger.{ledger_text}
+use Rattle.board_ledger.specs.Ledger.{ledger_text, text_in}
 use Rattle.board_ledger.specs.declared.ledger.Ledger.{Ledger}
 use Rattle.door_outside.specs.File.{ledger_file}
 use Rattle.intent_journal.specs.Patches.{Files}
@@ -12,8 +12,10 @@ use Rattle.jam_base.specs.Contents.{Contents}
 use Rattle.jam_layout.specs.Layout.{files_size}
 use Rattle.jam_layout.specs.declared.files.BaseFiles.{BaseFiles}
 use Rattle.jam_layout.specs.declared.shape.Shape.{Shape}
+use Rattle.open_offers.specs.declared.version.Version.TheVariants.{First}
 use Rattle.board_layout.specs.Board.{Board, board_with, conferences_in, shapes_in, shapes_of}
-use Rattle.board_layout.specs.Layout.{no_base, layouts, base_files, IsLayout, AreEmpty, places_size, data_size, board_size, files_in, base_size}
+use Rattle.board_layout.specs.Layout.{no_base, layouts, base_files, HasPlaces, IsLayout, AreEmpty, places_size, data_size, board_size, files_in, base_size}
+use Rattle.board_layout.specs.OldLayout.{old_size}
 use Rattle.board_layout.proofs.BasePlaces.{layouts_in}
 
 -- ---- places
@@ -53,12 +55,21 @@ place_within (suc n) files place within =
     below_more (λ k. files_size (files_of_place k files) ≤ places_size n files + files_size (files_of_place n files)) n (λ k under. let h = place_within n files k under in omega arith) (omega arith) place (omega arith)
 
 -- ---- the board's size
+places_of_board : (b : Board) (files : Files) → length (base_files b) ≤ 64 → HasPlaces b files → places_size 64 files ≡ sum_by files_size (base_files b)
+places_of_board b files few places = first_places 64 (base_files b) files places ∙ ap (sum_by files_size) (take_all 64 (base_files b) few)
+
 pub same_size : (b : Board) (files : Files) → length (base_files b) ≤ 64 → IsLayout b files → data_size files ≡ board_size b
 same_size b files few laid =
-    let places = first_places 64 (base_files b) files laid.places in
-    let all : sum_by files_size (take 64 (base_files b)) ≡ sum_by files_size (base_files b) = ap (sum_by files_size) (take_all 64 (base_files b) few) in
+    let places = places_of_board b files few laid.places in
     let text : length (files ledger_file) ≡ length (ledger_text b.ledger) = ap length laid.ledger in
-    omega (arith, places, all, text)
+    omega (arith, places, text)
+
+-- and in version 1
+pub old_same_size : (b : Board) (files : Files) → length (base_files b) ≤ 64 → files ledger_file ≡ text_in First b.ledger → HasPlaces b files → data_size files ≡ old_size b
+old_same_size b files few text there =
+    let places = places_of_board b files few there in
+    let length_is : length (files ledger_file) ≡ length (text_in First b.ledger) = ap length text in
+    omega (arith, places, length_is)
 
 pub sizes_in : (bases : List Contents) → sum_by files_size (map files_in bases) ≡ sum_by base_size bases
 sizes_in [] = refl

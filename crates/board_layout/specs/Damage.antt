@@ -1,6 +1,11 @@
 -- The board of data files, or their first damage.
-use Rattle.std.specs.Prelude.{ℕ, zero, suc, ◌+◌, ◌-◌, List, [], ◌∷◌, length, Option, Some, None, Result, Ok, Err, not, ◌==◌, nat_lt, if◌then◌else◌}
+use Rattle.std.specs.Prelude.{ℕ, zero, suc, ◌+◌, ◌-◌, List, [], ◌∷◌, length, take, Bool, Option, Some, None, Result, Ok, Err, not, ◌&&◌, ◌==◌, nat_le, nat_lt, if◌then◌else◌}
+use Rattle.std.specs.Str.{bytes_eq}
+use Rattle.record_numbers.specs.Numbers.{u16_at}
 use Rattle.board_ledger.specs.Ledger.{ledger_of}
+use Rattle.board_ledger.specs.Opening.{magic}
+use Rattle.board_ledger.specs.Valid.{today}
+use Rattle.board_ledger.specs.declared.ledger.Ledger.{Ledger}
 use Rattle.board_ledger.specs.declared.user.User.{User}
 use Rattle.damage_rules.specs.Rules.{by_rules, damage_of, ◌>>=◌}
 use Rattle.door_outside.specs.File.{ledger_file, jhr_file, jdt_file, jdx_file, jlr_file}
@@ -13,7 +18,8 @@ use Rattle.jam_records.specs.declared.damage.Damage.{Damage}
 use Rattle.jam_records.specs.declared.damage.DamageRule.TheVariants.{Size, Rest, High}
 use Rattle.board_layout.specs.Board.{Board, shapes_of}
 use Rattle.board_layout.specs.Layout.{data_size}
-use Rattle.board_layout.specs.Valid.{board_limit, highs_fit}
+use Rattle.board_layout.specs.OldLayout.{old_limit}
+use Rattle.board_layout.specs.Valid.{board_limit, offers_fit}
 
 -- the conference of each shape, read from the files of its place
 abbrev pub conferences_of : List Shape → Files → Result (List Conference) Damage
@@ -42,27 +48,40 @@ are_rest place (suc n) files = do
   here ← is_rest_place place files
   are_rest (place + 1) n files
 
--- no high of a user, from the one of this record on, is above the count of slots of its conference
+-- no high of an open offer of a user, from the one of this record on, is above the count of slots of its conference
 abbrev pub highs_of : List Conference → ℕ → List User → Result (Unit {0}) Damage
 highs_of conferences item [] = Ok (tt {0})
 highs_of conferences item (u ∷ users) = do
-  one ← by_rules ledger_file item ((High, not (highs_fit conferences u.highs)) ∷ []) (tt {0})
+  one ← by_rules ledger_file item ((High, not (offers_fit conferences u.offers)) ∷ []) (tt {0})
   highs_of conferences (item + 1) users
 
--- the board of files that aren't too long together, or the first rule that they break: part by part, file by
--- file, record by record
-unfoldable pub parts_of : Files → Result Board Damage
-parts_of files = do
-  ledger ← ledger_of (files ledger_file)
+-- the board of a ledger and of the files behind it, or the first rule that these break: part by part, file by file, record
+-- by record
+unfoldable pub parts_behind : Ledger → Files → Result Board Damage
+parts_behind ledger files = do
   conferences ← conferences_of (shapes_of ledger) files
   empty ← are_rest (length ledger.setup.conferences) (64 - length ledger.setup.conferences) files
   within ← highs_of conferences (1 + length ledger.setup.conferences) ledger.users
   Ok (record { ledger = ledger; conferences = conferences })
 
+-- the board of files that aren't too long together, with its ledger in version 2, or the first rule that they break
+unfoldable pub parts_of : Files → Result Board Damage
+parts_of files = do
+  ledger ← ledger_of (files ledger_file)
+  parts_behind (today ledger) files
+
+-- the text has the 24 bytes that a ledger begins with, of version 1
+abbrev pub is_old_text : List ℕ → Bool
+is_old_text bytes = nat_le 24 (length bytes) && (bytes_eq (take 4 bytes) magic && u16_at 4 bytes == 1)
+
+-- how many bytes the data files may have together, by their ledger
+abbrev pub size_limit : List ℕ → ℕ
+size_limit bytes = if is_old_text bytes then old_limit else board_limit
+
 -- the board of the files, or the first rule that they break
 unfoldable pub board_of : Files → Result Board Damage
 board_of files = do
-  sized ← by_rules ledger_file 0 ((Size, nat_lt board_limit (data_size files)) ∷ []) (tt {0})
+  sized ← by_rules ledger_file 0 ((Size, nat_lt (size_limit (files ledger_file)) (data_size files)) ∷ []) (tt {0})
   parts_of files
 
 -- the first damage, or none

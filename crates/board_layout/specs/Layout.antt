@@ -30,10 +30,14 @@ abbrev pub AreAt : ℕ → List BaseFiles → Files → Type 0
 AreAt place [] files = Unit {0}
 AreAt place (base ∷ bases) files = (files_of_place place files ≡ base) × AreAt (place + 1) bases files
 
--- The data files are the layout of the board. Those of the places past its conferences are empty.
+-- the files of each place are those of its conference, and empty past the conferences
+abbrev pub HasPlaces : Board → Files → Type 0
+HasPlaces b files = (place : ℕ) → place < 64 → files_of_place place files ≡ slice_index_or (base_files b) place no_base
+
+-- the data files are the layout of the board
 pub record IsLayout (b : Board) (files : Files) : Type 0 where
   pub ledger : files ledger_file ≡ ledger_text b.ledger
-  pub places : (place : ℕ) → place < 64 → files_of_place place files ≡ slice_index_or (base_files b) place no_base
+  pub places : HasPlaces b files
 
 -- all data files are empty
 pub record AreEmpty (files : Files) : Type 0 where

@@ -2,6 +2,7 @@ pub mod Board
 pub mod Renewed
 pub mod Lookups
 pub mod Layout
+pub mod OldLayout
 pub mod Valid
 pub mod Damage
 pub mod Rules

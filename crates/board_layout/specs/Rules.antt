@@ -1,5 +1,5 @@
 -- What the functions of this crate answer where they read by rules.
-use Rattle.std.specs.Prelude.{◌≡◌, ◌≤◌, ◌⊎◌, ℕ, Option, Some, None, Result, IsErrOf}
+use Rattle.std.specs.Prelude.{◌≡◌, ◌≤◌, ◌⊎◌, ℕ, Bool, true, false, Option, Some, None, option_map, Result, IsErrOf}
 use Rattle.door_outside.specs.Cause.{Rose}
 use Rattle.board_ledger.specs.declared.error.LedgerError.{LedgerError}
 use Rattle.board_ledger.specs.declared.error.LedgerError.TheVariants.{Damaged as LedgerDamaged, OutOfMemory as LedgerStarved}
@@ -10,6 +10,8 @@ use Rattle.jam_layout.specs.declared.error.BaseError.TheVariants.{Damaged as Bas
 use Rattle.jam_records.specs.declared.damage.Damage.{Damage}
 use Rattle.board_layout.specs.Board.{Board}
 use Rattle.board_layout.specs.Layout.{IsLayout, AreEmpty}
+use Rattle.board_layout.specs.OldLayout.{IsOldLayout}
+use Rattle.board_layout.specs.declared.read.FoundBoard.{FoundBoard}
 use Rattle.board_layout.specs.declared.error.ReadError.{ReadError}
 use Rattle.board_layout.specs.declared.error.ReadError.TheVariants.{Damaged, DiskFault, OutOfMemory}
 
@@ -38,7 +40,16 @@ pub record HasReadCause {T : Type 0} (before now : ℕ) (result : Result T ReadE
   pub rose : IsErrOf result DiskFault → Rose before now
   pub kept : IsErrOf result DiskFault ⊎ (now ≡ before)
 
--- the files are the layout of the board, or empty where there is none
-abbrev pub IsLaidOut : Option Board → Files → Type 0
+-- the board that was found, where there is one
+abbrev pub board_found : Option FoundBoard → Option Board
+board_found found = option_map (λ f. f.board) found
+
+-- the files are the layout of the board, in version 1 where it is said to be old
+abbrev pub IsLaidOutAs : Bool → Board → Files → Type 0
+IsLaidOutAs true b files = IsOldLayout b files
+IsLaidOutAs false b files = IsLayout b files
+
+-- so they are for what was found, or empty where there is nothing
+abbrev pub IsLaidOut : Option FoundBoard → Files → Type 0
 IsLaidOut None files = AreEmpty files
-IsLaidOut (Some b) files = IsLayout b files
+IsLaidOut (Some found) files = IsLaidOutAs found.is_old found.board files

@@ -11,7 +11,7 @@ use jam_base::Base;
 use std::marker::Model;
 
 /// How many bytes the data files may have together.
-pub const BOARD_LIMIT: u64 = 33_554_432;
+pub const BOARD_LIMIT: u64 = 34_603_008;
 
 /// Conferences, by place from 0.
 pub type Bases = List<Base>;
@@ -122,7 +122,7 @@ impl StoredBoard {
         renew_ledger(&mut self.ledger, ledger);
     }
 
-    /// How many bytes its data files have together, at most 33,554,432. It takes no memory.
+    /// How many bytes its data files have together, at most 34,603,008. It takes no memory.
     pub fn size(&self) -> u64
         ensures { result ≡ board_size self.now }
     {

@@ -4,16 +4,20 @@ ghost use Rattle.intent_journal.specs.Patches.{Files};
 ghost use Rattle.board_layout.specs.Board.{Board};
 ghost use Rattle.board_layout.specs.Damage.{board_of, board_damage};
 ghost use Rattle.board_layout.specs.Layout.{AreBytes, AreEmpty, IsLayout, board_size, data_size};
+ghost use Rattle.board_layout.specs.OldLayout.{old_size, IsOldLayout, IsStoredIn};
 ghost use Rattle.board_layout.specs.Valid.{IsBoard};
 
-/// Files have no damage exactly where they are the layout of a valid board, which is unique, and is the one
-/// that they are read as. Its layout is bytes, as many as its size, and so not empty.
+/// Files have no damage exactly where they are the layout of a valid board in either version of the ledger. Board and
+/// version are unique, and the board is the one that the files are read as. A layout is bytes, as many as its size says,
+/// and so not empty.
 pub fn unique_board()
-    ensures undamaged { (files : Files) → AreBytes files → (board_damage files ≡ None) ↔ ((b : Board) × IsBoard b × IsLayout b files) }
-    ensures unique { (a b : Board) (files : Files) → IsBoard a → IsBoard b → IsLayout a files → IsLayout b files → a ≡ b }
-    ensures read { (b : Board) (files : Files) → IsBoard b → IsLayout b files → board_of files ≡ Ok b }
+    ensures undamaged { (files : Files) → AreBytes files → (board_damage files ≡ None) ↔ ((b : Board) × IsBoard b × IsStoredIn b files) }
+    ensures unique { (a b : Board) (files : Files) → IsBoard a → IsBoard b → IsStoredIn a files → IsStoredIn b files → a ≡ b }
+    ensures version { (a b : Board) (files : Files) → IsBoard a → IsBoard b → IsLayout a files → ¬ IsOldLayout b files }
+    ensures read { (b : Board) (files : Files) → IsBoard b → IsStoredIn b files → board_of files ≡ Ok b }
     ensures size { (b : Board) (files : Files) → IsBoard b → IsLayout b files → data_size files ≡ board_size b }
-    ensures bytes { (b : Board) (files : Files) → IsBoard b → IsLayout b files → AreBytes files }
-    ensures some { (b : Board) (files : Files) → IsBoard b → IsLayout b files → ¬ AreEmpty files }
+    ensures old_size { (b : Board) (files : Files) → IsBoard b → IsOldLayout b files → data_size files ≡ old_size b }
+    ensures bytes { (b : Board) (files : Files) → IsBoard b → IsStoredIn b files → AreBytes files }
+    ensures some { (b : Board) (files : Files) → IsBoard b → IsStoredIn b files → ¬ AreEmpty files }
     ensures empty { (files : Files) → (data_size files ≡ 0) ↔ AreEmpty files }
 {}

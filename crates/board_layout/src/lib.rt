@@ -8,6 +8,7 @@ mod error;
 mod files;
 mod highs;
 pub mod laws;
+mod limit;
 mod parts;
 mod read;
 mod rest;
@@ -16,6 +17,6 @@ mod sizes;
 
 pub use board::{BOARD_LIMIT, Bases, StoredBoard};
 pub use error::ReadError;
-pub use highs::highs_fit;
-pub use read::read_board;
+pub use highs::{highs_fit, offers_fit};
+pub use read::{FoundBoard, read_board};
 pub use shape::shape_at;

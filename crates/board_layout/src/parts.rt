@@ -2,7 +2,7 @@
 ghost use Rattle.std.specs.Prelude.{◌≡◌, ◌↔◌, ◌+◌, ◌≤◌, ◌<◌, length, sum_by, All, IsTrue, MatchOption};
 ghost use Rattle.board_layout.specs.Board.{board_with, conferences_in, shapes_in, shapes_of};
 ghost use Rattle.board_layout.specs.Layout.{base_size, board_size};
-ghost use Rattle.board_layout.specs.Valid.{board_limit, highs_fit};
+ghost use Rattle.board_layout.specs.Valid.{board_limit, offers_fit};
 ghost use Rattle.board_ledger.specs.Ledger.{ledger_text};
 ghost use Rattle.board_ledger.specs.Valid.{IsLedger};
 ghost use Rattle.jam_layout.specs.Valid.{IsConference};
@@ -43,7 +43,7 @@ pub(crate) fn board_of_parts(ledger: Ledger, bases: Bases) -> Option<StoredBoard
     requires ledger { IsLedger ledger }
     requires shapes { shapes_in bases ≡ shapes_of ledger }
     requires conferences { All (λ base. IsConference base.shape base.conference) bases }
-    requires highs { All (λ u. IsTrue (highs_fit (conferences_in bases) u.highs)) ledger.users }
+    requires highs { All (λ u. IsTrue (offers_fit (conferences_in bases) u.offers)) ledger.users }
     ensures { MatchOption result (board_limit < board_size (board_with ledger bases)) (λ board. board ≡ board_with ledger bases) }
 {
     if !are_short(&ledger, bases.as_slice()) {

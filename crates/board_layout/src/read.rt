@@ -1,22 +1,23 @@
 // Reading a board.
-ghost use Rattle.std.specs.Prelude.{◌≡◌, ◌≤◌, Ok, All, IfOk, IsTrue};
-ghost use Rattle.board_ledger.specs.Ledger.{ledger_text, ledger_of};
-ghost use Rattle.board_ledger.specs.Valid.{IsLedger};
+ghost use Rattle.std.specs.Prelude.{◌≡◌, ◌≤◌, All, IfOk, IsTrue};
+ghost use Rattle.board_ledger.specs.Ledger.{ledger_of, stored_text};
+ghost use Rattle.board_ledger.specs.Valid.{IsLedger, IsStored};
 ghost use Rattle.board_layout.specs.Board.{board_with, conferences_in, shapes_in, shapes_of};
-ghost use Rattle.board_layout.specs.Damage.{board_in, parts_of};
-ghost use Rattle.board_layout.specs.Layout.{IsLayout, data_size as size_of_data};
-ghost use Rattle.board_layout.specs.Rules.{Gives, HasReadCause, IsLaidOut};
-ghost use Rattle.board_layout.specs.Valid.{board_limit, highs_fit};
+ghost use Rattle.board_layout.specs.Damage.{board_in, parts_behind, parts_of, size_limit as limit_of};
+ghost use Rattle.board_layout.specs.Layout.{HasPlaces, data_size as size_of_data};
+ghost use Rattle.board_layout.specs.Rules.{Gives, HasReadCause, IsLaidOut, IsLaidOutAs, board_found};
+ghost use Rattle.board_layout.specs.Valid.{offers_fit};
 ghost use Rattle.door_outside.specs.Disk.{Unchanged};
 ghost use Rattle.door_outside.specs.File.{ledger_file};
 ghost use Rattle.jam_layout.specs.Valid.{IsConference};
 
 use crate::bases::read_bases;
-use crate::board::{BOARD_LIMIT, Bases, StoredBoard};
+use crate::board::{Bases, StoredBoard};
 use crate::damaged::damage;
 use crate::error::ReadError;
 use crate::files::read_file;
 use crate::highs::check_highs;
+use crate::limit::size_limit;
 use crate::parts::board_of_parts;
 use crate::rest::check_rests;
 use crate::sizes::data_size;
@@ -25,6 +26,15 @@ use door_outside::{FileId, Host};
 use jam_records::DamageRule;
 use std::alloc::Global;
 
+/// A board that the data files are read as.
+#[derive(Debug, Drop)]
+pub struct FoundBoard {
+    /// Whether their ledger is of version 1.
+    pub is_old: bool,
+    /// The board, whose ledger has version 2.
+    pub board: StoredBoard,
+}
+
 /// The damage of files that are too long together.
 fn too_long() -> ReadError
     ensures { result ≡ ReadError.Damaged record { file = ledger_file; item = 0; rule = DamageRule.Size } }
@@ -32,12 +42,12 @@ fn too_long() -> ReadError
     ReadError::Damaged(damage(FileId::ledger(), 0, DamageRule::Size))
 }
 
-/// The ledger of file 0.
+/// The ledger of file 0, in the version that it has there.
 fn read_ledger<H: Host>(alloc: Global, host: &mut H) -> Result<Ledger, ReadError>
-    ensures ledger { IfOk result IsLedger }
+    ensures ledger { IfOk result IsStored }
     ensures unchanged { IsTrue H.tells → Unchanged (H.disk host.old) (H.disk host.new) }
     ensures gives { IsTrue H.tells → Gives (λ ledger. ledger) result (ledger_of ((H.disk host.old).files ledger_file)) }
-    ensures layout { IsTrue H.tells → IfOk result (λ ledger. (H.disk host.old).files ledger_file ≡ ledger_text ledger) }
+    ensures layout { IsTrue H.tells → IfOk result (λ ledger. (H.disk host.old).files ledger_file ≡ stored_text ledger) }
     ensures cause { HasReadCause (H.disk_faults host.old) (H.disk_faults host.new) result }
     ensures voice { H.voice_faults host.new ≡ H.voice_faults host.old }
 {
@@ -45,21 +55,19 @@ fn read_ledger<H: Host>(alloc: Global, host: &mut H) -> Result<Ledger, ReadError
     Ok(Ledger::read(alloc, bytes.as_slice())?)
 }
 
-/// The conferences of the ledger that was read, or the first rule that the files behind it break.
+/// The conferences of a ledger, or the first rule that the files behind it break.
 fn read_conferences<H: Host>(
     alloc: Global,
     host: &mut H,
     ledger: &Ledger,
 ) -> Result<Bases, ReadError>
-    requires ledger { IsLedger ledger.now }
-    requires read { IsTrue H.tells → ledger_of ((H.disk host.old).files ledger_file) ≡ Ok ledger.now }
-    requires text { IsTrue H.tells → (H.disk host.old).files ledger_file ≡ ledger_text ledger.now }
+    requires { IsLedger ledger.now }
     ensures shapes { IfOk result (λ bases. shapes_in bases ≡ shapes_of ledger.now) }
     ensures conferences { IfOk result (All (λ base. IsConference base.shape base.conference)) }
-    ensures highs { IfOk result (λ bases. All (λ u. IsTrue (highs_fit (conferences_in bases) u.highs)) ledger.now.users) }
+    ensures highs { IfOk result (λ bases. All (λ u. IsTrue (offers_fit (conferences_in bases) u.offers)) ledger.now.users) }
     ensures unchanged { IsTrue H.tells → Unchanged (H.disk host.old) (H.disk host.new) }
-    ensures gives { IsTrue H.tells → Gives (λ bases. board_with ledger.now bases) result (parts_of (H.disk host.old).files) }
-    ensures layout { IsTrue H.tells → IfOk result (λ bases. IsLayout (board_with ledger.now bases) (H.disk host.old).files) }
+    ensures gives { IsTrue H.tells → Gives (λ bases. board_with ledger.now bases) result (parts_behind ledger.now (H.disk host.old).files) }
+    ensures places { IsTrue H.tells → IfOk result (λ bases. HasPlaces (board_with ledger.now bases) (H.disk host.old).files) }
     ensures cause { HasReadCause (H.disk_faults host.old) (H.disk_faults host.new) result }
     ensures voice { H.voice_faults host.new ≡ H.voice_faults host.old }
 {
@@ -75,32 +83,35 @@ fn read_conferences<H: Host>(
 }
 
 /// The board of files that aren't too long together, or the first rule that they break.
-fn read_parts<H: Host>(alloc: Global, host: &mut H) -> Result<StoredBoard, ReadError>
-    requires { IsTrue H.tells → size_of_data (H.disk host.old).files ≤ board_limit }
+fn read_parts<H: Host>(alloc: Global, host: &mut H) -> Result<FoundBoard, ReadError>
+    requires { IsTrue H.tells → size_of_data (H.disk host.old).files ≤ limit_of ((H.disk host.old).files ledger_file) }
     ensures unchanged { IsTrue H.tells → Unchanged (H.disk host.old) (H.disk host.new) }
-    ensures gives { IsTrue H.tells → Gives (λ board. board) result (parts_of (H.disk host.old).files) }
-    ensures layout { IsTrue H.tells → IfOk result (λ board. IsLayout board (H.disk host.old).files) }
+    ensures gives { IsTrue H.tells → Gives (λ found. found.board) result (parts_of (H.disk host.old).files) }
+    ensures layout { IsTrue H.tells → IfOk result (λ found. IsLaidOutAs found.is_old found.board (H.disk host.old).files) }
     ensures cause { HasReadCause (H.disk_faults host.old) (H.disk_faults host.new) result }
     ensures voice { H.voice_faults host.new ≡ H.voice_faults host.old }
 {
-    let ledger = read_ledger(alloc, host)?;
+    let mut ledger = read_ledger(alloc, host)?;
+    let is_old = ledger.version() == 1;
+    ledger.version = 2;
     let bases = read_conferences(alloc, host, &ledger)?;
     // Files that changed between the two looks at their length may be too long only now.
     match board_of_parts(ledger, bases) {
-        Some(board) => Ok(board),
+        Some(board) => Ok(FoundBoard { is_old, board }),
         None => Err(too_long()),
     }
 }
 
-/// The board whose layout the data files are, or None where all of them are empty.
+/// The board whose layout the data files are, with the ledger in version 1 or 2, or None where all of them are
+/// empty.
 ///
 /// `Damaged` comes where they are neither, with the first rule that they break: the size of all files, the
-/// ledger, the four files of each place, and then the highs of the users. `DiskFault` comes only where the
-/// host's count of disk faults rose. `OutOfMemory` comes where there is no memory; it hides no fault.
-pub fn read_board<H: Host>(alloc: Global, host: &mut H) -> Result<Option<StoredBoard>, ReadError>
+/// ledger, the four files of each place, and then the highs of the users' open offers. `DiskFault` comes only where
+/// the host's count of disk faults rose. `OutOfMemory` comes where there is no memory; it hides no fault.
+pub fn read_board<H: Host>(alloc: Global, host: &mut H) -> Result<Option<FoundBoard>, ReadError>
     ensures unchanged { IsTrue H.tells → Unchanged (H.disk host.old) (H.disk host.new) }
-    ensures gives { IsTrue H.tells → Gives (λ board. board) result (board_in (H.disk host.old).files) }
-    ensures layout { IsTrue H.tells → IfOk result (λ board. IsLaidOut board (H.disk host.old).files) }
+    ensures gives { IsTrue H.tells → Gives board_found result (board_in (H.disk host.old).files) }
+    ensures layout { IsTrue H.tells → IfOk result (λ found. IsLaidOut found (H.disk host.old).files) }
     ensures cause { HasReadCause (H.disk_faults host.old) (H.disk_faults host.new) result }
     ensures voice { H.voice_faults host.new ≡ H.voice_faults host.old }
 {
@@ -108,9 +119,9 @@ pub fn read_board<H: Host>(alloc: Global, host: &mut H) -> Result<Option<StoredB
     if size == 0 {
         return Ok(None);
     }
-    if size > BOARD_LIMIT {
+    if size > size_limit(host)? {
         return Err(too_long());
     }
-    let board = read_parts(alloc, host)?;
-    Ok(Some(board))
+    let found = read_parts(alloc, host)?;
+    Ok(Some(found))
 }

@@ -1,11 +1,14 @@
 -- An offer, and its acknowledgement, on each board with one outline.
-use Rattle.std.proofs.Common.{◌≡◌, ℕ, ◌+◌, ◌-◌, ◌<◌, ◌^◌, true, List, ◌++◌, length, get_or, refl, sym, ap, ◌∙◌, subst}
-use Rattle.std.specs.Prelude.{slice_get, Option, Some, IfSome}
+use Rattle.std.proofs.Common.{◌≡◌, ℕ, ◌+◌, ◌-◌, ◌<◌, ◌≤◌, ◌^◌, true, List, [], ◌++◌, length, get_or, refl, sym, ap, ◌∙◌, subst, arith}
+use Rattle.std.specs.Prelude.{slice_get, Option, Some, None, IfSome}
 use Rattle.std.specs.List.{AllZip}
 use Rattle.std.proofs.lemmas.Bool.{cond-true, lt-ltb}
 use Rattle.board_changes.proofs.EachBase.{turns_as}
-use Rattle.board_changes.proofs.EachBoard.{gathered_leads, leads_as, step_each}
+use Rattle.board_changes.proofs.EachBoard.{gathered_leads, step_each}
+use Rattle.board_changes.proofs.GatherLaws.{gathered_kept, gathered_rest}
+use Rattle.board_changes.proofs.LeadLaws.{leads_next, places_count}
 use Rattle.board_changes.proofs.PlaceSteps.{step_joins}
+use Rattle.board_changes.proofs.UserSizes.{conferences_count}
 use Rattle.board_changes.specs.Change.{Changes, Leads}
 use Rattle.board_changes.specs.Gathered.{Gathered, Joins}
 use Rattle.board_changes.specs.Outlined.{ChangesEach, GatheredEach, KeepsEach, LeadsEach}
@@ -18,6 +21,7 @@ use Rattle.board_layout.specs.Renewed.{contents_of}
 use Rattle.board_layout.specs.Valid.{IsBoard}
 use Rattle.board_ledger.specs.Ledger.{ledger_text}
 use Rattle.board_ledger.specs.UserPuts.{user_puts}
+use Rattle.open_offers.specs.declared.offer.OpenOffer.{OpenOffer}
 use Rattle.board_ledger.specs.declared.user.User.{User}
 use Rattle.intent_journal.specs.declared.patch.Patch.{Patch}
 use Rattle.jam_base.proofs.OutlineChanges.{acknowledged_blind}
@@ -26,13 +30,14 @@ use Rattle.jam_base.specs.Contents.{Contents, pointer_of, with_acknowledged}
 use Rattle.jam_base.specs.Outlined.{outlined, TurnsEach}
 use Rattle.jam_base.specs.declared.change.BaseChange.{BaseChange}
 use Rattle.jam_layout.specs.Valid.{IsConference}
+use Rattle.jam_layout.specs.declared.files.BaseFiles.{BaseFiles}
 use Rattle.jam_layout.specs.declared.shape.Shape.{Shape}
-use Rattle.offer_changes.proofs.AcknowledgeLaws.{base_read, read_is, read_room, read_there}
+use Rattle.offer_changes.proofs.AcknowledgeLaws.{base_read, read_is, read_open, read_room}
 use Rattle.offer_changes.proofs.OfferLaws.{offer_leads, offer_shapes, offer_there}
 use Rattle.offer_changes.proofs.PutLaws.{gathered_user}
 use Rattle.offer_changes.proofs.StepLaws.{change_suits}
 use Rattle.offer_changes.proofs.UserLaws.{user_there}
-use Rattle.offer_changes.specs.Changed.{acknowledged, is_above, offered, offered_to, read_by, read_up_to, with_offer, without_offer}
+use Rattle.offer_changes.specs.Changed.{acknowledged, is_above, offer_in, offered, offered_to, read_offer, read_up_to, with_offer, without_offer}
 use Rattle.offer_changes.specs.Steps.{base_after, patches_of}
 
 -- ---- an offer
@@ -75,41 +80,56 @@ pub above_each : (id : ℕ) (name : List ℕ) (now high : ℕ) (base : Contents)
 above_each id name now high base pointer patches is above each = read_each id name now high base (ap (is_above high) (sym is) ∙ lt-ltb pointer high above) patches each
 
 -- ---- an acknowledgement
-module _ (b : Board) (id now : ℕ) (u : User) (user : user_of id b ≡ Some u) (ok : IsBoard b) (small : now < 2 ^ 32) where
+module _ (b : Board) (id now : ℕ) (u : User) (o : OpenOffer) (user : user_of id b ≡ Some u) (found : offer_in o.number u.offers ≡ Some o) (ok : IsBoard b) (small : now < 2 ^ 32) where
   there_each : (other : Board) → board_outline other ≡ board_outline b → slice_get other.ledger.users (id - 1) ≡ Some u
   there_each other alike = user_there other id u (alike_user other b alike id ∙ user)
 
-  read_keeps : KeepsEach b (read_by id now u)
-  read_keeps = record { valid = λ other valid alike. read_is other id now u (there_each other alike) valid small }
+  read_keeps : KeepsEach b (read_offer id now u o)
+  read_keeps = record { valid = λ other valid alike. read_is other id now u o (there_each other alike) valid found small }
 
-  pub read_begun : (intent : List Patch) → intent ≡ user_puts (id - 1) (without_offer u) b.ledger → GatheredEach b (read_by id now u) 0 intent
+  pub read_begun : (intent : List Patch) → intent ≡ user_puts (id - 1) (without_offer o.number u) b.ledger → GatheredEach b (read_offer id now u o) 0 intent
   read_begun intent is = record {
     gathered = λ other valid alike.
         let here = there_each other alike in
-        let next : Board = read_by id now u other in
-        let puts : user_puts (id - 1) (without_offer u) other.ledger ≡ intent = ap (user_puts (id - 1) (without_offer u)) (alike_ledger other b alike) ∙ sym is in
+        let next : Board = read_offer id now u o other in
+        let puts : user_puts (id - 1) (without_offer o.number u) other.ledger ≡ intent = ap (user_puts (id - 1) (without_offer o.number u)) (alike_ledger other b alike) ∙ sym is in
         subst (Gathered (IsLayout other) (ledger_text next.ledger) (base_files other) (base_files next) 0) puts
-        (gathered_user other.ledger id u (without_offer u) here (read_room other id now u here valid) (IsLayout other) (base_files other) (base_files next) (λ files is. is.places) (λ files is. is.ledger));
+        (gathered_user other.ledger id u (without_offer o.number u) here (read_room other id now u o here valid) (IsLayout other) (base_files other) (base_files next) (λ files is. is.places) (λ files is. is.ledger));
   }
 
   -- one place more
-  module _ (place : ℕ) (base : Contents) (done : List Patch) (change : Option BaseChange) (here : slice_get (contents_of b) place ≡ Some base) (is : base_after base change ≡ read_up_to id u.name now (get_or u.highs place 0) base)
-      (changes : IfSome change (Changes base)) (each : ChangesEach base (read_up_to id u.name now (get_or u.highs place 0)) (patches_of change)) (so_far : GatheredEach b (read_by id now u) place done) where
-    suits : SuitsIntent base.shape.place (files_in (read_up_to id u.name now (get_or u.highs place 0) base)) (patches_of change)
-    suits = change_suits base (read_up_to id u.name now (get_or u.highs place 0) base) change changes is
+  module _ (place : ℕ) (base : Contents) (done : List Patch) (change : Option BaseChange) (here : slice_get (contents_of b) place ≡ Some base) (is : base_after base change ≡ read_up_to id u.name now (get_or o.highs place 0) base)
+      (changes : IfSome change (Changes base)) (each : ChangesEach base (read_up_to id u.name now (get_or o.highs place 0)) (patches_of change)) (so_far : GatheredEach b (read_offer id now u o) place done) where
+    suits : SuitsIntent base.shape.place (files_in (read_up_to id u.name now (get_or o.highs place 0) base)) (patches_of change)
+    suits = change_suits base (read_up_to id u.name now (get_or o.highs place 0) base) change changes is
 
     pub read_joins : Joins done (patches_of change)
     read_joins =
-        let found = there_each b refl in
-        step_joins b (read_by id now u b) place base (read_up_to id u.name now (get_or u.highs place 0) base) done (patches_of change) ok (read_is b id now u found ok small) here
-        (base_read b id now u found ok place base here) (so_far.gathered b ok refl) (each.files.turns base refl) suits
+        let there = there_each b refl in
+        step_joins b (read_offer id now u o b) place base (read_up_to id u.name now (get_or o.highs place 0) base) done (patches_of change) ok (read_is b id now u o there ok found small) here
+        (base_read b id now u o there ok place base here) (so_far.gathered b ok refl) (each.files.turns base refl) suits
 
-    pub read_gathers : GatheredEach b (read_by id now u) (place + 1) (done ++ patches_of change)
+    pub read_gathers : GatheredEach b (read_offer id now u o) (place + 1) (done ++ patches_of change)
     read_gathers =
-        step_each b (read_by id now u) place base (read_up_to id u.name now (get_or u.highs place 0)) done (patches_of change) here read_keeps
-        (λ other valid alike one is. base_read other id now u (there_each other alike) valid place one is) each suits so_far
+        step_each b (read_offer id now u o) place base (read_up_to id u.name now (get_or o.highs place 0)) done (patches_of change) here read_keeps
+        (λ other valid alike one is. base_read other id now u o (there_each other alike) valid place one is) each suits so_far
 
-  pub read_leads : (intent : List Patch) → GatheredEach b (read_by id now u) (length b.conferences) intent → LeadsEach b (acknowledged id now) intent
-  read_leads intent gathered =
-      leads_as b (read_by id now u) (acknowledged id now) intent (λ other alike. sym (read_there other id now u (alike_user other b alike id ∙ user)))
-      (gathered_leads b (read_by id now u) intent read_keeps (λ other alike. refl) gathered)
+  pub read_leads : (intent : List Patch) → GatheredEach b (read_offer id now u o) (length b.conferences) intent → LeadsEach b (read_offer id now u o) intent
+  read_leads intent gathered = gathered_leads b (read_offer id now u o) intent read_keeps (λ other alike. refl) gathered
+
+-- ---- a board that stays
+kept_leads : (b : Board) → IsBoard b → Leads (IsLayout b) b []
+kept_leads b ok =
+    let text : List ℕ = ledger_text b.ledger in
+    let files : List BaseFiles = base_files b in
+    let none = gathered_kept (IsLayout b) text files files (λ files is. is.places) (λ files is. is.ledger) in
+    let few : 0 + length b.conferences ≤ 64 = omega (arith, conferences_count b ok, ok.ledger.setup.conferences.many) in
+    let all = gathered_rest (IsLayout b) text files files [] 0 (length b.conferences) none few (omega (arith, places_count b ok)) (λ k low high. refl) in
+    leads_next b b [] ok ok refl (subst (λ (k : ℕ). Gathered (IsLayout b) text files files k []) (omega arith) all)
+
+-- where the packet isn't offered to the user
+module _ (b : Board) (id packet now : ℕ) (u : User) (user : user_of id b ≡ Some u) (none : offer_in packet u.offers ≡ None) where
+  pub stays_each : LeadsEach b (acknowledged id packet now) []
+  stays_each = record {
+    leads = λ other valid alike. subst (λ (d : Board). Leads (IsLayout other) d []) (sym (read_open other id packet now u None (alike_user other b alike id ∙ user) none)) (kept_leads other valid);
+  }

@@ -1,7 +1,6 @@
 -- A packet may be offered to a user, and acknowledged by him, just where what is tested of him and of its highs holds.
-use Rattle.std.proofs.Common.{◌≡◌, ◌≢◌, ℕ, ◌<◌, ◌^◌, Bool, true≢false, eqb, List, Option, Some, None, refl, sym, ap, ◌∙◌, subst}
-use Rattle.std.specs.Prelude.{◌↔◌, IsSome, IsSomeAnd, IsTrue, not}
-use Rattle.std.proofs.lemmas.Bool.{eq-eqb, ne_eqb}
+use Rattle.std.proofs.Common.{◌≡◌, ℕ, ◌<◌, ◌^◌, Bool, List, Option, Some, None, refl, sym, ◌∙◌, subst}
+use Rattle.std.specs.Prelude.{◌↔◌, IsSome, IsSomeAnd, IsTrue, is_some}
 use Rattle.board_layout.specs.Board.{Board}
 use Rattle.board_layout.specs.Valid.{IsBoard}
 use Rattle.board_ledger.specs.declared.user.User.{User}
@@ -9,7 +8,7 @@ use Rattle.offer_changes.proofs.AcknowledgeLaws.{acknowledged_board}
 use Rattle.offer_changes.proofs.OfferLaws.{offer_is, offer_may, offer_there}
 use Rattle.offer_changes.proofs.UserLaws.{user_there}
 use Rattle.board_layout.specs.Lookups.{user_of}
-use Rattle.offer_changes.specs.Changed.{acknowledged, offered, HasOffer, HasUser, MayOffer}
+use Rattle.offer_changes.specs.Changed.{acknowledged, offer_in, offered, HasOffer, HasUser, MayOffer}
 use Rattle.offer_changes.specs.Highs.{may_have}
 
 -- ---- the user
@@ -20,8 +19,8 @@ some_and P (Some x) is = refl
 pub may_has : (id : ℕ) (b : Board) → MayOffer id b → HasUser id b
 may_has id b may = some_and (λ (u : User). u.last < 0xFFFF_FFFF) (user_of id b) may
 
-pub offer_has : (id : ℕ) (b : Board) → HasOffer id b → HasUser id b
-offer_has id b has = some_and (λ (u : User). u.offered ≢ 0) (user_of id b) has
+pub offer_has : (id packet : ℕ) (b : Board) → HasOffer id packet b → HasUser id b
+offer_has id packet b has = some_and (λ (u : User). IsSome (offer_in packet u.offers)) (user_of id b) has
 
 -- ---- an offer
 pub offer_fits : (b : Board) (id : ℕ) (highs : List ℕ) → IsBoard b → (u : User) (passes : Bool) → user_of id b ≡ Some u → u.last < 0xFFFF_FFFF → passes ≡ may_have b u highs → IsTrue passes ↔ (MayOffer id b × IsBoard (offered id highs b))
@@ -34,11 +33,8 @@ offer_fits b id highs ok u passes here more is = (
 )
 
 -- ---- its acknowledgement
-not_zero : (n : ℕ) → IsTrue (not (eqb n 0)) ↔ (n ≢ 0)
-not_zero n = (λ yes e. true≢false (sym yes ∙ ap not (eq-eqb n 0 e)), λ ne. ap not (ne_eqb n 0 ne))
-
-pub offer_kept : (b : Board) (id now : ℕ) → IsBoard b → now < 2 ^ 32 → (u : User) → user_of id b ≡ Some u → IsTrue (not (eqb u.offered 0)) ↔ (HasOffer id b × IsBoard (acknowledged id now b))
-offer_kept b id now ok small u here = (
-  λ yes. (subst (λ (o : Option User). IsSomeAnd o (λ (v : User). v.offered ≢ 0)) (sym here) ((not_zero u.offered).0 yes), acknowledged_board b id now small ok),
-  λ both. (not_zero u.offered).1 (subst (λ (o : Option User). IsSomeAnd o (λ (v : User). v.offered ≢ 0)) here both.0),
+pub offer_kept : (b : Board) (id packet now : ℕ) → IsBoard b → now < 2 ^ 32 → (u : User) → user_of id b ≡ Some u → IsTrue (is_some (offer_in packet u.offers)) ↔ (HasOffer id packet b × IsBoard (acknowledged id packet now b))
+offer_kept b id packet now ok small u here = (
+  λ yes. (subst (λ (o : Option User). IsSomeAnd o (λ (v : User). IsSome (offer_in packet v.offers))) (sym here) yes, acknowledged_board b id packet now small ok),
+  λ both. subst (λ (o : Option User). IsSomeAnd o (λ (v : User). IsSome (offer_in packet v.offers))) here both.0,
 )

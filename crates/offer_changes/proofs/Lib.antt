@@ -1,3 +1,4 @@
+pub mod OpenOffers
 pub mod UserLaws
 pub mod LedgerLaws
 pub mod PutLaws

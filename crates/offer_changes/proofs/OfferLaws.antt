@@ -1,8 +1,8 @@
 -- A board on which a packet more is offered to a user: its size, just when it is valid, and the patch that leads to it.
-use Rattle.std.proofs.Common.{◌≡◌, ℕ, ◌+◌, ◌-◌, ◌<◌, true, false, not, ◌&&◌, ◌||◌, eqb, leb, List, [], ◌∷◌, length, set, refl, sym, ap, ◌∙◌, subst, arith}
+use Rattle.std.proofs.Common.{◌≡◌, ℕ, ◌+◌, ◌-◌, ◌<◌, true, ◌&&◌, eqb, leb, List, [], ◌∷◌, ◌++◌, length, set, refl, sym, ap, subst, arith}
 use Rattle.std.specs.Prelude.{All, slice_get, Option, None, Some, sum_by}
 use Rattle.std.specs.List.{AllZip}
-use Rattle.std.proofs.lemmas.Bool.{and_from, and_parts, eq-eqb, eqb-true, leb-true, ne_eqb}
+use Rattle.std.proofs.lemmas.Bool.{and_from, and_parts, eq-eqb, eqb-true, leb-true}
 use Rattle.std.proofs.lemmas.List.Elements.{All-cons, All-nil, All-set}
 use Rattle.board_changes.proofs.GatherLaws.{gathered_rest}
 use Rattle.board_changes.proofs.LeadLaws.{leads_next, places_count}
@@ -13,10 +13,12 @@ use Rattle.board_changes.specs.Gathered.{at_place, Gathered}
 use Rattle.board_layout.specs.Board.{Board, shapes_of}
 use Rattle.board_layout.specs.Layout.{IsLayout, base_files, board_size, layouts}
 use Rattle.board_layout.specs.Renewed.{contents, contents_of}
-use Rattle.board_layout.specs.Valid.{IsBoard, highs_fit}
+use Rattle.board_layout.specs.Valid.{IsBoard, highs_fit, offers_fit}
 use Rattle.board_ledger.specs.Ledger.{ledger_text}
-use Rattle.board_ledger.specs.UserPuts.{user_puts}
-use Rattle.board_ledger.specs.Users.{IsUser, is_member, right_highs, right_offer, user_text}
+use Rattle.open_offers.specs.Offers.{are_of_member, IsOffer}
+use Rattle.board_ledger.specs.UserPuts.{record_in, user_puts}
+use Rattle.board_ledger.specs.Users.{IsUser}
+use Rattle.open_offers.specs.declared.offer.OpenOffer.{OpenOffer}
 use Rattle.board_ledger.specs.declared.user.User.{User}
 use Rattle.intent_journal.specs.declared.patch.Patch.{Patch}
 use Rattle.jam_layout.specs.Layout.{files_size}
@@ -25,39 +27,29 @@ use Rattle.jam_layout.specs.declared.conference.Conference.{Conference}
 use Rattle.jam_layout.specs.declared.files.BaseFiles.{BaseFiles}
 use Rattle.jam_layout.specs.declared.shape.Shape.{Shape}
 use Rattle.record_numbers.specs.Numbers.{IsU32}
-use Rattle.offer_changes.proofs.LedgerLaws.{ledger_is, same_text, shapes_stay, text_stays, user_is, user_was}
+use Rattle.offer_changes.proofs.LedgerLaws.{ledger_is, same_text, shapes_stay, text_stays, user_is, user_was, was_each}
+use Rattle.offer_changes.proofs.OpenOffers.{latest_all, latest_fit, latest_has, new_fits, offers_more}
 use Rattle.offer_changes.proofs.PutLaws.{gathered_user}
-use Rattle.offer_changes.proofs.UserLaws.{Alike, user_there}
+use Rattle.offer_changes.proofs.UserLaws.{Alike, OneHighEach, user_there}
 use Rattle.board_layout.specs.Lookups.{user_of}
-use Rattle.offer_changes.specs.Changed.{for_user, offered, offered_to, with_offer}
-use Rattle.offer_changes.specs.Highs.{are_of_member, may_have}
+use Rattle.offer_changes.specs.Changed.{for_user, latest, offered, offered_to, with_offer}
+use Rattle.offer_changes.specs.Highs.{may_have}
 
 -- ---- the user
-not_none : (n : ℕ) → eqb (n + 1) 0 ≡ false
-not_none n = ne_eqb (n + 1) 0 (λ e. omega (arith, e))
+-- the offer more
+abbrev new_offer : List ℕ → User → OpenOffer
+new_offer highs u = record { number = u.last + 1; highs = highs }
 
-right_are : (u : User) (highs : List ℕ) (place : ℕ) (rest : List ℕ) → right_highs (with_offer highs u) place rest ≡ are_of_member u place rest
-right_are u highs place [] = refl
-right_are u highs place (high ∷ rest) = λ i. (eqb high 0 || (not (not_none u.last i) && is_member u place)) && right_are u highs (place + 1) rest i
-
--- the packet is the last one
-is_last : (n : ℕ) → (eqb (n + 1) 0 || eqb (n + 1) (n + 1)) ≡ true
-is_last n = (λ i. not_none n i || eqb (n + 1) (n + 1)) ∙ eq-eqb (n + 1) (n + 1) refl
-
-offer_user : (count : ℕ) (u : User) (highs : List ℕ) → IsUser count u → u.last < 0xFFFF_FFFF → length highs ≡ count → All IsU32 highs → are_of_member u 0 highs ≡ true → IsUser count (with_offer highs u)
-unfolding right_offer
+offer_user : (count : ℕ) (u : User) (highs : List ℕ) → IsUser count u → u.last < 0xFFFF_FFFF → length highs ≡ count → All IsU32 highs → are_of_member u.members 0 highs ≡ true → IsUser count (with_offer highs u)
 offer_user count u highs ok more many small right = record {
   name = ok.name;
   members = ok.members;
   last = omega (arith, more);
-  offer = and_from (eqb (u.last + 1) 0 || eqb (u.last + 1) (u.last + 1)) (right_highs (with_offer highs u) 0 highs) (is_last u.last) (right_are u highs 0 highs ∙ right);
-  one_high_each = many;
-  highs = small;
+  offers = offers_more count u.members u.last u.offers (new_offer highs u) refl ok.offers (record { one_high_each = many; highs = small; of_member = right });
 }
 
-offer_right : (count : ℕ) (u : User) (highs : List ℕ) → IsUser count (with_offer highs u) → are_of_member u 0 highs ≡ true
-unfolding right_offer
-offer_right count u highs is = sym (right_are u highs 0 highs) ∙ (and_parts (eqb (u.last + 1) 0 || eqb (u.last + 1) (u.last + 1)) (right_highs (with_offer highs u) 0 highs) is.offer).1
+offer_right : (count : ℕ) (u : User) (highs : List ℕ) → IsUser count (with_offer highs u) → IsOffer count u.members (new_offer highs u)
+offer_right count u highs is = latest_has (IsOffer count u.members) u.offers (new_offer highs u) is.offers.each
 
 -- highs that fit are small
 small_highs : (highs : List ℕ) (shapes : List Shape) (conferences : List Conference) → AllZip IsConference shapes conferences → length highs ≡ length conferences → highs_fit conferences highs ≡ true → All IsU32 highs
@@ -88,18 +80,21 @@ module _ (b : Board) (id : ℕ) (u : User) (highs : List ℕ) (here : slice_get 
   files_stay = ap (λ (s : List Shape). layouts s b.conferences) offer_shapes
 
   -- ---- how many bytes its files have
-  pub offer_size : IsBoard b → length highs ≡ length u.highs → board_size (offered_to id highs u b) ≡ board_size b
-  offer_size ok same =
-      let text = text_stays b.ledger id u (with_offer highs u) here alike ok.ledger same in
+  offer_each : IsBoard b → length highs ≡ length b.ledger.setup.conferences → OneHighEach (length b.ledger.setup.conferences) (with_offer highs u)
+  offer_each ok many = latest_all (λ (o : OpenOffer). length o.highs ≡ length b.ledger.setup.conferences) u.offers (new_offer highs u) (was_each b.ledger id u (with_offer highs u) here alike ok.ledger) many
+
+  pub offer_size : IsBoard b → length highs ≡ length b.conferences → board_size (offered_to id highs u b) ≡ board_size b
+  offer_size ok many =
+      let text = text_stays b.ledger id u (with_offer highs u) here alike ok.ledger (offer_each ok (omega (arith, many, conferences_count b ok))) in
       omega (arith, text, ap (sum_by files_size) files_stay)
 
-  pub highs_each : IsBoard b → length u.highs ≡ length b.conferences
-  highs_each ok = omega (arith, (user_was b.ledger id u (with_offer highs u) here alike ok.ledger).one_high_each, conferences_count b ok)
-
   -- ---- validity
+  highs_before : IsBoard b → offers_fit b.conferences u.offers ≡ true
+  highs_before ok = all_at (λ (v : User). offers_fit b.conferences v.offers ≡ true) b.ledger.users (id - 1) u here ok.highs
+
   pub offer_is : IsBoard b → u.last < 0xFFFF_FFFF → may_have b u highs ≡ true → IsBoard (offered_to id highs u b)
   offer_is ok more may =
-      let halves = and_parts (eqb (length highs) (length b.conferences) && highs_fit b.conferences highs) (are_of_member u 0 highs) may in
+      let halves = and_parts (eqb (length highs) (length b.conferences) && highs_fit b.conferences highs) (are_of_member u.members 0 highs) may in
       let own = and_parts (eqb (length highs) (length b.conferences)) (highs_fit b.conferences highs) halves.0 in
       let many : length highs ≡ length b.conferences = eqb-true (length highs) (length b.conferences) own.0 in
       let count : length highs ≡ length b.ledger.setup.conferences = omega (arith, many, conferences_count b ok) in
@@ -109,8 +104,8 @@ module _ (b : Board) (id : ℕ) (u : User) (highs : List ℕ) (here : slice_get 
       record {
         ledger = ledger_is b.ledger id u (with_offer highs u) here alike ok.ledger user;
         conferences = subst (λ (s : List Shape). AllZip IsConference s b.conferences) (sym offer_shapes) ok.conferences;
-        highs = All-set (λ (v : User). highs_fit b.conferences v.highs ≡ true) b.ledger.users (id - 1) (with_offer highs u) own.1 ok.highs;
-        small = omega (arith, ok.small, offer_size ok (omega (arith, many, highs_each ok)));
+        highs = All-set (λ (v : User). offers_fit b.conferences v.offers ≡ true) b.ledger.users (id - 1) (with_offer highs u) (latest_fit b.conferences u.offers (new_offer highs u) (highs_before ok) own.1) ok.highs;
+        small = omega (arith, ok.small, offer_size ok many);
       }
 
   pub offer_last : IsBoard (offered_to id highs u b) → u.last < 0xFFFF_FFFF
@@ -120,18 +115,18 @@ module _ (b : Board) (id : ℕ) (u : User) (highs : List ℕ) (here : slice_get 
   offer_may ok next =
       let user = user_is b.ledger id u (with_offer highs u) here alike next.ledger in
       let there = set_there b.ledger.users (id - 1) u (with_offer highs u) here in
-      let fit : highs_fit b.conferences highs ≡ true = all_at (λ (v : User). highs_fit b.conferences v.highs ≡ true) (set b.ledger.users (id - 1) (with_offer highs u)) (id - 1) (with_offer highs u) there next.highs in
-      let many : length highs ≡ length b.conferences = omega (arith, user.one_high_each, conferences_count b ok) in
-      and_from (eqb (length highs) (length b.conferences) && highs_fit b.conferences highs) (are_of_member u 0 highs)
-      (and_from (eqb (length highs) (length b.conferences)) (highs_fit b.conferences highs) (eq-eqb (length highs) (length b.conferences) many) fit)
-      (offer_right (length b.ledger.setup.conferences) u highs user)
+      let right = offer_right (length b.ledger.setup.conferences) u highs user in
+      let after : offers_fit b.conferences (latest (u.offers ++ new_offer highs u ∷ [])) ≡ true = all_at (λ (v : User). offers_fit b.conferences v.offers ≡ true) (set b.ledger.users (id - 1) (with_offer highs u)) (id - 1) (with_offer highs u) there next.highs in
+      let fit : highs_fit b.conferences highs ≡ true = new_fits b.conferences u.offers (new_offer highs u) after in
+      let many : length highs ≡ length b.conferences = omega (arith, right.one_high_each, conferences_count b ok) in
+      and_from (eqb (length highs) (length b.conferences) && highs_fit b.conferences highs) (are_of_member u.members 0 highs)
+      (and_from (eqb (length highs) (length b.conferences)) (highs_fit b.conferences highs) (eq-eqb (length highs) (length b.conferences) many) fit) right.of_member
 
   -- ---- the patch of its ledger
-  pub offer_room : IsBoard b → IsBoard (offered_to id highs u b) → length (user_text (with_offer highs u)) ≡ length (user_text u)
+  offer_room : IsBoard b → IsBoard (offered_to id highs u b) → length (record_in b.ledger (with_offer highs u)) ≡ length (record_in b.ledger u)
   offer_room ok next =
-      let was = user_was b.ledger id u (with_offer highs u) here alike ok.ledger in
-      let is = user_is b.ledger id u (with_offer highs u) here alike next.ledger in
-      same_text b.ledger id u (with_offer highs u) here alike (omega (arith, was.one_high_each, is.one_high_each))
+      let right = offer_right (length b.ledger.setup.conferences) u highs (user_is b.ledger id u (with_offer highs u) here alike next.ledger) in
+      same_text b.ledger id u (with_offer highs u) here alike ok.ledger (offer_each ok right.one_high_each)
 
   pub offer_leads : IsBoard b → IsBoard (offered_to id highs u b) → Leads (IsLayout b) (offered_to id highs u b) (user_puts (id - 1) (with_offer highs u) b.ledger)
   offer_leads ok next =
@@ -151,6 +146,4 @@ offered_size b id highs ok many = by (user_of id b) refl
   where
     by : (o : Option User) → user_of id b ≡ o → board_size (for_user (offered_to id highs) o b) ≡ board_size b
     by None none = refl
-    by (Some u) is =
-        let here = user_there b id u is in
-        offer_size b id u highs here ok (omega (arith, many, highs_each b id u highs here ok))
+    by (Some u) is = offer_size b id u highs (user_there b id u is) ok many

@@ -1,13 +1,15 @@
 -- Bases that a user acknowledges up to their highs: they keep their shapes, their slots are as many, and their files as long.
 use Rattle.std.proofs.Common.{◌≡◌, ℕ, zero, suc, ◌+◌, ◌<◌, ◌≤◌, ◌^◌, Bool, true, false, cond, ◌&&◌, leb, List, [], ◌∷◌, length, get_or, set, refl, sym, ap, ◌∙◌, subst, arith, length-append}
 use Rattle.std.specs.Prelude.{All, slice_get, Option, Some, None, sum_by}
+use Rattle.std.specs.List.{list_all}
 use Rattle.std.proofs.lemmas.Bool.{and_parts, le-ltb, leb-true}
 use Rattle.std.proofs.lemmas.List.Elements.{All-cons, All-drop, All-nil}
 use Rattle.std.proofs.lemmas.List.Sums.{sum_by-cons}
 use Rattle.board_layout.proofs.BasePlaces.{IsBase}
 use Rattle.board_layout.specs.Board.{conferences_in, shapes_in}
 use Rattle.board_layout.specs.Layout.{base_size}
-use Rattle.board_layout.specs.Valid.{highs_fit}
+use Rattle.board_layout.specs.Valid.{highs_fit, offers_fit}
+use Rattle.open_offers.specs.declared.offer.OpenOffer.{OpenOffer}
 use Rattle.jam_base.proofs.ReadingLaws.{acknowledged_count, acknowledged_is, acknowledged_shape, either, reading_files, received_to}
 use Rattle.jam_base.specs.Contents.{Contents, pointer_of, pointers_with, reader_place, receipt_to, with_acknowledged, with_pointer}
 use Rattle.jam_base.specs.Slots.{is_due, slot_received, slots_received}
@@ -171,11 +173,14 @@ module _ (id : ℕ) (name : List ℕ) (now : ℕ) where
   all_count (base ∷ bases) [] = refl
   all_count (base ∷ bases) (high ∷ highs) = ap suc (all_count bases highs)
 
-  pub all_slots : (bases : List Contents) (highs others : List ℕ) → highs_fit (conferences_in (all_read id name now bases highs)) others ≡ highs_fit (conferences_in bases) others
+  all_slots : (bases : List Contents) (highs others : List ℕ) → highs_fit (conferences_in (all_read id name now bases highs)) others ≡ highs_fit (conferences_in bases) others
   all_slots [] highs others = refl
   all_slots (base ∷ bases) [] others = refl
   all_slots (base ∷ bases) (high ∷ highs) [] = refl
   all_slots (base ∷ bases) (high ∷ highs) (other ∷ others) = λ i. leb other (read_count id name now high base i) && all_slots bases highs others i
+
+  pub all_offers : (bases : List Contents) (highs : List ℕ) (offers : List OpenOffer) → offers_fit (conferences_in (all_read id name now bases highs)) offers ≡ offers_fit (conferences_in bases) offers
+  all_offers bases highs offers = λ i. list_all (λ (o : OpenOffer). all_slots bases highs o.highs i) offers
 
   pub all_bases : (bases : List Contents) (highs : List ℕ) → now < 2 ^ 32 → highs_fit (conferences_in bases) highs ≡ true → All IsBase bases → All IsBase (all_read id name now bases highs)
   all_bases [] highs small fit all = All-nil IsBase

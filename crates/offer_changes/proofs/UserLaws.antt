@@ -1,15 +1,22 @@
 -- Users of whom one has another offer: their names, their places and their ids stay.
 use Rattle.std.proofs.Common.{◌≡◌, ℕ, zero, suc, ◌+◌, ◌-◌, ◌<◌, ◌||◌, false, cond, eqb, List, [], ◌∷◌, ◌++◌, length, set, refl, sym, ap, ◌∙◌, subst, arith, length-append}
-use Rattle.std.specs.Prelude.{slice_get, Some, None}
+use Rattle.std.specs.Prelude.{All, slice_get, Some, None}
 use Rattle.std.specs.Int.{bit_at}
 use Rattle.std.specs.List.{flat_map}
 use Rattle.std.specs.Str.{bytes_eq}
 use Rattle.std.proofs.lemmas.Bool.{cond-false, ne_eqb}
+use Rattle.std.proofs.lemmas.List.{length-replicate}
+use Rattle.std.proofs.lemmas.List.Elements.{All-head, All-nil, All-tail}
+use Rattle.record_numbers.specs.Numbers.{u32_text}
 use Rattle.board_layout.specs.Board.{Board, reader_of, readers_from, shape_of, shapes_from}
+use Rattle.board_ledger.proofs.SizeLaws.{flat_length}
+use Rattle.open_offers.specs.Offers.{behind_last, behind_size, cell_size, cell_text, cells_for, cells_size, no_offer}
 use Rattle.board_ledger.specs.Records.{EachBehind}
-use Rattle.board_ledger.specs.Users.{is_taken, lowered, user_text}
+use Rattle.board_ledger.specs.Users.{behind_name, is_taken, lowered, user_text}
 use Rattle.board_ledger.specs.declared.ledger.Ledger.{Ledger}
+use Rattle.open_offers.specs.declared.offer.OpenOffer.{OpenOffer}
 use Rattle.board_ledger.specs.declared.user.User.{User}
+use Rattle.open_offers.specs.declared.version.Version.TheVariants.{Second}
 use Rattle.board_layout.specs.Lookups.{user_of}
 use Rattle.setup_file.specs.declared.conference.Conference.{Conference as SetupConference}
 
@@ -91,9 +98,34 @@ same_names before others (u ∷ us) (v ∷ vs) firsts all each = (
 )
 
 -- ---- their records
-pub same_records : (users : List User) (place : ℕ) (u v : User) → slice_get users place ≡ Some u → length (user_text v) ≡ length (user_text u) → length (flat_map user_text (set users place v)) ≡ length (flat_map user_text users)
-same_records [] place u v here size = refl
-same_records (w ∷ users) zero u v here size =
-    omega (arith, length-append (user_text v) (flat_map user_text users), length-append (user_text w) (flat_map user_text users), size, ap (λ (x : User). length (user_text x)) (some_is w u here))
-same_records (w ∷ users) (suc place) u v here size =
-    omega (arith, length-append (user_text w) (flat_map user_text (set users place v)), length-append (user_text w) (flat_map user_text users), same_records users place u v here size)
+-- each offer of the user has a high for each of so many conferences
+abbrev pub OneHighEach : ℕ → User → Type 0
+OneHighEach count u = All (λ o. length o.highs ≡ count) u.offers
+
+cell_length : (count : ℕ) (o : OpenOffer) → length o.highs ≡ count → length (cell_text o) ≡ cell_size count
+cell_length count o many = omega (arith, many, flat_length u32_text 4 o.highs (λ k d within. refl))
+
+cells_length : (count n : ℕ) (offers : List OpenOffer) → All (λ o. length o.highs ≡ count) offers → length (flat_map cell_text (cells_for count n offers)) ≡ cells_size count n
+cells_length count zero offers each = refl
+cells_length count (suc n) [] each = omega (
+  arith,
+  cell_length count (no_offer count) (length-replicate {A = ℕ} count 0),
+  cells_length count n [] (All-nil (λ (o : OpenOffer). length o.highs ≡ count)),
+  length-append (cell_text (no_offer count)) (flat_map cell_text (cells_for count n [])),
+)
+cells_length count (suc n) (o ∷ offers) each = omega (
+  arith,
+  cell_length count o (All-head (λ (p : OpenOffer). length p.highs ≡ count) o offers each),
+  cells_length count n offers (All-tail (λ (p : OpenOffer). length p.highs ≡ count) o offers each),
+  length-append (cell_text o) (flat_map cell_text (cells_for count n offers)),
+)
+
+record_length : (count : ℕ) (u : User) → OneHighEach count u → length (user_text Second count u) ≡ (2 + length u.name) + behind_name Second count
+unfolding user_text
+record_length count u each =
+    let cells : List OpenOffer = cells_for count 4 u.offers in
+    let behind : length (behind_last Second u.members cells) ≡ behind_size Second count = omega (arith, cells_length count 4 u.offers each) in
+    omega (arith, behind, length-append u.name (cond u.net 1 0 ∷ (u32_text u.last ++ behind_last Second u.members cells)))
+
+pub same_record : (count : ℕ) (u v : User) → Alike u v → OneHighEach count u → OneHighEach count v → length (user_text Second count v) ≡ length (user_text Second count u)
+same_record count u v alike was each = omega (arith, record_length count u was, record_length count v each, ap (length {A = ℕ}) alike.name)

@@ -4,39 +4,49 @@ ghost use Rattle.board_changes.specs.Gathered.{Joins};
 ghost use Rattle.board_changes.specs.Outlined.{ChangesEach, GatheredEach, LeadsEach};
 ghost use Rattle.board_layout.specs.Renewed.{contents_of, renewed};
 ghost use Rattle.board_layout.specs.Lookups.{user_of as user_in};
-ghost use Rattle.offer_changes.specs.Changed.{acknowledged as acknowledged_of, read_by, read_up_to as read_of, without_offer as without_offer_of, HasUser};
+ghost use Rattle.offer_changes.specs.Changed.{acknowledged as acknowledged_of, offer_in, other_offers as other_offers_of, read_offer as read_offer_of, read_up_to as read_of, without_offer as without_offer_of, HasUser};
 ghost use Rattle.offer_changes.specs.Steps.{base_after, patches_of};
 
-use crate::user::{user_intent, user_of, with_user};
+use crate::user::{open_offer, user_intent, user_of, with_user};
 use board_changes::{BoardChange, add_all};
 use board_layout::StoredBoard;
-use board_ledger::{Highs, User};
-use byte_lists::List;
+use board_ledger::{Highs, Offers, OpenOffer, User};
+use byte_lists::{Duplicate, List};
 use intent_journal::Intent;
 use jam_base::{Base, BaseChange};
 use std::alloc::{AllocError, Global};
 
-/// The user to whom nothing is offered any more.
-fn without_offer(alloc: Global, user: &User) -> Result<User, AllocError>
-    ensures { IfOk result (λ next. next ≡ without_offer_of user.now) }
+/// The open offers but that of a number.
+fn other_offers(alloc: Global, offers: &[OpenOffer], packet: u32) -> Result<Offers, AllocError>
+    ensures { IfOk result (λ next. next ≡ other_offers_of packet offers.now) }
 {
-    let mut highs = Highs::new(alloc);
-    highs.fill(alloc, &0, user.highs.len())?;
+    let mut next = List::new(alloc);
+    for offer in offers {
+        if offer.number != packet {
+            next.add(offer.duplicate(alloc)?)?;
+        }
+    }
+    Ok(next)
+}
+
+/// The user to whom the packet of a number isn't offered any more.
+fn without_offer(alloc: Global, user: &User, packet: u32) -> Result<User, AllocError>
+    ensures { IfOk result (λ next. next ≡ without_offer_of packet user.now) }
+{
     Ok(User {
         name: user.name.copy(alloc)?,
         net: user.net,
         members: user.members,
         last: user.last,
-        offered: 0,
-        highs,
+        offers: other_offers(alloc, user.offers.as_slice(), packet)?,
     })
 }
 
 /// The high of a place, or 0 where there is none.
-fn high_of(user: &User, place: usize) -> u32
-    ensures { result ≡ slice_index user.now.highs place }
+fn high_of(highs: &Highs, place: usize) -> u32
+    ensures { result ≡ slice_index highs.now place }
 {
-    match user.highs.get(place) {
+    match highs.get(place) {
         Some(high) => *high,
         None => 0,
     }
@@ -84,55 +94,83 @@ pub fn gather(change: Option<BaseChange>, intent: &mut Intent) -> Result<Option<
     }
 }
 
-/// The bases that the user of an id acknowledges up to their highs at a moment, whose files the intent makes too.
+/// The bases that the user of an id acknowledges up to the highs of an open offer at a moment, whose files the intent
+/// makes too.
 fn bases_read(
     alloc: Global,
     board: &StoredBoard,
     id: u32,
     user: &User,
+    offer: &OpenOffer,
     now: u32,
     intent: &mut Intent,
 ) -> Result<List<Option<Base>>, AllocError>
     requires user { user_in id board.now ≡ Some user.now }
-    requires gathered { GatheredEach board.now (read_by id now user.now) 0 intent.old }
-    ensures bases { IfOk result (λ bases. renewed (contents_of board.now) bases ≡ contents_of (read_by id now user.now board.now)) }
-    ensures gathers { OnOk result (GatheredEach board.now (read_by id now user.now) (length board.now.conferences) intent.new) }
+    requires offer { offer_in offer.now.number user.now.offers ≡ Some offer.now }
+    requires gathered { GatheredEach board.now (read_offer_of id now user.now offer.now) 0 intent.old }
+    ensures bases { IfOk result (λ bases. renewed (contents_of board.now) bases ≡ contents_of (read_offer_of id now user.now offer.now board.now)) }
+    ensures gathers { OnOk result (GatheredEach board.now (read_offer_of id now user.now offer.now) (length board.now.conferences) intent.new) }
 {
     let mut bases = List::new(alloc);
     for (place, base) in board.bases().iter().enumerate() {
-        let high = high_of(user, place);
+        let high = high_of(&offer.highs, place);
         let change = read_up_to(alloc, base, id, user.name.as_slice(), high, now)?;
         bases.add(gather(change, intent)?)?;
     }
     Ok(bases)
 }
 
-/// The change of a board by which the user of an id, from 1, acknowledges what is offered to him at a moment in Unix
-/// seconds: in each conference whose high is above his last-read pointer, each message to him, ignoring case, is
-/// marked read that isn't deleted, isn't read and has a number above the pointer and at most the high, and then the
-/// pointer is the high. The offer goes, and all his highs are 0. The user is there. The intent serves each board with
-/// the outline of this one.
+/// The change of a board by which the user of an id acknowledges an open offer of his at a moment.
+fn offer_read(
+    alloc: Global,
+    board: &StoredBoard,
+    id: u32,
+    user: &User,
+    offer: &OpenOffer,
+    now: u32,
+) -> Result<BoardChange, AllocError>
+    requires user { user_in id board.now ≡ Some user.now }
+    requires offer { offer_in offer.now.number user.now.offers ≡ Some offer.now }
+    ensures becomes { IfOk result (λ change. Becomes board.now (read_offer_of id now user.now offer.now board.now) change) }
+    ensures each { IfOk result (λ change. LeadsEach board.now (read_offer_of id now user.now offer.now) change.intent) }
+{
+    let old = board.ledger();
+    let next = without_offer(alloc, user, offer.number)?;
+    let mut intent = user_intent(alloc, old, id, &next)?;
+    let bases = bases_read(alloc, board, id, user, offer, now, &mut intent)?;
+    let ledger = with_user(alloc, old, id, next)?;
+    Ok(BoardChange {
+        ledger: Some(ledger),
+        bases,
+        intent,
+    })
+}
+
+/// The change of a board by which the user of an id, from 1, acknowledges the packet of a number, which is offered to
+/// him, at a moment in Unix seconds: in each conference whose high in that offer is above his last-read pointer, each
+/// message to him, ignoring case, is marked read that isn't deleted, isn't read and has a number above the pointer and at
+/// most the high, and then the pointer is the high. That offer goes, and the others stay. Where the packet isn't offered
+/// to him, the board stays as it is. The user is there. The intent serves each board with the outline of this one.
 ///
 /// The error comes where there is no memory.
 pub fn acknowledged(
     alloc: Global,
     board: &StoredBoard,
     user: u32,
+    packet: u32,
     now: u32,
 ) -> Result<BoardChange, AllocError>
     requires { HasUser user board.now }
-    ensures becomes { IfOk result (λ change. Becomes board.now (acknowledged_of user now board.now) change) }
-    ensures each { IfOk result (λ change. LeadsEach board.now (acknowledged_of user now) change.intent) }
+    ensures becomes { IfOk result (λ change. Becomes board.now (acknowledged_of user packet now board.now) change) }
+    ensures each { IfOk result (λ change. LeadsEach board.now (acknowledged_of user packet now) change.intent) }
 {
     let reader = user_of(board, user);
-    let old = board.ledger();
-    let next = without_offer(alloc, reader)?;
-    let mut intent = user_intent(alloc, old, user, &next)?;
-    let bases = bases_read(alloc, board, user, reader, now, &mut intent)?;
-    let ledger = with_user(alloc, old, user, next)?;
-    Ok(BoardChange {
-        ledger: Some(ledger),
-        bases,
-        intent,
-    })
+    match open_offer(reader, packet) {
+        Some(offer) => offer_read(alloc, board, user, reader, offer, now),
+        None => Ok(BoardChange {
+            ledger: None,
+            bases: List::new(alloc),
+            intent: Intent::new(alloc),
+        }),
+    }
 }

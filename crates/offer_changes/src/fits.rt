@@ -1,11 +1,12 @@
 // Whether a packet may be offered, and acknowledged.
 ghost use Rattle.std.specs.Prelude.{◌≡◌, ◌↔◌, ◌≤◌, ◌<◌, ◌==◌, ◌||◌, IsTrue, length};
 ghost use Rattle.board_layout.specs.Valid.{IsBoard};
+ghost use Rattle.open_offers.specs.Offers.{are_of_member as of_member};
 ghost use Rattle.board_ledger.specs.Users.{is_member};
 ghost use Rattle.offer_changes.specs.Changed.{acknowledged as acknowledged_of, offered as offered_of, HasOffer, MayOffer};
-ghost use Rattle.offer_changes.specs.Highs.{are_of_member as of_member, may_have as may_have_of};
+ghost use Rattle.offer_changes.specs.Highs.{may_have as may_have_of};
 
-use crate::user::user_at;
+use crate::user::{open_offer, user_at};
 use board_layout::{StoredBoard, highs_fit};
 use board_ledger::{Highs, User};
 
@@ -20,7 +21,7 @@ fn is_of_member(user: &User, place: u32, high: u32) -> bool
 /// Whether each high is 0 where the user isn't a member.
 fn are_of_member(user: &User, highs: &[u32]) -> bool
     requires { length highs.now ≤ 64 }
-    ensures { result ≡ of_member user.now 0 highs.now }
+    ensures { result ≡ of_member user.now.members 0 highs.now }
 {
     for (place, high) in highs.iter().enumerate() {
         if !is_of_member(user, place as u32, *high) {
@@ -53,13 +54,13 @@ pub fn fits_offer(board: &StoredBoard, user: u32, highs: &Highs) -> bool
     }
 }
 
-/// Whether the user of an id, from 1, is there, a packet is offered to him, and the board is valid once he
+/// Whether the user of an id, from 1, is there, the packet of a number is offered to him, and the board is valid once he
 /// acknowledges it at a moment in Unix seconds. It takes no memory.
-pub fn fits_acknowledgement(board: &StoredBoard, user: u32, now: u32) -> bool
-    ensures { IsTrue result ↔ (HasOffer user board.now × IsBoard (acknowledged_of user now board.now)) }
+pub fn fits_acknowledgement(board: &StoredBoard, user: u32, packet: u32, now: u32) -> bool
+    ensures { IsTrue result ↔ (HasOffer user packet board.now × IsBoard (acknowledged_of user packet now board.now)) }
 {
     match user_at(board, user) {
-        Some(user) => user.offered != 0,
+        Some(user) => open_offer(user, packet).is_some(),
         None => false,
     }
 }

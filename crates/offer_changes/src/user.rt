@@ -5,11 +5,11 @@ ghost use Rattle.board_layout.specs.Valid.{IsBoard};
 ghost use Rattle.board_layout.specs.Lookups.{user_of as user_in};
 ghost use Rattle.board_ledger.specs.UserPuts.{user_puts, IsAsLong};
 ghost use Rattle.board_ledger.specs.Valid.{IsLedger};
-ghost use Rattle.offer_changes.specs.Changed.{with_user as with_user_of, HasUser};
+ghost use Rattle.offer_changes.specs.Changed.{offer_in, with_user as with_user_of, HasUser};
 
 use board_changes::intent_with;
 use board_layout::StoredBoard;
-use board_ledger::{Ledger, User, user_patches};
+use board_ledger::{Ledger, OpenOffer, User, user_patches};
 use byte_lists::List;
 use intent_journal::Intent;
 use std::alloc::{AllocError, Global};
@@ -38,6 +38,16 @@ pub(crate) fn user_of(board: &StoredBoard, id: u32) -> &User
     }
 }
 
+/// The open offer of a number, or None where the user has none.
+pub(crate) fn open_offer(user: &User, packet: u32) -> Option<&OpenOffer>
+    ensures { option_copied result ≡ offer_in packet user.now.offers }
+{
+    user.offers
+        .as_slice()
+        .iter()
+        .find(|offer| offer.number == packet)
+}
+
 /// The ledger with another user in place of the one of an id.
 pub(crate) fn with_user(
     alloc: Global,
@@ -52,6 +62,7 @@ pub(crate) fn with_user(
     let mut users = ledger.users.copy(alloc)?.into_vec();
     users[id as usize - 1] = user;
     Ok(Ledger {
+        version: ledger.version,
         setup: ledger.setup.copy(alloc)?,
         created: ledger.created,
         users: List::from_vec(users),
@@ -59,8 +70,8 @@ pub(crate) fn with_user(
     })
 }
 
-/// The intent that puts the record of a user into the ledger's file, over that of the user of an id, which is as long,
-/// and changes no other file. Both ledgers are valid.
+/// The intent that puts the record of a user into the ledger's file, over that of the user of an id, whose name is as
+/// long, and changes no other file. Both ledgers are valid.
 pub(crate) fn user_intent(
     alloc: Global,
     ledger: &Ledger,

@@ -1,33 +1,30 @@
 -- When a board with posts is valid.
-use Rattle.std.proofs.Common.{◌≡◌, ℕ, suc, ◌+◌, ◌^◌, ◌≤◌, ◌<◌, true, false, ◌&&◌, leb, List, [], ◌∷◌, length, get_or, refl, sym, ap, subst, arith}
+use Rattle.std.proofs.Common.{◌≡◌, ℕ, suc, ◌+◌, ◌^◌, ◌≤◌, ◌<◌, false, ◌&&◌, leb, List, [], ◌∷◌, length, get_or, refl, sym, ap, subst, arith}
 use Rattle.std.specs.Prelude.{All, Some, slice_get}
-use Rattle.std.specs.List.{AllZip, list_all}
-use Rattle.std.proofs.lemmas.Bool.{and_parts, and_from, leb-true, le-leb}
-use Rattle.std.proofs.lemmas.List.Elements.{All-cons, All-head, All-nil, All-tail, All-weaker}
+use Rattle.std.specs.List.{list_all}
+use Rattle.std.proofs.lemmas.Bool.{and_parts, leb-true}
+use Rattle.std.proofs.lemmas.List.Elements.{All-cons, All-head, All-nil, All-tail}
 use Rattle.std.proofs.lemmas.Option.{slice_get-get_or, slice_get_within}
 use Rattle.board_changes.proofs.OneBase.{all_at, are_bases, conferences_back}
-use Rattle.board_layout.proofs.BasePlaces.{IsBase, zipped}
+use Rattle.board_layout.proofs.BasePlaces.{IsBase}
 use Rattle.board_layout.specs.Board.{Board, conferences_in, shapes_of}
 use Rattle.board_layout.specs.Layout.{board_size}
 use Rattle.board_layout.specs.Renewed.{contents_of}
-use Rattle.board_layout.specs.Valid.{IsBoard, board_limit, highs_fit}
-use Rattle.board_ledger.specs.declared.user.User.{User}
+use Rattle.board_layout.specs.Valid.{IsBoard, board_limit}
 use Rattle.jam_base.specs.Contents.{Contents}
 use Rattle.jam_layout.specs.Fields.{is_text}
 use Rattle.jam_layout.specs.Messages.{IsMessage}
-use Rattle.jam_layout.specs.Valid.{IsConference}
-use Rattle.jam_layout.specs.declared.conference.Conference.{Conference}
-use Rattle.jam_layout.specs.declared.shape.Shape.{Shape}
 use Rattle.jam_records.specs.declared.message.Kind.{Kind}
 use Rattle.jam_records.specs.declared.message.Kind.TheVariants.{Local}
 use Rattle.jam_records.specs.declared.message.Message.{Message}
 use Rattle.offered_packets.proofs.BoardLookups.{base_slots}
 use Rattle.offered_packets.specs.Sees.{slots_in}
+use Rattle.post_changes.proofs.FitLaws.{spread_fits}
 use Rattle.post_changes.specs.Posted.{posts_in, all_posted, spread}
-use Rattle.packet_verdicts.proofs.Spreading.{as_many, spread_shapes}
+use Rattle.packet_verdicts.proofs.Spreading.{as_many}
 use Rattle.setup_file.specs.Valid.{IsSetupConference}
 use Rattle.setup_file.specs.declared.conference.Conference.{Conference as SetupConference}
-use Rattle.slot_changes.proofs.AppendLaws.{base_is, more_slots, named}
+use Rattle.slot_changes.proofs.AppendLaws.{base_is, named}
 use Rattle.slot_changes.proofs.MsgidLaws.{generated_is, identified_count}
 use Rattle.slot_changes.proofs.PlaceKinds.{kind_at}
 use Rattle.slot_changes.proofs.ValueLaws.{all_hold}
@@ -75,17 +72,6 @@ all_take b posts first (base ∷ bases) all takes =
     (base_is base (all_identified (msgid_in first b) (length base.conference.slots + 1) (posts_in first posts)) (All-head IsBase base bases all) t.all (omega (arith, count, few)))
     (all_take b posts (first + 1) bases (All-tail IsBase base bases all) (λ j other e. let next : first + suc j ≡ first + 1 + j = omega arith in subst (λ (k : ℕ). Takes b posts k other) next (takes (suc j) other e)))
 
--- a high that was within the slots stays so
-highs_posted : (b : Board) (posts : List (ℕ × Message)) (first : ℕ) (bases : List Contents) (highs : List ℕ) → highs_fit (conferences_in bases) highs ≡ true → highs_fit (conferences_in (all_posted b posts first bases)) highs ≡ true
-highs_posted b posts first [] highs fit = refl
-highs_posted b posts first (base ∷ bases) [] fit = refl
-highs_posted b posts first (base ∷ bases) (high ∷ highs) fit =
-    let given : List Message = all_identified (msgid_in first b) (length base.conference.slots + 1) (posts_in first posts) in
-    let slots : ℕ = length (with_identified (msgid_in first b) (posts_in first posts) base).conference.slots in
-    let parts = and_parts (leb high (length base.conference.slots)) (highs_fit (conferences_in bases) highs) fit in
-    let low = leb-true high (length base.conference.slots) parts.0 in
-    and_from (leb high slots) (highs_fit (conferences_in (all_posted b posts (first + 1) bases)) highs) (le-leb high slots (omega (arith, low, more_slots base given))) (highs_posted b posts (first + 1) bases highs parts.1)
-
 -- ---- the board
 module _ (b : Board) (posts : List (ℕ × Message)) (ok : IsBoard b) (fit : AreFit b posts) where
   back : conferences_in (contents_of b) ≡ b.conferences
@@ -109,11 +95,7 @@ module _ (b : Board) (posts : List (ℕ × Message)) (ok : IsBoard b) (fit : Are
       }
 
   pub fit_board : board_size (spread posts b) ≤ board_limit → IsBoard (spread posts b)
-  fit_board small = record {
-    ledger = ok.ledger;
-    conferences = subst (λ (shapes : List Shape). AllZip IsConference shapes (conferences_in (all_posted b posts 0 (contents_of b)))) (spread_shapes b posts ok)
-        (zipped (all_posted b posts 0 (contents_of b)) (all_take b posts 0 (contents_of b) (are_bases (shapes_of b.ledger) b.conferences ok.conferences) (λ j base here. let same : j ≡ 0 + j = omega arith in subst (λ (k : ℕ). Takes b posts k base) same (takes j base here))));
-    highs = All-weaker (λ (u : User). highs_fit b.conferences u.highs ≡ true) (λ (u : User). highs_fit (conferences_in (all_posted b posts 0 (contents_of b))) u.highs ≡ true)
-        (λ u within. highs_posted b posts 0 (contents_of b) u.highs (subst (λ (cs : List Conference). highs_fit cs u.highs ≡ true) (sym back) within)) b.ledger.users ok.highs;
-    small = small;
-  }
+  fit_board small =
+      spread_fits b posts ok
+      (all_take b posts 0 (contents_of b) (are_bases (shapes_of b.ledger) b.conferences ok.conferences) (λ j base here. let same : j ≡ 0 + j = omega arith in subst (λ (k : ℕ). Takes b posts k base) same (takes j base here)))
+      small

@@ -19,7 +19,7 @@ use Rattle.slot_changes.specs.Msgids.{msgid_in}
 -- ---- the user
 -- a user without a name, who is a member nowhere
 abbrev pub nobody : User
-nobody = record { name = []; net = false; members = 0; last = 0; offered = 0; highs = [] }
+nobody = record { name = []; net = false; members = 0; last = 0; offers = [] }
 
 -- the user of an id that is there
 abbrev pub user_with : ℕ → Board → User

@@ -6,14 +6,14 @@ use Rattle.std.specs.List.{AllZip}
 use Rattle.std.proofs.lemmas.Bool.{and_from, and_parts, leb-true, le-leb}
 use Rattle.std.proofs.lemmas.List.{length-map}
 use Rattle.std.proofs.lemmas.List.Elements.{All-weaker}
-use Rattle.board_changes.proofs.OneBase.{all_at, are_bases, conferences_back, shapes_back}
+use Rattle.board_changes.proofs.OneBase.{all_at, are_bases, conferences_back, shapes_back, still_fit}
 use Rattle.board_layout.proofs.BasePlaces.{IsBase, shapes_count, zipped}
 use Rattle.board_layout.proofs.RenewedBases.{contents_are}
 use Rattle.board_layout.proofs.SizeLaws.{size_in}
 use Rattle.board_layout.specs.Board.{Board, conferences_in, shapes_in, shapes_of}
 use Rattle.board_layout.specs.Layout.{base_size, board_size}
 use Rattle.board_layout.specs.Renewed.{contents_of}
-use Rattle.board_layout.specs.Valid.{IsBoard, board_limit, highs_fit}
+use Rattle.board_layout.specs.Valid.{IsBoard, board_limit, highs_fit, offers_fit}
 use Rattle.board_ledger.specs.Ledger.{ledger_text}
 use Rattle.board_ledger.specs.Valid.{IsLedger}
 use Rattle.board_ledger.specs.declared.ledger.Ledger.{Ledger}
@@ -110,8 +110,11 @@ module _ (b : Board) (posts : List (ℕ × Message)) (l : Ledger) (ok : IsBoard 
   posted_board ledger users bases small = record {
     ledger = ledger;
     conferences = subst (λ (s : List Shape). AllZip IsConference s (conferences_in (all_posted b posts 0 (contents_of b)))) new_shapes (zipped (all_posted b posts 0 (contents_of b)) bases);
-    highs = subst (All (λ (u : User). highs_fit (conferences_in (all_posted b posts 0 (contents_of b))) u.highs ≡ true)) (sym users)
-        (All-weaker (λ (u : User). highs_fit b.conferences u.highs ≡ true) (λ (u : User). highs_fit (conferences_in (all_posted b posts 0 (contents_of b))) u.highs ≡ true)
-        (λ u fit. all_fit b posts 0 (contents_of b) u.highs (subst (λ (cs : List Conference). highs_fit cs u.highs ≡ true) (sym old_conferences) fit)) b.ledger.users ok.highs);
+    highs = subst (All (λ (u : User). offers_fit (conferences_in (all_posted b posts 0 (contents_of b))) u.offers ≡ true)) (sym users)
+        (All-weaker (λ (u : User). offers_fit b.conferences u.offers ≡ true) (λ (u : User). offers_fit (conferences_in (all_posted b posts 0 (contents_of b))) u.offers ≡ true)
+        (λ u fit. still_fit b.conferences (conferences_in (all_posted b posts 0 (contents_of b))) still u.offers fit) b.ledger.users ok.highs);
     small = small;
   }
+    where
+      still : (highs : List ℕ) → highs_fit b.conferences highs ≡ true → highs_fit (conferences_in (all_posted b posts 0 (contents_of b))) highs ≡ true
+      still highs fit = all_fit b posts 0 (contents_of b) highs (subst (λ (cs : List Conference). highs_fit cs highs ≡ true) (sym old_conferences) fit)

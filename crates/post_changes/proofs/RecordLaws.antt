@@ -12,6 +12,7 @@ use Rattle.board_ledger.specs.Valid.{IsLedger}
 use Rattle.board_ledger.specs.declared.ledger.Ledger.{Ledger}
 use Rattle.board_ledger.specs.declared.upload.UploadRecord.{UploadRecord}
 use Rattle.byte_lists.specs.Byte.{IsByte}
+use Rattle.open_offers.specs.declared.version.Version.TheVariants.{Second}
 use Rattle.post_changes.specs.Posted.{with_record}
 use Rattle.post_changes.specs.Recorded.{is_new, may_record}
 use Rattle.setup_file.specs.declared.conference.Conference.{Conference as SetupConference}
@@ -52,6 +53,7 @@ module _ (l : Ledger) (r : UploadRecord) where
       let few : length l.uploads < 100000 = ltb-true (length l.uploads) 100000 others.0 in
       let is : IsUpload (length l.users) r = upload_is digest bytes (not-true (wrong_user (length l.users) r) own.0) (not-true (too_many r.counts) own.1) in
       record {
+        version = ok.version;
         setup = ok.setup;
         created = ok.created;
         few_users = ok.few_users;
@@ -75,9 +77,9 @@ module _ (l : Ledger) (r : UploadRecord) where
   -- ---- how many bytes it has
   pub record_length : IsLedger l → length r.digest ≡ 32 → length (ledger_text (with_record r l)) ≡ length (ledger_text l) + 42
   record_length ok digest =
-      let old = ledger_length l (λ k d within. (ok.uploads k d within).digest) in
+      let old = ledger_length Second l (λ k d within. (ok.uploads k d within).digest) in
       let each : All (λ (e : UploadRecord). length e.digest ≡ 32) (l.uploads ++ r ∷ []) =
       All-append (λ (e : UploadRecord). length e.digest ≡ 32) l.uploads (r ∷ []) (λ k d within. (ok.uploads k d within).digest)
       (one_all (λ (e : UploadRecord). length e.digest ≡ 32) r digest) in
-      let new = ledger_length (with_record r l) each in
+      let new = ledger_length Second (with_record r l) each in
       omega (arith, old, new, length-append l.uploads (r ∷ []))

@@ -35,6 +35,7 @@ fn with_uploads(alloc: Global, ledger: &Ledger, uploads: Uploads) -> Result<Ledg
     ensures { IfOk result (λ next. next ≡ record ledger.now { uploads = uploads }) }
 {
     Ok(Ledger {
+        version: ledger.version,
         setup: ledger.setup.copy(alloc)?,
         created: ledger.created,
         users: ledger.users.copy(alloc)?,

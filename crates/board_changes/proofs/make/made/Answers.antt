@@ -17,12 +17,12 @@ use Rattle.setup_file.specs.declared.setup.Setup.{Setup}
 use Rattle.board_changes.proofs.make.made.Goals as goal
 
 -- a ledger without users and upload records
-ledger_is : (setup : Setup) (created : ℕ) (users : List User) (uploads : List UploadRecord) → users ≡ [] → uploads ≡ [] → record { setup = setup; created = created; users = users; uploads = uploads } ≡ new_ledger setup created
-ledger_is setup created users uploads none nothing = λ i. record { setup = setup; created = created; users = none i; uploads = nothing i }
+ledger_is : (setup : Setup) (created : ℕ) (users : List User) (uploads : List UploadRecord) → users ≡ [] → uploads ≡ [] → record { version = 2; setup = setup; created = created; users = users; uploads = uploads } ≡ new_ledger setup created
+ledger_is setup created users uploads none nothing = λ i. record { version = 2; setup = setup; created = created; users = none i; uploads = nothing i }
 
 pub fresh_bases-requires-clause-gathered : goal.fresh_bases-requires-clause-gathered
 fresh_bases-requires-clause-gathered c =
-    let l : Ledger = record { setup = c.args.setup; created = c.args.created; users = c.new.result; uploads = c.new-2.result } in
+    let l : Ledger = record { version = 2; setup = c.args.setup; created = c.args.created; users = c.new.result; uploads = c.new-2.result } in
     let new : List BaseFiles = layouts (shapes_of l) (empty_conferences (shapes_of l)) in
     subst (Gathered AreEmpty (ledger_text l) [] new 0) (sym c.in_ok-intent.ensures) (gathered_none AreEmpty (ledger_text l) [] new (λ files empty. empty.places))
 
@@ -33,7 +33,7 @@ fresh_bases-requires-clause-fit c =
 
 pub new-board-requires-clause-board : goal.new-board-requires-clause-board
 new-board-requires-clause-board c =
-    let l : Ledger = record { setup = c.args.setup; created = c.args.created; users = c.new.result; uploads = c.new-2.result } in
+    let l : Ledger = record { version = 2; setup = c.args.setup; created = c.args.created; users = c.new.result; uploads = c.new-2.result } in
     let is : l ≡ new_ledger c.args.setup c.args.created = ledger_is c.args.setup c.args.created c.new.result c.new-2.result c.new.ensures c.new-2.ensures in
     let bases : List Contents = c.in_ok-bases.bases in
     let conferences : conferences_in bases ≡ empty_conferences (shapes_of (new_ledger c.args.setup c.args.created)) = c.in_ok-bases.ensures.conferences ∙ ap (λ (k : Ledger). empty_conferences (shapes_of k)) is in

@@ -1,4 +1,4 @@
-use Rattle.std.proofs.Common.{◌≡◌, ◌∙◌, ◌+◌, List, length, map, Some, Ok, sym, ap, subst, arith}
+use Rattle.std.proofs.Common.{◌≡◌, ◌∙◌, ◌+◌, List, length, Some, sym, subst, arith}
 use Rattle.std.proofs.lemmas.Result.{err_from_is_err_and}
 use Rattle.board_ledger.specs.declared.ledger.Ledger.{Ledger}
 use Rattle.damage_rules.specs.Rules.{Stops}
@@ -6,48 +6,48 @@ use Rattle.intent_journal.specs.Patches.{Files}
 use Rattle.jam_base.specs.Contents.{Contents}
 use Rattle.board_layout.specs.Board.{conferences_in}
 use Rattle.board_layout.specs.Rules.{told}
-use Rattle.board_layout.proofs.BoardParts.{bases_in, bases_fail, rest_fails, highs_fail, all_parts}
+use Rattle.board_layout.proofs.BoardParts.{bases_fail, rest_fails, highs_fail, all_parts}
 use Rattle.board_layout.proofs.HighLaws.{highs_asked, highs_take}
-use Rattle.board_layout.proofs.ReadingParts.{laid_out}
+use Rattle.board_layout.proofs.ReadingParts.{has_places}
 use Rattle.board_layout.proofs.RestLaws.{rest_asked}
 use Rattle.board_layout.proofs.read.read_conferences.Goals as goal
 
 pub returns-in_err-bases-clause-gives : goal.returns-in_err-bases-clause-gives
 returns-in_err-bases-clause-gives g c =
     let p = err_from_is_err_and c.from_residual.result c.from_residual.ensures.1 in
-    rw (p.1, p.2) (λ tells. bases_fail (g.H.Host.disk c.args.host.now).files c.args.ledger.now (told c.in_err-bases.field-0.0) (c.requires.read tells) (c.in_err-bases.ensures.gives tells))
+    rw (p.1, p.2) (λ tells. bases_fail (g.H.Host.disk c.args.host.now).files c.args.ledger.now (told c.in_err-bases.field-0.0) (c.in_err-bases.ensures.gives tells))
 
 pub returns-in_err-check_rests-clause-gives : goal.returns-in_err-check_rests-clause-gives
 returns-in_err-check_rests-clause-gives g c =
     let p = err_from_is_err_and c.from_residual-in_err-check_rests.result c.from_residual-in_err-check_rests.ensures.1 in
     let l : Ledger = c.args.ledger.now in
-    let many = c.requires.ledger.setup.conferences.many in
+    let many = c.requires.setup.conferences.many in
     let places : c.conference_count-places.result ≡ length l.setup.conferences = omega (arith, c.conference_count-places.ensures, many) in
     let files : Files = (g.H.Host.disk c.args.host.now).files in
     let e = told c.in_err-check_rests.field-0.0 in
     rw (p.1, p.2) (λ tells.
     let same = (c.read_bases.ensures.unchanged tells).files in
-    rest_fails files l (conferences_in c.in_ok-bases.bases) e (c.requires.read tells) (c.in_ok-bases.ensures.gives tells) (subst (Stops e) (rest_asked _ _ _ files places same) (c.in_err-check_rests.ensures.gives tells)))
+    rest_fails files l (conferences_in c.in_ok-bases.bases) e (c.in_ok-bases.ensures.gives tells) (subst (Stops e) (rest_asked _ _ _ files places same) (c.in_err-check_rests.ensures.gives tells)))
 
 pub returns-in_err-check_highs-clause-gives : goal.returns-in_err-check_highs-clause-gives
 returns-in_err-check_highs-clause-gives g c =
     let p = err_from_is_err_and c.from_residual-in_err-check_highs.result c.from_residual-in_err-check_highs.ensures.1 in
     let l : Ledger = c.args.ledger.now in
     let bases : List Contents = c.in_ok-bases.bases in
-    let many = c.requires.ledger.setup.conferences.many in
+    let many = c.requires.setup.conferences.many in
     let places : c.conference_count-places.result ≡ length l.setup.conferences = omega (arith, c.conference_count-places.ensures, many) in
     let first : 1 + c.from.result ≡ 1 + length l.setup.conferences = omega (arith, places, c.from.ensures) in
     let asked = highs_asked c.as_slice.result.now bases (1 + c.from.result) (1 + length l.setup.conferences) c.as_slice-2.result.now l.users c.as_slice.ensures first c.as_slice-2.ensures in
     let files : Files = (g.H.Host.disk c.args.host.now).files in
     rw (p.1, p.2) (λ tells.
     let rest = sym (rest_asked _ _ _ files places (c.read_bases.ensures.unchanged tells).files) ∙ c.in_ok-check_rests.ensures.gives tells in
-    highs_fail files l (conferences_in bases) _ (Some c.in_err-check_highs.field-0.0) (c.requires.read tells) (c.in_ok-bases.ensures.gives tells) rest (sym asked ∙ sym c.in_err-check_highs.ensures))
+    highs_fail files l (conferences_in bases) _ (Some c.in_err-check_highs.field-0.0) (c.in_ok-bases.ensures.gives tells) rest (sym asked ∙ sym c.in_err-check_highs.ensures))
 
 pub returns-clause-highs : goal.returns-clause-highs
 returns-clause-highs g c =
     let l : Ledger = c.args.ledger.now in
     let bases : List Contents = c.in_ok-bases.bases in
-    let many = c.requires.ledger.setup.conferences.many in
+    let many = c.requires.setup.conferences.many in
     let places : c.conference_count-places.result ≡ length l.setup.conferences = omega (arith, c.conference_count-places.ensures, many) in
     let first : 1 + c.from.result ≡ 1 + length l.setup.conferences = omega (arith, places, c.from.ensures) in
     let asked = highs_asked c.as_slice.result.now bases (1 + c.from.result) (1 + length l.setup.conferences) c.as_slice-2.result.now l.users c.as_slice.ensures first c.as_slice-2.ensures in
@@ -57,20 +57,20 @@ pub returns-clause-gives : goal.returns-clause-gives
 returns-clause-gives g c = λ tells.
     let l : Ledger = c.args.ledger.now in
     let bases : List Contents = c.in_ok-bases.bases in
-    let many = c.requires.ledger.setup.conferences.many in
+    let many = c.requires.setup.conferences.many in
     let places : c.conference_count-places.result ≡ length l.setup.conferences = omega (arith, c.conference_count-places.ensures, many) in
     let first : 1 + c.from.result ≡ 1 + length l.setup.conferences = omega (arith, places, c.from.ensures) in
     let asked = highs_asked c.as_slice.result.now bases (1 + c.from.result) (1 + length l.setup.conferences) c.as_slice-2.result.now l.users c.as_slice.ensures first c.as_slice-2.ensures in
     let files : Files = (g.H.Host.disk c.args.host.now).files in
     let rest = sym (rest_asked _ _ _ files places (c.read_bases.ensures.unchanged tells).files) ∙ c.in_ok-check_rests.ensures.gives tells in
-    all_parts files l (conferences_in bases) _ _ (c.requires.read tells) (c.in_ok-bases.ensures.gives tells) rest (sym asked ∙ sym c.in_ok-check_highs.ensures)
+    all_parts files l (conferences_in bases) _ _ (c.in_ok-bases.ensures.gives tells) rest (sym asked ∙ sym c.in_ok-check_highs.ensures)
 
-pub returns-clause-layout : goal.returns-clause-layout
-returns-clause-layout g c = λ tells.
+pub returns-clause-places : goal.returns-clause-places
+returns-clause-places g c = λ tells.
     let l : Ledger = c.args.ledger.now in
     let bases : List Contents = c.in_ok-bases.bases in
-    let many = c.requires.ledger.setup.conferences.many in
+    let many = c.requires.setup.conferences.many in
     let places : c.conference_count-places.result ≡ length l.setup.conferences = omega (arith, c.conference_count-places.ensures, many) in
     let files : Files = (g.H.Host.disk c.args.host.now).files in
     let rest = sym (rest_asked _ _ _ files places (c.read_bases.ensures.unchanged tells).files) ∙ c.in_ok-check_rests.ensures.gives tells in
-    laid_out l bases c.in_ok-bases.ensures.shapes files _ (c.requires.text tells) (c.in_ok-bases.ensures.layout tells) rest
+    has_places l bases c.in_ok-bases.ensures.shapes files _ (c.in_ok-bases.ensures.layout tells) rest

@@ -1,70 +1,28 @@
-use Rattle.std.proofs.Common.{◌≡◌, ℕ, ◌-◌, length, refl, sym, ap, ◌∙◌, subst, arith}
-use Rattle.std.specs.Prelude.{slice_get}
-use Rattle.std.proofs.lemmas.Option.{slice_get_within}
+use Rattle.std.proofs.Common.{◌≡◌, refl, sym, ap, ◌∙◌, subst}
+use Rattle.std.specs.Prelude.{None}
+use Rattle.board_changes.specs.Change.{Leads}
+use Rattle.board_layout.proofs.RenewedBases.{none_new}
 use Rattle.board_layout.specs.Board.{Board}
-use Rattle.board_layout.specs.Renewed.{contents_of}
-use Rattle.board_ledger.specs.UserPuts.{IsAsLong, user_puts}
-use Rattle.board_ledger.specs.Valid.{IsLedger}
-use Rattle.board_ledger.specs.declared.ledger.Ledger.{Ledger}
+use Rattle.board_layout.specs.Layout.{IsLayout}
+use Rattle.board_layout.specs.Renewed.{contents_of, renewed}
 use Rattle.board_ledger.specs.declared.user.User.{User}
-use Rattle.offer_changes.proofs.AcknowledgeLaws.{read_is, read_room, read_there}
-use Rattle.offer_changes.proofs.EachOffer.{read_begun, read_leads}
-use Rattle.offer_changes.proofs.PutLaws.{there_room}
-use Rattle.offer_changes.proofs.UserLaws.{id_above, user_there}
-use Rattle.offer_changes.specs.Changed.{read_by, with_user, without_offer}
+use Rattle.offer_changes.proofs.AcknowledgeLaws.{read_open}
+use Rattle.offer_changes.proofs.EachOffer.{stays_each}
+use Rattle.offer_changes.proofs.OpenOffers.{found_itself}
+use Rattle.offer_changes.specs.Changed.{acknowledged}
 use Rattle.offer_changes.proofs.acknowledge.acknowledged.Goals as goal
 
-pub user_intent-requires-clause-above : goal.user_intent-requires-clause-above
-user_intent-requires-clause-above c = id_above c.args.board.now c.args.user c.user_of-reader.result.now c.user_of-reader.ensures.user
+pub offer_read-requires-clause-offer : goal.offer_read-requires-clause-offer
+offer_read-requires-clause-offer c = found_itself c.args.packet c.in-Some.offer.now c.user_of-reader.result.now.offers (sym c.in-Some.ensures)
 
-pub user_intent-requires-clause-next : goal.user_intent-requires-clause-next
-user_intent-requires-clause-next c =
+pub returns-in-None-clause-becomes : goal.returns-in-None-clause-becomes
+returns-in-None-clause-becomes c =
     let b : Board = c.args.board.now in
     let u : User = c.user_of-reader.result.now in
-    let next = read_is b c.args.user c.args.now u (user_there b c.args.user u c.user_of-reader.ensures.user) c.user_of-reader.ensures.board (omega arith) in
-    subst IsLedger (λ i. with_user c.args.user (sym c.in_ok-next.ensures i) (sym c.ledger-old.ensures.ledger i)) next.ledger
-
-pub user_intent-requires-clause-room : goal.user_intent-requires-clause-room
-user_intent-requires-clause-room c =
-    let b : Board = c.args.board.now in
-    let u : User = c.user_of-reader.result.now in
-    let here = user_there b c.args.user u c.user_of-reader.ensures.user in
-    let room = read_room b c.args.user c.args.now u here c.user_of-reader.ensures.board in
-    let is : IsAsLong (c.args.user - 1) (without_offer u) b.ledger = there_room (slice_get b.ledger.users (c.args.user - 1)) u (without_offer u) here room in
-    subst (λ (l : Ledger). IsAsLong (c.args.user - 1) c.in_ok-next.next l) (sym c.ledger-old.ensures.ledger) (subst (λ (v : User). IsAsLong (c.args.user - 1) v b.ledger) (sym c.in_ok-next.ensures) is)
-
-pub with_user-requires-clause-above : goal.with_user-requires-clause-above
-with_user-requires-clause-above c = id_above c.args.board.now c.args.user c.user_of-reader.result.now c.user_of-reader.ensures.user
-
-pub with_user-requires-clause-within : goal.with_user-requires-clause-within
-with_user-requires-clause-within c =
-    let b : Board = c.args.board.now in
-    let u : User = c.user_of-reader.result.now in
-    let within = slice_get_within b.ledger.users (c.args.user - 1) u (user_there b c.args.user u c.user_of-reader.ensures.user) in
-    omega (arith, within, ap (λ (l : Ledger). length l.users) c.ledger-old.ensures.ledger)
-
--- the ledger that is made is that of the next board
-made : (b : Board) (id now : ℕ) (u next : User) (was ledger : Ledger) → ledger ≡ with_user id next was → was ≡ b.ledger → next ≡ without_offer u → ledger ≡ (read_by id now u b).ledger
-made b id now u next was ledger is same new = is ∙ (λ i. with_user id (new i) (same i))
-
-pub bases_read-requires-clause-gathered : goal.bases_read-requires-clause-gathered
-bases_read-requires-clause-gathered c =
-    read_begun c.args.board.now c.args.user c.args.now c.user_of-reader.result.now c.user_of-reader.ensures.user c.user_of-reader.ensures.board (omega arith) c.in_ok-intent.intent
-    (c.in_ok-intent.ensures ∙ (λ i. user_puts (c.args.user - 1) (c.in_ok-next.ensures i) (c.ledger-old.ensures.ledger i)))
-
-pub returns-clause-becomes : goal.returns-clause-becomes
-returns-clause-becomes c =
-    let b : Board = c.args.board.now in
-    let u : User = c.user_of-reader.result.now in
-    let there = read_there b c.args.user c.args.now u c.user_of-reader.ensures.user in
-    let ledger = made b c.args.user c.args.now u c.in_ok-next.next c.ledger-old.result.now c.in_ok-ledger.ledger c.in_ok-ledger.ensures c.ledger-old.ensures.ledger c.in_ok-next.ensures in
-    let each = read_leads b c.args.user c.args.now u c.user_of-reader.ensures.user c.user_of-reader.ensures.board (omega arith) c.bases_read.new.intent c.in_ok-bases.ensures.gathers in
+    let stays : acknowledged c.args.user c.args.packet c.args.now b ≡ b = read_open b c.args.user c.args.packet c.args.now u None c.user_of-reader.ensures.user (sym c.in-None.ensures) in
+    let each = stays_each b c.args.user c.args.packet c.args.now u c.user_of-reader.ensures.user (sym c.in-None.ensures) in
     record {
-      ledger = ledger ∙ ap (λ (d : Board). d.ledger) (sym there);
-      bases = c.in_ok-bases.ensures.bases ∙ ap contents_of (sym there);
-      intent = each.leads b c.user_of-reader.ensures.board refl;
+      ledger = ap (λ (d : Board). d.ledger) (sym stays);
+      bases = ap (renewed (contents_of b)) c.new.ensures ∙ (none_new (contents_of b) ∙ ap contents_of (sym stays));
+      intent = subst (Leads (IsLayout b) (acknowledged c.args.user c.args.packet c.args.now b)) (sym c.new-in-None.ensures) (each.leads b c.user_of-reader.ensures.board refl);
     }
-
-pub returns-clause-each : goal.returns-clause-each
-returns-clause-each c =
-    read_leads c.args.board.now c.args.user c.args.now c.user_of-reader.result.now c.user_of-reader.ensures.user c.user_of-reader.ensures.board (omega arith) c.bases_read.new.intent c.in_ok-bases.ensures.gathers

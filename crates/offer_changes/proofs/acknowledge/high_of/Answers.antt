@@ -4,4 +4,4 @@ use Rattle.std.proofs.lemmas.Option.{unwrap_or-slice_get}
 use Rattle.offer_changes.proofs.acknowledge.high_of.Goals as goal
 
 pub returns-in-None : goal.returns-in-None
-returns-in-None c = ap (λ (o : Option ℕ). unwrap_or o 0) c.in-None.ensures ∙ unwrap_or-slice_get c.args.user.now.highs c.args.place 0
+returns-in-None c = ap (λ (o : Option ℕ). unwrap_or o 0) c.in-None.ensures ∙ unwrap_or-slice_get c.args.highs.now c.args.place 0

@@ -10,7 +10,7 @@ use Rattle.board_ledger.specs.Valid.{IsLedger}
 use Rattle.board_ledger.specs.declared.ledger.Ledger.{Ledger}
 use Rattle.board_ledger.specs.declared.user.User.{User}
 use Rattle.offer_changes.proofs.EachOffer.{offered_each}
-use Rattle.offer_changes.proofs.OfferLaws.{contents_stay, offer_last, offer_room, offer_there}
+use Rattle.offer_changes.proofs.OfferLaws.{contents_stay, offer_last, offer_there}
 use Rattle.offer_changes.proofs.PutLaws.{there_room}
 use Rattle.offer_changes.proofs.UserLaws.{id_above, user_there}
 use Rattle.offer_changes.specs.Changed.{offered_to, with_offer, with_user}
@@ -38,9 +38,7 @@ user_intent-requires-clause-room c =
     let b : Board = c.args.board.now in
     let u : User = c.user_of.result.now in
     let here = user_there b c.args.user u c.user_of.ensures.user in
-    let next = subst IsBoard (offer_there b c.args.user u c.args.highs.now c.user_of.ensures.user) c.requires.next in
-    let room = offer_room b c.args.user u c.args.highs.now here c.user_of.ensures.board next in
-    let is : IsAsLong (c.args.user - 1) (with_offer c.args.highs.now u) b.ledger = there_room (slice_get b.ledger.users (c.args.user - 1)) u (with_offer c.args.highs.now u) here room in
+    let is : IsAsLong (c.args.user - 1) (with_offer c.args.highs.now u) b.ledger = there_room (slice_get b.ledger.users (c.args.user - 1)) u (with_offer c.args.highs.now u) here refl in
     subst (λ (l : Ledger). IsAsLong (c.args.user - 1) c.in_ok-next.next l) (sym c.ledger-old.ensures.ledger) (subst (λ (v : User). IsAsLong (c.args.user - 1) v b.ledger) (sym c.in_ok-next.ensures) is)
 
 pub with_user-requires-clause-above : goal.with_user-requires-clause-above

@@ -3,6 +3,7 @@ use Rattle.std.specs.Prelude.{All}
 use Rattle.std.proofs.lemmas.Bool.{leb-true, le-leb}
 use Rattle.std.proofs.lemmas.List.{get_or_default}
 use Rattle.board_layout.specs.Board.{Board}
+use Rattle.board_layout.specs.Valid.{board_limit}
 use Rattle.board_ledger.specs.declared.ledger.Ledger.{Ledger}
 use Rattle.board_ledger.specs.declared.upload.UploadRecord.{UploadRecord}
 use Rattle.byte_lists.specs.Byte.{IsByte}
@@ -36,9 +37,9 @@ returns-then-fits_all c =
     let size = c.size_with_upload.ensures c.args.user c.args.digest.now c.args.refused c.told-digest in (
       λ small. (
         fit.0,
-        uploaded_fits b c.args.posts.now ok c.args.user c.args.digest.now c.args.refused c.told-digest bytes (sym is ∙ c.if-not-may_record.false) fit.1 (omega (arith, size, leb-true c.size_with_upload.result 33554432 small)),
+        uploaded_fits b c.args.posts.now ok c.args.user c.args.digest.now c.args.refused c.told-digest bytes (sym is ∙ c.if-not-may_record.false) fit.1 (omega (arith, size, leb-true c.size_with_upload.result board_limit small)),
       ),
-      λ both. le-leb c.size_with_upload.result 33554432 (omega (arith, size, both.1.small)),
+      λ both. le-leb c.size_with_upload.result board_limit (omega (arith, size, both.1.small)),
     )
 
 pub returns-else-fits_all : goal.returns-else-fits_all
