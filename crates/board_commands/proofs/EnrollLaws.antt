@@ -1,6 +1,5 @@
 -- A user whom nothing refuses may be enrolled, and the size of the files is then a number of 64 bits.
 use Rattle.std.proofs.Common.{◌≡◌, ℕ, zero, suc, ◌+◌, ◌^◌, ◌≤◌, ◌<◌, Bool, true, false, cond, not, ◌&&◌, eqb, ltb, leb, List, length, Option, Some, None, refl, sym, subst, arith}
-use Rattle.std.proofs.Math.ListN.{length-replicate}
 use Rattle.std.proofs.lemmas.Bool.{and_from, and_parts, leb-true, leb-false, ltb-false, lt-ltb, ne_eqb, not_from_false}
 use Rattle.std.specs.Prelude.{is_some, position}
 use Rattle.std.proofs.lemmas.List.Folds.{list_any_none}
@@ -9,7 +8,7 @@ use Rattle.std.specs.List.{list_any, list_all, position_or_len}
 use Rattle.std.specs.Option.{option_map}
 use Rattle.std.specs.Str.{str_eq_ignore_ascii_case}
 use Rattle.board_changes.proofs.FitLaws.{board_fits}
-use Rattle.board_changes.proofs.UserSizes.{conferences_count, member_size, one_at_most}
+use Rattle.board_changes.proofs.UserSizes.{conferences_count, member_size, new_length, one_at_most}
 use Rattle.board_changes.specs.Changed.{enrolled, new_user}
 use Rattle.board_changes.specs.Enrolling.{is_free, joined_count, may_enroll}
 use Rattle.board_layout.specs.Board.{Board}
@@ -41,12 +40,13 @@ name_short name named = leb-true (length name) 25 (and_parts (leb (length name) 
 pub size_short : (b : Board) (name : List ℕ) (net : Bool) (members : ℕ) → IsBoard b → is_user_name name ≡ true → board_size (enrolled name net members b) < 2 ^ 64
 size_short b name net members ok named =
     let count : ℕ = length b.ledger.setup.conferences in
-    let user : User = new_user name net members count in
+    let user : User = new_user name net members in
     let size = member_size b user ok in
+    let record_length = new_length count name net members in
     let short = name_short name named in
     let joined = joined_few members 0 (length b.conferences) in
     let many = ok.ledger.setup.conferences.many in
-    omega (arith, size, short, joined, many, ok.small, conferences_count b ok, length-replicate {A = ℕ} count 0)
+    omega (arith, size, record_length, short, joined, many, ok.small, conferences_count b ok)
 
 -- ---- nothing refuses
 unrefused : (test : Bool) (why : Refusal) (others : Option Refusal) → cond test (Some why) others ≡ None → (test ≡ false) × (others ≡ None)

@@ -1,6 +1,6 @@
 -- What was found of the board, by a load or before, stands for the state of the host's files.
-use Rattle.std.proofs.Common.{◌≡◌, ◌≢◌, ◌⊎◌, inl, Bool, true, false, cond, eqb, Option, Some, None, Result, Ok, Err, refl, sym, ◌∙◌, ap, subst}
-use Rattle.std.specs.Prelude.{is_some}
+use Rattle.std.proofs.Common.{◌≡◌, ◌≢◌, ◌⊎◌, inl, inr, Bool, true, false, cond, eqb, Option, Some, None, Result, Ok, Err, refl, sym, ◌∙◌, ap, subst}
+use Rattle.std.specs.Prelude.{is_some, IsErrOf}
 use Rattle.std.proofs.lemmas.Bool.{cond-true, eq-eqb}
 use Rattle.damage_rules.specs.Rules.{damage_of}
 use Rattle.door_outside.specs.Disk.{Disk, Image, AllNow, Between, Unchanged, as_read}
@@ -13,7 +13,7 @@ use Rattle.intent_journal.proofs.Hosts.{calm_is_settled, calm_recovers}
 use Rattle.intent_journal.specs.Hosts.{IsCalm, IsFirm, IsSettled}
 use Rattle.intent_journal.specs.Journal.{intent_of}
 use Rattle.intent_journal.specs.Patches.{Files, data_files, patched}
-use Rattle.intent_journal.specs.Recovered.{recovered, Back}
+use Rattle.intent_journal.specs.Recovered.{recovered}
 use Rattle.jam_records.specs.declared.damage.Damage.{Damage}
 use Rattle.board_layout.proofs.BoardLaws.{again}
 use Rattle.board_layout.proofs.SizeLaws.{empty}
@@ -23,42 +23,45 @@ use Rattle.board_layout.specs.Layout.{AreEmpty, data_size}
 use Rattle.board_layout.specs.declared.error.ReadError.{ReadError}
 use Rattle.board_layout.specs.declared.error.ReadError.TheVariants.{Damaged, DiskFault, OutOfMemory}
 use Rattle.mail_board.proofs.DataLaws.{data_twice, empty_moves, layout_moves}
-use Rattle.mail_board.specs.Loading.{IsTold, IsValid, StandsIn}
+use Rattle.mail_board.specs.Loading.{AreOpened, IsMigration, IsTold, IsValid, Opens, StandsIn}
 use Rattle.mail_board.specs.declared.loading.Loaded.{Loaded}
 use Rattle.mail_board.specs.declared.loading.Loaded.TheVariants.{NotMade, Ready}
 use Rattle.board_commands.specs.Kept.{AreSure, IsFound, IsKept, found, kept_board, unread}
-use Rattle.board_commands.specs.State.{State, Made, Old, Spoiled, Stores, migrated, state_of}
+use Rattle.board_commands.specs.State.{AreSpoiled, State, Made, Old, Spoiled, Stores, migrated, state_of}
 use Rattle.board_commands.specs.State as state
 use Rattle.board_commands.proofs.StateLaws.{one_state}
 
 -- ---- a board, or none
-stands_for : (loaded : Loaded) (files : Files) (s : State) → IsValid loaded → StandsIn files loaded → Stores s files → s ≡ state_of (kept_board (Some loaded))
-stands_for NotMade files s valid stands stores = one_state files s state.NotMade stores stands
-stands_for (Ready held) files s valid stands stores = one_state files s (Made held.board) stores (valid, stands)
+loaded_stores : (loaded : Loaded) (files : Files) → IsValid loaded → StandsIn files loaded → Stores (state_of (kept_board (Some loaded))) files
+loaded_stores NotMade files valid stands = stands
+loaded_stores (Ready held) files valid stands = (valid, stands)
 
 stands_moves : (loaded : Loaded) (f g : Files) → data_files f ≡ data_files g → StandsIn f loaded → StandsIn g loaded
 stands_moves NotMade f g same stands = empty_moves f g same stands
 stands_moves (Ready held) f g same stands = layout_moves held.board f g same stands
 
+-- it stands in the data files too
+stands_in_data : (loaded : Loaded) (files : Files) → StandsIn files loaded → StandsIn (data_files files) loaded
+stands_in_data loaded files stands = stands_moves loaded files (data_files files) (sym (data_twice files)) stands
+
 recovered_data : (files : Files) → data_files (recovered files) ≡ recovered files
 recovered_data files = data_twice (patched (intent_of files) files)
 
-pub loaded_is : (loaded : Loaded) (old new : Disk) (s : State) → IsValid loaded → StandsIn new.files loaded → data_files new.files ≡ recovered old.files → Stores s (recovered old.files)
-    → s ≡ state_of (kept_board (Some loaded))
-loaded_is loaded old new s valid stands done stores =
-    stands_for loaded (recovered old.files) s valid (stands_moves loaded new.files (recovered old.files) (done ∙ sym (recovered_data old.files)) stands) stores
-
--- ---- a board in files of today's version is migrated as it is
+-- a board in files of today's version is migrated as it is
 pub migrated_to : (board : Option Board) (s : State) → s ≡ state_of board → migrated s ≡ state_of board
 migrated_to None s is = ap migrated is
 migrated_to (Some b) s is = ap migrated is
 
--- no files stand for a board in files of the first version, as yet
-pub not_old : (s : State) (files : Files) → Stores s files → s ≡ migrated s
-not_old state.NotMade files stores = refl
-not_old (Made b) files stores = refl
-not_old (Old b) files stores = absurd stores
-not_old (Spoiled held) files stores = refl
+-- what stands in files that a load left is the migrated state of those that it found
+opened_is : (loaded : Loaded) (s : State) (files new : Files) → IsValid loaded → StandsIn new loaded → AreOpened files new → Stores s files → migrated s ≡ state_of (kept_board (Some loaded))
+opened_is loaded s files new valid stands (inl same) stores =
+    migrated_to (kept_board (Some loaded)) s (one_state files s (state_of (kept_board (Some loaded))) stores (subst (Stores (state_of (kept_board (Some loaded)))) same (loaded_stores loaded new valid stands)))
+opened_is loaded s files new valid stands (inr it) stores =
+    ap migrated (one_state files s (Old it.board) stores (it.valid, it.before)) ∙ one_state new (Made it.board) (state_of (kept_board (Some loaded))) (it.valid, it.after) (loaded_stores loaded new valid stands)
+
+pub loaded_is : (loaded : Loaded) (old new : Disk) (s : State) → IsValid loaded → StandsIn new.files loaded → AreOpened (recovered old.files) (data_files new.files) → Stores s (recovered old.files)
+    → migrated s ≡ state_of (kept_board (Some loaded))
+loaded_is loaded old new s valid stands opened stores = opened_is loaded s (recovered old.files) (data_files new.files) valid (stands_in_data loaded new.files stands) opened stores
 
 -- what is kept
 kept_calm : (loaded : Loaded) (disk : Disk) → IsKept (Some loaded) disk → IsCalm disk
@@ -69,9 +72,8 @@ kept_stands : (loaded : Loaded) (disk : Disk) → IsKept (Some loaded) disk → 
 kept_stands NotMade disk kept = kept.1
 kept_stands (Ready held) disk kept = kept.files
 
-pub kept_is : (loaded : Loaded) (disk : Disk) (s : State) → IsValid loaded → IsKept (Some loaded) disk → Stores s (recovered disk.files) → s ≡ state_of (kept_board (Some loaded))
-kept_is loaded disk s valid kept stores =
-    loaded_is loaded disk disk s valid (kept_stands loaded disk kept) (sym (calm_recovers disk (kept_calm loaded disk kept))) stores
+pub kept_is : (loaded : Loaded) (disk : Disk) (s : State) → IsValid loaded → IsKept (Some loaded) disk → Stores s (recovered disk.files) → migrated s ≡ state_of (kept_board (Some loaded))
+kept_is loaded disk s valid kept stores = loaded_is loaded disk disk s valid (kept_stands loaded disk kept) (inl (sym (calm_recovers disk (kept_calm loaded disk kept)))) stores
 
 pub kept_settled : (kept : Option Loaded) (disk : Disk) → IsKept kept disk → IsSettled disk
 kept_settled None disk kept = kept
@@ -94,11 +96,25 @@ damage_is : (files : Files) (s : State) (d : Damage) → data_files files ≡ fi
 damage_is files state.NotMade d same read stores = let never : Ok None ≡ Err d = sym (no_board_in files stores) ∙ read in absurd (cc never)
 damage_is files (Made b) d same read stores =
     let some : damage_of (board_of files) ≡ Some d = damage_in (eqb (data_size files) 0) (board_of files) d read in
-    let none : damage_of (board_of files) ≡ None = ap damage_of (again b files stores.0 stores.1) in
+    let none : damage_of (board_of files) ≡ None = ap damage_of (again b files stores.0 (inl stores.1)) in
     let never : None ≡ Some d = sym none ∙ some in
     absurd (cc never)
-damage_is files (Old b) d same read stores = absurd stores
+damage_is files (Old b) d same read stores =
+    let some : damage_of (board_of files) ≡ Some d = damage_in (eqb (data_size files) 0) (board_of files) d read in
+    let none : damage_of (board_of files) ≡ None = ap damage_of (again b files stores.0 (inr stores.1)) in
+    let never : None ≡ Some d = sym none ∙ some in
+    absurd (cc never)
 damage_is files (Spoiled held) d same read stores = (held, refl, ap board_damage (stores.0 ∙ same) ∙ damage_in (eqb (data_size files) 0) (board_of files) d read)
+
+-- files that are no board's are left
+spoiled_left : (held files new : Files) → AreSpoiled files → AreOpened files new → new ≡ files
+spoiled_left held files new spoiled (inl same) = same
+spoiled_left held files new spoiled (inr it) = absurd (spoiled.other it.board it.valid (inr it.before))
+
+spoiled_stores : (s : State) (held files new : Files) → s ≡ Spoiled held → AreOpened files new → Stores s files → Stores (migrated s) new
+spoiled_stores s held files new is opened stores =
+    subst (λ (m : State). Stores m files → Stores (migrated m) new) (sym is)
+    (λ spoiled. subst (Stores (Spoiled held)) (sym (spoiled_left held files new spoiled.1 opened)) spoiled) stores
 
 -- ---- what was found
 pub same_host : (disk : Disk) → Unchanged disk disk
@@ -107,39 +123,51 @@ same_host disk = record { files = refl; said = refl; clock = refl; wrote = refl;
 has_board : {s : State} {disk : Disk} → IsSettled disk → Stores s (recovered disk.files) → HasBoard Stores unread s disk
 has_board settled stores = record { ready = record { settled = settled; calm = λ read. absurd (cc read) }; stores = stores; fits = tt }
 
--- what a crash leaves recovers to what it recovered to before
-back : (old : Disk) (s : State) → Stores s (recovered old.files) → (image : Image) → Back old image → Recovers (λ files. Stores s files ⊎ Stores (migrated s) files) old.said image
-back old s stores image it = record { files = inl (subst (Stores s) (sym it.files) stores); said = it.said }
+-- files as they were, or migrated, stand for the state, or for the migrated one
+opened_either : (s : State) (files new : Files) → Stores s files → AreOpened files new → Stores s new ⊎ Stores (migrated s) new
+opened_either s files new stores (inl same) = inl (subst (Stores s) (sym same) stores)
+opened_either s files new stores (inr it) =
+    inr (subst (λ (m : State). Stores m new) (sym (ap migrated (one_state files s (Old it.board) stores (it.valid, it.before)))) (it.valid, it.after))
 
-as_migrated : (s : State) (files : Files) → Stores s files → Stores (migrated s) files
-as_migrated s files stores = subst (λ (m : State). Stores m files) (not_old s files stores) stores
+-- what a crash leaves recovers to such files
+opens : (old : Disk) (s : State) → Stores s (recovered old.files) → (image : Image) → Opens old image → Recovers (λ files. Stores s files ⊎ Stores (migrated s) files) old.said image
+opens old s stores image it = record { files = opened_either s (recovered old.files) (recovered image.files) stores it.files; said = it.said }
+
+module _ {old new : Disk} {s : State} (before : IsSettled old) (moments : Between old new (Opens old)) (same : Opens old (as_read new)) (settled : IsSettled new) (stores : Stores s (recovered old.files)) where
+  ends : IsCalm new → Stores (migrated s) (data_files new.files) → Finds Stores unread s (migrated s) old new (Ok (tt {0}))
+  ends calm left = opened_finds Stores (has_board before stores) (Opens old) (opens old s stores) moments same calm left tt
+
+  pub told_finds : (loaded : Loaded) → IsValid loaded → StandsIn new.files loaded → IsCalm new → AreOpened (recovered old.files) (data_files new.files) → Finds Stores unread s (migrated s) old new (Ok (tt {0}))
+  told_finds loaded valid stands calm opened =
+      ends calm (subst (λ (m : State). Stores m (data_files new.files)) (sym (loaded_is loaded old new s valid stands opened stores)) (loaded_stores loaded (data_files new.files) valid (stands_in_data loaded new.files stands)))
+
+  stops : (e : Stop) → e ≢ stop.VoiceFault → (e ≢ stop.DiskFault → IsFirm old → IsFirm new) → Finds Stores {T = Unit {0}} unread s (migrated s) old new (Err e)
+  stops e silent firm = opening_stops Stores (has_board before stores) (Opens old) (opens old s stores) moments same e silent settled firm
+
+  pub load_finds : {T : Type 0} (e : ReadError) → ((d : Damage) → e ≡ Damaged d → board_in (recovered old.files) ≡ Err d) → (IsErrOf {T = T} (Err e) OutOfMemory → IsFirm new) → (IsTold {T = T} (Err e) → IsCalm new)
+      → (IsTold {T = T} (Err e) → AreOpened (recovered old.files) (data_files new.files)) → Finds Stores unread s (migrated s) old new (found (Err e))
+  load_finds (Damaged d) read firm calm opened =
+      let it = damage_is (recovered old.files) s d (recovered_data old.files) (read d refl) stores in
+      ends (calm tt) (spoiled_stores s it.0 (recovered old.files) (data_files new.files) it.1 (opened tt) stores)
+  load_finds DiskFault read firm calm opened = stops stop.DiskFault (λ is. absurd (cc is)) (λ other was. absurd (other refl))
+  load_finds OutOfMemory read firm calm opened = stops stop.OutOfMemory (λ is. absurd (cc is)) (λ other was. firm refl)
 
 -- it was kept
-pub kept_finds : (loaded : Loaded) (disk : Disk) (s : State) → IsKept (Some loaded) disk → Stores s (recovered disk.files) → Finds Stores unread s (migrated s) disk disk (Ok (tt {0}))
-kept_finds loaded disk s kept stores =
+kept_finds : (loaded : Loaded) (disk : Disk) (s : State) → IsValid loaded → IsKept (Some loaded) disk → Stores s (recovered disk.files) → Finds Stores unread s (migrated s) disk disk (Ok (tt {0}))
+kept_finds loaded disk s valid kept stores =
     let calm = kept_calm loaded disk kept in
-    opened_finds Stores (has_board (calm_is_settled disk calm) stores) (Back disk) (back disk s stores) (still disk (Back disk)) (record { said = refl; files = refl }) calm
-    (as_migrated s (data_files disk.files) (subst (Stores s) (calm_recovers disk calm) stores)) tt
-
--- or a load gave it
-module _ {old new : Disk} {s : State} (before : IsSettled old) (moments : Between old new (Back old)) (now : IsFirm old → AllNow new (Back old)) (same : Back old (as_read new)) (settled : IsSettled new)
-    (stores : Stores s (recovered old.files)) where
-  pub told_finds : IsCalm new → data_files new.files ≡ recovered old.files → Finds Stores unread s (migrated s) old new (Ok (tt {0}))
-  told_finds calm done = opened_finds Stores (has_board before stores) (Back old) (back old s stores) moments same calm (as_migrated s (data_files new.files) (subst (Stores s) (sym done) stores)) tt
-
-  stops : (e : Stop) → e ≢ stop.VoiceFault → Finds Stores {T = Unit {0}} unread s (migrated s) old new (Err e)
-  stops e silent = opening_stops Stores (has_board before stores) (Back old) (back old s stores) moments same e silent settled (λ other was image left. (now was image left).files ∙ sym same.files)
-
-  pub load_finds : (e : ReadError) → (IsTold {T = Unit {0}} (Err e) → IsCalm new) → (IsTold {T = Unit {0}} (Err e) → data_files new.files ≡ recovered old.files) → Finds Stores unread s (migrated s) old new (found (Err e))
-  load_finds (Damaged d) calm done = told_finds (calm tt) (done tt)
-  load_finds DiskFault calm done = stops stop.DiskFault (λ is. absurd (cc is))
-  load_finds OutOfMemory calm done = stops stop.OutOfMemory (λ is. absurd (cc is))
+    told_finds (calm_is_settled disk calm) (still disk (Opens disk)) (record { said = refl; files = inl refl }) (calm_is_settled disk calm) stores loaded valid (kept_stands loaded disk kept) calm
+    (inl (sym (calm_recovers disk calm)))
 
 pub load_is_found : (e : ReadError) (old : Disk) (s : State) (kept : Option Loaded) → ((d : Damage) → e ≡ Damaged d → board_in (recovered old.files) ≡ Err d) → Stores s (recovered old.files) → IsFound s kept (Err e)
 load_is_found (Damaged d) old s kept read stores = damage_is (recovered old.files) s d (recovered_data old.files) (read d refl) stores
 load_is_found DiskFault old s kept read stores = tt
 load_is_found OutOfMemory old s kept read stores = tt
 
-pub still_is : (kept : Option Loaded) (disk : Disk) (s : State) → is_some kept ≡ true → AreSure kept → IsKept kept disk → Stores s (recovered disk.files) → s ≡ state_of (kept_board kept)
+pub still_is : (kept : Option Loaded) (disk : Disk) (s : State) → is_some kept ≡ true → AreSure kept → IsKept kept disk → Stores s (recovered disk.files) → migrated s ≡ state_of (kept_board kept)
 still_is None disk s some sure kept stores = absurd (cc some)
 still_is (Some loaded) disk s some sure kept stores = kept_is loaded disk s sure.0 kept stores
+
+pub still_finds : (kept : Option Loaded) (disk : Disk) (s : State) → is_some kept ≡ true → AreSure kept → IsKept kept disk → Stores s (recovered disk.files) → Finds Stores unread s (migrated s) disk disk (Ok (tt {0}))
+still_finds None disk s some sure kept stores = absurd (cc some)
+still_finds (Some loaded) disk s some sure kept stores = kept_finds loaded disk s sure.0 kept stores

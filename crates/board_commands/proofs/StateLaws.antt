@@ -10,24 +10,29 @@ use Rattle.jam_records.specs.declared.damage.Damage.{Damage}
 use Rattle.board_layout.specs.Board.{Board}
 use Rattle.board_layout.specs.Damage.{board_of}
 use Rattle.board_layout.specs.Layout.{AreBytes, AreEmpty, data_size}
-use Rattle.board_layout.proofs.BoardLaws.{again, laid_bytes, not_empty, takes, unique}
+use Rattle.board_layout.specs.OldLayout.{IsStoredIn}
+use Rattle.board_layout.specs.Valid.{IsBoard}
+use Rattle.board_layout.proofs.BoardLaws.{again, laid_bytes, not_both, not_empty, takes, unique}
 use Rattle.board_layout.proofs.SizeLaws.{empty}
 use Rattle.board_commands.specs.State.{State, NotMade, Made, Old, Spoiled, Stores}
 
 -- ---- one at most
 pub one_state : (files : Files) (a b : State) → Stores a files → Stores b files → a ≡ b
 one_state files NotMade NotMade x y = refl
-one_state files NotMade (Made b) x y = absurd (not_empty b files y.0 y.1 x)
-one_state files NotMade (Old b) x y = absurd y
+one_state files NotMade (Made b) x y = absurd (not_empty b files y.0 (inl y.1) x)
+one_state files NotMade (Old b) x y = absurd (not_empty b files y.0 (inr y.1) x)
 one_state files NotMade (Spoiled held) x y = absurd (y.1.some x)
-one_state files (Made a) NotMade x y = absurd (not_empty a files x.0 x.1 y)
-one_state files (Made a) (Made b) x y = ap Made (unique a b files x.0 y.0 x.1 y.1)
-one_state files (Made a) (Old b) x y = absurd y
-one_state files (Made a) (Spoiled held) x y = absurd (y.1.other a x.0 x.1)
-one_state files (Old a) other x y = absurd x
+one_state files (Made a) NotMade x y = absurd (not_empty a files x.0 (inl x.1) y)
+one_state files (Made a) (Made b) x y = ap Made (unique a b files x.0 y.0 (inl x.1) (inl y.1))
+one_state files (Made a) (Old b) x y = absurd (not_both a b files x.0 y.0 x.1 y.1)
+one_state files (Made a) (Spoiled held) x y = absurd (y.1.other a x.0 (inl x.1))
+one_state files (Old a) NotMade x y = absurd (not_empty a files x.0 (inr x.1) y)
+one_state files (Old a) (Made b) x y = absurd (not_both b a files y.0 x.0 y.1 x.1)
+one_state files (Old a) (Old b) x y = ap Old (unique a b files x.0 y.0 (inr x.1) (inr y.1))
+one_state files (Old a) (Spoiled held) x y = absurd (y.1.other a x.0 (inr x.1))
 one_state files (Spoiled held) NotMade x y = absurd (x.1.some y)
-one_state files (Spoiled held) (Made b) x y = absurd (x.1.other b y.0 y.1)
-one_state files (Spoiled held) (Old b) x y = absurd y
+one_state files (Spoiled held) (Made b) x y = absurd (x.1.other b y.0 (inl y.1))
+one_state files (Spoiled held) (Old b) x y = absurd (x.1.other b y.0 (inr y.1))
 one_state files (Spoiled held) (Spoiled other) x y = ap Spoiled (x.0 ∙ sym y.0)
 
 -- ---- one at least
@@ -63,9 +68,14 @@ below_all file is = ltb-true file 258 (and_parts _ _ is).0
 all_bytes : (files : Files) → AreBytes files ⊎ (¬ AreBytes files)
 all_bytes files = ⊎_elim (λ front. inl (λ file is. front file (below_all file is) is)) (λ some. inr some) (bytes_below 258 files)
 
+-- a board in files of either version
+in_version : (b : Board) (files : Files) → IsBoard b × IsStoredIn b files → (state : State) × Stores state files
+in_version b files (ok, inl laid) = (Made b, (ok, laid))
+in_version b files (ok, inr laid) = (Old b, (ok, laid))
+
 -- the board of files that aren't all empty, where they are bytes
 read_state : (files : Files) → AreBytes files → ¬ AreEmpty files → (read : Result Board Damage) → board_of files ≡ read → (state : State) × Stores state files
-read_state files bytes some (Ok b) is = (Made b, takes files b bytes is)
+read_state files bytes some (Ok b) is = in_version b files (takes files b bytes is)
 read_state files bytes some (Err d) is = (
   Spoiled (data_files files),
   (

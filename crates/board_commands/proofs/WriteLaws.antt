@@ -11,8 +11,10 @@ use Rattle.intent_journal.specs.Journal.{IsClosed, intent_of, open_patches}
 use Rattle.intent_journal.specs.Patches.{Files, are_within, byte_count}
 use Rattle.intent_journal.specs.Recovered.{recovered}
 use Rattle.board_layout.specs.Board.{Board}
+use Rattle.mail_board.specs.Loading.{AreOld}
 use Rattle.mail_board.specs.Written.{KeepsBoundOf}
 use Rattle.board_commands.proofs.BoardActs.{AreTurns}
+use Rattle.board_commands.proofs.StateLaws.{one_state}
 use Rattle.board_commands.specs.State.{State, NotMade, Made, Old, Spoiled, Stores, migrated, state_of}
 use Rattle.board_commands.specs.Turns.{Turn, on_board}
 use Rattle.board_commands.specs.WriteBound.{KeepsWriteBound, WritesWithin}
@@ -30,30 +32,35 @@ intent_closed files closed = λ i. if are_within (closed_patches (files 1) close
 pub closed_found : (old : Disk) (now : ℕ) → IsClosed (old.files 1) → now ≤ old.wrote + byte_count (intent_of old.files) + 1 → now ≤ old.wrote + 1
 closed_found old now closed found = omega (arith, found, ap byte_count (intent_closed old.files closed))
 
--- only the board was looked for
-pub found_within : (act : Act State) (old new : Disk) (shelf : Shelf.Files) → IsClosed (old.files 1) → new.wrote ≤ old.wrote + byte_count (intent_of old.files) + 1 → KeepsWriteBound act old new shelf
-found_within act old new shelf closed found state stores stepped step = omega (arith, closed_found old new.wrote closed found)
+-- files that stand for a state that isn't to be migrated aren't those of a board in version 1
+not_old : (state : State) (files : Files) → Stores state files → migrated state ≡ state → ¬ AreOld files
+not_old state files stores today old =
+    let is : state ≡ Old old.board = one_state files state (Old old.board) stores (old.valid, old.layout) in
+    let never : Made old.board ≡ Old old.board = sym (ap migrated is) ∙ (today ∙ is) in
+    absurd (cc never)
 
--- files stand for a board in today's version alone
-stored_today : (state : State) (files : Files) → Stores state files → migrated state ≡ state
-stored_today NotMade files stores = refl
-stored_today (Made b) files stores = refl
-stored_today (Old b) files stores = absurd stores
-stored_today (Spoiled held) files stores = refl
+-- what a call wrote that looked for the board
+abbrev pub WritesFound : Disk → ℕ → Type 0
+WritesFound old now = ¬ AreOld (recovered old.files) → now ≤ old.wrote + byte_count (intent_of old.files) + 1
+
+-- only the board was looked for
+pub found_within : (act : Act State) (old new : Disk) (shelf : Shelf.Files) → IsClosed (old.files 1) → WritesFound old new.wrote → KeepsWriteBound act old new shelf
+found_within act old new shelf closed found state stores today stepped step =
+    omega (arith, closed_found old new.wrote closed (found (not_old state (recovered old.files) stores today)))
 
 -- A turn was to make a change that keeps the bound of its board and the next.
-module _ (turns : Shelf.Files → Option Board → Turn → Type 0) (laws : AreTurns turns) (old mid new : Disk) (shelf : Shelf.Files) (closed : IsClosed (old.files 1)) (found : mid.wrote ≤ old.wrote + byte_count (intent_of old.files) + 1) where
+module _ (turns : Shelf.Files → Option Board → Turn → Type 0) (laws : AreTurns turns) (old mid new : Disk) (shelf : Shelf.Files) (closed : IsClosed (old.files 1)) (found : WritesFound old mid.wrote) where
   next_is : (b next : Board) (turn : Turn) → turns shelf (Some b) turn → turn.board ≡ Some next → (stepped : Stepped (World State)) → (on_board turns).Step (here (Made b) shelf) stepped → stepped.world.state ≡ Made next
   next_is b next turn takes is stepped step = step.1.2 ∙ ap state_of (ap (λ (t : Turn). t.board) (laws.one_turn shelf (Some b) step.1.0 turn step.1.1 takes) ∙ is)
 
-  of_made : (b next : Board) (turn : Turn) → turns shelf (Some b) turn → turn.board ≡ Some next → KeepsBoundOf b next mid.wrote new.wrote
+  of_made : (b next : Board) (turn : Turn) → turns shelf (Some b) turn → turn.board ≡ Some next → KeepsBoundOf b next mid.wrote new.wrote → ¬ AreOld (recovered old.files)
       → (stepped : Stepped (World State)) → (on_board turns).Step (here (Made b) shelf) stepped → WritesWithin (Made b) stepped.world.state old.wrote new.wrote
-  of_made b next turn takes is kept stepped step =
-      subst (λ (end : State). WritesWithin (Made b) end old.wrote new.wrote) (sym (next_is b next turn takes is stepped step)) (omega (arith, kept, closed_found old mid.wrote closed found))
+  of_made b next turn takes is kept today stepped step =
+      subst (λ (end : State). WritesWithin (Made b) end old.wrote new.wrote) (sym (next_is b next turn takes is stepped step)) (omega (arith, kept, closed_found old mid.wrote closed (found today)))
 
   pub turned_within : (board : Option Board) → ((state : State) → Stores state (recovered old.files) → migrated state ≡ state_of board) → (b next : Board) → board ≡ Some b → (turn : Turn) → turns shelf (Some b) turn → turn.board ≡ Some next
       → KeepsBoundOf b next mid.wrote new.wrote → KeepsWriteBound (on_board turns) old new shelf
-  turned_within board stands b next board_is turn takes is kept state stores =
-      let made : state ≡ Made b = sym (stored_today state (recovered old.files) stores) ∙ stands state stores ∙ ap state_of board_is in
+  turned_within board stands b next board_is turn takes is kept state stores today =
+      let made : state ≡ Made b = sym today ∙ stands state stores ∙ ap state_of board_is in
       subst (λ (s : State). (stepped : Stepped (World State)) → (on_board turns).Step (here s shelf) stepped → WritesWithin s stepped.world.state old.wrote new.wrote) (sym made)
-      (of_made b next turn takes is kept)
+      (of_made b next turn takes is kept (not_old state (recovered old.files) stores today))

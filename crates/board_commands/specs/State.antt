@@ -3,6 +3,7 @@ use Rattle.std.specs.Prelude.{◌≡◌, Option, Some, None}
 use Rattle.intent_journal.specs.Patches.{Files, data_files}
 use Rattle.board_layout.specs.Board.{Board}
 use Rattle.board_layout.specs.Layout.{AreEmpty, IsLayout}
+use Rattle.board_layout.specs.OldLayout.{IsOldLayout, IsStoredIn}
 use Rattle.board_layout.specs.Valid.{IsBoard}
 
 pub data State : Type 0 where
@@ -15,16 +16,16 @@ pub data State : Type 0 where
   -- files that are no board's
   Spoiled : Files → State
 
--- the files are neither all empty nor the layout of a board
+-- the files are neither all empty nor the layout of a board in either version
 pub record AreSpoiled (files : Files) : Type 0 where
   pub some : ¬ AreEmpty files
-  pub other : (b : Board) → IsBoard b → ¬ IsLayout b files
+  pub other : (b : Board) → IsBoard b → ¬ IsStoredIn b files
 
 -- these data files stand for the state
 abbrev pub Stores : State → Files → Type 0
 Stores NotMade files = AreEmpty files
 Stores (Made b) files = IsBoard b × IsLayout b files
-Stores (Old b) files = ⊥
+Stores (Old b) files = IsBoard b × IsOldLayout b files
 Stores (Spoiled held) files = (held ≡ data_files files) × AreSpoiled files
 
 abbrev pub IsSpoiled : State → Type 0

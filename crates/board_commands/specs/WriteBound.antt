@@ -1,5 +1,5 @@
 -- How much a command that posts messages writes.
-use Rattle.std.specs.Prelude.{ℕ, ◌+◌, ◌-◌, ◌*◌, ◌≤◌}
+use Rattle.std.specs.Prelude.{◌≡◌, ℕ, ◌+◌, ◌-◌, ◌*◌, ◌≤◌}
 use Rattle.door_outside.specs.Disk.{Disk}
 use Rattle.door_outside.specs.Shelf.{Files}
 use Rattle.entry_runs.specs.Door.{Act, World, here}
@@ -7,7 +7,7 @@ use Rattle.entry_runs.specs.Runs.{Stepped}
 use Rattle.intent_journal.specs.Recovered.{recovered}
 use Rattle.board_layout.specs.Layout.{board_size}
 use Rattle.mail_board.specs.Written.{slot_total}
-use Rattle.board_commands.specs.State.{State, NotMade, Made, Old, Spoiled, Stores}
+use Rattle.board_commands.specs.State.{State, NotMade, Made, Old, Spoiled, Stores, migrated}
 
 -- how many bytes the data files of the board have, where there is one
 abbrev pub size_of_board : State → ℕ
@@ -28,8 +28,8 @@ slots_of_board (Spoiled held) = 0
 abbrev pub WritesWithin : State → State → ℕ → ℕ → Type 0
 WritesWithin state next before now = now ≤ before + 2 * ((size_of_board next - size_of_board state) + 200 * ((slots_of_board next - slots_of_board state) + 1))
 
--- So they did by whatever an act does in the state for which the files at entry stand.
+-- So they did by whatever an act does in the state for which the files at entry stand, where that isn't to be migrated.
 abbrev pub KeepsWriteBound : Act State → Disk → Disk → Files → Type 0
 KeepsWriteBound act old new shelf =
-    (state : State) → Stores state (recovered old.files) → (stepped : Stepped (World State)) → act.Step (here state shelf) stepped
+    (state : State) → Stores state (recovered old.files) → migrated state ≡ state → (stepped : Stepped (World State)) → act.Step (here state shelf) stepped
     → WritesWithin state stepped.world.state old.wrote new.wrote

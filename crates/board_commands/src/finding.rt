@@ -5,6 +5,7 @@ ghost use Rattle.entry_runs.specs.Entry.{Finds};
 ghost use Rattle.intent_journal.specs.Journal.{intent_of};
 ghost use Rattle.intent_journal.specs.Patches.{byte_count};
 ghost use Rattle.intent_journal.specs.Recovered.{recovered};
+ghost use Rattle.mail_board.specs.Loading.{AreOld};
 ghost use Rattle.board_commands.specs.Kept.{AreSure, IsFound, IsKept, IsRead, found, unread};
 ghost use Rattle.board_commands.specs.State.{State, Stores, migrated};
 
@@ -13,7 +14,7 @@ use mail_board::{Board, LoadError, Loaded};
 use std::alloc::Global;
 
 /// Reads the board, or that there is none, where that isn't kept yet. Nothing is changed but that a crash's intent is
-/// carried out.
+/// carried out, and that a board in files of the ledger's first version is then put into files of today's.
 pub fn find<H: Host>(
     alloc: Global,
     host: &mut H,
@@ -26,7 +27,7 @@ pub fn find<H: Host>(
     ensures kept { IsTrue H.tells → IsKept kept.new (H.disk host.new) }
     ensures sure { AreSure kept.new }
     ensures read { OnOk result (IsRead kept.new) }
-    ensures wrote { IsTrue H.tells → (H.disk host.new).wrote ≤ (H.disk host.old).wrote + byte_count (intent_of (H.disk host.old).files) + 1 }
+    ensures wrote { IsTrue H.tells → ¬ AreOld (recovered (H.disk host.old).files) → (H.disk host.new).wrote ≤ (H.disk host.old).wrote + byte_count (intent_of (H.disk host.old).files) + 1 }
     ensures cause { HasReadCause (H.disk_faults host.old) (H.disk_faults host.new) result }
     ensures voice { H.voice_faults host.new ≡ H.voice_faults host.old }
 {

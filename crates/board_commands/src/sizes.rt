@@ -10,7 +10,7 @@ use board_layout::BOARD_LIMIT;
 use mail_board::{Board, Change};
 use shelf_files::Refusal;
 
-/// Why the files would be too long after a change, where they would be: 33,554,432 bytes is the most. It takes no memory.
+/// Why the files would be too long after a change, where they would be: 34,603,008 bytes is the most. It takes no memory.
 pub fn size_refusal(board: &Board, change: &Change) -> Option<Refusal>
     requires exists { Exists change.now board.now.board }
     requires short { board_size (changed change.now board.now.board) < 2 ^ 64 }

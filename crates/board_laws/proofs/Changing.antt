@@ -2,7 +2,7 @@
 use Rattle.std.proofs.Common.{◌≡◌, ◌⊎◌, ⊎_elim, ℕ, zero, suc, ◌+◌, ◌-◌, ◌<◌, Bool, true, false, cond, eqb, List, [], ◌∷◌, length, length-set, get_or, set, Option, Some, None, refl, sym, ap, ◌∙◌, subst, inl, inr, arith}
 use Rattle.std.specs.Prelude.{All, option_and_then, option_map, slice_get}
 use Rattle.std.specs.List.{AllZip}
-use Rattle.std.proofs.lemmas.Bool.{cond-false, ne_eqb}
+use Rattle.std.proofs.lemmas.Bool.{cond-false, ltb-true, ne_eqb}
 use Rattle.std.proofs.lemmas.List.{length-map}
 use Rattle.std.proofs.lemmas.Option.{none-some, slice_get-get_or, slice_get_past}
 use Rattle.board_changes.proofs.MemberLaws.{ids_below, readers_at}
@@ -12,9 +12,11 @@ use Rattle.board_layout.specs.Lookups.{pointer_at, user_of}
 use Rattle.board_layout.specs.Renewed.{contents_of}
 use Rattle.board_laws.proofs.Bases.{BaseGrows, appended_grows, appended_pointer, base_itself, deleted_grows, joined_grows, joined_pointer, pointer_in, read_grows, read_pointer_other, read_pointer_own}
 use Rattle.board_laws.proofs.Grown.{IsWhole, Suits, conferences_are, read_contents, zip_back, zipped}
+use Rattle.board_laws.proofs.OpenOffers.{ack_is, after_ack}
 use Rattle.board_laws.proofs.Readers.{PointerFollows, pointer_below}
 use Rattle.board_laws.proofs.Users.{same_ledger}
 use Rattle.board_ledger.specs.declared.ledger.Ledger.{Ledger}
+use Rattle.open_offers.specs.declared.offer.OpenOffer.{OpenOffer}
 use Rattle.board_ledger.specs.declared.user.User.{User}
 use Rattle.jam_base.specs.Contents.{Contents, with_acknowledged}
 use Rattle.jam_layout.specs.declared.conference.Conference.{Conference}
@@ -23,7 +25,7 @@ use Rattle.mail_board.specs.Changes.{changed}
 use Rattle.mail_board.specs.declared.change.Change.{Change}
 use Rattle.mail_board.specs.declared.change.Change.TheVariants.{Enroll, Append, Spread, Kill, Offer, Acknowledge, Upload}
 use Rattle.offer_changes.proofs.ReadLaws.{all_count as read_count}
-use Rattle.offer_changes.specs.Changed.{all_read, for_user, is_above, offered_to, read_by, read_up_to}
+use Rattle.offer_changes.specs.Changed.{all_read, for_user, is_above, offer_in, offered_to, read_up_to}
 use Rattle.packet_verdicts.specs.Views.{nobody}
 use Rattle.post_changes.proofs.PostLaws.{all_count as posted_count}
 use Rattle.post_changes.specs.Posted.{all_posted}
@@ -39,11 +41,7 @@ setup_stays (Offer user highs) b = by (user_of user b)
     by : (o : Option User) → (for_user (offered_to user highs) o b).ledger.setup ≡ b.ledger.setup
     by None = refl
     by (Some u) = refl
-setup_stays (Acknowledge user now) b = by (user_of user b)
-  where
-    by : (o : Option User) → (for_user (read_by user now) o b).ledger.setup ≡ b.ledger.setup
-    by None = refl
-    by (Some u) = refl
+setup_stays (Acknowledge user packet now) b = after_ack (λ (c : Board). c.ledger.setup ≡ b.ledger.setup) user packet now b refl (λ u here o. refl)
 setup_stays (Upload user digest refused posts) b = refl
 
 joined_places : (members place : ℕ) (conferences : List Conference) → length (joined_from members place conferences) ≡ length conferences
@@ -72,11 +70,8 @@ module _ (b : Board) (whole : IsWhole b) where
       by : (o : Option User) → length (for_user (offered_to user highs) o b).conferences ≡ length (for_user (offered_to user highs) o b).ledger.setup.conferences
       by None = whole.count
       by (Some u) = whole.count
-  count_next (Acknowledge user now) = by (user_of user b)
-    where
-      by : (o : Option User) → length (for_user (read_by user now) o b).conferences ≡ length (for_user (read_by user now) o b).ledger.setup.conferences
-      by None = whole.count
-      by (Some u) = conferences_count (all_read user u.name now (contents_of b) u.highs) (read_count user u.name now (contents_of b) u.highs)
+  count_next (Acknowledge user packet now) = after_ack (λ (c : Board). length c.conferences ≡ length c.ledger.setup.conferences) user packet now b whole.count
+      (λ u here o. conferences_count (all_read user u.name now (contents_of b) o.highs) (read_count user u.name now (contents_of b) o.highs))
   count_next (Upload user digest refused posts) = conferences_count (all_posted b posts 0 (contents_of b)) (posted_count b posts 0 (contents_of b))
 
   -- ---- each base grows
@@ -86,7 +81,7 @@ module _ (b : Board) (whole : IsWhole b) where
   grows (Spread posts) = appended_grows
   grows (Kill place number) = λ x live. deleted_grows number x live
   grows (Offer user highs) = tt
-  grows (Acknowledge user now) = λ name high x. read_grows user name high now x
+  grows (Acknowledge user packet now) = λ name high x. read_grows user name high now x
   grows (Upload user digest refused posts) = appended_grows
 
   pub bases_grow : (change : Change) → AllZip BaseGrows (contents_of b) (contents_of (changed change b))
@@ -113,7 +108,7 @@ module _ (b : Board) (whole : IsWhole b) where
     AcksBy (Spread posts) = ⊥
     AcksBy (Kill place number) = ⊥
     AcksBy (Offer user highs) = ⊥
-    AcksBy (Acknowledge user now) = user ≡ id
+    AcksBy (Acknowledge user packet now) = user ≡ id
     AcksBy (Upload user digest refused posts) = ⊥
 
     -- there is no user whose id is above the count of all
@@ -131,7 +126,7 @@ module _ (b : Board) (whole : IsWhole b) where
     follows (Spread posts) apart = λ ms x. inl (appended_pointer id ms x)
     follows (Kill place number) apart = λ x live. inl refl
     follows (Offer user highs) apart = tt
-    follows (Acknowledge user now) apart = λ name high x. inl (read_pointer_other user name high now x id (λ same. apart (sym same)))
+    follows (Acknowledge user packet now) apart = λ name high x. inl (read_pointer_other user name high now x id (λ same. apart (sym same)))
     follows (Upload user digest refused posts) apart = λ ms x. inl (appended_pointer id ms x)
 
     at_place : (xs ys : List Contents) (place : ℕ) → AllZip Follows xs ys → PointerFollows (user_of id b ≡ None) (option_and_then (pointer_in id) (slice_get xs place)) (option_and_then (pointer_in id) (slice_get ys place))
@@ -146,21 +141,21 @@ module _ (b : Board) (whole : IsWhole b) where
     pointers_follow change apart place = at_place (contents_of b) (contents_of (changed change b)) place (zipped b whole Follows itself change (follows change apart))
 
     -- ---- his own acknowledgement
-    -- a pointer stays, or there was one and it goes to the high
+    -- a pointer stays, or there was one below the high and it goes to it
     abbrev pub Reads : ℕ → Option ℕ → Option ℕ → Type 0
-    Reads high old new = (new ≡ old) ⊎ ((pointer : ℕ) × (old ≡ Some pointer) × (new ≡ Some high))
+    Reads high old new = (new ≡ old) ⊎ ((pointer : ℕ) × (old ≡ Some pointer) × (pointer < high) × (new ≡ Some high))
 
     module _ (now : ℕ) (name : List ℕ) where
       one_read : (high : ℕ) (x : Contents) → Reads high (pointer_in id x) (pointer_in id (read_up_to id name now high x))
-      one_read high x = by (is_above high (pointer_in id x))
+      one_read high x = by (is_above high (pointer_in id x)) refl
         where
-          own : (o : Option ℕ) → pointer_in id x ≡ o → Reads high (pointer_in id x) (pointer_in id (with_acknowledged id name high now x))
-          own None none = inl (read_pointer_own id name high now x ∙ (ap (option_map (λ _. high)) none ∙ sym none))
-          own (Some p) some = inr (p, some, read_pointer_own id name high now x ∙ ap (option_map (λ _. high)) some)
+          own : (o : Option ℕ) → pointer_in id x ≡ o → is_above high o ≡ true → Reads high (pointer_in id x) (pointer_in id (with_acknowledged id name high now x))
+          own None none above = inl (read_pointer_own id name high now x ∙ (ap (option_map (λ _. high)) none ∙ sym none))
+          own (Some p) some above = inr (p, some, ltb-true p high above, read_pointer_own id name high now x ∙ ap (option_map (λ _. high)) some)
 
-          by : (above : Bool) → Reads high (pointer_in id x) (pointer_in id (cond above (with_acknowledged id name high now x) x))
-          by true = own (pointer_in id x) refl
-          by false = inl refl
+          by : (above : Bool) → is_above high (pointer_in id x) ≡ above → Reads high (pointer_in id x) (pointer_in id (cond above (with_acknowledged id name high now x) x))
+          by true above = own (pointer_in id x) refl above
+          by false above = inl refl
 
       read_place : (bases : List Contents) (highs : List ℕ) (place : ℕ)
           → Reads (get_or highs place 0) (option_and_then (pointer_in id) (slice_get bases place)) (option_and_then (pointer_in id) (slice_get (all_read id name now bases highs) place))
@@ -169,12 +164,12 @@ module _ (b : Board) (whole : IsWhole b) where
       read_place (x ∷ bases) (high ∷ highs) zero = one_read high x
       read_place (x ∷ bases) (high ∷ highs) (suc place) = read_place bases highs place
 
-    pub pointers_read : (now : ℕ) (u : User) → user_of id b ≡ Some u → (place : ℕ) → Reads (get_or u.highs place 0) (pointer_at place id b) (pointer_at place id (changed (Acknowledge id now) b))
-    pointers_read now u here place =
-        let is : changed (Acknowledge id now) b ≡ read_by id now u b = ap (λ (o : Option User). for_user (read_by id now) o b) here in
-        subst (λ (c : Board). Reads (get_or u.highs place 0) (pointer_at place id b) (pointer_at place id c)) (sym is)
-        (subst (λ (bases : List Contents). Reads (get_or u.highs place 0) (pointer_at place id b) (option_and_then (pointer_in id) (slice_get bases place))) (sym (read_contents b whole id now u here))
-        (read_place now u.name (contents_of b) u.highs place))
+    pub pointers_read : (packet now : ℕ) (u : User) (o : OpenOffer) → user_of id b ≡ Some u → offer_in packet u.offers ≡ Some o
+        → (place : ℕ) → Reads (get_or o.highs place 0) (pointer_at place id b) (pointer_at place id (changed (Acknowledge id packet now) b))
+    pointers_read packet now u o here found place =
+        subst (λ (c : Board). Reads (get_or o.highs place 0) (pointer_at place id b) (pointer_at place id c)) (sym (ack_is id packet now b u o here found))
+        (subst (λ (bases : List Contents). Reads (get_or o.highs place 0) (pointer_at place id b) (option_and_then (pointer_in id) (slice_get bases place))) (sym (read_contents b whole id now u o here))
+        (read_place now u.name (contents_of b) o.highs place))
 
 -- ---- who has a pointer
 -- a pointer is that of a user who is there

@@ -1,5 +1,5 @@
 -- Which elements lists have that are made of others, and what of a list whose elements rise is among the first.
-use Rattle.std.proofs.Common.{◌≡◌, ◌⊎◌, inl, inr, ⊎_elim, ℕ, zero, suc, ◌+◌, ◌<◌, ◌≤◌, max, Bool, true, false, cond, List, [], ◌∷◌, ◌++◌, length, map, take, refl, sym, ap, ◌∙◌, subst, arith}
+use Rattle.std.proofs.Common.{◌≡◌, ◌⊎◌, inl, inr, ⊎_elim, ℕ, zero, suc, ◌+◌, ◌<◌, ◌≤◌, max, Bool, true, false, cond, List, [], ◌∷◌, ◌++◌, length, map, drop, take, refl, sym, ap, ◌∙◌, subst, arith}
 use Rattle.std.specs.Prelude.{Contains}
 use Rattle.std.specs.List.{filter, flat_map, fold, range_with_len}
 use Rattle.std.proofs.lemmas.Bool.{cases_eq, cases_lt, false≢true}
@@ -96,12 +96,17 @@ filter_short p (y ∷ ys) = by (filter_short p ys) (p y)
     by rest true = omega (arith, rest)
     by rest false = omega (arith, rest)
 
--- ---- the first elements
+-- ---- the first elements, and the last
 pub from_take : {X : Type 0} (n : ℕ) (x : X) (xs : List X) → In x (take n xs) → In x xs
 from_take zero x xs is = absurd is
 from_take (suc n) x [] is = absurd is
 from_take (suc n) x (y ∷ ys) (inl is) = inl is
 from_take (suc n) x (y ∷ ys) (inr is) = inr (from_take n x ys is)
+
+pub from_drop : {X : Type 0} (n : ℕ) (x : X) (xs : List X) → In x (drop n xs) → In x xs
+from_drop zero x xs is = is
+from_drop (suc n) x [] is = is
+from_drop (suc n) x (y ∷ ys) is = inr (from_drop n x ys is)
 
 -- each element is below each one behind it
 abbrev pub AreRising : {X : Type 0} → (X → X → Type 0) → List X → Type 0

@@ -13,7 +13,9 @@ use Rattle.board_layout.specs.Board.{Board, board_with, conferences_in, readers_
 use Rattle.board_layout.specs.Lookups.{user_of}
 use Rattle.board_layout.specs.Renewed.{contents, contents_of}
 use Rattle.board_laws.proofs.Bases.{IsEven}
+use Rattle.board_laws.proofs.OpenOffers.{after_ack}
 use Rattle.board_ledger.specs.declared.ledger.Ledger.{Ledger}
+use Rattle.open_offers.specs.declared.offer.OpenOffer.{OpenOffer}
 use Rattle.board_ledger.specs.declared.user.User.{User}
 use Rattle.jam_base.specs.Contents.{Contents, pointer_of, with_acknowledged, with_deleted, with_messages, with_reader}
 use Rattle.jam_base.specs.Slots.{has_live}
@@ -28,7 +30,7 @@ use Rattle.mail_board.specs.declared.change.Change.TheVariants.{Enroll, Append, 
 use Rattle.offer_changes.proofs.LedgerLaws.{shapes_stay}
 use Rattle.offer_changes.proofs.ReadLaws.{all_shapes}
 use Rattle.offer_changes.proofs.UserLaws.{user_there}
-use Rattle.offer_changes.specs.Changed.{all_read, for_user, is_above, offered_to, read_by, with_offer, with_user, without_offer}
+use Rattle.offer_changes.specs.Changed.{all_read, for_user, is_above, offered_to, read_offer, with_offer, with_user, without_offer}
 use Rattle.post_changes.specs.Posted.{all_posted, posts_in, record_of, with_record}
 use Rattle.setup_file.specs.declared.conference.Conference.{Conference as SetupConference}
 use Rattle.slot_changes.proofs.AppendLaws.{shape_stays}
@@ -79,11 +81,11 @@ conferences_are b whole = conferences_back (shapes_of b.ledger) b.conferences (w
 contents_with : (b : Board) → IsWhole b → (l : Ledger) (bases : List Contents) → shapes_of l ≡ shapes_of b.ledger → shapes_in bases ≡ shapes_in (contents_of b) → contents_of (board_with l bases) ≡ bases
 contents_with b whole l bases same shapes = contents_are l bases (shapes ∙ (shapes_are b whole ∙ sym same))
 
--- those of a board on which a packet is acknowledged
-pub read_contents : (b : Board) → IsWhole b → (user now : ℕ) (u : User) → user_of user b ≡ Some u → contents_of (read_by user now u b) ≡ all_read user u.name now (contents_of b) u.highs
-read_contents b whole user now u here =
-    contents_with b whole (with_user user (without_offer u) b.ledger) (all_read user u.name now (contents_of b) u.highs)
-    (shapes_stay b.ledger user u (without_offer u) (user_there b user u here) (record { name = refl; members = refl })) (all_shapes user u.name now (contents_of b) u.highs)
+-- those of a board on which an offer is acknowledged
+pub read_contents : (b : Board) → IsWhole b → (user now : ℕ) (u : User) (o : OpenOffer) → user_of user b ≡ Some u → contents_of (read_offer user now u o b) ≡ all_read user u.name now (contents_of b) o.highs
+read_contents b whole user now u o here =
+    contents_with b whole (with_user user (without_offer o.number u) b.ledger) (all_read user u.name now (contents_of b) o.highs)
+    (shapes_stay b.ledger user u (without_offer o.number u) (user_there b user u here) (record { name = refl; members = refl })) (all_shapes user u.name now (contents_of b) o.highs)
 
 -- ---- what a relation says of each base and the one after a change
 module _ (b : Board) (whole : IsWhole b) (R : Contents → Contents → Type 0) (itself : (x : Contents) → R x x) where
@@ -94,7 +96,7 @@ module _ (b : Board) (whole : IsWhole b) (R : Contents → Contents → Type 0) 
   Suits (Spread posts) = (ms : List Message) (x : Contents) → R x (with_messages ms x)
   Suits (Kill place number) = (x : Contents) → has_live number x.conference.slots ≡ true → R x (with_deleted number x)
   Suits (Offer user highs) = Unit {0}
-  Suits (Acknowledge user now) = (name : List ℕ) (high : ℕ) (x : Contents) → R x (with_acknowledged user name high now x)
+  Suits (Acknowledge user packet now) = (name : List ℕ) (high : ℕ) (x : Contents) → R x (with_acknowledged user name high now x)
   Suits (Upload user digest refused posts) = (ms : List Message) (x : Contents) → R x (with_messages ms x)
 
   zip_with : (l : Ledger) (bases : List Contents) → shapes_of l ≡ shapes_of b.ledger → shapes_in bases ≡ shapes_in (contents_of b) → AllZip R (contents_of b) bases → AllZip R (contents_of b) (contents_of (board_with l bases))
@@ -176,7 +178,7 @@ module _ (b : Board) (whole : IsWhole b) (R : Contents → Contents → Type 0) 
 
   -- ---- any change
   pub zipped : (change : Change) → Suits change → AllZip R (contents_of b) (contents_of (changed change b))
-  zipped (Enroll name net members) suits = zip_member (new_user name net members (length b.ledger.setup.conferences)) suits
+  zipped (Enroll name net members) suits = zip_member (new_user name net members) suits
   zipped (Append place messages) suits =
       zip_one place (with_identified (msgid_in place b) messages) (λ x. shape_stays x (all_identified (msgid_in place b) (length x.conference.slots + 1) messages)) (λ x. suits (all_identified (msgid_in place b) (length x.conference.slots + 1) messages) x)
   zipped (Spread posts) suits = zip_with b.ledger (all_posted b posts 0 (contents_of b)) refl (posted_shapes posts 0 (contents_of b)) (zip_posted posts suits 0 (contents_of b))
@@ -186,12 +188,9 @@ module _ (b : Board) (whole : IsWhole b) (R : Contents → Contents → Type 0) 
       by : (o : Option User) → user_of user b ≡ o → AllZip R (contents_of b) (contents_of (for_user (offered_to user highs) o b))
       by None none = zip_itself R itself (contents_of b)
       by (Some u) here = subst (λ (ss : List Shape). AllZip R (contents_of b) (contents ss b.conferences)) (sym (shapes_stay b.ledger user u (with_offer highs u) (user_there b user u here) (record { name = refl; members = refl }))) (zip_itself R itself (contents_of b))
-  zipped (Acknowledge user now) suits = by (user_of user b) refl
-    where
-      by : (o : Option User) → user_of user b ≡ o → AllZip R (contents_of b) (contents_of (for_user (read_by user now) o b))
-      by None none = zip_itself R itself (contents_of b)
-      by (Some u) here =
-          zip_with (with_user user (without_offer u) b.ledger) (all_read user u.name now (contents_of b) u.highs) (shapes_stay b.ledger user u (without_offer u) (user_there b user u here) (record { name = refl; members = refl }))
-          (all_shapes user u.name now (contents_of b) u.highs) (zip_read user now u.name (suits u.name) (contents_of b) u.highs)
+  zipped (Acknowledge user packet now) suits = after_ack (λ (c : Board). AllZip R (contents_of b) (contents_of c)) user packet now b (zip_itself R itself (contents_of b))
+      (λ u here o. zip_with (with_user user (without_offer o.number u) b.ledger) (all_read user u.name now (contents_of b) o.highs)
+      (shapes_stay b.ledger user u (without_offer o.number u) (user_there b user u here) (record { name = refl; members = refl }))
+      (all_shapes user u.name now (contents_of b) o.highs) (zip_read user now u.name (suits u.name) (contents_of b) o.highs))
   zipped (Upload user digest refused posts) suits =
       zip_with (with_record (record_of user digest refused posts) b.ledger) (all_posted b posts 0 (contents_of b)) refl (posted_shapes posts 0 (contents_of b)) (zip_posted posts suits 0 (contents_of b))

@@ -70,8 +70,8 @@ module _ {Entry : Type 0} (command_of : Entry → BoardCommand) (Step : Steps En
   acks_at n d b whole user (Spread posts) is board because own = absurd own
   acks_at n d b whole user (Kill place number) is board because own = absurd own
   acks_at n d b whole user (Offer other highs) is board because own = absurd own
-  acks_at n d b whole user (Acknowledge other now) is board because own = (
-    because.packet,
+  acks_at n d b whole user (Acknowledge other packet now) is board because own = (
+    packet,
     record {
       deed = d;
       board = b;

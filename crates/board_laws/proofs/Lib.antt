@@ -4,6 +4,7 @@ pub mod Readers
 pub mod Bases
 pub mod Grown
 pub mod Fresh
+pub mod OpenOffers
 pub mod Users
 pub mod Changing
 pub mod Views

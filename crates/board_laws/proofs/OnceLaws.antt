@@ -11,6 +11,7 @@ use Rattle.board_commands.specs.State.{State, Made, migrated, state_of}
 use Rattle.board_commands.specs.Turns.{Turn}
 use Rattle.board_layout.specs.Board.{Board}
 use Rattle.board_layout.specs.Lookups.{user_of}
+use Rattle.board_laws.proofs.OpenOffers.{after_ack}
 use Rattle.board_laws.proofs.Sequences.{AreCommands, IsOfBoard, after_one, does_made, onward, same_made}
 use Rattle.board_laws.proofs.Uploads.{UploadTurns, WasJudged, counts_of, same_counts, upload_turns}
 use Rattle.board_laws.proofs.Users.{same_ledger}
@@ -31,7 +32,7 @@ use Rattle.mail_board.specs.Changes.{changed}
 use Rattle.mail_board.specs.Readers.{upload_of}
 use Rattle.mail_board.specs.declared.change.Change.{Change}
 use Rattle.mail_board.specs.declared.change.Change.TheVariants.{Enroll, Append, Spread, Kill, Offer, Acknowledge, Upload}
-use Rattle.offer_changes.specs.Changed.{for_user, offered_to, read_by}
+use Rattle.offer_changes.specs.Changed.{for_user, offered_to}
 use Rattle.packet_verdicts.specs.Judged.{judged, refused_count}
 use Rattle.post_changes.specs.Posted.{record_of}
 use Rattle.sha2.specs.Sha256.{sha256}
@@ -50,11 +51,8 @@ records_more (Offer user highs) b = by (user_of user b)
     by : (o : Option User) → (more : List UploadRecord) × ((for_user (offered_to user highs) o b).ledger.uploads ≡ b.ledger.uploads ++ more)
     by None = ([], sym (append-nil b.ledger.uploads))
     by (Some u) = ([], sym (append-nil b.ledger.uploads))
-records_more (Acknowledge user now) b = by (user_of user b)
-  where
-    by : (o : Option User) → (more : List UploadRecord) × ((for_user (read_by user now) o b).ledger.uploads ≡ b.ledger.uploads ++ more)
-    by None = ([], sym (append-nil b.ledger.uploads))
-    by (Some u) = ([], sym (append-nil b.ledger.uploads))
+records_more (Acknowledge user packet now) b = after_ack (λ (c : Board). (more : List UploadRecord) × (c.ledger.uploads ≡ b.ledger.uploads ++ more)) user packet now b
+    ([], sym (append-nil b.ledger.uploads)) (λ u here o. ([], sym (append-nil b.ledger.uploads)))
 records_more (Upload user digest refused posts) b = (record_of user digest refused posts ∷ [], refl)
 
 -- the record is of this user and digest

@@ -1,7 +1,7 @@
 -- What a user has behind him was offered to him and acknowledged by him: deed by deed.
-use Rattle.std.proofs.Common.{◌≡◌, ◌≢◌, ◌⊎◌, inl, inr, ⊎_elim, ℕ, suc, ◌<◌, ◌≤◌, Bool, true, false, cond, eqb, List, get_or, length, Option, Some, None, refl, sym, ap, ◌∙◌, subst, arith}
-use Rattle.std.specs.Prelude.{Contains, option_and_then, slice_get}
-use Rattle.std.proofs.lemmas.Bool.{cases_eq, cases_lt, eqb-false}
+use Rattle.std.proofs.Common.{◌≡◌, ◌⊎◌, inl, inr, ⊎_elim, ℕ, suc, ◌+◌, ◌<◌, ◌≤◌, true, List, get_or, length, Some, None, sym, ap, ◌∙◌, subst, arith}
+use Rattle.std.specs.Prelude.{Contains, slice_get}
+use Rattle.std.proofs.lemmas.Bool.{cases_eq, cases_lt}
 use Rattle.std.proofs.lemmas.Option.{none-some, same_Some}
 use Rattle.board_changes.specs.Changed.{made}
 use Rattle.board_commands.specs.State.{State, NotMade}
@@ -11,23 +11,23 @@ use Rattle.board_laws.proofs.Changing.{AcksBy, Reads, bases_grow, known_user, po
 use Rattle.board_laws.proofs.Fresh.{fresh_whole, no_pointer_there, nobody_there}
 use Rattle.board_laws.proofs.Grown.{IsWhole}
 use Rattle.board_laws.proofs.Offers.{highs_within, offered_up_to}
+use Rattle.board_laws.proofs.OpenOffers.{IsOffered, IsOpenOf, made_or_there, offer_there, open_user}
 use Rattle.board_laws.proofs.Readers.{PointerFollows}
 use Rattle.board_laws.proofs.Sequences.{AreCommands, everywhere}
 use Rattle.board_laws.proofs.Slots.{slots_count}
 use Rattle.board_laws.proofs.Turns.{Because, Exporting}
-use Rattle.board_laws.proofs.Users.{OffersTo, acknowledged_there, offer_stays, offered_there, user_follows}
+use Rattle.board_laws.proofs.Users.{OffersTo, offered_there, offers_stay, user_follows}
 use Rattle.board_laws.proofs.Views.{seen_user, seen_within, sees_back, slots_follow}
 use Rattle.board_laws.specs.BoardCommand.{BoardCommand}
 use Rattle.board_laws.specs.History.{Deed, LeadsTo, Steps}
 use Rattle.board_laws.specs.Kept.{IsAck}
 use Rattle.board_laws.specs.Passed.{IsAcknowledged, IsExport, IsPassed}
+use Rattle.open_offers.specs.declared.offer.OpenOffer.{OpenOffer}
 use Rattle.board_ledger.specs.declared.user.User.{User}
 use Rattle.mail_board.specs.Changes.{changed}
-use Rattle.mail_board.specs.Readers.{offer_in, offer_of}
 use Rattle.mail_board.specs.declared.change.Change.{Change}
 use Rattle.mail_board.specs.declared.change.Change.TheVariants.{Enroll, Append, Spread, Kill, Offer, Acknowledge, Upload}
 use Rattle.offer_changes.proofs.UserLaws.{id_above}
-use Rattle.offer_changes.specs.Changed.{with_offer}
 use Rattle.offered_packets.specs.Offered.{highs, offered}
 use Rattle.offered_packets.specs.Sees.{sees, slots_in}
 use Rattle.offered_packets.specs.declared.offered_message.OfferedMessage.{OfferedMessage}
@@ -61,13 +61,13 @@ module _ (b : Board) (whole : IsWhole b) (change : Change) where
       by (inr (none, first, nobody)) = absurd (none-some u (sym nobody ∙ there))
 
 -- a change is an acknowledgement of the user, or isn't
-acks_or_not : (b : Board) (whole : IsWhole b) (id : ℕ) (change : Change) → ((now : ℕ) × (change ≡ Acknowledge id now)) ⊎ (AcksBy b whole id change → ⊥)
+acks_or_not : (b : Board) (whole : IsWhole b) (id : ℕ) (change : Change) → ((packet now : ℕ) × (change ≡ Acknowledge id packet now)) ⊎ (AcksBy b whole id change → ⊥)
 acks_or_not b whole id (Enroll name net members) = inr (λ own. own)
 acks_or_not b whole id (Append place messages) = inr (λ own. own)
 acks_or_not b whole id (Spread posts) = inr (λ own. own)
 acks_or_not b whole id (Kill place number) = inr (λ own. own)
 acks_or_not b whole id (Offer user given) = inr (λ own. own)
-acks_or_not b whole id (Acknowledge user now) = ⊎_elim (λ same. inl (now, ap (λ (n : ℕ). Acknowledge n now) same)) (λ other. inr (λ own. other own)) (cases_eq user id)
+acks_or_not b whole id (Acknowledge user packet now) = ⊎_elim (λ same. inl (packet, now, ap (λ (n : ℕ). Acknowledge n packet now) same)) (λ other. inr (λ own. other own)) (cases_eq user id)
 acks_or_not b whole id (Upload user digest refused posts) = inr (λ own. own)
 
 -- it is an offer to the user, or isn't
@@ -77,39 +77,24 @@ offers_or_not id b (Append place messages) = inr (λ own. own)
 offers_or_not id b (Spread posts) = inr (λ own. own)
 offers_or_not id b (Kill place number) = inr (λ own. own)
 offers_or_not id b (Offer user given) = ⊎_elim (λ same. inl (given, ap (λ (n : ℕ). Offer n given) same)) (λ other. inr (λ own. other own)) (cases_eq user id)
-offers_or_not id b (Acknowledge user now) = inr (λ own. own)
+offers_or_not id b (Acknowledge user packet now) = inr (λ own. own)
 offers_or_not id b (Upload user digest refused posts) = inr (λ own. own)
 
--- the packet that is offered to a user isn't 0
-offered_is : (u : User) (packet : ℕ) → offer_in u ≡ Some packet → (u.offered ≡ packet) × (u.offered ≢ 0)
-offered_is u packet is = by (eqb u.offered 0) refl is
-  where
-    by : (none : Bool) → eqb u.offered 0 ≡ none → cond none None (Some u.offered) ≡ Some packet → (u.offered ≡ packet) × (u.offered ≢ 0)
-    by true test e = absurd (none-some packet e)
-    by false test e = (same_Some u.offered packet e, eqb-false u.offered 0 test)
-
-offer_there : (id : ℕ) (b : Board) (packet : ℕ) → offer_of id b ≡ Some packet → (u : User) × (user_of id b ≡ Some u) × (u.offered ≡ packet) × (u.offered ≢ 0)
-offer_there id b packet is = by (user_of id b) refl is
-  where
-    by : (o : Option User) → user_of id b ≡ o → option_and_then offer_in o ≡ Some packet → (u : User) × (user_of id b ≡ Some u) × (u.offered ≡ packet) × (u.offered ≢ 0)
-    by None none e = absurd (none-some packet e)
-    by (Some u) there e = let parts = offered_is u packet e in (u, there, parts.0, parts.1)
-
 module _ {Entry : Type 0} (command_of : Entry → BoardCommand) (start : State) (deeds : List (Deed Entry)) where
-  -- Before place n the packet that is offered to a user was exported to him, with all that he sees between his pointers
-  -- and its highs.
-  record WasExported (n : ℕ) (b : Board) (id : ℕ) (u : User) : Type 0 where
+  -- Before place n the packet of an offer was exported to the user, with all that he sees between his pointers and its
+  -- highs.
+  record WasExported (n : ℕ) (b : Board) (id : ℕ) (o : OpenOffer) : Type 0 where
     place : ℕ
     before : place < n
-    export : IsExport command_of start deeds place id u.offered
-    within : (k : ℕ) → get_or u.highs k 0 ≤ length (slots_in b k)
-    has : (k number pointer : ℕ) → sees b id k number ≡ true → pointer_at k id b ≡ Some pointer → pointer < number → number ≤ get_or u.highs k 0 → Contains (offered export.board id export.limit) (record { place = k; number = number })
+    export : IsExport command_of start deeds place id o.number
+    within : (k : ℕ) → get_or o.highs k 0 ≤ length (slots_in b k)
+    has : (k number pointer : ℕ) → sees b id k number ≡ true → pointer_at k id b ≡ Some pointer → pointer < number → number ≤ get_or o.highs k 0 → Contains (offered export.board id export.limit) (record { place = k; number = number })
 
   -- what holds of a board after the first n deeds
   record IsAccounted (n : ℕ) (b : Board) : Type 0 where
     whole : IsWhole b
     pointers : (id place pointer : ℕ) → pointer_at place id b ≡ Some pointer → pointer ≤ length (slots_in b place)
-    offers : (id : ℕ) (u : User) → user_of id b ≡ Some u → (u.offered ≡ 0) ⊎ WasExported n b id u
+    offers : (id : ℕ) (o : OpenOffer) → IsOpenOf o (user_of id b) → WasExported n b id o
     passed : (id place number pointer : ℕ) → sees b id place number ≡ true → pointer_at place id b ≡ Some pointer → number ≤ pointer → IsAcknowledged command_of start deeds n id (record { place = place; number = number })
 
   -- ---- one deed more
@@ -125,14 +110,14 @@ module _ {Entry : Type 0} (command_of : Entry → BoardCommand) (start : State) 
     before = omega (arith, before);
   }
 
-  exported_more : (n : ℕ) (b : Board) (id : ℕ) (u : User) → WasExported n b id u → WasExported (suc n) b id u
-  exported_more n b id u was = let before = was.before in record { place = was.place; before = omega (arith, before); export = was.export; within = was.within; has = was.has }
+  exported_more : (n : ℕ) (b : Board) (id : ℕ) (o : OpenOffer) → WasExported n b id o → WasExported (suc n) b id o
+  exported_more n b id o was = let before = was.before in record { place = was.place; before = omega (arith, before); export = was.export; within = was.within; has = was.has }
 
   idle : (n : ℕ) (b : Board) → IsAccounted n b → IsAccounted (suc n) b
   idle n b holds = record {
     whole = holds.whole;
     pointers = holds.pointers;
-    offers = λ id u there. ⊎_elim (λ none. inl none) (λ was. inr (exported_more n b id u was)) (holds.offers id u there);
+    offers = λ id o is. exported_more n b id o (holds.offers id o is);
     passed = λ id place number pointer seen is upto. acknowledged_more n id (record { place = place; number = number }) (holds.passed id place number pointer seen is upto);
   }
 
@@ -140,7 +125,7 @@ module _ {Entry : Type 0} (command_of : Entry → BoardCommand) (start : State) 
   fresh n setup now = record {
     whole = fresh_whole setup now;
     pointers = λ id place pointer is. absurd (no_pointer_there setup now place id pointer is);
-    offers = λ id u there. absurd (none-some u (sym (nobody_there setup now id) ∙ there));
+    offers = λ id o is. let u = open_user o (user_of id (made setup now)) is in absurd (none-some u.0 (sym (nobody_there setup now id) ∙ u.1));
     passed = λ id place number pointer seen is upto. absurd (no_pointer_there setup now place id pointer is);
   }
 
@@ -171,8 +156,8 @@ module _ {Entry : Type 0} (command_of : Entry → BoardCommand) (start : State) 
           still_passed change id place number pointer u.0 u.1 seen was upto
 
       -- an offer that stays
-      offer_apart : (u : User) → user_of id b ≡ Some u → WasExported n b id u → WasExported (suc n) (changed change b) id u
-      offer_apart u user was = let before = was.before in record {
+      offer_apart : (o : OpenOffer) (u : User) → user_of id b ≡ Some u → WasExported n b id o → WasExported (suc n) (changed change b) id o
+      offer_apart o u user was = let before = was.before in record {
         place = was.place;
         before = omega (arith, before);
         export = was.export;
@@ -182,16 +167,16 @@ module _ {Entry : Type 0} (command_of : Entry → BoardCommand) (start : State) 
             was.has k number pointer (saw b holds.whole change id k number u user within seen) (own_pointer_was b holds.whole change id k pointer u user apart is) above upto;
       }
 
-      offers_apart : (OffersTo id b change → ⊥) → (v : User) → user_of id (changed change b) ≡ Some v → (v.offered ≡ 0) ⊎ WasExported (suc n) (changed change b) id v
-      offers_apart other v user = ⊎_elim
-          (λ none. inl none)
-          (λ was. ⊎_elim (λ none. inl none) (λ exported. inr (offer_apart v was exported)) (holds.offers id v was))
-          (offer_stays id b change other v user)
+      offers_apart : (OffersTo id b change → ⊥) → (o : OpenOffer) → IsOpenOf o (user_of id (changed change b)) → WasExported (suc n) (changed change b) id o
+      offers_apart other o is =
+          let was : IsOpenOf o (user_of id b) = offers_stay id b change other o is in
+          let u = open_user o (user_of id b) was in
+          offer_apart o u.0 u.1 (holds.offers id o was)
 
     -- ---- a packet exported to the user
     module _ (id : ℕ) (given : List ℕ) (because : Exporting d.now b (command_of d.entry) d.stepped.class id given) where
-      new_offer : (v : User) → user_of id (changed (Offer id given) b) ≡ Some v → WasExported (suc n) (changed (Offer id given) b) id v
-      new_offer v user = subst (WasExported (suc n) (changed (Offer id given) b) id) same (record {
+      new_offer : WasExported (suc n) (changed (Offer id given) b) id (record { number = because.u.last + 1; highs = given })
+      new_offer = record {
         place = n;
         before = omega arith;
         export = record {
@@ -213,39 +198,49 @@ module _ {Entry : Type 0} (command_of : Entry → BoardCommand) (start : State) 
             let saw_it : sees b id k number ≡ true = saw b holds.whole (Offer id given) id k number because.u because.there within seen in
             let was : pointer_at k id b ≡ Some pointer = own_pointer_was b holds.whole (Offer id given) id k pointer because.u because.there (λ own. own) is in
             offered_up_to b id because.limit (record { place = k; number = number }) (record { pointer = pointer; there = was; above = above; seen = saw_it }) (omega (arith, upto, high k));
-      })
+      }
         where
-          same : with_offer given because.u ≡ v
-          same = same_Some (with_offer given because.u) v (sym (offered_there id b given because.u because.there) ∙ user)
-
           high : (k : ℕ) → get_or given k 0 ≡ get_or (highs b (offered b id because.limit)) k 0
           high k = ap (λ (hs : List ℕ). get_or hs k 0) because.highs_are
 
+      -- the offers that he has then
+      offers_given : (o : OpenOffer) → IsOpenOf o (user_of id (changed (Offer id given) b)) → WasExported (suc n) (changed (Offer id given) b) id o
+      offers_given o is = ⊎_elim
+          (λ was. offer_apart (Offer id given) id (λ own. own) o because.u because.there (holds.offers id o (subst (IsOpenOf o) (sym because.there) was)))
+          (λ same. subst (WasExported (suc n) (changed (Offer id given) b) id) same new_offer)
+          (made_or_there given because.u o (subst (IsOpenOf o) (offered_there id b given because.u because.there) is))
+
     -- ---- a packet acknowledged by the user
-    module _ (id now : ℕ) (packet : ℕ) (ack : IsAck command_of start deeds n id packet) (offer : offer_of id b ≡ Some packet) where
-      u : User
-      u = (offer_there id b packet offer).0
+    module _ (id packet now : ℕ) (ack : IsAck command_of start deeds n id packet) (held : IsOffered id packet b) where
+      -- the board after it
+      abbrev after_it : Board
+      after_it = changed (Acknowledge id packet now) b
 
-      user : user_of id b ≡ Some u
-      unfolding u
-      user = (offer_there id b packet offer).1
+      was : WasExported n b id held.offer
+      was = holds.offers id held.offer held.among
 
-      was : WasExported n b id u
-      unfolding u
-      was = ⊎_elim (λ none. absurd ((offer_there id b packet offer).3 none)) (λ exported. exported) (holds.offers id u user)
+      -- a pointer stays, or goes to the high
+      abbrev Read : ℕ → Type 0
+      Read place = Reads b holds.whole id (get_or held.offer.highs place 0) (pointer_at place id b) (pointer_at place id after_it)
 
-      packet_is : u.offered ≡ packet
-      unfolding u
-      packet_is = (offer_there id b packet offer).2
+      read : (place : ℕ) → Read place
+      read = pointers_read b holds.whole id packet now held.u held.offer held.user held.found
 
-      pointers_own : (place pointer : ℕ) → pointer_at place id (changed (Acknowledge id now) b) ≡ Some pointer → pointer ≤ length (slots_in (changed (Acknowledge id now) b) place)
-      pointers_own place pointer is = by (pointers_read b holds.whole id now u user place)
+      more : (place : ℕ) → length (slots_in b place) ≤ length (slots_in after_it place)
+      more = more_slots b holds.whole (Acknowledge id packet now)
+
+      saw_before : (place number : ℕ) → number ≤ length (slots_in b place) → sees after_it id place number ≡ true → sees b id place number ≡ true
+      saw_before place number within seen = saw b holds.whole (Acknowledge id packet now) id place number held.u held.user within seen
+
+      pointers_own : (place pointer : ℕ) → pointer_at place id after_it ≡ Some pointer → pointer ≤ length (slots_in after_it place)
+      pointers_own place pointer is = by (read place)
         where
-          by : Reads b holds.whole id (get_or u.highs place 0) (pointer_at place id b) (pointer_at place id (changed (Acknowledge id now) b)) → pointer ≤ length (slots_in (changed (Acknowledge id now) b) place)
-          by (inl same) = omega (arith, holds.pointers id place pointer (sym same ∙ is), more_slots b holds.whole (Acknowledge id now) place)
-          by (inr (q, old, new)) = omega (arith, same_Some (get_or u.highs place 0) pointer (sym new ∙ is), was.within place, more_slots b holds.whole (Acknowledge id now) place)
+          by : Read place → pointer ≤ length (slots_in after_it place)
+          by (inl same) = omega (arith, holds.pointers id place pointer (sym same ∙ is), more place)
+          by (inr (q, old, less, new)) = omega (arith, same_Some (get_or held.offer.highs place 0) pointer (sym new ∙ is), was.within place, more place)
 
-      newly : (place number pointer : ℕ) → sees (changed (Acknowledge id now) b) id place number ≡ true → pointer_at place id b ≡ Some pointer → pointer < number → number ≤ get_or u.highs place 0 → IsAcknowledged command_of start deeds (suc n) id (record { place = place; number = number })
+      newly : (place number pointer : ℕ) → sees after_it id place number ≡ true → pointer_at place id b ≡ Some pointer → pointer < number → number ≤ get_or held.offer.highs place 0
+          → IsAcknowledged command_of start deeds (suc n) id (record { place = place; number = number })
       newly place number pointer seen is above upto =
           let within : number ≤ length (slots_in b place) = omega (arith, upto, was.within place) in
           record {
@@ -263,53 +258,73 @@ module _ {Entry : Type 0} (command_of : Entry → BoardCommand) (start : State) 
               user_is = was.export.user_is;
               handout = was.export.handout;
               export = was.export.export;
-              packet_is = was.export.packet_is ∙ packet_is;
+              packet_is = was.export.packet_is ∙ held.number;
             };
-            offers = was.has place number pointer (saw b holds.whole (Acknowledge id now) id place number u user within seen) is above upto;
+            offers = was.has place number pointer (saw_before place number within seen) is above upto;
             first = was.before;
             ack = ack;
             before = omega arith;
           }
 
-      passed_own : (place number pointer : ℕ) → sees (changed (Acknowledge id now) b) id place number ≡ true → pointer_at place id (changed (Acknowledge id now) b) ≡ Some pointer → number ≤ pointer
-          → IsAcknowledged command_of start deeds (suc n) id (record { place = place; number = number })
-      passed_own place number pointer seen is upto = by (pointers_read b holds.whole id now u user place)
+      passed_own : (place number pointer : ℕ) → sees after_it id place number ≡ true → pointer_at place id after_it ≡ Some pointer → number ≤ pointer → IsAcknowledged command_of start deeds (suc n) id (record { place = place; number = number })
+      passed_own place number pointer seen is upto = by (read place)
         where
-          by : Reads b holds.whole id (get_or u.highs place 0) (pointer_at place id b) (pointer_at place id (changed (Acknowledge id now) b)) → IsAcknowledged command_of start deeds (suc n) id (record { place = place; number = number })
-          by (inl same) = still_passed (Acknowledge id now) id place number pointer u user seen (sym same ∙ is) upto
-          by (inr (q, old, new)) = ⊎_elim
-              (λ above. newly place number q seen old above (omega (arith, upto, same_Some (get_or u.highs place 0) pointer (sym new ∙ is))))
-              (λ behind. still_passed (Acknowledge id now) id place number q u user seen old behind)
+          by : Read place → IsAcknowledged command_of start deeds (suc n) id (record { place = place; number = number })
+          by (inl same) = still_passed (Acknowledge id packet now) id place number pointer held.u held.user seen (sym same ∙ is) upto
+          by (inr (q, old, less, new)) = ⊎_elim
+              (λ above. newly place number q seen old above (omega (arith, upto, same_Some (get_or held.offer.highs place 0) pointer (sym new ∙ is))))
+              (λ behind. still_passed (Acknowledge id packet now) id place number q held.u held.user seen old behind)
               (cases_lt q number)
 
-      offers_own : (v : User) → user_of id (changed (Acknowledge id now) b) ≡ Some v → (v.offered ≡ 0) ⊎ WasExported (suc n) (changed (Acknowledge id now) b) id v
-      offers_own v there = inl (acknowledged_there id b now v there u user)
+      -- no pointer goes back
+      not_back : (place pointer : ℕ) → pointer_at place id after_it ≡ Some pointer → (q : ℕ) × (pointer_at place id b ≡ Some q) × (q ≤ pointer)
+      not_back place pointer is = by (read place)
+        where
+          by : Read place → (q : ℕ) × (pointer_at place id b ≡ Some q) × (q ≤ pointer)
+          by (inl same) = (pointer, sym same ∙ is, omega arith)
+          by (inr (q, old, less, new)) = (q, old, omega (arith, less, same_Some (get_or held.offer.highs place 0) pointer (sym new ∙ is)))
+
+      -- so another offer has all that he still sees between his pointers and its highs
+      other_offer : (o : OpenOffer) → WasExported n b id o → WasExported (suc n) after_it id o
+      other_offer o exported = let before = exported.before in record {
+        place = exported.place;
+        before = omega (arith, before);
+        export = exported.export;
+        within = λ k. omega (arith, exported.within k, more k);
+        has = λ k number pointer seen is above upto.
+            let within : number ≤ length (slots_in b k) = omega (arith, upto, exported.within k) in
+            let q = not_back k pointer is in
+            exported.has k number q.0 (saw_before k number within seen) q.1 (omega (arith, above, q.2)) upto;
+      }
+
+      offers_own : (o : OpenOffer) → IsOpenOf o (user_of id after_it) → WasExported (suc n) after_it id o
+      offers_own o is = other_offer o (holds.offers id o (offers_stay id b (Acknowledge id packet now) (λ own. own) o is))
 
     -- ---- any change, for one user
     -- what holds of a user of the board after it
     record Accounts (change : Change) (id : ℕ) : Type 0 where
       pointers : (place pointer : ℕ) → pointer_at place id (changed change b) ≡ Some pointer → pointer ≤ length (slots_in (changed change b) place)
-      offers : (v : User) → user_of id (changed change b) ≡ Some v → (v.offered ≡ 0) ⊎ WasExported (suc n) (changed change b) id v
+      offers : (o : OpenOffer) → IsOpenOf o (user_of id (changed change b)) → WasExported (suc n) (changed change b) id o
       passed : (place number pointer : ℕ) → sees (changed change b) id place number ≡ true → pointer_at place id (changed change b) ≡ Some pointer → number ≤ pointer → IsAcknowledged command_of start deeds (suc n) id (record { place = place; number = number })
 
-    accounts_own : (id now : ℕ) → Because d.now b (command_of d.entry) d.stepped.class (Acknowledge id now) → Accounts (Acknowledge id now) id
-    accounts_own id now because =
-        let packet : ℕ = because.packet in
+    accounts_own : (id packet now : ℕ) → Because d.now b (command_of d.entry) d.stepped.class (Acknowledge id packet now) → Accounts (Acknowledge id packet now) id
+    accounts_own id packet now because =
         let ack : IsAck command_of start deeds n id packet = record { deed = d; board = b; carried = record { there = there; board_is = board; done = because.done }; name = because.name; command = because.command; user_is = because.user_is } in
-        record { pointers = pointers_own id now packet ack because.offer; offers = offers_own id now packet ack because.offer; passed = passed_own id now packet ack because.offer }
+        let offered : IsOffered id packet b = offer_there id packet b because.offer in
+        record { pointers = pointers_own id packet now ack offered; offers = offers_own id packet now ack offered; passed = passed_own id packet now ack offered }
 
     accounts_offer : (id : ℕ) (given : List ℕ) → Because d.now b (command_of d.entry) d.stepped.class (Offer id given) → Accounts (Offer id given) id
     accounts_offer id given because = record {
       pointers = pointers_apart (Offer id given) id (λ own. own);
-      offers = λ v user. inr (new_offer id given because v user);
+      offers = offers_given id given because;
       passed = passed_apart (Offer id given) id (λ own. own);
     }
 
     accounts : (change : Change) (id : ℕ) → Because d.now b (command_of d.entry) d.stepped.class change → Accounts change id
     accounts change id because = by (acks_or_not b holds.whole id change) (offers_or_not id b change)
       where
-        by : ((now : ℕ) × (change ≡ Acknowledge id now)) ⊎ (AcksBy b holds.whole id change → ⊥) → ((given : List ℕ) × (change ≡ Offer id given)) ⊎ (OffersTo id b change → ⊥) → Accounts change id
-        by (inl (now, is)) offers = subst (λ (x : Change). Accounts x id) (sym is) (accounts_own id now (subst (Because d.now b (command_of d.entry) d.stepped.class) is because))
+        by : ((packet now : ℕ) × (change ≡ Acknowledge id packet now)) ⊎ (AcksBy b holds.whole id change → ⊥) → ((given : List ℕ) × (change ≡ Offer id given)) ⊎ (OffersTo id b change → ⊥) → Accounts change id
+        by (inl (packet, now, is)) offers = subst (λ (x : Change). Accounts x id) (sym is) (accounts_own id packet now (subst (Because d.now b (command_of d.entry) d.stepped.class) is because))
         by (inr apart) (inl (given, is)) = subst (λ (x : Change). Accounts x id) (sym is) (accounts_offer id given (subst (Because d.now b (command_of d.entry) d.stepped.class) is because))
         by (inr apart) (inr other) = record { pointers = pointers_apart change id apart; offers = offers_apart change id apart other; passed = passed_apart change id apart }
 

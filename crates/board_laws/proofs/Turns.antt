@@ -1,6 +1,6 @@
 -- What each command makes of a board, and of no board: nothing, or one change, and then why.
-use Rattle.std.proofs.Common.{◌≡◌, ◌⊎◌, ℕ, ◌+◌, Bool, true, false, cond, eqb, List, Option, Some, None, Result, Ok, Err, refl, ap, ◌∙◌, inl, inr}
-use Rattle.std.proofs.lemmas.Bool.{cond-false, cond-true, eqb-true}
+use Rattle.std.proofs.Common.{◌≡◌, ◌⊎◌, ℕ, ◌+◌, Bool, true, false, cond, List, Option, Some, None, Result, Ok, Err, refl, ap, ◌∙◌, inl, inr}
+use Rattle.std.proofs.lemmas.Bool.{cond-false, cond-true}
 use Rattle.board_changes.specs.Changed.{made}
 use Rattle.board_commands.specs.Enroll.{enroll_refusals, enrolling, first_refusal, is_net}
 use Rattle.board_commands.specs.Init.{made_of}
@@ -14,7 +14,7 @@ use Rattle.board_laws.specs.BoardCommand as command
 use Rattle.board_ledger.specs.declared.user.User.{User}
 use Rattle.command_words.specs.Choice.{places_from}
 use Rattle.command_words.specs.declared.choice.Choice.{Choice}
-use Rattle.door_export.specs.Ack.{AckRefusal, NoPacket, ack_as, ack_of, ack_offer}
+use Rattle.door_export.specs.Ack.{AckRefusal, NoPacket, ack_as, ack_of}
 use Rattle.door_export.specs.Ack as why
 use Rattle.door_export.specs.Export.{ExportRefusal, Handout, NoUser, export_as, export_of, export_to, packet_to, unless_refused, user_refusal}
 use Rattle.door_outside.specs.Shelf.{Files}
@@ -29,7 +29,7 @@ use Rattle.exchange_commands.specs.Handing.{Handing}
 use Rattle.import_sheet.specs.declared.sheet.Sheet.{Sheet}
 use Rattle.jam_records.specs.declared.message.Message.{Message}
 use Rattle.mail_board.specs.Changes.{changed}
-use Rattle.mail_board.specs.Readers.{offer_of, place_of, user_id}
+use Rattle.mail_board.specs.Readers.{is_offered, offer_of, place_of, user_id}
 use Rattle.mail_board.specs.declared.change.Change.{Change}
 use Rattle.mail_board.specs.declared.change.Change.TheVariants.{Enroll, Append, Spread, Kill, Offer, Acknowledge}
 use Rattle.mail_board.specs.declared.change.Change.TheVariants as change
@@ -71,12 +71,11 @@ from_none now command.Other shelf stepped same = inl same
 
 -- ---- from a board
 -- the user of this id acknowledges a packet that is offered to him
-pub record Acknowledging (b : Board) (c : BoardCommand) (class : Class) (user : ℕ) : Type 0 where
+pub record Acknowledging (b : Board) (c : BoardCommand) (class : Class) (user packet : ℕ) : Type 0 where
   pub name : List ℕ
-  pub packet : ℕ
   pub command : c ≡ command.Ack name packet
   pub user_is : user_id name b ≡ Some user
-  pub offer : offer_of user b ≡ Some packet
+  pub offer : is_offered user packet b ≡ true
   pub done : class ≡ Done
 
 -- a packet with these highs is exported to the user of this id
@@ -101,7 +100,7 @@ Because now b c class (Append place messages) = Unit {0}
 Because now b c class (Spread posts) = Unit {0}
 Because now b c class (Kill place number) = Unit {0}
 Because now b c class (Offer user given) = Exporting now b c class user given
-Because now b c class (Acknowledge user at) = Acknowledging b c class user
+Because now b c class (Acknowledge user packet at) = Acknowledging b c class user packet
 Because now b c class (change.Upload user digest refused posts) = Unit {0}
 
 -- the board stays, or is changed
@@ -191,28 +190,23 @@ module _ (now : ℕ) (b : Board) (c : BoardCommand) (next : State) (class : Clas
       refused : (why : AckRefusal) → Ends (Err why)
       refused why is = inl (then ∙ ap (λ (t : Turn). state_of t.board) is)
 
-      by_same : (id offer : ℕ) → user_id name b ≡ Some id → offer_of id b ≡ Some offer → (same : Bool) → eqb offer packet ≡ same → Ends (cond same (Ok (acknowledged id now b)) (Err (NoPacket (Some offer))))
-      by_same id offer user there false test is = refused (NoPacket (Some offer)) is
-      by_same id offer user there true test is = inr (
-        Acknowledge id now,
+      by_offer : (id : ℕ) → user_id name b ≡ Some id → (has : Bool) → is_offered id packet b ≡ has → Ends (cond has (Ok (acknowledged id packet now b)) (Err (NoPacket (offer_of id b))))
+      by_offer id user false there is = refused (NoPacket (offer_of id b)) is
+      by_offer id user true there is = inr (
+        Acknowledge id packet now,
         then ∙ ap (λ (t : Turn). state_of t.board) is,
         record {
           name = name;
-          packet = packet;
           command = is_command;
           user_is = user;
-          offer = there ∙ ap Some (eqb-true offer packet test);
+          offer = there;
           done = class_is ∙ ap (λ (t : Turn). t.reply.class) is;
         },
       )
 
-      by_offer : (id : ℕ) → user_id name b ≡ Some id → (o : Option ℕ) → offer_of id b ≡ o → Ends (ack_offer packet now b id o)
-      by_offer id user None none is = refused (NoPacket None) is
-      by_offer id user (Some offer) there is = by_same id offer user there (eqb offer packet) refl is
-
       by_id : (o : Option ℕ) → user_id name b ≡ o → Turns now b c next class
       by_id None none = refused why.NoUser (is ∙ ap (λ (o : Option ℕ). ack_turn_of packet b (ack_as packet now b o)) none)
-      by_id (Some id) user = by_offer id user (offer_of id b) refl (is ∙ ap (λ (o : Option ℕ). ack_turn_of packet b (ack_as packet now b o)) user)
+      by_id (Some id) user = by_offer id user (is_offered id packet b) refl (is ∙ ap (λ (o : Option ℕ). ack_turn_of packet b (ack_as packet now b o)) user)
 
   -- ---- uploads
   by_read : (user : ℕ) (read : Result (List ℕ) Refusal) (turn : Turn) → UploadsRead user now b read turn → next ≡ state_of turn.board → Turns now b c next class

@@ -1,19 +1,22 @@
 -- The user of an id after a change.
-use Rattle.std.proofs.Common.{◌≤◌, ◌≡◌, ◌≢◌, ◌⊎◌, ℕ, zero, suc, ◌-◌, Bool, false, cond, eqb, List, [], ◌∷◌, ◌++◌, length, set, Option, Some, None, refl, sym, ap, ◌∙◌, subst, inl, inr, arith}
+use Rattle.std.proofs.Common.{◌≤◌, ◌≡◌, ◌≢◌, ℕ, zero, suc, ◌-◌, Bool, false, cond, eqb, List, [], ◌∷◌, ◌++◌, set, Option, Some, None, refl, sym, ap, ◌∙◌, subst, arith}
 use Rattle.std.specs.Prelude.{slice_get}
 use Rattle.std.proofs.lemmas.Option.{none-some, same_Some}
 use Rattle.std.proofs.lemmas.Bool.{cond-false, ne_eqb}
 use Rattle.board_changes.specs.Changed.{new_user, with_base}
 use Rattle.board_layout.specs.Board.{Board}
 use Rattle.board_layout.specs.Lookups.{user_of}
+use Rattle.board_laws.proofs.Elements.{In}
+use Rattle.board_laws.proofs.OpenOffers.{IsOpenOf, after_ack, there_before}
 use Rattle.board_ledger.specs.declared.ledger.Ledger.{Ledger}
+use Rattle.open_offers.specs.declared.offer.OpenOffer.{OpenOffer}
 use Rattle.board_ledger.specs.declared.user.User.{User}
 use Rattle.jam_base.specs.Contents.{Contents}
 use Rattle.mail_board.specs.Changes.{changed}
 use Rattle.mail_board.specs.declared.change.Change.{Change}
 use Rattle.mail_board.specs.declared.change.Change.TheVariants.{Enroll, Append, Spread, Kill, Offer, Acknowledge, Upload}
 use Rattle.offer_changes.proofs.UserLaws.{id_above, user_there}
-use Rattle.offer_changes.specs.Changed.{for_user, offered_to, read_by, with_offer, without_offer}
+use Rattle.offer_changes.specs.Changed.{for_user, offered_to, read_offer, with_offer, without_offer}
 
 -- he has his name and his conferences, and his last packet isn't an earlier one
 pub record IsSameUser (u v : User) : Type 0 where
@@ -27,9 +30,9 @@ UserFollows None new = Unit {0}
 UserFollows (Some u) None = ⊥
 UserFollows (Some u) (Some v) = IsSameUser u v
 
--- a user to whom a packet is offered is the one who was there
-abbrev pub KeepsOffer : Option User → Option User → Type 0
-KeepsOffer old new = (v : User) → new ≡ Some v → (v.offered ≡ 0) ⊎ (old ≡ Some v)
+-- each open offer of a user is one of his that was there
+abbrev pub KeepsOffers : Option User → Option User → Type 0
+KeepsOffers old new = (o : OpenOffer) → IsOpenOf o new → IsOpenOf o old
 
 himself : (u : User) → IsSameUser u u
 himself u = record { name = refl; members = refl; last = omega arith }
@@ -38,8 +41,8 @@ pub same_user : (o : Option User) → UserFollows o o
 same_user None = tt
 same_user (Some u) = himself u
 
-same_offer : (o : Option User) → KeepsOffer o o
-same_offer o v is = inr is
+same_offers : (found : Option User) → KeepsOffers found found
+same_offers found o is = is
 
 -- ---- lists of users
 behind : (users : List User) (k : ℕ) (new : User) → UserFollows (slice_get users k) (slice_get (users ++ new ∷ []) k)
@@ -47,11 +50,11 @@ behind [] k new = tt
 behind (u ∷ users) zero new = himself u
 behind (u ∷ users) (suc k) new = behind users k new
 
-behind_offer : (users : List User) (k : ℕ) (new : User) → new.offered ≡ 0 → KeepsOffer (slice_get users k) (slice_get (users ++ new ∷ []) k)
-behind_offer [] zero new none v is = inl (ap (λ (w : User). w.offered) (sym (same_Some new v is)) ∙ none)
-behind_offer [] (suc k) new none v is = absurd (none-some v is)
-behind_offer (u ∷ users) zero new none v is = inr is
-behind_offer (u ∷ users) (suc k) new none v is = behind_offer users k new none v is
+behind_offers : (users : List User) (k : ℕ) (new : User) → new.offers ≡ [] → KeepsOffers (slice_get users k) (slice_get (users ++ new ∷ []) k)
+behind_offers [] zero new none o is = subst (In o) none is
+behind_offers [] (suc k) new none o is = is
+behind_offers (u ∷ users) zero new none o is = is
+behind_offers (u ∷ users) (suc k) new none o is = behind_offers users k new none o is
 
 put : (users : List User) (place k : ℕ) (u v : User) → slice_get users place ≡ Some u → IsSameUser u v → UserFollows (slice_get users k) (slice_get (set users place v) k)
 put [] place k u v here alike = tt
@@ -72,12 +75,12 @@ put_there [] place u v here = absurd (none-some u here)
 put_there (w ∷ users) zero u v here = refl
 put_there (w ∷ users) (suc place) u v here = put_there users place u v here
 
-put_offer : (users : List User) (place k : ℕ) (v : User) → v.offered ≡ 0 → KeepsOffer (slice_get users k) (slice_get (set users place v) k)
-put_offer [] place k v none w is = inr is
-put_offer (x ∷ users) zero zero v none w is = inl (ap (λ (y : User). y.offered) (sym (same_Some v w is)) ∙ none)
-put_offer (x ∷ users) zero (suc k) v none w is = inr is
-put_offer (x ∷ users) (suc place) zero v none w is = inr is
-put_offer (x ∷ users) (suc place) (suc k) v none w is = put_offer users place k v none w is
+put_offers : (users : List User) (place k : ℕ) (u v : User) → slice_get users place ≡ Some u → KeepsOffers (Some u) (Some v) → KeepsOffers (slice_get users k) (slice_get (set users place v) k)
+put_offers [] place k u v here keeps o is = is
+put_offers (w ∷ users) zero zero u v here keeps o is = subst (λ (x : User). In o x.offers) (sym (same_Some w u here)) (keeps o is)
+put_offers (w ∷ users) zero (suc k) u v here keeps o is = is
+put_offers (w ∷ users) (suc place) zero u v here keeps o is = is
+put_offers (w ∷ users) (suc place) (suc k) u v here keeps o is = put_offers users place k u v here keeps o is
 
 -- ---- the user of an id
 -- what holds of users in each place holds of users by id
@@ -104,7 +107,7 @@ module _ (id : ℕ) (b : Board) where
 
   -- ---- every change leaves the users who are there
   pub user_follows : (change : Change) → UserFollows (user_of id b) (user_of id (changed change b))
-  user_follows (Enroll name net members) = by_id UserFollows same_user id b (changed (Enroll name net members) b) (λ k is. behind b.ledger.users k (new_user name net members (length b.ledger.setup.conferences)))
+  user_follows (Enroll name net members) = by_id UserFollows same_user id b (changed (Enroll name net members) b) (λ k is. behind b.ledger.users k (new_user name net members))
   user_follows (Append place messages) = subst (UserFollows (user_of id b)) (sym (same_users (changed (Append place messages) b) (ap (λ (l : Ledger). l.users) (same_ledger place _ b)))) (same_user (user_of id b))
   user_follows (Spread posts) = same_user (user_of id b)
   user_follows (Kill place number) = subst (UserFollows (user_of id b)) (sym (same_users (changed (Kill place number) b) (ap (λ (l : Ledger). l.users) (same_ledger place _ b)))) (same_user (user_of id b))
@@ -113,11 +116,9 @@ module _ (id : ℕ) (b : Board) where
       by : (o : Option User) → user_of user b ≡ o → UserFollows (user_of id b) (user_of id (for_user (offered_to user highs) o b))
       by None none = same_user (user_of id b)
       by (Some u) here = by_id UserFollows same_user id b (offered_to user highs u b) (λ k is. put b.ledger.users (user - 1) k u (with_offer highs u) (user_there b user u here) (record { name = refl; members = refl; last = omega arith }))
-  user_follows (Acknowledge user now) = by (user_of user b) refl
-    where
-      by : (o : Option User) → user_of user b ≡ o → UserFollows (user_of id b) (user_of id (for_user (read_by user now) o b))
-      by None none = same_user (user_of id b)
-      by (Some u) here = by_id UserFollows same_user id b (read_by user now u b) (λ k is. put b.ledger.users (user - 1) k u (without_offer u) (user_there b user u here) (record { name = refl; members = refl; last = omega arith }))
+  user_follows (Acknowledge user packet now) = after_ack (λ (c : Board). UserFollows (user_of id b) (user_of id c)) user packet now b (same_user (user_of id b))
+      (λ u here o. by_id UserFollows same_user id b (read_offer user now u o b)
+      (λ k is. put b.ledger.users (user - 1) k u (without_offer o.number u) (user_there b user u here) (record { name = refl; members = refl; last = omega arith })))
   user_follows (Upload user digest refused posts) = same_user (user_of id b)
 
   -- ---- and their offers, but for an offer to the user himself
@@ -127,29 +128,27 @@ module _ (id : ℕ) (b : Board) where
   OffersTo (Spread posts) = ⊥
   OffersTo (Kill place number) = ⊥
   OffersTo (Offer user highs) = user ≡ id
-  OffersTo (Acknowledge user now) = ⊥
+  OffersTo (Acknowledge user packet now) = ⊥
   OffersTo (Upload user digest refused posts) = ⊥
 
-  pub offer_stays : (change : Change) → (OffersTo change → ⊥) → KeepsOffer (user_of id b) (user_of id (changed change b))
-  offer_stays (Enroll name net members) apart = by_id KeepsOffer same_offer id b (changed (Enroll name net members) b) (λ k is. behind_offer b.ledger.users k (new_user name net members (length b.ledger.setup.conferences)) refl)
-  offer_stays (Append place messages) apart = subst (KeepsOffer (user_of id b)) (sym (same_users (changed (Append place messages) b) (ap (λ (l : Ledger). l.users) (same_ledger place _ b)))) (same_offer (user_of id b))
-  offer_stays (Spread posts) apart = same_offer (user_of id b)
-  offer_stays (Kill place number) apart = subst (KeepsOffer (user_of id b)) (sym (same_users (changed (Kill place number) b) (ap (λ (l : Ledger). l.users) (same_ledger place _ b)))) (same_offer (user_of id b))
-  offer_stays (Offer user highs) apart = by (user_of user b) refl
+  pub offers_stay : (change : Change) → (OffersTo change → ⊥) → KeepsOffers (user_of id b) (user_of id (changed change b))
+  offers_stay (Enroll name net members) apart = by_id KeepsOffers same_offers id b (changed (Enroll name net members) b) (λ k is. behind_offers b.ledger.users k (new_user name net members) refl)
+  offers_stay (Append place messages) apart = subst (KeepsOffers (user_of id b)) (sym (same_users (changed (Append place messages) b) (ap (λ (l : Ledger). l.users) (same_ledger place _ b)))) (same_offers (user_of id b))
+  offers_stay (Spread posts) apart = same_offers (user_of id b)
+  offers_stay (Kill place number) apart = subst (KeepsOffers (user_of id b)) (sym (same_users (changed (Kill place number) b) (ap (λ (l : Ledger). l.users) (same_ledger place _ b)))) (same_offers (user_of id b))
+  offers_stay (Offer user highs) apart = by (user_of user b) refl
     where
-      by : (o : Option User) → user_of user b ≡ o → KeepsOffer (user_of id b) (user_of id (for_user (offered_to user highs) o b))
-      by None none = same_offer (user_of id b)
-      by (Some u) here = by_id KeepsOffer same_offer id b (offered_to user highs u b)
-          (λ k is. subst (KeepsOffer (slice_get b.ledger.users k)) (sym (put_other b.ledger.users (user - 1) k (with_offer highs u) (other u here k is))) (same_offer (slice_get b.ledger.users k)))
+      by : (o : Option User) → user_of user b ≡ o → KeepsOffers (user_of id b) (user_of id (for_user (offered_to user highs) o b))
+      by None none = same_offers (user_of id b)
+      by (Some u) here = by_id KeepsOffers same_offers id b (offered_to user highs u b)
+          (λ k is. subst (KeepsOffers (slice_get b.ledger.users k)) (sym (put_other b.ledger.users (user - 1) k (with_offer highs u) (other u here k is))) (same_offers (slice_get b.ledger.users k)))
         where
           other : (u : User) → user_of user b ≡ Some u → (k : ℕ) → id ≡ suc k → k ≢ user - 1
           other u here k is same = let above = id_above b user u here in apart (omega (arith, above, is, same))
-  offer_stays (Acknowledge user now) apart = by (user_of user b) refl
-    where
-      by : (o : Option User) → user_of user b ≡ o → KeepsOffer (user_of id b) (user_of id (for_user (read_by user now) o b))
-      by None none = same_offer (user_of id b)
-      by (Some u) here = by_id KeepsOffer same_offer id b (read_by user now u b) (λ k is. put_offer b.ledger.users (user - 1) k (without_offer u) refl)
-  offer_stays (Upload user digest refused posts) apart = same_offer (user_of id b)
+  offers_stay (Acknowledge user packet now) apart = after_ack (λ (c : Board). KeepsOffers (user_of id b) (user_of id c)) user packet now b (same_offers (user_of id b))
+      (λ u here o. by_id KeepsOffers same_offers id b (read_offer user now u o b)
+      (λ k is. put_offers b.ledger.users (user - 1) k u (without_offer o.number u) (user_there b user u here) (there_before o.number u)))
+  offers_stay (Upload user digest refused posts) apart = same_offers (user_of id b)
 
   -- ---- the offer to the user himself
   pub offered_there : (highs : List ℕ) (u : User) → user_of id b ≡ Some u → user_of id (changed (Offer id highs) b) ≡ Some (with_offer highs u)
@@ -162,18 +161,6 @@ module _ (id : ℕ) (b : Board) where
       there (suc k) here =
           cond-false (eqb (suc k) 0) None (slice_get (set b.ledger.users (suc k - 1) (with_offer highs u)) (suc k - 1)) (ne_eqb (suc k) 0 (λ e. omega (arith, e)))
           ∙ put_there b.ledger.users (suc k - 1) u (with_offer highs u) (user_there b (suc k) u here)
-
-  -- ---- and his own acknowledgement
-  pub acknowledged_there : (now : ℕ) (v : User) → user_of id (changed (Acknowledge id now) b) ≡ Some v → (u : User) → user_of id b ≡ Some u → v.offered ≡ 0
-  acknowledged_there now v is u here =
-      let read : changed (Acknowledge id now) b ≡ read_by id now u b = ap (λ (o : Option User). for_user (read_by id now) o b) here in
-      ap (λ (w : User). w.offered) (sym (same_Some (without_offer u) v (sym (there id here) ∙ (sym (ap (user_of id) read) ∙ is))))
-    where
-      there : (id : ℕ) → user_of id b ≡ Some u → user_of id (read_by id now u b) ≡ Some (without_offer u)
-      there zero here = absurd (none-some u here)
-      there (suc k) here =
-          cond-false (eqb (suc k) 0) None (slice_get (set b.ledger.users (suc k - 1) (without_offer u)) (suc k - 1)) (ne_eqb (suc k) 0 (λ e. omega (arith, e)))
-          ∙ put_there b.ledger.users (suc k - 1) u (without_offer u) (user_there b (suc k) u here)
 
 -- the user who was there, whose last packet isn't an earlier one
 pub user_still : (o p : Option User) (u : User) → UserFollows o p → o ≡ Some u → (v : User) × (p ≡ Some v) × (u.last ≤ v.last)

@@ -37,5 +37,7 @@ module _ {Entry : Type 0} (command_of : Entry → BoardCommand) where
     -- Each pair that is offered after the first i deeds, and is live after the first j, is offered again then.
     abbrev pub StaysOffered : Type 0
     StaysOffered = (start : State) → IsBeginning start → (deeds : List (Deed Entry)) → IsHistory Step start deeds
-        → (i j : ℕ) → i ≤ j → (b c : Board) → LeadsTo start deeds i b → LeadsTo start deeds j c → (user : ℕ) → NoAckBetween start deeds i j user → (limit : ℕ) (m : OfferedMessage) → Contains (offered b user limit) m → IsLive c m
+        → (i j : ℕ) → i ≤ j → (b c : Board) → LeadsTo start deeds i b → LeadsTo start deeds j c
+        → (user : ℕ) → NoAckBetween start deeds i j user
+        → (limit : ℕ) (m : OfferedMessage) → Contains (offered b user limit) m → IsLive c m
         → (most : ℕ) → slot_total c ≤ most → Contains (offered c user most) m

@@ -15,7 +15,8 @@ use Rattle.board_ledger.specs.declared.user.User.{User}
 use Rattle.jam_base.specs.Slots.{has_live}
 use Rattle.jam_layout.specs.declared.conference.Conference.{Conference}
 use Rattle.jam_records.specs.declared.message.Message.{Message}
-use Rattle.offer_changes.specs.Highs.{are_of_member, may_have}
+use Rattle.offer_changes.specs.Highs.{may_have}
+use Rattle.open_offers.specs.Offers.{are_of_member}
 use Rattle.offered_packets.proofs.ShownMessages.{is_there}
 use Rattle.offered_packets.specs.Offered.{all_numbers, high_of, highs, is_above, is_new, offered}
 use Rattle.offered_packets.specs.Sees.{is_allowed, is_sysop, message_at, names_user, sees, slots_in}
@@ -92,10 +93,10 @@ module _ (b : Board) (id : ℕ) (u : User) (ok : IsBoard b) (here : user_of id b
         let none : high_of messages place ≡ 0 = ap (λ (xs : List OfferedMessage). fold max 0 (map (λ (m : OfferedMessage). m.number) xs)) (none_outside place messages new is) in
         λ i. eq-eqb (high_of messages place) 0 none i || is_member u place
 
-    of_member : (place count : ℕ) → are_of_member u place (highs_from place count) ≡ true
+    of_member : (place count : ℕ) → are_of_member u.members place (highs_from place count) ≡ true
     of_member place zero = refl
     of_member place (suc count) =
-        and_from (eqb (high_of messages place) 0 || is_member u place) (are_of_member u (place + 1) (highs_from (place + 1) count)) (member_or_none place (is_member u place) refl) (of_member (place + 1) count)
+        and_from (eqb (high_of messages place) 0 || is_member u place) (are_of_member u.members (place + 1) (highs_from (place + 1) count)) (member_or_none place (is_member u place) refl) (of_member (place + 1) count)
 
     fit_from : (place : ℕ) (conferences : List Conference) → ((k : ℕ) (c : Conference) → slice_get conferences k ≡ Some c → slice_get b.conferences (place + k) ≡ Some c)
         → highs_fit conferences (highs_from place (length conferences)) ≡ true
@@ -111,7 +112,7 @@ module _ (b : Board) (id : ℕ) (u : User) (ok : IsBoard b) (here : user_of id b
     unfolding highs
     messages_may =
         let count = length b.conferences in
-        and_from (eqb (length (highs_from 0 count)) count && highs_fit b.conferences (highs_from 0 count)) (are_of_member u 0 (highs_from 0 count))
+        and_from (eqb (length (highs_from 0 count)) count && highs_fit b.conferences (highs_from 0 count)) (are_of_member u.members 0 (highs_from 0 count))
         (and_from (eqb (length (highs_from 0 count)) count) (highs_fit b.conferences (highs_from 0 count)) (eq-eqb (length (highs_from 0 count)) count (length-map-range_with_len (high_of messages) 0 count)) (fit_from 0 b.conferences (λ k c is. subst (λ (n : ℕ). slice_get b.conferences n ≡ Some c) (omega arith) is)))
         (of_member 0 count)
 

@@ -1,24 +1,23 @@
 -- What an acknowledgement comes to.
-use Rattle.std.specs.Prelude.{ℕ, List, ◌==◌, if◌then◌else◌, Option, Some, None, Result, Ok, Err}
+use Rattle.std.specs.Prelude.{ℕ, List, if◌then◌else◌, Option, Some, None, Result, Ok, Err}
 use Rattle.board_layout.specs.Board.{Board}
-use Rattle.mail_board.specs.Readers.{offer_of, user_id}
+use Rattle.mail_board.specs.Readers.{is_offered, offer_of, user_id}
 use Rattle.offer_changes.specs.Changed.{acknowledged}
 
 -- why the user of a name acknowledges nothing
 pub data AckRefusal : Type 0 where
   -- there is none
   NoUser : AckRefusal
-  -- another packet is offered to him, or none
+  -- this packet isn't offered to him; the greatest number of one that is, or none
   NoPacket : Option ℕ → AckRefusal
 
--- the packet that is offered to the user of an id is acknowledged, where it is this one
-abbrev pub ack_offer : ℕ → ℕ → Board → ℕ → Option ℕ → Result Board AckRefusal
-ack_offer packet now b id None = Err (NoPacket None)
-ack_offer packet now b id (Some offer) = if offer == packet then Ok (acknowledged id now b) else Err (NoPacket (Some offer))
+-- the packet is acknowledged by the user of an id, where it is offered to him
+abbrev pub ack_offer : ℕ → ℕ → Board → ℕ → Result Board AckRefusal
+ack_offer packet now b id = if is_offered id packet b then Ok (acknowledged id packet now b) else Err (NoPacket (offer_of id b))
 
 abbrev pub ack_as : ℕ → ℕ → Board → Option ℕ → Result Board AckRefusal
 ack_as packet now b None = Err NoUser
-ack_as packet now b (Some id) = ack_offer packet now b id (offer_of id b)
+ack_as packet now b (Some id) = ack_offer packet now b id
 
 -- the board on which the user of a name has acknowledged a packet, or why he can't
 abbrev pub ack_of : List ℕ → ℕ → ℕ → Board → Result Board AckRefusal

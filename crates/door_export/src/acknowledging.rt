@@ -22,8 +22,8 @@ pub enum AckError {
     /// No user has the name.
     #[error("no such user")]
     NoUser,
-    /// The packet isn't the one of this number that is offered to the user, or none is.
-    #[error("not the packet that is offered")]
+    /// No open packet of the user has the number. It carries the greatest number of one that is open, or None.
+    #[error("no open packet has this number")]
     NoPacket(Option<u32>),
     /// A file call of the host failed. The files hold the board before the acknowledgement or the one after it.
     #[error("disk fault")]
@@ -63,28 +63,28 @@ fn prepared(board: &Board, name: &[u8], packet: u32, now: u32) -> Result<Change,
     let Some(reader) = reader_of(board, name) else {
         return Err(AckError::NoUser);
     };
-    let offer = board.offer(reader.id);
-    if offer != Some(packet) {
-        return Err(AckError::NoPacket(offer));
+    if !board.has_offer(reader.id, packet) {
+        return Err(AckError::NoPacket(board.offer(reader.id)));
     }
     if board.doubtful() {
         return Err(AckError::Doubt);
     }
     Ok(Change::Acknowledge {
         user: reader.id,
+        packet,
         now,
     })
 }
 
-/// Acknowledges a packet for the user of a name, ignoring ASCII case: in each conference with a high above his
+/// Acknowledges an open packet for the user of a name, ignoring ASCII case: in each conference with a high above his
 /// last-read pointer the messages to him up to that high are marked read at a moment in Unix seconds, and then the
-/// pointer is the high. The offer goes. Where the board isn't doubtful, the host's files are those of this board, and
-/// the host rests. It says nothing.
+/// pointer is the high. That offer goes, and the others stay. Where the board isn't doubtful, the host's files are those
+/// of this board, and the host rests. It says nothing.
 ///
-/// `NoUser` comes where no user has the name, else `NoPacket` where the packet isn't the one that is offered to him,
-/// with the one that is, else `Doubt` where the board is doubtful, and `OutOfMemory` before the first write: all of
-/// them leave all as it was. `DiskFault` comes only where the host's count of disk faults rose, and then the board is
-/// doubtful.
+/// `NoUser` comes where no user has the name, else `NoPacket` where no open packet of his has the number, with the
+/// greatest number of one that is open, else `Doubt` where the board is doubtful, and `OutOfMemory` before the first
+/// write: all of them leave all as it was. `DiskFault` comes only where the host's count of disk faults rose, and then
+/// the board is doubtful.
 pub fn acknowledge<H: Host>(
     alloc: Global,
     board: &mut Board,

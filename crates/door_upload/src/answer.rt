@@ -34,7 +34,7 @@ pub enum UploadError {
     /// There are 100,000 upload records.
     #[error("there are 100000 upload records")]
     Uploads,
-    /// The data files would have so many bytes with the record, more than 33,554,432.
+    /// The data files would have so many bytes with the record, more than 34,603,008.
     #[error("the data files would have {0} bytes")]
     Size(u64),
     /// A file call of the host failed. The files hold the board before the upload or the one after it.

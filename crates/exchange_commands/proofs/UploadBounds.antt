@@ -1,14 +1,13 @@
 -- An upload writes no more than the messages that it posts may.
-use Rattle.std.proofs.Common.{◌≡◌, ℕ, ◌+◌, ◌≤◌, List, Option, Some, Result, Ok, Err, refl, sym, subst}
-use Rattle.board_commands.proofs.WriteLaws.{turned_within}
+use Rattle.std.proofs.Common.{◌≡◌, ℕ, List, Option, Some, Result, Ok, Err, refl, sym, subst}
+use Rattle.board_commands.proofs.WriteLaws.{turned_within, WritesFound}
 use Rattle.board_commands.specs.State.{State, Stores, migrated, state_of}
 use Rattle.board_commands.specs.WriteBound.{KeepsWriteBound}
 use Rattle.board_layout.specs.Board.{Board}
 use Rattle.door_outside.specs.Disk.{Disk}
 use Rattle.door_outside.specs.Shelf as Shelf
 use Rattle.door_upload.specs.Upload.{Again, Judged, Upload, UploadRefusal, UploadsFor, board_after}
-use Rattle.intent_journal.specs.Journal.{IsClosed, intent_of}
-use Rattle.intent_journal.specs.Patches.{byte_count}
+use Rattle.intent_journal.specs.Journal.{IsClosed}
 use Rattle.intent_journal.specs.Recovered.{recovered}
 use Rattle.mail_board.specs.Readers.{user_id}
 use Rattle.mail_board.specs.Written.{KeepsBoundOf}
@@ -23,7 +22,7 @@ turn_board b (Ok (Again counts)) = refl
 turn_board b (Ok (Judged next outcomes)) = refl
 turn_board b (Err why) = refl
 
-module _ (name file : List ℕ) (now : ℕ) (old mid new : Disk) (shelf : Shelf.Files) (closed : IsClosed (old.files 1)) (found : mid.wrote ≤ old.wrote + byte_count (intent_of old.files) + 1) (board : Option Board)
+module _ (name file : List ℕ) (now : ℕ) (old mid new : Disk) (shelf : Shelf.Files) (closed : IsClosed (old.files 1)) (found : WritesFound old mid.wrote) (board : Option Board)
     (stands : (state : State) → Stores state (recovered old.files) → migrated state ≡ state_of board) (b : Board) (board_is : board ≡ Some b) where
   pub upload_within : (id : ℕ) → user_id name b ≡ Some id → (bytes : List ℕ) → file_of shelf file rep_limit ≡ Ok bytes → (r : Result Upload UploadRefusal) → UploadsFor id bytes now b r → KeepsBoundOf b (board_after b r) mid.wrote new.wrote
       → KeepsWriteBound (uploads name file now) old new shelf

@@ -4,6 +4,7 @@ use Rattle.std.proofs.lemmas.Bool.{and_from, lt-ltb, ne_eqb, not_from_false, con
 use Rattle.std.specs.Prelude.{nat_lt, not, ◌==◌}
 use Rattle.board_layout.specs.Board.{Board}
 use Rattle.board_layout.specs.Layout.{IsLayout, AreEmpty}
+use Rattle.board_layout.specs.OldLayout.{IsOldLayout}
 use Rattle.door_outside.specs.File.{ledger_file, jhr_file, jdt_file, jdx_file, jlr_file, is_data_file}
 use Rattle.intent_journal.specs.Patches.{Files, data_files}
 use Rattle.jam_base.specs.Change.{files_of_place}
@@ -26,6 +27,14 @@ pub layout_moves : (b : Board) (f g : Files) → data_files f ≡ data_files g �
 layout_moves b f g same is = record {
   ledger = sym (at_file f g ledger_file same refl) ∙ is.ledger;
   places = λ place within. sym (place_moves place f g within same) ∙ is.places place within;
+}
+
+pub old_layout_moves : (b : Board) (f g : Files) → data_files f ≡ data_files g → IsOldLayout b f → IsOldLayout b g
+old_layout_moves b f g same is = record {
+  ledger = sym (at_file f g ledger_file same refl) ∙ is.ledger;
+  places = λ place within. sym (place_moves place f g within same) ∙ is.places place within;
+  offers = is.offers;
+  small = is.small;
 }
 
 pub empty_moves : (f g : Files) → data_files f ≡ data_files g → AreEmpty f → AreEmpty g

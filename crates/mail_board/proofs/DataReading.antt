@@ -5,13 +5,13 @@ use Rattle.board_ledger.specs.Ledger.{ledger_of}
 use Rattle.board_ledger.specs.Opening.{fixed_rules, opening_at, opening_of, setup_of, setup_rules}
 use Rattle.board_ledger.specs.Conferences.{conference_at}
 use Rattle.board_ledger.specs.Records.{records_at}
+use Rattle.board_ledger.specs.Valid.{today}
 use Rattle.board_ledger.specs.declared.ledger.Ledger.{Ledger}
 use Rattle.board_ledger.proofs.OpeningTests.{fixed_counts}
 use Rattle.board_ledger.proofs.ReadingSteps.{ledger_parts}
-use Rattle.board_layout.specs.Board.{Board, shape_of, shapes_from, shapes_of}
-use Rattle.board_layout.specs.Damage.{conferences_of, is_rest, is_rest_place, are_rest, highs_of, parts_of, board_of, some_board, board_in}
+use Rattle.board_layout.specs.Board.{shape_of, shapes_from}
+use Rattle.board_layout.specs.Damage.{conferences_of, is_rest, is_rest_place, are_rest, highs_of, parts_behind, parts_of, size_limit, board_of, some_board, board_in}
 use Rattle.board_layout.specs.Layout.{places_size, data_size}
-use Rattle.board_layout.specs.Valid.{board_limit}
 use Rattle.damage_rules.specs.Rules.{by_rules, ◌>>=◌}
 use Rattle.damage_rules.proofs.KeptRules.{bind_ok, both_kept, kept_none, ok_is, rules_kept}
 use Rattle.door_outside.specs.File.{ledger_file, jhr_file, jdt_file, jdx_file, jlr_file}
@@ -87,12 +87,8 @@ module _ (f g : Files) (same : data_files f ≡ data_files g) where
       λ i. here i >>= λ one. others i
 
   -- ---- all of them
-  behind : Files → Ledger → Result Board Damage
-  behind files l = conferences_of (shapes_of l) files >>= λ conferences. are_rest (length l.setup.conferences) (64 - length l.setup.conferences) files
-      >>= λ empty. highs_of conferences (1 + length l.setup.conferences) l.users >>= λ within. Ok (record { ledger = l; conferences = conferences })
-
-  behind_moves : (l : Ledger) → length l.setup.conferences ≤ 64 → behind f l ≡ behind g l
-  unfolding behind
+  behind_moves : (l : Ledger) → length l.setup.conferences ≤ 64 → parts_behind l f ≡ parts_behind l g
+  unfolding parts_behind
   behind_moves l few =
       let bases = conferences_move l 0 l.setup.conferences (omega arith) in
       let rests = rests_move (length l.setup.conferences) (64 - length l.setup.conferences) (omega arith) in
@@ -103,10 +99,11 @@ module _ (f g : Files) (same : data_files f ≡ data_files g) where
   text_moves = at_file f g ledger_file same refl
 
   parts_move : parts_of f ≡ parts_of g
-  unfolding parts_of behind
+  unfolding parts_of
   parts_move =
-      ap (λ (bytes : List ℕ). ledger_of bytes >>= behind f) text_moves
-      ∙ bind_moves (ledger_of (g ledger_file)) (behind f) (behind g) (λ l is. behind_moves l (few_conferences (g ledger_file) l is))
+      ap (λ (bytes : List ℕ). ledger_of bytes >>= λ (l : Ledger). parts_behind (today l) f) text_moves
+      ∙ bind_moves (ledger_of (g ledger_file)) (λ (l : Ledger). parts_behind (today l) f) (λ (l : Ledger). parts_behind (today l) g)
+      (λ l is. behind_moves (today l) (few_conferences (g ledger_file) l is))
 
   places_move : (n : ℕ) → n ≤ 64 → places_size n f ≡ places_size n g
   unfolding places_size
@@ -121,7 +118,7 @@ module _ (f g : Files) (same : data_files f ≡ data_files g) where
 
   board_moves : board_of f ≡ board_of g
   unfolding board_of
-  board_moves = λ i. by_rules ledger_file 0 ((Size, ltb board_limit (size_moves i)) ∷ []) (tt {0}) >>= λ sized. parts_move i
+  board_moves = λ i. by_rules ledger_file 0 ((Size, ltb (size_limit (text_moves i)) (size_moves i)) ∷ []) (tt {0}) >>= λ sized. parts_move i
 
   pub reading_moves : board_in f ≡ board_in g
   reading_moves = λ i. cond (eqb (size_moves i) 0) (Ok None) (some_board (board_moves i))

@@ -4,3 +4,4 @@ pub mod CommitLaws
 pub mod NextLaws
 pub mod WriteBounds
 pub mod PostedSlots
+pub mod MigrationLaws

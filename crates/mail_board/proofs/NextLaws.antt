@@ -11,5 +11,5 @@ fits_board (Append place messages) b fits = fits.1
 fits_board (Spread posts) b fits = fits.1
 fits_board (Kill place number) b fits = fits.1
 fits_board (Offer user highs) b fits = fits.1
-fits_board (Acknowledge user now) b fits = fits.1
+fits_board (Acknowledge user packet now) b fits = fits.1
 fits_board (Upload user digest refused posts) b fits = fits.1

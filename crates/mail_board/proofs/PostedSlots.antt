@@ -132,7 +132,7 @@ posting_keeps (Spread posts) b before now posting ok fits few =
     (omega (arith, spread_slots_total b ok b.ledger posts fits.0)) few
 posting_keeps (Kill place number) b before now posting ok fits few = absurd posting
 posting_keeps (Offer user highs) b before now posting ok fits few = absurd posting
-posting_keeps (Acknowledge user moment) b before now posting ok fits few = absurd posting
+posting_keeps (Acknowledge user packet moment) b before now posting ok fits few = absurd posting
 posting_keeps (Upload user digest refused posts) b before now posting ok fits few =
     more_allowed (length posts) (slot_total (changed (Upload user digest refused posts) b) - slot_total b) (growth (Upload user digest refused posts) b) before now
     (omega (arith, spread_slots_total b ok (with_record (record_of user digest refused posts) b.ledger) posts fits.0)) few

@@ -23,7 +23,7 @@ few_written (Append place messages) b patches before now few wrote = posts_few (
 few_written (Spread posts) b patches before now few wrote = posts_few (Spread posts) (length posts) b patches before now few wrote
 few_written (Kill place number) b patches before now few wrote = omega (arith, few.0, few.1, wrote)
 few_written (Offer user highs) b patches before now few wrote = tt
-few_written (Acknowledge user moment) b patches before now few wrote = tt
+few_written (Acknowledge user packet moment) b patches before now few wrote = tt
 few_written (Upload user digest refused posts) b patches before now few wrote = posts_few (Upload user digest refused posts) (length posts) b patches before now few wrote
 
 -- nothing was written
@@ -33,7 +33,7 @@ none_written (Append place messages) b before = omega arith
 none_written (Spread posts) b before = omega arith
 none_written (Kill place number) b before = omega arith
 none_written (Offer user highs) b before = tt
-none_written (Acknowledge user moment) b before = tt
+none_written (Acknowledge user packet moment) b before = tt
 none_written (Upload user digest refused posts) b before = omega arith
 
 -- a change of which nothing is said here

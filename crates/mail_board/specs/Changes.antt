@@ -16,7 +16,7 @@ changed (Append place messages) b = appended place messages b
 changed (Spread posts) b = spread posts b
 changed (Kill place number) b = deleted place number b
 changed (Offer user highs) b = offered user highs b
-changed (Acknowledge user now) b = acknowledged user now b
+changed (Acknowledge user packet now) b = acknowledged user packet now b
 changed (Upload user digest refused posts) b = uploaded user digest refused posts b
 
 -- the user and the places that it names are there
@@ -26,7 +26,7 @@ Exists (Append place messages) b = place < length b.conferences
 Exists (Spread posts) b = ArePlaced posts b
 Exists (Kill place number) b = place < length b.conferences
 Exists (Offer user highs) b = HasUser user b × (length highs ≡ length b.conferences)
-Exists (Acknowledge user now) b = HasUser user b
+Exists (Acknowledge user packet now) b = HasUser user b
 Exists (Upload user digest refused posts) b = HasUser user b × ArePlaced posts b
 
 -- what it acts on is there, and the board after it is valid
@@ -36,5 +36,5 @@ Fits (Append place messages) b = Exists (Append place messages) b × IsBoard (ch
 Fits (Spread posts) b = Exists (Spread posts) b × IsBoard (changed (Spread posts) b)
 Fits (Kill place number) b = HasMessage place number b × IsBoard (changed (Kill place number) b)
 Fits (Offer user highs) b = MayOffer user b × IsBoard (changed (Offer user highs) b)
-Fits (Acknowledge user now) b = HasOffer user b × IsBoard (changed (Acknowledge user now) b)
+Fits (Acknowledge user packet now) b = HasOffer user packet b × IsBoard (changed (Acknowledge user packet now) b)
 Fits (Upload user digest refused posts) b = ArePlaced posts b × IsBoard (changed (Upload user digest refused posts) b)

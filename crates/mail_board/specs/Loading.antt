@@ -1,10 +1,13 @@
 -- What a load finds.
-use Rattle.std.specs.Prelude.{◌≡◌, false, Option, Some, None, Result, Ok, Err}
+use Rattle.std.specs.Prelude.{◌≡◌, ◌⊎◌, false, Option, Some, None, Result, Ok, Err}
+use Rattle.door_outside.specs.Disk.{Disk, Image}
 use Rattle.intent_journal.specs.Patches.{Files}
+use Rattle.intent_journal.specs.Recovered.{recovered}
 use Rattle.intent_journal.specs.declared.recovery.JournalError.{JournalError}
 use Rattle.intent_journal.specs.declared.recovery.JournalError.TheVariants as recovery
 use Rattle.board_layout.specs.Board.{Board}
 use Rattle.board_layout.specs.Layout.{AreEmpty, IsLayout}
+use Rattle.board_layout.specs.OldLayout.{IsOldLayout}
 use Rattle.board_layout.specs.Valid.{IsBoard}
 use Rattle.board_layout.specs.declared.error.ReadError.{ReadError}
 use Rattle.board_layout.specs.declared.error.ReadError.TheVariants.{Damaged, DiskFault, OutOfMemory}
@@ -30,6 +33,28 @@ IsValid (Ready held) = IsBoard held.board
 abbrev pub StandsIn : Files → Loaded → Type 0
 StandsIn files NotMade = AreEmpty files
 StandsIn files (Ready held) = IsLayout held.board files
+
+-- the old files are the layout of a valid board in version 1
+pub record AreOld (files : Files) : Type 0 where
+  pub board : Board
+  pub valid : IsBoard board
+  pub layout : IsOldLayout board files
+
+-- the old files are the layout of a valid board in version 1, and the new ones in version 2
+pub record IsMigration (old new : Files) : Type 0 where
+  pub board : Board
+  pub valid : IsBoard board
+  pub before : IsOldLayout board old
+  pub after : IsLayout board new
+
+-- the new files are the old ones, or these migrated
+abbrev pub AreOpened : Files → Files → Type 0
+AreOpened old new = (new ≡ old) ⊎ IsMigration old new
+
+-- an image that recovers to the files of a disk, or to these migrated, and says nothing
+pub record Opens (goal : Disk) (image : Image) : Type 0 where
+  pub said : image.said ≡ goal.said
+  pub files : AreOpened (recovered goal.files) (recovered image.files)
 
 -- an answer other than a fault or want of memory
 abbrev pub IsTold : {T : Type 0} → Result T ReadError → Type 0

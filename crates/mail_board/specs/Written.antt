@@ -33,7 +33,7 @@ IsPosting (Append place messages) = Unit {0}
 IsPosting (Spread posts) = Unit {0}
 IsPosting (Kill place number) = ⊥
 IsPosting (Offer user highs) = ⊥
-IsPosting (Acknowledge user moment) = ⊥
+IsPosting (Acknowledge user packet moment) = ⊥
 IsPosting (Upload user digest refused posts) = Unit {0}
 
 -- Posting messages keeps the bound, and deleting one writes at most 200 bytes. Enrolling a user, or changing what one is
@@ -44,7 +44,7 @@ WritesFew (Append place messages) b before now = KeepsBound (length messages) (g
 WritesFew (Spread posts) b before now = KeepsBound (length posts) (growth (Spread posts) b) before now
 WritesFew (Kill place number) b before now = now ≤ before + 200
 WritesFew (Offer user highs) b before now = Unit {0}
-WritesFew (Acknowledge user moment) b before now = Unit {0}
+WritesFew (Acknowledge user packet moment) b before now = Unit {0}
 WritesFew (Upload user digest refused posts) b before now = KeepsBound (length posts) (growth (Upload user digest refused posts) b) before now
 
 -- by the patches that it takes, and the bytes that these put
@@ -54,5 +54,5 @@ PutsFew (Append place messages) b patches = Spends (length messages) b (changed 
 PutsFew (Spread posts) b patches = Spends (length posts) b (changed (Spread posts) b) patches
 PutsFew (Kill place number) b patches = (length patches ≤ 2) × (byte_count patches ≤ 24)
 PutsFew (Offer user highs) b patches = Unit {0}
-PutsFew (Acknowledge user moment) b patches = Unit {0}
+PutsFew (Acknowledge user packet moment) b patches = Unit {0}
 PutsFew (Upload user digest refused posts) b patches = Spends (length posts) b (changed (Upload user digest refused posts) b) patches

@@ -54,17 +54,20 @@ pub enum Change {
         /// Its number, which is that of a message that isn't deleted.
         number: u32,
     },
-    /// A packet more offered to a user, in place of an older offer. It is the user's last one.
+    /// A packet more offered to a user. It is his last one. Where five would be open, the one with the smallest number
+    /// goes.
     Offer {
         /// The user's id, from 1. The last packet before is below 4,294,967,295.
         user: u32,
         /// For each conference, by place, the greatest message number that is offered, or 0.
         highs: Highs,
     },
-    /// The acknowledgement of the packet that a user is offered.
+    /// The acknowledgement of a packet that is open for a user.
     Acknowledge {
         /// The user's id, from 1.
         user: u32,
+        /// The number of the packet.
+        packet: u32,
         /// The moment at which the messages to the user are received, in Unix seconds.
         now: u32,
     },
@@ -125,7 +128,9 @@ fn next_of(alloc: Global, stored: &StoredBoard, change: &Change) -> Result<Board
         Change::Spread { posts } => spread(alloc, stored, posts),
         Change::Kill { place, number } => deleted(alloc, stored, *place, *number),
         Change::Offer { user, highs } => offered(alloc, stored, *user, highs),
-        Change::Acknowledge { user, now } => acknowledged(alloc, stored, *user, *now),
+        Change::Acknowledge { user, packet, now } => {
+            acknowledged(alloc, stored, *user, *packet, *now)
+        }
         Change::Upload {
             user,
             digest,

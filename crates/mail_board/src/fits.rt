@@ -35,7 +35,7 @@ fn size_with_packet(stored: &StoredBoard, digest: &[u8; 32], posts: &Posts) -> u
 
 impl Board {
     /// Whether a change may be made: the users and places that it names are there, and so is what it acts on, and
-    /// the board after it is valid, with data files of at most 33,554,432 bytes. It takes no memory.
+    /// the board after it is valid, with data files of at most 34,603,008 bytes. It takes no memory.
     pub fn fits(&self, change: &Change) -> bool
         ensures { IsTrue result ↔ Fits change.now self.now.board }
     {
@@ -47,7 +47,9 @@ impl Board {
             Change::Spread { posts } => fits_posts(&self.stored, posts),
             Change::Kill { place, number } => fits_deletion(&self.stored, *place, *number),
             Change::Offer { user, highs } => fits_offer(&self.stored, *user, highs),
-            Change::Acknowledge { user, now } => { fits_acknowledgement(&self.stored, *user, *now) }
+            Change::Acknowledge { user, packet, now } => {
+                fits_acknowledgement(&self.stored, *user, *packet, *now)
+            }
             Change::Upload {
                 user,
                 digest,
@@ -75,7 +77,7 @@ impl Board {
             Change::Upload { digest, posts, .. } => size_with_packet(&self.stored, digest, posts),
             // A mark takes no byte.
             Change::Kill { .. } => size_of(&self.stored),
-            // The numbers of an offer stand where older ones stood.
+            // A user's record has room for four offers, whether they are open or not.
             Change::Offer { .. } => size_of(&self.stored),
             Change::Acknowledge { .. } => size_of(&self.stored),
         }

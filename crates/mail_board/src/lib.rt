@@ -7,6 +7,7 @@ mod fits;
 mod loading;
 mod making;
 mod messages;
+mod migrating;
 mod readers;
 
 pub use board::Board;

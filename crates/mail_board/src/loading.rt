@@ -1,15 +1,16 @@
 ghost use Rattle.std.specs.Prelude.{◌≡◌, ◌+◌, ◌≤◌, IfOk, IsErrOf, IsTrue};
 ghost use Rattle.board_layout.specs.Damage.{board_in};
-ghost use Rattle.board_layout.specs.Rules.{Gives, HasReadCause};
+ghost use Rattle.board_layout.specs.Rules.{board_found, Gives, HasReadCause, IsLaidOut};
 ghost use Rattle.door_outside.specs.Disk.{Disk, AllNow, Between, as_read};
 ghost use Rattle.intent_journal.specs.Hosts.{IsCalm, IsFirm, IsSettled};
 ghost use Rattle.intent_journal.specs.Journal.{intent_of};
 ghost use Rattle.intent_journal.specs.Patches.{byte_count, data_files};
 ghost use Rattle.intent_journal.specs.Recovered.{recovered, Back};
-ghost use Rattle.mail_board.specs.Loading.{loaded_board, recovery_error, IsSure, IsTold, IsValid, StandsIn};
+ghost use Rattle.mail_board.specs.Loading.{loaded_board, recovery_error, AreOld, AreOpened, IsSure, IsTold, IsValid, Opens, StandsIn};
 
 use crate::board::Board;
-use board_layout::{ReadError, read_board};
+use crate::migrating::migrate;
+use board_layout::{FoundBoard, ReadError, read_board};
 use door_outside::Host;
 use intent_journal::{JournalError, recover};
 use std::alloc::Global;
@@ -33,45 +34,69 @@ fn of_recovery(error: JournalError) -> ReadError
     }
 }
 
+/// Recovers, carrying out what a crash left, and then reads the board of the files as they stand. It migrates nothing.
+fn recover_board<H: Host>(alloc: Global, host: &mut H) -> Result<Option<FoundBoard>, ReadError>
+    requires { IsTrue H.tells → IsSettled (H.disk host.old) }
+    ensures moments { IsTrue H.tells → Between (H.disk host.old) (H.disk host.new) (Back (H.disk host.old)) }
+    ensures now { IsTrue H.tells → IsFirm (H.disk host.old) → AllNow (H.disk host.new) (Back (H.disk host.old)) }
+    ensures same { IsTrue H.tells → Back (H.disk host.old) (as_read (H.disk host.new)) }
+    ensures settled { IsTrue H.tells → IsSettled (H.disk host.new) }
+    ensures firm { IsErrOf result ReadError.OutOfMemory → IsTrue H.tells → IsFirm (H.disk host.new) }
+    ensures calm { IsTold result → IsTrue H.tells → IsCalm (H.disk host.new) }
+    ensures done { IsTold result → IsTrue H.tells → data_files (H.disk host.new).files ≡ recovered (H.disk host.old).files }
+    ensures gives { IsTrue H.tells → Gives board_found result (board_in (recovered (H.disk host.old).files)) }
+    ensures layout { IsTrue H.tells → IfOk result (λ found. IsLaidOut found (H.disk host.new).files) }
+    ensures wrote { IsTrue H.tells → (H.disk host.new).wrote ≤ (H.disk host.old).wrote + byte_count (intent_of (H.disk host.old).files) + 1 }
+    ensures cause { HasReadCause (H.disk_faults host.old) (H.disk_faults host.new) result }
+    ensures voice { H.voice_faults host.new ≡ H.voice_faults host.old }
+{
+    recover(alloc, host).map_err(of_recovery)?;
+    read_board(alloc, host)
+}
+
 impl Board {
-    /// What the data files of a host stand for: it recovers first, carrying out what a crash left, and then reads
-    /// each file once. It says nothing.
+    /// What the data files of a host stand for: it recovers first, carrying out what a crash left, reads each file
+    /// once, and where it finds a board in files of version 1, writes its ledger in version 2. It says nothing.
     ///
-    /// `Damaged` comes where the recovered data files are neither all empty nor the layout of a board, with the
-    /// first rule that they break. `DiskFault` comes only where the host's count of disk faults rose.
-    /// `OutOfMemory` hides no fault. Where damage and want of memory meet, either may be answered.
+    /// `Damaged` comes where the recovered data files are neither all empty nor the layout of a board in either
+    /// version, with the first rule that they break. `DiskFault` comes only where the host's count of disk faults rose.
+    /// `OutOfMemory` comes before the first write of a migration, and hides no fault. Where damage and want of memory
+    /// meet, either may be answered.
     pub fn load<H: Host>(alloc: Global, host: &mut H) -> Result<Loaded, ReadError>
         requires { IsTrue H.tells → IsSettled (H.disk host.old) }
 
-        // A crash at any moment leaves what recovers to the same files; or, from a host that is only settled, files as a
-        // crash at entry could have left them. From a firm host it is always the first.
-        ensures moments { IsTrue H.tells → Between (H.disk host.old) (H.disk host.new) (Back (H.disk host.old)) }
-        ensures now { IsTrue H.tells → IsFirm (H.disk host.old) → AllNow (H.disk host.new) (Back (H.disk host.old)) }
-        ensures same { IsTrue H.tells → Back (H.disk host.old) (as_read (H.disk host.new)) }
+        // A crash at any moment leaves what recovers to the same files, or to these migrated; or, from a host that is only
+        // settled, files as a crash at entry could have left them. From a firm host it is always one of the first two.
+        ensures moments { IsTrue H.tells → Between (H.disk host.old) (H.disk host.new) (Opens (H.disk host.old)) }
+        ensures now { IsTrue H.tells → IsFirm (H.disk host.old) → AllNow (H.disk host.new) (Opens (H.disk host.old)) }
+        ensures same { IsTrue H.tells → Opens (H.disk host.old) (as_read (H.disk host.new)) }
         ensures settled { IsTrue H.tells → IsSettled (H.disk host.new) }
         ensures firm { IsErrOf result ReadError.OutOfMemory → IsTrue H.tells → IsFirm (H.disk host.new) }
         ensures calm { IsTold result → IsTrue H.tells → IsCalm (H.disk host.new) }
-        ensures done { IsTold result → IsTrue H.tells → data_files (H.disk host.new).files ≡ recovered (H.disk host.old).files }
+        ensures done { IsTold result → IsTrue H.tells → AreOpened (recovered (H.disk host.old).files) (data_files (H.disk host.new).files) }
 
         // The board whose layout the recovered files are, or none where all are empty, or their first damage.
         ensures gives { IsTrue H.tells → Gives loaded_board result (board_in (recovered (H.disk host.old).files)) }
+        // What it answers stands in the files that it leaves, which are of version 2.
         ensures stands { IsTrue H.tells → IfOk result (StandsIn (H.disk host.new).files) }
         ensures sure { IfOk result IsSure }
         ensures valid { IfOk result IsValid }
 
-        // At most what the patches of the intent put, and the gate.
-        ensures wrote { IsTrue H.tells → (H.disk host.new).wrote ≤ (H.disk host.old).wrote + byte_count (intent_of (H.disk host.old).files) + 1 }
+        // Where nothing is migrated, at most what the patches of the intent put, and the gate.
+        ensures wrote { IsTrue H.tells → ¬ AreOld (recovered (H.disk host.old).files) → (H.disk host.new).wrote ≤ (H.disk host.old).wrote + byte_count (intent_of (H.disk host.old).files) + 1 }
 
         ensures cause { HasReadCause (H.disk_faults host.old) (H.disk_faults host.new) result }
         ensures voice { H.voice_faults host.new ≡ H.voice_faults host.old }
     {
-        recover(alloc, host).map_err(of_recovery)?;
-        match read_board(alloc, host)? {
+        match recover_board(alloc, host)? {
             None => Ok(Loaded::NotMade),
-            Some(stored) => Ok(Loaded::Ready(Board {
-                stored,
-                doubtful: false,
-            })),
+            Some(found) => {
+                migrate(alloc, host, &found).map_err(of_recovery)?;
+                Ok(Loaded::Ready(Board {
+                    stored: found.board,
+                    doubtful: false,
+                }))
+            }
         }
     }
 }

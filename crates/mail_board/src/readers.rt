@@ -1,5 +1,6 @@
 // What a board answers from memory.
 ghost use Rattle.std.specs.Prelude.{◌≡◌, ◌<◌, ◌==◌, length, position, slice_get, Some, IfSome};
+ghost use Rattle.std.specs.List.{list_any};
 ghost use Rattle.std.specs.Option.{option_copied, option_map};
 ghost use Rattle.std.specs.Str.{str_eq_ignore_ascii_case};
 ghost use Rattle.board_layout.specs.Layout.{board_size};
@@ -8,11 +9,11 @@ ghost use Rattle.jam_layout.specs.Conference.{live_count as live_in};
 ghost use Rattle.jam_threads.specs.Children.{original};
 ghost use Rattle.offered_packets.specs.Sees.{sees as is_seen};
 ghost use Rattle.board_layout.specs.Lookups.{user_of, pointer_at};
-ghost use Rattle.mail_board.specs.Readers.{place_of, user_id as id_of, offer_of, upload_of as counts_of};
+ghost use Rattle.mail_board.specs.Readers.{place_of, user_id as id_of, offer_of, is_offered, upload_of as counts_of};
 
 use crate::board::Board;
 use board_layout::StoredBoard;
-use board_ledger::{Conference, Counts, Setup, User};
+use board_ledger::{Conference, Counts, OpenOffer, Setup, User};
 use jam_base::Base;
 use offered_packets::sees;
 
@@ -32,6 +33,13 @@ fn place_named(users: &[User], name: &[u8]) -> Option<usize>
     users
         .iter()
         .position(|user| user.name.as_slice().eq_ignore_ascii_case(name))
+}
+
+/// Whether one of these offers has a number.
+fn is_open(packet: u32, offers: &[OpenOffer]) -> bool
+    ensures { result ≡ list_any (λ o. o.number == packet) offers.now }
+{
+    offers.iter().any(|offer| offer.number == packet)
 }
 
 impl Board {
@@ -155,15 +163,23 @@ impl Board {
         self.stored.ledger().users.get(id as usize - 1)
     }
 
-    /// The number of the packet that a user is offered, or None where there is none or no user has the id.
+    /// The greatest number of a packet that is open for a user, or None where there is none or no user has the id. It
+    /// takes no memory.
     pub fn offer(&self, id: u32) -> Option<u32>
         ensures { result ≡ offer_of id self.now.board }
     {
-        let user = self.user(id)?;
-        if user.offered == 0 {
-            return None;
+        let last = self.user(id)?.offers.as_slice().last()?;
+        Some(last.number)
+    }
+
+    /// Whether the packet of a number is open for the user of an id, from 1. It takes no memory.
+    pub fn has_offer(&self, id: u32, packet: u32) -> bool
+        ensures { result ≡ is_offered id packet self.now.board }
+    {
+        match self.user(id) {
+            Some(user) => is_open(packet, user.offers.as_slice()),
+            None => false,
         }
-        Some(user.offered)
     }
 
     /// What became of the reply packet of a SHA-256 that a user sent, or None where that user sent none.
@@ -184,7 +200,7 @@ impl Board {
         self.stored.ledger().uploads.len() as u32
     }
 
-    /// How many bytes the data files have together, at most 33,554,432.
+    /// How many bytes the data files have together, at most 34,603,008.
     pub fn size(&self) -> u64
         ensures { result ≡ board_size self.now.board }
     {

@@ -19,13 +19,13 @@ use Rattle.mail_cli.specs.Step.{does}
 
 -- nothing was written
 pub unwritten : (now : ℕ) (words : List (List ℕ)) (disk : Disk) (shelf : Shelf.Files) → RunKeepsBound now words disk disk shelf
-unwritten now words disk shelf c reads posts closed state stores stepped step = omega arith
+unwritten now words disk shelf c reads posts closed state stores today stepped step = omega arith
 
 module _ (now : ℕ) where
   -- the reply was said, which writes nothing
   pub said_bound : (c : Command) (old : Disk) {mid new : Disk} (shelf : Shelf.Files) {text : List ℕ} {T E : Type 0} {result : Result T E} → Voiced text mid new result → CommandKeepsBound now c old mid shelf → CommandKeepsBound now c old new shelf
-  said_bound c old {mid} {new} shelf voiced kept posts closed state stores stepped step =
-      subst (λ (n : ℕ). WritesWithin state stepped.world.state old.wrote n) (sym voiced.wrote) (kept posts closed state stores stepped step)
+  said_bound c old {mid} {new} shelf voiced kept posts closed state stores today stepped step =
+      subst (λ (n : ℕ). WritesWithin state stepped.world.state old.wrote n) (sym voiced.wrote) (kept posts closed state stores today stepped step)
 
   pub command_bound : (c : Command) (old new : Disk) (shelf : Shelf.Files) → CommandKeepsBound now c old new shelf → EntryKeepsBound now (Run c) old new shelf
   command_bound c old new shelf kept other is =

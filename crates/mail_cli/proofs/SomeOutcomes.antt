@@ -1,5 +1,5 @@
 -- Every entry that can run has an outcome, in each world for whose state files of bytes stand.
-use Rattle.std.proofs.Common.{◌≡◌, ◌≢◌, ◌⊎◌, inl, inr, ℕ, ◌+◌, ◌<◌, ◌≤◌, Bool, cond, List, [], ◌∷◌, ◌++◌, Option, Some, None, length, codes, refl, sym, ◌∙◌, ap, subst, arith}
+use Rattle.std.proofs.Common.{◌≡◌, ◌≢◌, ◌⊎◌, inl, inr, ⊎_elim, ℕ, ◌+◌, ◌<◌, ◌≤◌, Bool, cond, List, [], ◌∷◌, ◌++◌, Option, Some, None, length, codes, refl, sym, ◌∙◌, ap, subst, arith}
 use Rattle.std.proofs.lemmas.Bool.{cases_eq, cases_lt, true≢false}
 use Rattle.std.proofs.lemmas.List.Elements.{All-nil, All-cons}
 use Rattle.std.specs.List.{All}
@@ -15,6 +15,7 @@ use Rattle.board_layout.proofs.BoardLaws.{undamaged}
 use Rattle.board_layout.specs.Board.{Board}
 use Rattle.board_layout.specs.Damage.{board_damage}
 use Rattle.board_layout.specs.Layout.{AreBytes}
+use Rattle.board_layout.specs.OldLayout.{IsStoredIn}
 use Rattle.byte_lists.specs.Byte.{IsByte}
 use Rattle.door_commands.specs.Answers.{usage}
 use Rattle.door_commands.specs.Entries.{EntryCanRun}
@@ -41,7 +42,7 @@ use Rattle.import_sheet.specs.declared.fault.SheetError.TheVariants.{Line}
 use Rattle.import_sheet.specs.declared.sheet.Sheet.{Sheet}
 use Rattle.intent_journal.specs.Patches.{Files, data_files}
 use Rattle.jam_records.specs.declared.damage.Damage.{Damage}
-use Rattle.mail_board.proofs.DataLaws.{data_twice, layout_moves}
+use Rattle.mail_board.proofs.DataLaws.{data_twice, layout_moves, old_layout_moves}
 use Rattle.mail_board.specs.Readers.{place_of, user_id}
 use Rattle.mail_cli.specs.Step.{act}
 use Rattle.message_commands.specs.Import.{Imports, ImportsAt}
@@ -359,9 +360,12 @@ spoiled_damage files damaged_files bytes stores = by (board_damage (data_files f
     data_bytes : AreBytes (data_files files)
     data_bytes file is = subst (All IsByte) (sym (ap (λ (data_file : Bool). cond data_file (files file) []) is)) (bytes file is)
 
+    stands : (b : Board) → IsStoredIn b (data_files files) → IsStoredIn b files
+    stands b laid = ⊎_elim (λ is. inl (layout_moves b (data_files files) files (data_twice files) is)) (λ is. inr (old_layout_moves b (data_files files) files (data_twice files) is)) laid
+
     by : (o : Option Damage) → board_damage (data_files files) ≡ o → (d : Damage) × (board_damage damaged_files ≡ Some d)
     by (Some d) is = (d, ap board_damage stores.0 ∙ is)
-    by None is = let b = (undamaged (data_files files) data_bytes).0 is in absurd (stores.1.other b.0 b.1 (layout_moves b.0 (data_files files) files (data_twice files) b.2))
+    by None is = let b = (undamaged (data_files files) data_bytes).0 is in absurd (stores.1.other b.0 b.1 (stands b.0 b.2))
 
 has_damage : (state : State) (files : Files) → AreBytes files → Stores state files → HasDamage state
 has_damage NotMade files bytes stores = tt

@@ -31,7 +31,8 @@ PostsMessages (command.Scan file) = ⊥
 PostsMessages (command.Upload user file) = Unit {0}
 
 module _ (now : ℕ) where
-  -- Where the command posts messages, and no change was under way at entry, it keeps the bound of what it does then.
+  -- Where the command posts messages, and no change was under way at entry, it keeps the bound of what it does then. (The
+  -- bound itself is of a ledger in today's version.)
   abbrev pub CommandKeepsBound : Command → Disk → Disk → Files → Type 0
   CommandKeepsBound c old new shelf = PostsMessages c → IsClosed (old.files 1) → KeepsWriteBound (does now c) old new shelf
 

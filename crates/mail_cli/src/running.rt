@@ -71,7 +71,8 @@ pub fn run<H: Host, S: Shelf>(
     ensures shelf_stays { NameNoFile words.now → shelf.new ≡ shelf.old }
 
     // Whatever it answers, an import, a sample or an upload writes at most twice the bytes by which it enlarges the data
-    // files, and 400 for each message that it posts and once more, where no change was under way at entry.
+    // files, and 400 for each message that it posts and once more, where no change was under way at entry and the ledger
+    // was of today's version.
     ensures wrote { IsTrue H.tells → IsTrue S.tells → RunKeepsBound now words.now (H.disk host.old) (H.disk host.new) (S.files shelf.old) }
 
     // Words that are no command are answered so, and no others: those of the program, or of a line of a batch.

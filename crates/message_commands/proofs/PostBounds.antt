@@ -1,6 +1,6 @@
 -- An import and a sample write no more than the messages that they post may.
-use Rattle.std.proofs.Common.{◌≡◌, ℕ, ◌+◌, ◌≤◌, List, Option, Some, Ok, refl, sym}
-use Rattle.board_commands.proofs.WriteLaws.{turned_within}
+use Rattle.std.proofs.Common.{◌≡◌, ℕ, List, Option, Some, Ok, refl, sym}
+use Rattle.board_commands.proofs.WriteLaws.{turned_within, WritesFound}
 use Rattle.board_commands.specs.State.{State, Stores, migrated, state_of}
 use Rattle.board_commands.specs.WriteBound.{KeepsWriteBound}
 use Rattle.board_layout.specs.Board.{Board}
@@ -8,8 +8,7 @@ use Rattle.board_layout.specs.Valid.{IsBoard}
 use Rattle.door_outside.specs.Disk.{Disk}
 use Rattle.door_outside.specs.Shelf as Shelf
 use Rattle.import_sheet.specs.declared.sheet.Sheet.{Sheet}
-use Rattle.intent_journal.specs.Journal.{IsClosed, intent_of}
-use Rattle.intent_journal.specs.Patches.{byte_count}
+use Rattle.intent_journal.specs.Journal.{IsClosed}
 use Rattle.intent_journal.specs.Recovered.{recovered}
 use Rattle.mail_board.proofs.PostedSlots.{posting_keeps}
 use Rattle.mail_board.specs.Changes.{changed}
@@ -27,7 +26,7 @@ use Rattle.message_commands.specs.Sampling.{MaySample}
 use Rattle.message_commands.specs.declared.importing.Importing.{Importing}
 use Rattle.shelf_files.specs.Sheets.{SheetOf}
 
-module _ (old mid new : Disk) (shelf : Shelf.Files) (closed : IsClosed (old.files 1)) (found : mid.wrote ≤ old.wrote + byte_count (intent_of old.files) + 1) (board : Option Board)
+module _ (old mid new : Disk) (shelf : Shelf.Files) (closed : IsClosed (old.files 1)) (found : WritesFound old mid.wrote) (board : Option Board)
     (stands : (state : State) → Stores state (recovered old.files) → migrated state ≡ state_of board) (b : Board) (board_is : board ≡ Some b) (ok : IsBoard b) where
   pub import_within : (conference : ℕ) (file : List ℕ) (now place : ℕ) → place_of conference b ≡ Some place → (entries : List Sheet) → SheetOf shelf file (Ok entries) → (i : Importing) → MayImport conference now place entries b (Ok i)
       → WritesFew i.change b mid.wrote new.wrote → KeepsWriteBound (imports conference file now) old new shelf

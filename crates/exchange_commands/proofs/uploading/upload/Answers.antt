@@ -1,8 +1,8 @@
-use Rattle.std.proofs.Common.{rules, ◌≡◌, ℕ, ◌+◌, ◌≤◌, Bool, Option, Some, None, Result, Ok, Err, refl, sym, ◌∙◌, ap, subst, ⊎_elim}
+use Rattle.std.proofs.Common.{rules, ◌≡◌, ℕ, Bool, Option, Some, None, Result, Ok, Err, refl, sym, ◌∙◌, ap, subst, ⊎_elim}
 use Rattle.std.specs.Prelude.{IsSome}
 use Rattle.board_commands.proofs.Exits.{answered, unfound}
 use Rattle.board_commands.proofs.FindLaws.{same_host}
-use Rattle.board_commands.proofs.WriteLaws.{found_within}
+use Rattle.board_commands.proofs.WriteLaws.{found_within, WritesFound}
 use Rattle.board_commands.specs.Halts.{told, of_read, of_shelf}
 use Rattle.board_commands.specs.Kept.{AreSure, kept_board, unread}
 use Rattle.board_commands.specs.State.{Made, Stores, state_of, migrated}
@@ -14,8 +14,6 @@ use Rattle.door_upload.specs.Upload.{UploadsAs}
 use Rattle.door_upload.specs.Uploading.{Answers, LeavesAll}
 use Rattle.door_upload.specs.declared.answer.Uploaded.{Uploaded}
 use Rattle.entry_runs.specs.Entry.{Works}
-use Rattle.intent_journal.specs.Journal.{intent_of}
-use Rattle.intent_journal.specs.Patches.{byte_count}
 use Rattle.mail_board.specs.Readers.{user_id}
 use Rattle.mail_board.specs.declared.loading.Loaded.{Loaded}
 use Rattle.shelf_files.specs.ShelfFile.{file_of}
@@ -119,7 +117,7 @@ returns-clause-wrote g c tells shelf_tells closed =
     let gives = c.upload-uploaded.ensures in
     ⊎_elim
     (λ starved. found_within (uploads name c.args.file.now c.args.now) old new (g.S.Shelf.files c.args.shelf.now) closed
-    (subst (λ host. (g.H.Host.disk host).wrote ≤ old.wrote + byte_count (intent_of old.files) + 1) (sym (gives.unchanged (subst LeavesAll (sym starved) tt)).1) (c.find.ensures.wrote tells)))
+    (subst (λ host. WritesFound old (g.H.Host.disk host).wrote) (sym (gives.unchanged (subst LeavesAll (sym starved) tt)).1) (c.find.ensures.wrote tells)))
     (λ given. upload_within name c.args.file.now c.args.now old mid new (g.S.Shelf.files c.args.shelf.now) closed (c.find.ensures.wrote tells) (kept_board c.find.new.kept) (c.in_ok-find.ensures.state tells) held.board (ap kept_board here) him.0 him.1 bytes read given.0
     (subst (λ (o : Option ℕ). UploadsAs o bytes c.args.now held.board given.0) him.1 given.1) (gives.wrote tells given.0 given.1))
     gives.gives

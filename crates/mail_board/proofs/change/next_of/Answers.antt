@@ -13,7 +13,7 @@ offered-requires-clause-user c =
 pub acknowledged-requires : goal.acknowledged-requires
 acknowledged-requires c =
     let fits = subst (λ (change : Change). Fits change c.args.stored.now) c.in-Acknowledge.is c.requires in
-    offer_has c.in-Acknowledge.user c.args.stored.now fits.0
+    offer_has c.in-Acknowledge.user c.in-Acknowledge.packet c.args.stored.now fits.0
 
 pub returns-in-Enroll-clause-costs : goal.returns-in-Enroll-clause-costs
 returns-in-Enroll-clause-costs c = rw c.in-Enroll.is (no_bound c.enrolled.result)

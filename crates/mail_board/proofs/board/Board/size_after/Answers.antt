@@ -32,5 +32,5 @@ returns-in-Acknowledge c =
     let b : Board = c.args.self.now.board in
     let held : c.self.inside.stored ≡ b = ap (λ (h : HeldBoard). h.board) c.self.view_is in
     let ok : IsBoard b = subst IsBoard held c.size_of-in-Acknowledge.ensures.board in
-    let same : board_size (changed c.args.change.now b) ≡ board_size b = ap (λ (k : Change). board_size (changed k b)) c.in-Acknowledge.is ∙ acknowledged_size b c.in-Acknowledge.user c.in-Acknowledge.now ok in
+    let same : board_size (changed c.args.change.now b) ≡ board_size b = ap (λ (k : Change). board_size (changed k b)) c.in-Acknowledge.is ∙ acknowledged_size b c.in-Acknowledge.user c.in-Acknowledge.packet c.in-Acknowledge.now ok in
     omega (arith, c.size_of-in-Acknowledge.ensures.size, ap board_size held, same, ok.small)
