@@ -41,10 +41,10 @@ awk -v first="$first" -v middle="$middle" -v last="$last" 'BEGIN {
 row 'enrolling 500 users, a run each' \
     "$(awk -v first="$first" -v middle="$middle" -v last="$last" 'BEGIN { print first + middle + last }')" - -
 
-# The new board has 3,191 bytes. Each user has a record of 39 bytes and three of 16.
+# The new board has 3,191 bytes. Each user has a record of 87 bytes and three of 16.
 door check >"$work/reply" || fail "check failed with status $?"
 tail -n 1 "$work/reply"
-[ "$(tail -n 1 "$work/reply")" = '500 users, 0 uploads, 46691 bytes' ] || fail 'the board is not as it should be'
+[ "$(tail -n 1 "$work/reply")" = '500 users, 0 uploads, 70691 bytes' ] || fail 'the board is not as it should be'
 [ "$(door enroll 'One More' - 0)" = 'refused users' ] || fail 'one user more was not refused'
 
 # Times `check` of a board beside `sha256sum` of its files.

@@ -134,7 +134,7 @@ grow 'upload of 2,000 and 4,000 messages' upload 'Ann Lee' R.MSG
 
 add_records half 50000
 add_records whole 100000
-expect '1 users, 100000 uploads, 4201152 bytes' whole check
+expect '1 users, 100000 uploads, 4201176 bytes' whole check
 grow 'check of 50,000 and 100,000 upload records' check
 
 for kind in answers one; do

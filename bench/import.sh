@@ -66,13 +66,13 @@ for count in 2500 5000 9999; do
     row "import of $count messages" "$least" - "$hashing"
 done
 
-# A message of 16,384 bytes takes 16,525 with its header and its index record, and the digits of its number: with 2,040
-# of them the files of a new board, 3,191 bytes, would have 33,721,244.
+# A message of 16,384 bytes takes 16,525 with its header and its index record, and the digits of its number: with 2,295
+# of them the files of a new board, 3,191 bytes, would have 37,936,139.
 sheet 255 16384 >"$shelf/long"
 renew
-for part in 1 2 3 4 5 6 7; do
+for part in 1 2 3 4 5 6 7 8; do
     [ "$(door import 0 long)" = 'imported 255 into 0' ] || fail "import $part failed"
 done
 reply=$(door import 0 long)
-[ "$reply" = 'refused size 33721244' ] || fail "one import more says: $reply"
+[ "$reply" = 'refused size 37936139' ] || fail "one import more says: $reply"
 printf '%s\n' "$reply"

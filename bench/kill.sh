@@ -31,10 +31,10 @@ complain() {
     wrong=$((wrong + 1))
 }
 
-# What `check` says last of so many users: the new board has 3,191 bytes, and each user a record of 39 bytes and
+# What `check` says last of so many users: the new board has 3,191 bytes, and each user a record of 87 bytes and
 # three of 16.
 counts() {
-    printf '%s users, 0 uploads, %s bytes' "$1" $((3191 + 87 * $1))
+    printf '%s users, 0 uploads, %s bytes' "$1" $((3191 + 135 * $1))
 }
 
 # Enrolls a user of this name in a run that is killed after so many seconds, unless it has ended. It is started

@@ -1,5 +1,5 @@
 //! Lists and their copies.
-use board_ledger::{Counts, Highs, UploadRecord, Uploads, User, Users};
+use board_ledger::{Counts, Highs, Offers, OpenOffer, UploadRecord, Uploads, User, Users};
 use byte_lists::Bytes;
 use door_outside::{FileId, ShelfName};
 use intent_journal::{Patch, Patches};
@@ -176,23 +176,23 @@ fn users_are_copied(rt: HostRuntime) -> Result<(), Fail> {
     let alloc = rt.alloc();
     let mut highs = Highs::new(alloc);
     highs.add(7)?;
+    let mut offers = Offers::new(alloc);
+    offers.add(OpenOffer { number: 3, highs })?;
     let mut users = Users::new(alloc);
     users.add(User {
         name: Bytes::from_slice(alloc, b"Ann Lee")?,
         net: true,
         members: 5,
         last: 3,
-        offered: 3,
-        highs: highs.copy(alloc)?,
+        offers,
     })?;
     let copies = users.copy(alloc)?;
     let copy = copies.get(0).ok_or("no user")?;
     assert_eq!(rt; copy.name.as_slice(), b"Ann Lee".as_slice());
-    assert_eq!(rt;
-        (copy.net, copy.members, copy.last, copy.offered),
-        (true, 5, 3, 3)
-    );
-    assert_eq!(rt; copy.highs.as_slice(), [7].as_slice());
+    assert_eq!(rt; (copy.net, copy.members, copy.last), (true, 5, 3));
+    let offer = copy.offers.get(0).ok_or("no offer")?;
+    assert_eq!(rt; offer.number, 3);
+    assert_eq!(rt; offer.highs.as_slice(), [7].as_slice());
     Ok(())
 }
 

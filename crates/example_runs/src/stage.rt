@@ -1,7 +1,7 @@
 //! A host and a shelf on which a transcript is played.
 use crate::boards::{BOARD_B, put_setups, put_sheets};
 use crate::damages::damaged_host;
-use crate::data_files::{data_file, expect_data_length, expect_part, expect_rest};
+use crate::data_files::{data_file, expect_data_length, expect_part, expect_rest, put_data};
 use crate::days::put_day;
 use crate::directions::{blocks_of, bytes_of, number_of, parted};
 use crate::files::{add_copies, expect_file, expect_file_length, file_of, put};
@@ -11,6 +11,7 @@ use crate::packets::{put_folders, put_packets};
 use crate::runs::NOW;
 use crate::transcripts::{PROMPT, run_command};
 use byte_lists::Bytes;
+use door_outside::FileId;
 use memory_outside::{ImageChoice, MemoryHost, MemoryShelf};
 use std::alloc::Global;
 
@@ -99,6 +100,7 @@ impl Stage {
             "now" => self.set_now(words),
             "board" => self.make_board(alloc),
             "damage" => self.damage(alloc, words),
+            "ledger" => self.put_ledger(alloc, words),
             "data" => self.expect_data(alloc, words),
             "setups" => put_setups(&mut self.shelf, alloc),
             "day" => put_day(&mut self.shelf, alloc),
@@ -126,6 +128,12 @@ impl Stage {
     fn damage(&mut self, alloc: Global, change: &str) -> Result<(), Miss> {
         self.host = damaged_host(alloc, &self.host, change)?;
         Ok(())
+    }
+
+    /// `ledger TEXT` puts the file of the ledger.
+    fn put_ledger(&mut self, alloc: Global, text: &str) -> Result<(), Miss> {
+        let bytes = bytes_of(alloc, text)?;
+        put_data(&mut self.host, FileId::ledger(), bytes.as_slice())
     }
 
     /// `data NUMBER has LENGTH` looks how long a data file is; `data NUMBER from PLACE TEXT` looks whether it has a text

@@ -20,7 +20,7 @@ board TESTBBS
 0 GENERAL: 41 slots, 41 live
 1 NETMAIL: 0 slots, 0 live
 7 NEWS: 0 slots, 0 live
-2 users, 1 uploads, 9456 bytes
+2 users, 1 uploads, 9552 bytes
 * data 2 from 6451 \x02\0\0\0\x07\0\0\0Ann Lee\x03\0\0\0\x07\0\0\0BOB RAY
 * data 2 from 6481 \x04\0\0\0\x0C\0\0\00.41.TESTBBS\x05\0\0\0\x0B\0\0\00.3.TESTBBS
 "#;
@@ -100,7 +100,7 @@ board TESTBBS
 0 GENERAL: 1 slots, 0 live
 1 NETMAIL: 0 slots, 0 live
 7 NEWS: 0 slots, 0 live
-4 users, 0 uploads, 3625 bytes
+4 users, 0 uploads, 3817 bytes
 usage line 2
 "#;
 

@@ -39,8 +39,8 @@ fn a_board_is_made_once(rt: HostRuntime) -> Result<(), Miss> {
     expect_transcript(rt.alloc(), MADE)
 }
 
-/// On the board B the users' records have 153 bytes more than the new board, and the eight last-read records 128. The
-/// record of Ed Poe, a member of two conferences, has 37, and his last-read records 32. Each refusal is the first of
+/// On the board B the users' records have 345 bytes more than the new board, and the eight last-read records 128. The
+/// record of Ed Poe, a member of two conferences, has 85, and his last-read records 32. Each refusal is the first of
 /// those that apply.
 const ENROLLED: &str = r#"
 * board B
@@ -49,7 +49,7 @@ board TESTBBS
 0 GENERAL: 0 slots, 0 live
 1 NETMAIL: 0 slots, 0 live
 7 NEWS: 0 slots, 0 live
-4 users, 0 uploads, 3472 bytes
+4 users, 0 uploads, 3664 bytes
 > enroll "" - 5
 refused name
 > enroll " Ann Lee" - 5
@@ -71,7 +71,7 @@ board TESTBBS
 0 GENERAL: 0 slots, 0 live
 1 NETMAIL: 0 slots, 0 live
 7 NEWS: 0 slots, 0 live
-4 users, 0 uploads, 3472 bytes
+4 users, 0 uploads, 3664 bytes
 > enroll "Ed Poe" - 7,0,0000000007
 user 5 Ed Poe
 > check
@@ -79,7 +79,7 @@ board TESTBBS
 0 GENERAL: 0 slots, 0 live
 1 NETMAIL: 0 slots, 0 live
 7 NEWS: 0 slots, 0 live
-5 users, 0 uploads, 3541 bytes
+5 users, 0 uploads, 3781 bytes
 "#;
 
 #[test]
@@ -139,7 +139,7 @@ board TESTBBS
 0 GENERAL: 0 slots, 0 live
 1 NETMAIL: 0 slots, 0 live
 7 NEWS: 0 slots, 0 live
-4 users, 0 uploads, 3472 bytes
+4 users, 0 uploads, 3664 bytes
 > enroll "Ed Poe" n 1,7
 user 5 Ed Poe
 > check
@@ -147,7 +147,7 @@ board TESTBBS
 0 GENERAL: 0 slots, 0 live
 1 NETMAIL: 0 slots, 0 live
 7 NEWS: 0 slots, 0 live
-5 users, 0 uploads, 3541 bytes
+5 users, 0 uploads, 3781 bytes
 "#;
 
 #[test]

@@ -55,7 +55,7 @@ board TESTBBS
 0 GENERAL: 3 slots, 2 live
 1 NETMAIL: 0 slots, 0 live
 7 NEWS: 0 slots, 0 live
-4 users, 0 uploads, 3786 bytes
+4 users, 0 uploads, 3978 bytes
 ";
 
 /// The byte of the ledger that Ann's high in the first conference begins with becomes 3: the records before the users'

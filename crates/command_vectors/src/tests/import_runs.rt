@@ -65,7 +65,7 @@ board TESTBBS
 0 GENERAL: 4 slots, 3 live
 1 NETMAIL: 0 slots, 0 live
 7 NEWS: 0 slots, 0 live
-4 users, 0 uploads, 4141 bytes
+4 users, 0 uploads, 4333 bytes
 * data 2 from 1048 \0\0\0\0\x02\0\0\0\0\0\0\0
 * data 2 from 1182 \x01\0\0\0\0\0\0\0\x03\0\0\0
 * data 2 from 1335 \x01\0\0\0\0\0\0\0\x04\0\0\0
@@ -198,7 +198,7 @@ fn put_copy(alloc: Global, host: &mut MemoryHost, from: FileId, to: FileId) -> R
 /// Gives all conferences but the last the files of the first, without a run for each: nothing in these depends on
 /// their conference.
 fn fill_conferences(alloc: Global, host: &mut MemoryHost) -> Result<(), Miss> {
-    for place in 1..7 {
+    for place in 1..8 {
         put_copy(alloc, host, FileId::jhr(0), FileId::jhr(place))?;
         put_copy(alloc, host, FileId::jdt(0), FileId::jdt(place))?;
         put_copy(alloc, host, FileId::jdx(0), FileId::jdx(place))?;
@@ -206,25 +206,25 @@ fn fill_conferences(alloc: Global, host: &mut MemoryHost) -> Result<(), Miss> {
     Ok(())
 }
 
-/// A setup file with eight conferences, and a sheet of 255 messages, each as long as it may be.
+/// A setup file with nine conferences, and a sheet of 255 messages, each as long as it may be.
 const FILLED: &str = r#"
-* put eight board: Full\ncity: Springfield\nphone: 555-0100\nsysop: Sam Sysop\nbbsid: FULL\nserial: 1\nzones:\n
-* add eight 1 conference: 0 local - C0\nconference: 1 local - C1\nconference: 2 local - C2\n
-* add eight 1 conference: 3 local - C3\nconference: 4 local - C4\nconference: 5 local - C5\n
-* add eight 1 conference: 6 local - C6\nconference: 7 local - C7\n
+* put nine board: Full\ncity: Springfield\nphone: 555-0100\nsysop: Sam Sysop\nbbsid: FULL\nserial: 1\nzones:\n
+* add nine 1 conference: 0 local - C0\nconference: 1 local - C1\nconference: 2 local - C2\n
+* add nine 1 conference: 3 local - C3\nconference: 4 local - C4\nconference: 5 local - C5\n
+* add nine 1 conference: 6 local - C6\nconference: 7 local - C7\nconference: 8 local - C8\n
 * put longest From: Bob Ray\nTo: All\n\n
 * add longest 16383 x
 * add longest 1 \n.\n
 * join long 255 longest
-> init eight
-made 8 conferences
+> init nine
+made 9 conferences
 > import 0 long
 imported 255 into 0
 "#;
 
 const TOO_LONG: &str = "
-> import 7 long
-refused size 33691942
+> import 8 long
+refused size 37903426
 ";
 
 #[test]

@@ -23,7 +23,7 @@ board TESTBBS
 0 GENERAL: 0 slots, 0 live
 1 NETMAIL: 1 slots, 1 live
 7 NEWS: 0 slots, 0 live
-2 users, 0 uploads, 3548 bytes
+2 users, 0 uploads, 3644 bytes
 * data 6 from 1100 \x02\0\0\0\x07\0\0\0Sampler\x03\0\0\0\x07\0\0\0Bob Ray
 * data 6 from 1130 \x04\0\0\0\x0B\0\0\01.1.TESTBBS
 * data 6 ends 1149 \x06\0\0\0\x08\0\0\0Sample 1
@@ -55,7 +55,7 @@ board TESTBBS
 0 GENERAL: 1671 slots, 1671 live
 1 NETMAIL: 1646 slots, 1646 live
 7 NEWS: 1683 slots, 1683 live
-1 users, 0 uploads, 1237904 bytes
+1 users, 0 uploads, 1237952 bytes
 "#;
 
 #[test]

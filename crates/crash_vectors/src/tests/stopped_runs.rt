@@ -1,7 +1,13 @@
 //! Commands that are stopped at a call of the host, and with it all later ones.
-use example_runs::{Miss, Steps, empty_host, empty_shelf, played, run_to_fault, stops_at};
+use super::boards::expect_stops;
+use example_runs::{Miss, empty_host, empty_shelf, run_to_fault, stops_at};
 use mail_cli::Status;
 use std::alloc::Global;
+
+/// Stops a line at each call of the host in turn, on the board that a transcript leaves.
+fn expect_line_stops(alloc: Global, transcript: &str, line: &str) -> Result<(), Miss> {
+    expect_stops(alloc, transcript, line, line)
+}
 
 #[test]
 fn a_first_call_that_fails_says_nothing(rt: HostRuntime) -> Result<(), Miss> {
@@ -13,22 +19,14 @@ fn a_first_call_that_fails_says_nothing(rt: HostRuntime) -> Result<(), Miss> {
     Ok(())
 }
 
-/// Stops a line at each call of the host in turn, on the board that a transcript leaves.
-fn expect_stops(alloc: Global, transcript: &str, line: &str) -> Result<(), Miss> {
-    let stage = played(alloc, transcript)?;
-    let mut shelf = stage.shelf;
-    let mut steps = Steps::of(alloc, stage.host, &mut shelf, line)?;
-    steps.expect_stops(alloc, &mut shelf, line)
-}
-
 #[test]
 fn a_stopped_init_leaves_the_board_before_or_after(rt: HostRuntime) -> Result<(), Miss> {
-    expect_stops(rt.alloc(), "\n* setups\n", "init setup.txt")
+    expect_line_stops(rt.alloc(), "\n* setups\n", "init setup.txt")
 }
 
 #[test]
 fn a_stopped_enroll_leaves_the_board_before_or_after(rt: HostRuntime) -> Result<(), Miss> {
-    expect_stops(rt.alloc(), "\n* board B\n", r#"enroll "Ed Poe" - 0,7"#)
+    expect_line_stops(rt.alloc(), "\n* board B\n", r#"enroll "Ed Poe" - 0,7"#)
 }
 
 const IMPORTED: &str = r#"
@@ -40,7 +38,7 @@ imported 1 into 0
 
 #[test]
 fn a_stopped_export_leaves_the_board_before_or_after(rt: HostRuntime) -> Result<(), Miss> {
-    expect_stops(rt.alloc(), IMPORTED, r#"export "Ann Lee" 10 out"#)
+    expect_line_stops(rt.alloc(), IMPORTED, r#"export "Ann Lee" 10 out"#)
 }
 
 const EXPORTED: &str = r#"
@@ -54,7 +52,7 @@ packet 1: 1 messages
 
 #[test]
 fn a_stopped_ack_leaves_the_board_before_or_after(rt: HostRuntime) -> Result<(), Miss> {
-    expect_stops(rt.alloc(), EXPORTED, r#"ack "Ann Lee" 1"#)
+    expect_line_stops(rt.alloc(), EXPORTED, r#"ack "Ann Lee" 1"#)
 }
 
 /// A packet of Ann's with a message to each of two conferences.
@@ -75,5 +73,5 @@ composed 1, 2 in ANN.MSG
 
 #[test]
 fn a_stopped_upload_leaves_the_board_before_or_after(rt: HostRuntime) -> Result<(), Miss> {
-    expect_stops(rt.alloc(), PACKED, r#"upload "Ann Lee" ANN.MSG"#)
+    expect_line_stops(rt.alloc(), PACKED, r#"upload "Ann Lee" ANN.MSG"#)
 }

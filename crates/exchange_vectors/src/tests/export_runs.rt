@@ -1,5 +1,7 @@
 //! Runs of the commands by which a caller gets his mail: `export` and `ack`.
-use example_runs::{CONTROL, Miss, expect_file, expect_transcript, played};
+use example_runs::{CONTROL, Miss, Stage, expect_file, expect_transcript, played};
+use memory_outside::MemoryHost;
+use std::alloc::Global;
 
 const EXPORTED: &str = r#"
 * board B
@@ -47,8 +49,8 @@ fn a_packet_is_exported_and_read(rt: HostRuntime) -> Result<(), Miss> {
     expect_file(alloc, &stage.shelf, "a/b/c/CONTROL.DAT", CONTROL)
 }
 
-/// Offers, each of which stands until it is superseded or acknowledged. Two messages of the fourth are deleted before
-/// it is acknowledged, its last too. At last come the received and the processed moment, the number and the attribute
+/// Offers, each of which stands until it is acknowledged. Two messages of the fourth are deleted before it is
+/// acknowledged, its last too, and the third stays open. At last come the received and the processed moment, the number and the attribute
 /// of four messages.
 const OFFERS: &str = r#"
 * board B
@@ -73,6 +75,8 @@ user ANN LEE
 1 0/1 public BOB RAY > ALL: Hello [1]
 2 0/2 public BOB RAY > ALL: Hello [1]
 2 messages
+> ack "Ann Lee" 1
+acknowledged 1
 > ack "Ann Lee" 1
 refused nopacket 2
 > ack "Ann Lee" 2
@@ -103,7 +107,7 @@ killed 0 5
 > ack "ANN LEE" 4
 acknowledged 4
 > ack "Ann Lee" 4
-refused nopacket none
+refused nopacket 3
 > export "Ann Lee" 2000 out
 packet 5: 0 messages
 > read out
@@ -119,6 +123,92 @@ user ANN LEE
 #[test]
 fn an_offer_stands_until_it_is_acknowledged(rt: HostRuntime) -> Result<(), Miss> {
     expect_transcript(rt.alloc(), OFFERS)
+}
+
+/// Five exports in a row: the first of five offers goes.
+const FIVE: &str = r#"
+* board B
+> import 0 two
+imported 2 into 0
+> export "Ann Lee" 10 out
+packet 1: 2 messages
+> export "Ann Lee" 10 out
+packet 2: 2 messages
+> export "Ann Lee" 10 out
+packet 3: 2 messages
+> export "Ann Lee" 10 out
+packet 4: 2 messages
+> export "Ann Lee" 10 out
+packet 5: 2 messages
+> ack "Ann Lee" 1
+refused nopacket 5
+> ack "Ann Lee" 2
+acknowledged 2
+> ack "Ann Lee" 5
+acknowledged 5
+> ack "Ann Lee" 5
+refused nopacket 4
+> export "Ann Lee" 10 out
+packet 6: 0 messages
+"#;
+
+#[test]
+fn four_offers_are_open_at_most(rt: HostRuntime) -> Result<(), Miss> {
+    expect_transcript(rt.alloc(), FIVE)
+}
+
+/// A message more before each of four exports.
+const FOUR_OFFERS: &str = r#"
+* board B
+> import 0 one
+imported 1 into 0
+> export "Ann Lee" 10 out
+packet 1: 1 messages
+> import 0 one
+imported 1 into 0
+> export "Ann Lee" 10 out
+packet 2: 2 messages
+> import 0 one
+imported 1 into 0
+> export "Ann Lee" 10 out
+packet 3: 3 messages
+> import 0 one
+imported 1 into 0
+> export "Ann Lee" 10 out
+packet 4: 4 messages
+"#;
+
+/// The orders in which four packets can be acknowledged.
+const ORDERS: &str = "1234 1243 1324 1342 1423 1432 2134 2143 2314 2341 2413 2431 \
+3124 3142 3214 3241 3412 3421 4123 4132 4213 4231 4312 4321";
+
+/// Acknowledges a packet: the pointer, and the greatest number of a message that was read, are the greatest so far.
+fn acknowledge(alloc: Global, stage: &mut Stage, packet: char, read: char) -> Result<(), Miss> {
+    let transcript = format!(in alloc;
+        "\n> ack \"Ann Lee\" {packet}\nacknowledged {packet}\n* data 5 from 8 \\x0{read}\\0\\0\\0\\x0{read}\\0\\0\\0\n"
+    )?;
+    stage.play(alloc, transcript.as_str())
+}
+
+/// Acknowledges four packets in an order. Nothing is offered then.
+fn expect_order(alloc: Global, offered: &MemoryHost, order: &str) -> Result<(), Miss> {
+    let mut stage = Stage::after(alloc, offered)?;
+    let mut read = '0';
+    for packet in order.chars() {
+        read = read.max(packet);
+        acknowledge(alloc, &mut stage, packet, read)?;
+    }
+    stage.play(alloc, "\n> ack \"Ann Lee\" 4\nrefused nopacket none\n")
+}
+
+#[test]
+fn offers_are_acknowledged_in_each_order(rt: HostRuntime) -> Result<(), Miss> {
+    let alloc = rt.alloc();
+    let stage = played(alloc, FOUR_OFFERS)?;
+    for order in ORDERS.split(' ') {
+        expect_order(alloc, &stage.host, order)?;
+    }
+    Ok(())
 }
 
 /// Each of these users, but Ann, sees the private message: Cy it is to, Bob it is from, and Sam is the sysop. It is

@@ -50,7 +50,7 @@ board TESTBBS
 0 GENERAL: 0 slots, 0 live
 1 NETMAIL: 0 slots, 0 live
 7 NEWS: 0 slots, 0 live
-4 users, 0 uploads, 3472 bytes
+4 users, 0 uploads, 3664 bytes
 * damage 3 longer 1 120
 > upload Zed missing
 damaged 3 1 rest

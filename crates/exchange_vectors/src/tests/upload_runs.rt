@@ -9,7 +9,7 @@ imported 1 into 0
 ";
 
 /// The packet is sent again: by the same user, by another, and with a byte that is free changed. Ann's first upload
-/// found 3,625 bytes; each message that is posted adds 149, and each record 42. At last come the moments, the number,
+/// found 3,817 bytes; each message that is posted adds 149, and each record 42. At last come the moments, the number,
 /// the attribute and the subfields of the message that her first upload posted.
 const SENT_AGAIN: &str = r#"
 * blocks free
@@ -41,7 +41,7 @@ board TESTBBS
 0 GENERAL: 3 slots, 3 live
 1 NETMAIL: 0 slots, 0 live
 7 NEWS: 0 slots, 0 live
-4 users, 3 uploads, 4049 bytes
+4 users, 3 uploads, 4241 bytes
 > upload "Ann Lee" empty
 posted 0 refused 0
 > upload "Ann Lee" empty

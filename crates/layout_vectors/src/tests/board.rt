@@ -1,6 +1,6 @@
 //! What the files of boards are read as.
-use super::ledger_texts::ledger_text;
-use board_layout::{StoredBoard, read_board};
+use super::ledger_texts::{ledger_text, version_of};
+use board_layout::{FoundBoard, read_board};
 use byte_lists::Bytes;
 use case_texts::{Miss, bytes_of, expect_cases, number_of};
 use door_outside::FileId;
@@ -28,9 +28,9 @@ fn put(host: &mut MemoryHost, number: u32, bytes: &[u8]) -> Result<(), Miss> {
     Ok(())
 }
 
-/// Puts the files of the board of three conferences and these users, without messages.
-fn put_board(alloc: Global, host: &mut MemoryHost, users: &[u8]) -> Result<(), Miss> {
-    let ledger = ledger_text(alloc, users, b"")?;
+/// Puts the files of the board of three conferences and these users, without messages, with its ledger in a version.
+fn put_board(alloc: Global, host: &mut MemoryHost, version: u8, users: &[u8]) -> Result<(), Miss> {
+    let ledger = ledger_text(alloc, version, users, b"")?;
     put(host, 0, ledger.as_slice())?;
     let header = bytes_of(alloc, HEADER.as_bytes())?;
     for number in [2, 6, 10] {
@@ -50,62 +50,121 @@ fn put_files(host: &mut MemoryHost, words: &[Bytes]) -> Result<(), Miss> {
     Ok(())
 }
 
-/// How many bytes the files have, of each place how many slots there are, the serial number, and how many conferences
-/// there are.
-fn described(alloc: Global, board: &StoredBoard) -> Result<String, AllocError> {
+/// Whether the files are of version 1, how many bytes they have in version 2, of each place how many slots there are, the
+/// serial number, how many conferences there are, and the version of the ledger.
+fn described(alloc: Global, found: &FoundBoard) -> Result<String, AllocError> {
+    let age = if found.is_old { "old" } else { "new" };
+    let board = &found.board;
     let slots = [0, 1, 2, 3].map(|place| Some(board.base(place)?.slot_count()));
-    let serial = board.ledger().setup.serial;
+    let ledger = board.ledger();
     format!(in alloc;
-        "{} {slots:?} {serial} {}",
+        "{age} {} {slots:?} {} {} version {}",
         board.size(),
-        board.bases().len()
+        ledger.setup.serial,
+        board.bases().len(),
+        ledger.version
     )
 }
 
 /// What the files of a host are read as.
 fn outcome(alloc: Global, host: &mut MemoryHost) -> Result<String, AllocError> {
     match read_board(alloc, host) {
-        Ok(Some(board)) => described(alloc, &board),
+        Ok(Some(found)) => described(alloc, &found),
         Ok(None) => String::from_str(alloc, "none"),
         Err(error) => format!(in alloc; "{error}"),
     }
 }
 
-/// What a board is read as: the call from which on all fail, the users or `-` for no board, and files in place of its own.
+/// What a board is read as: the call from which on all fail, the version of its ledger or `-` for no board, its users, and
+/// files in place of its own.
 fn board_read(alloc: Global, words: &[Bytes]) -> Result<String, Miss> {
-    let [stop, users, files @ ..] = words else {
+    let [stop, version, users, files @ ..] = words else {
         return Err(Miss::Words);
     };
     let mut host = empty(alloc, number_of(stop.as_slice())?);
-    if users.as_slice() != b"-".as_slice() {
-        put_board(alloc, &mut host, users.as_slice())?;
+    let version = version_of(version.as_slice())?;
+    if version != b'-' {
+        put_board(alloc, &mut host, version, users.as_slice())?;
     }
     put_files(&mut host, files)?;
     Ok(outcome(alloc, &mut host)?)
 }
 
-/// The first damage comes by file; a high behind the conferences, whose last-read record of Eve is there; the size before
-/// all. The faults are those of the first call, of the first after the lengths of 257 files, and of the length of the last
-/// file.
+/// The first damage comes by file; a high behind the conferences, whose last-read record of Eve is there. The faults are
+/// those of the first call, of the first after the lengths of 257 files, of the first after the look at the version, and of
+/// the length of the last file.
 const BOARDS: &str = r#"
-0 - => none
-0 "" => 3191 [Some(0), Some(0), Some(0), None] 12345 3
-0 "" 0 "" => damaged: file 0, record 0, Short
-0 "" 5 x => damaged: file 5, record 0, Rest
-0 "" 6 "" => damaged: file 6, record 0, Short
-0 "" 12 x => damaged: file 12, record 0, Short
-0 "" 14 x => damaged: file 14, record 0, Rest
-0 "" 257 x => damaged: file 257, record 0, Rest
-0 E 5 \xF3\x70\xCA\x1C\x01\0\0\0\0\0\0\0\0\0\0\0 => damaged: file 0, record 4, High
-0 E 5 \xF3\x70\xCA\x1C\x01\0\0\0\0\0\0\0\0\0\0\0 255 x => damaged: file 255, record 0, Rest
-0 "" 3 \0\{33551242} => damaged: file 0, record 0, Size
-0 "" 3 \0\{33551241} => damaged: file 3, record 1, Rest
-1 "" => disk fault
-258 "" => disk fault
-527 "" => disk fault
+0 - "" => none
+0 2 "" => new 3191 [Some(0), Some(0), Some(0), None] 12345 3 version 2
+0 2 "" 0 "" => damaged: file 0, record 0, Short
+0 2 "" 5 x => damaged: file 5, record 0, Rest
+0 2 "" 6 "" => damaged: file 6, record 0, Short
+0 2 "" 12 x => damaged: file 12, record 0, Short
+0 2 "" 14 x => damaged: file 14, record 0, Rest
+0 2 "" 257 x => damaged: file 257, record 0, Rest
+0 2 E 5 \xF3\x70\xCA\x1C\x01\0\0\0\0\0\0\0\0\0\0\0 => damaged: file 0, record 4, High
+0 2 E 5 \xF3\x70\xCA\x1C\x01\0\0\0\0\0\0\0\0\0\0\0 255 x => damaged: file 255, record 0, Rest
+1 2 "" => disk fault
+258 2 "" => disk fault
+260 2 "" => disk fault
+529 2 "" => disk fault
+530 2 "" => new 3191 [Some(0), Some(0), Some(0), None] 12345 3 version 2
 "#;
 
 #[test]
 fn boards_are_read(rt: HostRuntime) -> Result<(), Miss> {
     expect_cases(rt.alloc(), BOARDS, board_read)
+}
+
+/// A board of either version has the same conferences, and its ledger has version 2. In version 1 a user's record is 48
+/// bytes shorter where there are three conferences.
+const VERSIONS: &str = r#"
+0 1 "" => old 3191 [Some(0), Some(0), Some(0), None] 12345 3 version 2
+0 1 B 5 \x91\x64\x92\xC6\x01\0\0\0\0\0\0\0\0\0\0\0 => old 3293 [Some(0), Some(0), Some(0), None] 12345 3 version 2
+0 2 B 5 \x91\x64\x92\xC6\x01\0\0\0\0\0\0\0\0\0\0\0 => new 3293 [Some(0), Some(0), Some(0), None] 12345 3 version 2
+0 1 B => damaged: file 5, record 0, Short
+0 1 E 5 \xF3\x70\xCA\x1C\x01\0\0\0\0\0\0\0\0\0\0\0 => damaged: file 0, record 4, High
+0 3 "" => damaged: file 0, record 0, Version
+0 1 "" 257 x => damaged: file 257, record 0, Rest
+258 1 "" => disk fault
+259 1 "" => disk fault
+529 1 "" => disk fault
+"#;
+
+#[test]
+fn boards_of_both_versions_are_read(rt: HostRuntime) -> Result<(), Miss> {
+    expect_cases(rt.alloc(), VERSIONS, board_read)
+}
+
+/// The size comes before all. Its limit is 34,603,008 bytes.
+const SIZES: &str = r#"
+0 2 "" 3 \0\{34599818} => damaged: file 0, record 0, Size
+0 2 "" 3 \0\{34599817} => damaged: file 3, record 1, Rest
+"#;
+
+#[test]
+fn sizes_are_limited(rt: HostRuntime) -> Result<(), Miss> {
+    expect_cases(rt.alloc(), SIZES, board_read)
+}
+
+/// With a ledger of version 1 the limit is 33,554,432 bytes.
+const OLD_SIZES: &str = r#"
+0 1 "" 3 \0\{33551242} => damaged: file 0, record 0, Size
+0 1 "" 3 \0\{33551241} => damaged: file 3, record 1, Rest
+"#;
+
+#[test]
+fn old_sizes_are_limited(rt: HostRuntime) -> Result<(), Miss> {
+    expect_cases(rt.alloc(), OLD_SIZES, board_read)
+}
+
+/// It is that where file 0 has 24 bytes and begins as one of version 1, whatever else is wrong in it.
+const OLD_BEGINNINGS: &str = r#"
+0 2 "" 0 QMDL\x01\0\0\{18} 3 \0\{33551360} => damaged: file 0, record 0, Size
+0 2 "" 0 QMDL\x01\0\0\{17} 3 \0\{33551360} => damaged: file 0, record 0, Short
+"#;
+
+#[test]
+fn a_ledger_begins_with_its_version(rt: HostRuntime) -> Result<(), Miss> {
+    expect_cases(rt.alloc(), OLD_BEGINNINGS, board_read)
 }

@@ -62,15 +62,15 @@ fn with_user(alloc: Global, words: &[Bytes]) -> Result<String, Miss> {
 }
 
 /// The places are the bits of a number. The new board has a ledger of 119 bytes and three base headers of 1,024; a user's
-/// record has 31 bytes and the name, and a last-read record 16. A journal has 13 bytes before its patches, and 11 before
+/// record has 79 bytes and the name, and a last-read record 16. A journal has 13 bytes before its patches, and 11 before
 /// the bytes of each: the count of users, which are 2, the user's record, and a last-read record for each place.
 const USERS: &str = r#"
-"Bob Ray" 1 => 3245 fits, 102 journal
-"Bob Ray" 7 => 3277 fits, 156 journal
-"Bob Ray" 0 => 3229 refused
-"Bob Ray" 8 => 3229 refused
-" Bob Ray" 1 => 3246 refused
-"" 1 => 3238 refused
+"Bob Ray" 1 => 3293 fits, 150 journal
+"Bob Ray" 7 => 3325 fits, 204 journal
+"Bob Ray" 0 => 3277 refused
+"Bob Ray" 8 => 3277 refused
+" Bob Ray" 1 => 3294 refused
+"" 1 => 3286 refused
 "#;
 
 #[test]

@@ -1,8 +1,8 @@
 //! Ledgers, as they are read, written and damaged. A case is users, uploads, and a change of their ledger's bytes.
 ghost use Rattle.std.specs.Prelude.{IfOk};
-ghost use Rattle.board_ledger.specs.Valid.{IsLedger};
+ghost use Rattle.board_ledger.specs.Valid.{IsStored};
 
-use super::ledger_texts::{ledger_in, ledger_text};
+use super::ledger_texts::{ledger_in, ledger_text, version_of};
 use board_ledger::{Ledger, LedgerError, UploadRecord, User, upload_patches};
 use byte_lists::Bytes;
 use case_texts::{Miss, expect_cases, quoted};
@@ -10,32 +10,36 @@ use intent_journal::{Patch, Patches};
 use std::alloc::{AllocError, Global};
 
 /// Whether a ledger has the size of these bytes, and is written so.
-fn is_kept(alloc: Global, ledger: &Ledger, bytes: &[u8]) -> Result<bool, AllocError>
-    requires { IsLedger ledger.now }
+fn is_written(alloc: Global, ledger: &Ledger, bytes: &[u8]) -> Result<bool, AllocError>
+    requires { IsStored ledger.now }
 {
     let written = ledger.write(alloc)?;
     Ok(ledger.size() == bytes.len() as u64 && written.as_slice() == bytes)
 }
 
-/// How many bytes there are, and whether they are kept as they are; or what is damaged.
-fn outcome(alloc: Global, bytes: &[u8]) -> Result<String, AllocError> {
+/// How many bytes there are, of which version, and whether these are written of them; or what is damaged.
+fn outcome(alloc: Global, bytes: &[u8], today: &[u8]) -> Result<String, AllocError> {
     match Ledger::read(alloc, bytes) {
         Ok(ledger) => {
-            let is_kept = is_kept(alloc, &ledger, bytes)?;
-            format!(in alloc; "{} kept {is_kept}", bytes.len())
+            let is_written = is_written(alloc, &ledger, today)?;
+            let version = ledger.version();
+            format!(in alloc; "{} version {version} written {is_written}", bytes.len())
         }
         Err(error) => format!(in alloc; "{error}"),
     }
 }
 
+/// What comes of a ledger, which is written as it is.
 fn read_all(alloc: Global, words: &[Bytes]) -> Result<String, Miss> {
     let bytes = ledger_in(alloc, words)?;
-    Ok(outcome(alloc, bytes.as_slice())?)
+    Ok(outcome(alloc, bytes.as_slice(), bytes.as_slice())?)
 }
 
 const KEPT: &str = r#"
-"" "" => 119 kept true
-AE 12 => 279 kept true
+2 "" "" => 119 version 2 written true
+2 AE 12 => 375 version 2 written true
+2 AF 12 => 375 version 2 written true
+2 AE 12 227 \x04 => 375 version 2 written true
 "#;
 
 #[test]
@@ -43,44 +47,99 @@ fn ledgers_are_read_and_written(rt: HostRuntime) -> Result<(), Miss> {
     expect_cases(rt.alloc(), KEPT, read_all)
 }
 
+/// What comes of a ledger of version 1, which is written as the same one of version 2.
+fn read_old(alloc: Global, words: &[Bytes]) -> Result<String, Miss> {
+    let [users, uploads] = words else {
+        return Err(Miss::Words);
+    };
+    let bytes = ledger_text(alloc, b'1', users.as_slice(), uploads.as_slice())?;
+    let today = ledger_text(alloc, b'2', users.as_slice(), uploads.as_slice())?;
+    Ok(outcome(alloc, bytes.as_slice(), today.as_slice())?)
+}
+
+const OLD: &str = r#"
+"" "" => 119 version 1 written true
+AE 12 => 279 version 1 written true
+ABSC "" => 272 version 1 written true
+"#;
+
+#[test]
+fn old_ledgers_are_read(rt: HostRuntime) -> Result<(), Miss> {
+    expect_cases(rt.alloc(), OLD, read_old)
+}
+
 /// Changes of the records of a board of four users, and of each rule of a board of two users and two uploads: record 0,
-/// conferences, users, upload records.
+/// conferences, users, upload records. First in version 1, and then what is different in version 2.
 const DAMAGED: &str = r#"
-ABSC "" 0 X => damaged: file 0, record 0, Magic
-ABSC "" cut 23 => damaged: file 0, record 0, Short
-ABSC "" 4 \x09 => damaged: file 0, record 0, Version
-ABSC "" 6 \0 => damaged: file 0, record 0, Count
-ABSC "" add \0 => damaged: file 0, record 8, Rest
-AE 12 6 \x41 => damaged: file 0, record 0, Count
-AE 12 8 \xF5\x01 => damaged: file 0, record 0, Count
-AE 12 10 \x11 => damaged: file 0, record 0, Count
-AE 12 12 \xA1\x86\x01 => damaged: file 0, record 0, Count
-AE 12 20 \xA0\x86\x01 => damaged: file 0, record 0, Number
-AE 12 cut 82 => damaged: file 0, record 0, Short
-AE 12 26 \x1F => damaged: file 0, record 0, Text
-AE 12 61 \x22 => damaged: file 0, record 0, Text
-AE 12 72 - => damaged: file 0, record 0, Id
-AE 12 79 \x02 => damaged: file 0, record 0, Zones
-AE 12 cut 95 => damaged: file 0, record 1, Short
-AE 12 85 \x03 => damaged: file 0, record 1, Kind
-AE 12 86 \x04 => damaged: file 0, record 1, Rules
-AE 12 89 \x7F => damaged: file 0, record 1, Name
-AE 12 96 \0 => damaged: file 0, record 2, Order
-AE 12 cut 156 => damaged: file 0, record 4, Short
-AE 12 121 \x20 => damaged: file 0, record 4, Name
-AE 12 159 "aNN lEE" => damaged: file 0, record 5, Twice
-AE 12 128 \x02 => damaged: file 0, record 4, Flags
-AE 12 137 \0 => damaged: file 0, record 4, Member
-AE 12 137 \x08 => damaged: file 0, record 4, Member
-AE 12 133 \x01 => damaged: file 0, record 4, Offer
-AE 12 145 \x01 => damaged: file 0, record 4, Offer
-AE 12 187 \x01 => damaged: file 0, record 5, Offer
-AE 12 cut 278 => damaged: file 0, record 7, Short
-AE 12 195 \0 => damaged: file 0, record 6, User
-AE 12 195 \x03 => damaged: file 0, record 6, User
-AE 12 237 \x01 => damaged: file 0, record 7, Twice
-AE 12 271 \x01 => damaged: file 0, record 7, Counts
-AE 12 add \0 => damaged: file 0, record 8, Rest
+1 ABSC "" 0 X => damaged: file 0, record 0, Magic
+1 ABSC "" cut 23 => damaged: file 0, record 0, Short
+1 ABSC "" 4 \x09 => damaged: file 0, record 0, Version
+1 ABSC "" 6 \0 => damaged: file 0, record 0, Count
+1 ABSC "" add \0 => damaged: file 0, record 8, Rest
+1 AE 12 6 \x41 => damaged: file 0, record 0, Count
+1 AE 12 8 \xF5\x01 => damaged: file 0, record 0, Count
+1 AE 12 10 \x11 => damaged: file 0, record 0, Count
+1 AE 12 12 \xA1\x86\x01 => damaged: file 0, record 0, Count
+1 AE 12 20 \xA0\x86\x01 => damaged: file 0, record 0, Number
+1 AE 12 cut 82 => damaged: file 0, record 0, Short
+1 AE 12 26 \x1F => damaged: file 0, record 0, Text
+1 AE 12 61 \x22 => damaged: file 0, record 0, Text
+1 AE 12 72 - => damaged: file 0, record 0, Id
+1 AE 12 79 \x02 => damaged: file 0, record 0, Zones
+1 AE 12 cut 95 => damaged: file 0, record 1, Short
+1 AE 12 85 \x03 => damaged: file 0, record 1, Kind
+1 AE 12 86 \x04 => damaged: file 0, record 1, Rules
+1 AE 12 89 \x7F => damaged: file 0, record 1, Name
+1 AE 12 96 \0 => damaged: file 0, record 2, Order
+1 AE 12 cut 156 => damaged: file 0, record 4, Short
+1 AE 12 121 \x20 => damaged: file 0, record 4, Name
+1 AE 12 159 "aNN lEE" => damaged: file 0, record 5, Twice
+1 AE 12 128 \x02 => damaged: file 0, record 4, Flags
+1 AE 12 137 \0 => damaged: file 0, record 4, Member
+1 AE 12 137 \x08 => damaged: file 0, record 4, Member
+1 AE 12 133 \x01 => damaged: file 0, record 4, Offer
+1 AE 12 145 \x01 => damaged: file 0, record 4, Offer
+1 AE 12 187 \x01 => damaged: file 0, record 5, Offer
+1 AE 12 cut 278 => damaged: file 0, record 7, Short
+1 AE 12 195 \0 => damaged: file 0, record 6, User
+1 AE 12 195 \x03 => damaged: file 0, record 6, User
+1 AE 12 237 \x01 => damaged: file 0, record 7, Twice
+1 AE 12 271 \x01 => damaged: file 0, record 7, Counts
+1 AE 12 add \0 => damaged: file 0, record 8, Rest
+1 AE 12 4 \x03 => damaged: file 0, record 0, Version
+1 AE 12 171 \x04 => damaged: file 0, record 5, Offer
+1 AE 12 171 \0 => damaged: file 0, record 5, Offer
+1 AE 12 4 \x02 => damaged: file 0, record 4, Member
+2 AE 12 4 \0 => damaged: file 0, record 0, Version
+2 AE 12 4 \x03 => damaged: file 0, record 0, Version
+2 AE 12 4 \x01 => damaged: file 0, record 4, Member
+2 AE 12 cut 82 => damaged: file 0, record 0, Short
+2 AE 12 cut 204 => damaged: file 0, record 4, Short
+2 AE 12 121 \x20 => damaged: file 0, record 4, Name
+2 AE 12 207 "aNN lEE" => damaged: file 0, record 5, Twice
+2 AE 12 128 \x02 => damaged: file 0, record 4, Flags
+2 AE 12 133 \0 => damaged: file 0, record 4, Member
+2 AE 12 133 \x08 => damaged: file 0, record 4, Member
+2 AE 12 141 \x01 => damaged: file 0, record 4, Offer
+2 AE 12 145 \x01 => damaged: file 0, record 4, Offer
+2 AE 12 204 \x01 => damaged: file 0, record 4, Offer
+2 AE 12 227 \x06 => damaged: file 0, record 5, Offer
+2 AE 12 227 \0 => damaged: file 0, record 5, Offer
+2 AE 12 235 \x01 => damaged: file 0, record 5, Offer
+2 AE 12 243 \x05 => damaged: file 0, record 5, Offer
+2 AE 12 247 \x01 => damaged: file 0, record 5, Offer
+2 AE 12 275 \x05 => damaged: file 0, record 5, Offer
+2 AF 12 235 \x01 => damaged: file 0, record 5, Offer
+2 AF 12 243 \x02 => damaged: file 0, record 5, Offer
+2 AF 12 259 \0 => damaged: file 0, record 5, Offer
+2 AF 12 259 \0\{16} => damaged: file 0, record 5, Offer
+2 AF 12 275 \x0A => damaged: file 0, record 5, Offer
+2 AF 12 283 \x01 => damaged: file 0, record 5, Offer
+2 AE 12 cut 374 => damaged: file 0, record 7, Short
+2 AE 12 291 \x03 => damaged: file 0, record 6, User
+2 AE 12 333 \x01 => damaged: file 0, record 7, Twice
+2 AE 12 367 \x01 => damaged: file 0, record 7, Counts
+2 AE 12 add \0 => damaged: file 0, record 8, Rest
 "#;
 
 #[test]
@@ -88,11 +147,11 @@ fn the_first_damage_is_named(rt: HostRuntime) -> Result<(), Miss> {
     expect_cases(rt.alloc(), DAMAGED, read_all)
 }
 
-/// The ledger of these users and uploads.
-fn ledger_of(alloc: Global, users: &[u8], uploads: &[u8]) -> Result<Ledger, Miss>
-    ensures { IfOk result IsLedger }
+/// The ledger of these users and uploads in a version.
+fn ledger_of(alloc: Global, version: u8, users: &[u8], uploads: &[u8]) -> Result<Ledger, Miss>
+    ensures { IfOk result IsStored }
 {
-    let bytes = ledger_text(alloc, users, uploads)?;
+    let bytes = ledger_text(alloc, version, users, uploads)?;
     match Ledger::read(alloc, bytes.as_slice()) {
         Ok(ledger) => Ok(ledger),
         Err(_) => Err(Miss::Unreached),
@@ -115,16 +174,21 @@ fn setup_of(alloc: Global, ledger: &Ledger) -> Result<String, Miss> {
     )?)
 }
 
+/// A user's name, rights, conferences and last packet, and each offer with its highs.
 fn user_text(alloc: Global, user: &User) -> Result<String, AllocError> {
-    format!(in alloc;
-        "{} net {} in {} last {} offered {} {:?}",
+    let mut text = format!(in alloc;
+        "{} net {} in {} last {}",
         user.name.as_slice().escape_ascii(),
         user.net,
         user.members,
-        user.last,
-        user.offered,
-        user.highs.as_slice()
-    )
+        user.last
+    )?;
+    for offer in user.offers.as_slice() {
+        let highs = offer.highs.as_slice();
+        let offer = format!(in alloc; ", {} {highs:?}", offer.number)?;
+        text.push_str(offer.as_str())?;
+    }
+    Ok(text)
 }
 
 fn upload_text(alloc: Global, upload: &UploadRecord) -> Result<String, AllocError> {
@@ -139,10 +203,11 @@ fn upload_text(alloc: Global, upload: &UploadRecord) -> Result<String, AllocErro
 
 /// What is read of a ledger: its setup, its second user or its second upload.
 fn value_of(alloc: Global, words: &[Bytes]) -> Result<String, Miss> {
-    let [value, users, uploads] = words else {
+    let [value, version, users, uploads] = words else {
         return Err(Miss::Words);
     };
-    let ledger = ledger_of(alloc, users.as_slice(), uploads.as_slice())?;
+    let version = version_of(version.as_slice())?;
+    let ledger = ledger_of(alloc, version, users.as_slice(), uploads.as_slice())?;
     match value.as_slice() {
         b"setup" => setup_of(alloc, &ledger),
         b"user" => Ok(user_text(alloc, ledger.users.get(1).ok_or(Miss::Words)?)?),
@@ -152,9 +217,14 @@ fn value_of(alloc: Global, words: &[Bytes]) -> Result<String, Miss> {
 }
 
 const VALUES: &str = r#"
-setup "" "" => 1000000000 12345 TESTBBS [1, 2] 7 readonly true private false
-user AE "" => Eve Poe net false in 1 last 5 offered 5 [3, 0, 0]
-upload AB 12 => 2 posted 0 refused 8191 digest of thirty-two bytes, SHA2
+setup 1 "" "" => 1000000000 12345 TESTBBS [1, 2] 7 readonly true private false
+setup 2 "" "" => 1000000000 12345 TESTBBS [1, 2] 7 readonly true private false
+user 1 AE "" => Eve Poe net false in 1 last 5, 5 [3, 0, 0]
+user 2 AE "" => Eve Poe net false in 1 last 5, 5 [3, 0, 0]
+user 2 EA "" => Ann Lee net true in 7 last 0
+user 2 AF "" => Flo Fox net false in 5 last 9, 2 [1, 0, 0], 4 [3, 0, 2], 8 [3, 0, 2], 9 [7, 0, 2]
+upload 1 AB 12 => 2 posted 0 refused 8191 digest of thirty-two bytes, SHA2
+upload 2 AB 12 => 2 posted 0 refused 8191 digest of thirty-two bytes, SHA2
 "#;
 
 #[test]
@@ -168,9 +238,12 @@ fn first_upload(
     ledger: &Ledger,
     other: &Ledger,
 ) -> Result<Option<Patches>, AllocError>
-    requires ledger { IsLedger ledger.now }
-    requires other { IsLedger other.now }
+    requires ledger { IsStored ledger.now }
+    requires other { IsStored other.now }
 {
+    if ledger.version() != 2 || other.version() != 2 {
+        return Ok(None);
+    }
     let Some(upload) = other.uploads.get(0) else {
         return Ok(None);
     };
@@ -199,8 +272,8 @@ fn upload_put(alloc: Global, words: &[Bytes]) -> Result<String, Miss> {
     let [users, uploads] = words else {
         return Err(Miss::Words);
     };
-    let ledger = ledger_of(alloc, users.as_slice(), b"")?;
-    let other = ledger_of(alloc, users.as_slice(), uploads.as_slice())?;
+    let ledger = ledger_of(alloc, b'2', users.as_slice(), b"")?;
+    let other = ledger_of(alloc, b'2', users.as_slice(), uploads.as_slice())?;
     let patches = first_upload(alloc, &ledger, &other)?.ok_or(Miss::Unreached)?;
     let mut text = String::new(alloc);
     for patch in patches.as_slice() {
@@ -210,7 +283,7 @@ fn upload_put(alloc: Global, words: &[Bytes]) -> Result<String, Miss> {
 }
 
 const PUT: &str = r#"
-AE 1 => [0 12 "\x01\x00\x00\x00"][0 195 "\x01\x00digest of thirty-two bytes, SHA2\x01\x00\x00\x00\x02\x00\x00\x00"]
+AE 1 => [0 12 "\x01\x00\x00\x00"][0 291 "\x01\x00digest of thirty-two bytes, SHA2\x01\x00\x00\x00\x02\x00\x00\x00"]
 "#;
 
 #[test]

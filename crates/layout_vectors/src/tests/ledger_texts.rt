@@ -3,24 +3,50 @@ use byte_lists::Bytes;
 use case_texts::{Miss, bytes_of, number_of};
 use std::alloc::Global;
 
-/// The ledger of a board of three conferences: what stands before the count of users, between it and that of upload
-/// records, and behind that.
-const FRONT: &str = r"QMDL\x01\0\x03\0";
+/// The ledger of a board of three conferences: its letters, and then what stands between its version and the count of
+/// users, between that and the count of upload records, and behind that.
+const LETTERS: &str = "QMDL";
+
+const CONFERENCES: &str = r"\0\x03\0";
 
 const ZONES: &str = r"\x02\0";
 
 const SETUP: &str =
     r"\0\xCA\x9A;90\0\0\x0A\0Test Board\x0B\0Springfield\x08\0555-0100\x09\0Sam Sysop\x07\0TESTBBS\x01\0\x02\0\0\0\0\x02\x07\0GENERAL\x01\0\x02\0\x07\0NETMAIL\x07\0\0\x01\x04\0NEWS";
 
-/// The record of a letter or a digit. Ann, Bob, Sam and Cy are users that have fetched nothing; Eve is one to whom packet 5
-/// is offered, up to message 3 of the first conference. The upload records are of two users, and of one digest.
-fn record(name: u8) -> &'static str {
+/// The record of a user's letter in version 1. Ann, Bob, Sam and Cy are users that have fetched nothing; Eve is one to whom
+/// packet 5 is offered, up to message 3 of the first conference.
+fn first_record(name: u8) -> &'static str {
     match name {
         b'A' => r"\x07\0Ann Lee\x01\0\0\0\0\0\0\0\0\x07\0\0\0\0\0\0\0\0\0\0\0\0\0\0\0\0\0\0\0",
         b'B' => r"\x07\0Bob Ray\0\0\0\0\0\0\0\0\0\x01\0\0\0\0\0\0\0\0\0\0\0\0\0\0\0\0\0\0\0",
         b'S' => r"\x09\0Sam Sysop\x01\0\0\0\0\0\0\0\0\x07\0\0\0\0\0\0\0\0\0\0\0\0\0\0\0\0\0\0\0",
         b'C' => r"\x06\0Cy Day\0\0\0\0\0\0\0\0\0\x01\0\0\0\0\0\0\0\0\0\0\0\0\0\0\0\0\0\0\0",
         b'E' => r"\x07\0Eve Poe\0\x05\0\0\0\x05\0\0\0\x01\0\0\0\0\0\0\0\x03\0\0\0\0\0\0\0\0\0\0\0",
+        _ => "",
+    }
+}
+
+/// The record of a user's letter in version 2, whose four offers have 16 bytes each. To Flo, a member of the first and the
+/// third conference, the packets 2, 4, 8 and 9 are offered.
+fn second_record(name: u8) -> &'static str {
+    match name {
+        b'A' => r"\x07\0Ann Lee\x01\0\0\0\0\x07\0\0\0\0\0\0\0\0\{64}",
+        b'B' => r"\x07\0Bob Ray\0\0\0\0\0\x01\0\0\0\0\0\0\0\0\{64}",
+        b'S' => r"\x09\0Sam Sysop\x01\0\0\0\0\x07\0\0\0\0\0\0\0\0\{64}",
+        b'C' => r"\x06\0Cy Day\0\0\0\0\0\x01\0\0\0\0\0\0\0\0\{64}",
+        b'E' =>
+            r"\x07\0Eve Poe\0\x05\0\0\0\x01\0\0\0\0\0\0\0\x05\0\0\0\x03\0\0\0\0\0\0\0\0\0\0\0\0\{48}",
+        b'F' => {
+            r"\x07\0Flo Fox\0\x09\0\0\0\x05\0\0\0\0\0\0\0\x02\0\0\0\x01\0\0\0\0\0\0\0\0\0\0\0\x04\0\0\0\x03\0\0\0\0\0\0\0\x02\0\0\0\x08\0\0\0\x03\0\0\0\0\0\0\0\x02\0\0\0\x09\0\0\0\x07\0\0\0\0\0\0\0\x02\0\0\0"
+        }
+        _ => "",
+    }
+}
+
+/// The upload record of a digit. They are of two users, and of one digest.
+fn upload(name: u8) -> &'static str {
+    match name {
         b'1' => r"\x01\0digest of thirty-two bytes, SHA2\x01\0\0\0\x02\0\0\0",
         b'2' => r"\x02\0digest of thirty-two bytes, SHA2\0\0\0\0\xFF\x1F\0\0",
         _ => "",
@@ -34,24 +60,42 @@ fn add(alloc: Global, bytes: &mut Bytes, text: &str) -> Result<(), Miss> {
     Ok(())
 }
 
-/// Adds the records of these names.
-fn add_records(alloc: Global, bytes: &mut Bytes, names: &[u8]) -> Result<(), Miss> {
-    for name in names {
-        add(alloc, bytes, record(*name))?;
+/// Adds the records of these users in a version, which is a digit.
+fn add_users(alloc: Global, bytes: &mut Bytes, version: u8, users: &[u8]) -> Result<(), Miss> {
+    for name in users {
+        match version {
+            b'1' => add(alloc, bytes, first_record(*name))?,
+            _ => add(alloc, bytes, second_record(*name))?,
+        }
     }
     Ok(())
 }
 
-/// The ledger with the records of these users and uploads.
-pub fn ledger_text(alloc: Global, users: &[u8], uploads: &[u8]) -> Result<Bytes, Miss> {
+/// Adds these upload records.
+fn add_uploads(alloc: Global, bytes: &mut Bytes, uploads: &[u8]) -> Result<(), Miss> {
+    for name in uploads {
+        add(alloc, bytes, upload(*name))?;
+    }
+    Ok(())
+}
+
+/// The ledger with the records of these users and uploads, in a version, which is a digit.
+pub fn ledger_text(
+    alloc: Global,
+    version: u8,
+    users: &[u8],
+    uploads: &[u8],
+) -> Result<Bytes, Miss> {
     let mut bytes = Bytes::new(alloc);
-    add(alloc, &mut bytes, FRONT)?;
+    add(alloc, &mut bytes, LETTERS)?;
+    bytes.add(&[version & 0x0F])?;
+    add(alloc, &mut bytes, CONFERENCES)?;
     bytes.add(&[(users.len() % 256) as u8, 0])?;
     add(alloc, &mut bytes, ZONES)?;
     bytes.add(&[(uploads.len() % 256) as u8, 0, 0, 0])?;
     add(alloc, &mut bytes, SETUP)?;
-    add_records(alloc, &mut bytes, users)?;
-    add_records(alloc, &mut bytes, uploads)?;
+    add_users(alloc, &mut bytes, version, users)?;
+    add_uploads(alloc, &mut bytes, uploads)?;
     Ok(bytes)
 }
 
@@ -71,14 +115,24 @@ fn changed(alloc: Global, bytes: &[u8], place: &[u8], value: &[u8]) -> Result<By
     Ok(Bytes::from_vec(made))
 }
 
-/// The ledger that words name: its users, its uploads, and a change, if any.
+/// The digit of a version.
+pub fn version_of(word: &[u8]) -> Result<u8, Miss> {
+    match word {
+        [digit] => Ok(*digit),
+        _ => Err(Miss::Words),
+    }
+}
+
+/// The ledger that words name: its version, its users, its uploads, and a change, if any.
 pub fn ledger_in(alloc: Global, words: &[Bytes]) -> Result<Bytes, Miss> {
-    match words {
-        [users, uploads] => ledger_text(alloc, users.as_slice(), uploads.as_slice()),
-        [users, uploads, place, value] => {
-            let bytes = ledger_text(alloc, users.as_slice(), uploads.as_slice())?;
-            changed(alloc, bytes.as_slice(), place.as_slice(), value.as_slice())
-        }
+    let [version, users, uploads, change @ ..] = words else {
+        return Err(Miss::Words);
+    };
+    let version = version_of(version.as_slice())?;
+    let bytes = ledger_text(alloc, version, users.as_slice(), uploads.as_slice())?;
+    match change {
+        [] => Ok(bytes),
+        [place, value] => changed(alloc, bytes.as_slice(), place.as_slice(), value.as_slice()),
         _ => Err(Miss::Words),
     }
 }

@@ -22,7 +22,7 @@ user 1 Ann Lee
 [[1 64 imported 1 into #
 ]]board MANY
 [[1 64 # C#: 1 slots, 1 live
-]]1 users, 0 uploads, 76878 bytes
+]]1 users, 0 uploads, 77658 bytes
 > export "Ann Lee" 63 out
 packet 1: 63 messages
 > export "Ann Lee" 64 out
@@ -45,46 +45,46 @@ fn sixty_four_conferences_have_mail(rt: HostRuntime) -> Result<(), Miss> {
     expect_numbered(rt.alloc(), MANY)
 }
 
-/// A board of eight conferences, and sheets of 255 and 246 messages whose bodies are as long as they may be, with which
-/// 11,098 bytes are free. A message of the last sheets has 128 bytes and its body.
+/// A board of eight conferences, and sheets of 255 and 55 messages whose bodies are as long as they may be, with which
+/// 2,906 bytes are free. A message of the last sheets has 128 bytes and its body.
 pub const ROOM: &str = r#"
 * put setup board: Full\ncity: Springfield\nphone: 555-0100\nsysop: Sam Sysop\nbbsid: FULL\nserial: 1\nzones:\n[[0 7 conference: # local - C#\n]]
 * put longest From: Bob Ray\nTo: All\n\n
 * add longest 16383 x
 * add longest 1 \n.\n
 * join long 255 longest
-* join rest 246 longest
+* join rest 55 longest
 * put fits From: Bob Ray\nTo: All\n\n
-* add fits 10969 x
+* add fits 2777 x
 * add fits 1 \n.\n
 * put over From: Bob Ray\nTo: All\n\n
-* add over 10970 x
+* add over 2778 x
 * add over 1 \n.\n
-* put lines init setup\n[[0 6 import # long\n]]import 7 rest\nimport 7 over\nimport 7 fits\ncheck\n
+* put lines init setup\n[[0 7 import # long\n]]import 7 rest\nimport 7 over\nimport 7 fits\ncheck\n
 > batch lines
 made 8 conferences
-[[0 6 imported 255 into #
-]]imported 246 into 7
-refused size 33554433
+[[0 7 imported 255 into #
+]]imported 55 into 7
+refused size 34603009
 imported 1 into 7
 board FULL
 [[0 6 # C#: 255 slots, 255 live
-]]7 C7: 247 slots, 247 live
-0 users, 0 uploads, 33554432 bytes
+]]7 C7: 311 slots, 311 live
+0 users, 0 uploads, 34603008 bytes
 "#;
 
 /// On that board nothing is added any more, and deleting goes on. With one byte more it isn't a board.
 const FULL: &str = r#"
-* put lines enroll A - 0\nkill 7 247\nkill 7 247\nimport 7 over\ncheck\n
+* put lines enroll A - 0\nkill 7 311\nkill 7 311\nimport 7 over\ncheck\n
 > batch lines
-refused size 33554500
-killed 7 247
+refused size 34603184
+killed 7 311
 refused nomessage
-refused size 33565531
+refused size 34605915
 board FULL
 [[0 6 # C#: 255 slots, 255 live
-]]7 C7: 247 slots, 246 live
-0 users, 0 uploads, 33554432 bytes
+]]7 C7: 311 slots, 310 live
+0 users, 0 uploads, 34603008 bytes
 * damage 3 longer 1 120
 > check
 damaged 0 0 size

@@ -138,7 +138,7 @@ board TESTBBS
 0 GENERAL: 4 slots, 2 live
 1 NETMAIL: 1 slots, 1 live
 7 NEWS: 0 slots, 0 live
-4 users, 0 uploads, 4079 bytes
+4 users, 0 uploads, 4271 bytes
 "#;
 
 const ROWS: &str = r#"0 0 0.0.TESTBBS = none

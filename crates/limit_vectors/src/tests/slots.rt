@@ -16,7 +16,7 @@ refused slots 10000
 refused slots 10000
 board ONE
 0 C0: 9999 slots, 9999 live
-1 users, 0 uploads, 2419980 bytes
+1 users, 0 uploads, 2420004 bytes
 > export "Ann Lee" 2000 out
 packet 1: 2000 messages
 > kill 0 9999

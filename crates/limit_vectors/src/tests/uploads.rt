@@ -33,7 +33,7 @@ board TESTBBS
 0 GENERAL: 8191 slots, 8191 live
 1 NETMAIL: 0 slots, 0 live
 7 NEWS: 0 slots, 0 live
-4 users, 1 uploads, 1222866 bytes
+4 users, 1 uploads, 1223058 bytes
 * board B
 * blocks texts
 TESTBBS
@@ -48,7 +48,7 @@ board TESTBBS
 0 GENERAL: 4096 slots, 4096 live
 1 NETMAIL: 0 slots, 0 live
 7 NEWS: 0 slots, 0 live
-4 users, 1 uploads, 624996 bytes
+4 users, 1 uploads, 625188 bytes
 "#;
 
 #[test]
@@ -108,7 +108,7 @@ board TESTBBS
 0 GENERAL: 1 slots, 1 live
 1 NETMAIL: 0 slots, 0 live
 7 NEWS: 0 slots, 0 live
-4 users, 100000 uploads, 4203621 bytes
+4 users, 100000 uploads, 4203813 bytes
 > upload "Ann Lee" rep
 again posted 1 refused 0
 > upload "Ann Lee" other

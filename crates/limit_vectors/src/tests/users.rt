@@ -2,7 +2,7 @@
 use super::numbered::expect_numbered;
 use example_runs::Miss;
 
-/// The last user gets mail. The users' records have 31 bytes and their names, and each user has three last-read records.
+/// The last user gets mail. The users' records have 79 bytes and their names, and each user has three last-read records.
 const USERS: &str = r#"
 * setups
 * put lines init setup.txt\n[[1 500 enroll "User #" n all\n]]enroll "User 501" n all\nenroll "user 500" n 5\nenroll "User 501" n 5\ncheck\n
@@ -17,7 +17,7 @@ board TESTBBS
 0 GENERAL: 0 slots, 0 live
 1 NETMAIL: 0 slots, 0 live
 7 NEWS: 0 slots, 0 live
-500 users, 0 uploads, 46583 bytes
+500 users, 0 uploads, 70583 bytes
 > import 0 mail
 imported 1 into 0
 > export "User 499" 10 out
@@ -33,7 +33,7 @@ board TESTBBS
 0 GENERAL: 1 slots, 1 live
 1 NETMAIL: 0 slots, 0 live
 7 NEWS: 0 slots, 0 live
-500 users, 0 uploads, 46716 bytes
+500 users, 0 uploads, 70716 bytes
 "#;
 
 #[test]
