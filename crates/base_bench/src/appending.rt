@@ -1,10 +1,10 @@
-ghost use Rattle.std.specs.Prelude.{◌≡◌, All, IfOk, IfSome, OnOk};
+ghost use Rattle.std.specs.Prelude.{◌≡◌, All, IfOk, OnOk};
 ghost use Rattle.jam_base.specs.Messages.{IsMessage, IsSlot};
 ghost use Rattle.jam_base.specs.Valid.{IsShape};
 
 use crate::argument::Plan;
 use byte_lists::Duplicate;
-use jam_base::{Base, Shape};
+use jam_base::{AppendRefusal, Base, BaseChange, Shape};
 use jam_records::{Kind, Messages, Slot};
 use std::alloc::{AllocError, Global};
 use std::io;
@@ -39,27 +39,62 @@ fn copies(alloc: Global, base: &Base, upto: u32) -> Result<Messages, AllocError>
     Ok(messages)
 }
 
-/// Appends messages to a base, prints how many slots there are then, and answers the base.
-fn append<R: Print>(
-    rt: &R,
-    alloc: Global,
-    base: &Base,
-    messages: &Messages,
-) -> io::Result<Option<Base>>
-    requires kind { base.now.shape.kind ≡ Kind.Local }
-    requires messages { All (IsMessage Kind.Local) messages.now }
-    ensures { IfOk result (λ base. IfSome base (λ base. base.shape.kind ≡ Kind.Local)) }
-{
-    match base.appended(alloc, messages) {
-        Err(error) => {
-            println!(rt; "not appended: {error:?}")?;
-            Ok(None)
-        }
+/// Prints how many slots there are after a change of a base, or why it isn't made.
+fn print<R: Print>(rt: &R, change: &Result<BaseChange, AppendRefusal>) -> io::Result<()> {
+    match change {
+        Err(error) => println!(rt; "not appended: {error:?}")?,
         Ok(change) => {
             let count = change.base.slot_count();
             println!(rt; "appended: {count} slots")?;
-            Ok(Some(change.base))
         }
+    }
+    Ok(())
+}
+
+/// Appends messages to a base, and prints what comes of it.
+fn append<R: Print>(rt: &R, alloc: Global, base: &Base, messages: &Messages) -> io::Result<()>
+    requires kind { base.now.shape.kind ≡ Kind.Local }
+    requires messages { All (IsMessage Kind.Local) messages.now }
+{
+    let change = base.appended(alloc, messages);
+    print(rt, &change)
+}
+
+/// Appends a message to a base, so many times.
+fn append_each<R: Print>(
+    rt: &R,
+    alloc: Global,
+    base: &Base,
+    one: &Messages,
+    times: u32,
+) -> io::Result<()>
+    requires kind { base.now.shape.kind ≡ Kind.Local }
+    requires one { All (IsMessage Kind.Local) one.now }
+{
+    for _ in 0..times {
+        append(rt, alloc, base, one)?;
+    }
+    Ok(())
+}
+
+/// Appends messages to an empty base, and then one more to that, so many times.
+fn append_all<R: Print>(
+    rt: &R,
+    alloc: Global,
+    empty: &Base,
+    messages: &Messages,
+    one: &Messages,
+    times: u32,
+) -> io::Result<()>
+    requires kind { empty.now.shape.kind ≡ Kind.Local }
+    requires messages { All (IsMessage Kind.Local) messages.now }
+    requires one { All (IsMessage Kind.Local) one.now }
+{
+    let change = empty.appended(alloc, messages);
+    print(rt, &change)?;
+    match &change {
+        Ok(change) => append_each(rt, alloc, &change.base, one, times),
+        Err(_) => Ok(()),
     }
 }
 
@@ -77,11 +112,6 @@ pub fn report<R: Print>(
 {
     let messages = copies(alloc, base, plan.appended)?;
     let one = copies(alloc, base, 1)?;
-    let empty = Base::fresh(alloc, shape)?.base;
-    if let Some(filled) = append(rt, alloc, &empty, &messages)? {
-        for _ in 0..plan.more {
-            let _longer = append(rt, alloc, &filled, &one)?;
-        }
-    }
-    Ok(())
+    let empty = Base::fresh(alloc, shape)?;
+    append_all(rt, alloc, &empty.base, &messages, &one, plan.more)
 }

@@ -12,22 +12,17 @@ fn add_field(alloc: Global, bytes: &mut Bytes, lo: u16, value: &Bytes) -> Result
     if len == 0 || len > LONGEST {
         return Ok(());
     }
+    let value = value.copy(alloc)?;
     let mut one = Subfields::new(alloc);
-    one.add(Subfield {
-        lo,
-        hi: 0,
-        value: value.copy(alloc)?,
-    })?;
+    one.add(Subfield { lo, hi: 0, value })?;
     bytes.add(write_subfields(alloc, &one)?.as_slice())
 }
 
-/// The bytes of SENDERNAME, RECEIVERNAME, MSGID, REPLYID and SUBJECT, one after the other.
-pub fn fields(alloc: Global, message: &Message) -> Result<Bytes, AllocError> {
-    let mut bytes = Bytes::new(alloc);
-    add_field(alloc, &mut bytes, 2, &message.from)?;
-    add_field(alloc, &mut bytes, 3, &message.to)?;
-    add_field(alloc, &mut bytes, 4, &message.msgid)?;
-    add_field(alloc, &mut bytes, 5, &message.replyid)?;
-    add_field(alloc, &mut bytes, 6, &message.subject)?;
-    Ok(bytes)
+/// Adds SENDERNAME, RECEIVERNAME, MSGID, REPLYID and SUBJECT, one after the other.
+pub fn add_fields(alloc: Global, bytes: &mut Bytes, message: &Message) -> Result<(), AllocError> {
+    add_field(alloc, bytes, 2, &message.from)?;
+    add_field(alloc, bytes, 3, &message.to)?;
+    add_field(alloc, bytes, 4, &message.msgid)?;
+    add_field(alloc, bytes, 5, &message.replyid)?;
+    add_field(alloc, bytes, 6, &message.subject)
 }

@@ -1,4 +1,4 @@
-use crate::fields::fields;
+use crate::fields::add_fields;
 use crate::messages::{MOST, slots};
 use byte_lists::Bytes;
 use jam_base::{BaseFiles, Shape};
@@ -65,7 +65,8 @@ fn add_message(
         offset: size(&files.jhr),
     };
     files.jdx.add(&write_index(&index))?;
-    let fields = fields(alloc, message)?;
+    let mut fields = Bytes::new(alloc);
+    add_fields(alloc, &mut fields, message)?;
     let header = header(number, link, message, size(&fields), size(&files.jdt));
     files.jhr.add(&write_message_header(&header))?;
     files.jhr.add(fields.as_slice())?;
@@ -102,8 +103,8 @@ fn add_readers(files: &mut BaseFiles, shape: &Shape) -> Result<(), AllocError> {
     Ok(())
 }
 
-/// The four files of a full conference.
-pub fn files(alloc: Global, shape: &Shape) -> Result<BaseFiles, AllocError> {
+/// Makes empty files those of a full conference.
+fn fill(alloc: Global, files: &mut BaseFiles, shape: &Shape) -> Result<(), AllocError> {
     let base = BaseHeader {
         created: shape.created,
         mod_counter: MOST,
@@ -111,13 +112,19 @@ pub fn files(alloc: Global, shape: &Shape) -> Result<BaseFiles, AllocError> {
         password_crc: NO_PASSWORD,
         base_number: 1,
     };
+    files.jhr.add(&write_base_header(&base))?;
+    add_messages(alloc, files, &slots(alloc)?)?;
+    add_readers(files, shape)
+}
+
+/// The four files of a full conference.
+pub fn files(alloc: Global, shape: &Shape) -> Result<BaseFiles, AllocError> {
     let mut files = BaseFiles {
-        jhr: Bytes::from_slice(alloc, &write_base_header(&base))?,
+        jhr: Bytes::new(alloc),
         jdt: Bytes::new(alloc),
         jdx: Bytes::new(alloc),
         jlr: Bytes::new(alloc),
     };
-    add_messages(alloc, &mut files, &slots(alloc)?)?;
-    add_readers(&mut files, shape)?;
+    fill(alloc, &mut files, shape)?;
     Ok(files)
 }

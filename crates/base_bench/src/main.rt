@@ -33,10 +33,27 @@ fn read_and_append<R: Print>(
     requires shape { IsShape shape.now }
     requires kind { shape.now.kind ≡ Kind.Local }
 {
-    if let Some(base) = reading::report(rt, alloc, files, shape)? {
-        if plan.appended != 0 {
-            appending::report(rt, alloc, &base, shape, plan)?;
-        }
+    match reading::report(rt, alloc, files, shape)? {
+        Some(base) if plan.appended != 0 => appending::report(rt, alloc, &base, shape, plan),
+        _ => Ok(()),
+    }
+}
+
+/// Prints the length of the files, and carries out the plan with them.
+fn use_files<R: Print>(
+    rt: &R,
+    alloc: Global,
+    files: &BaseFiles,
+    shape: &Shape,
+    plan: Plan,
+) -> io::Result<()>
+    requires shape { IsShape shape.now }
+    requires kind { shape.now.kind ≡ Kind.Local }
+{
+    let total = total(files);
+    println!(rt; "four files: {total} bytes")?;
+    for _ in 0..plan.reads {
+        read_and_append(rt, alloc, files, shape, plan)?;
     }
     Ok(())
 }
@@ -45,10 +62,5 @@ fn main(rt: HostRuntime) -> io::Result<()> {
     let plan = asked(&rt)?;
     let shape = general(rt.alloc())?;
     let files = files(rt.alloc(), &shape)?;
-    let total = total(&files);
-    println!(rt; "four files: {total} bytes")?;
-    for _ in 0..plan.reads {
-        read_and_append(&rt, rt.alloc(), &files, &shape, plan)?;
-    }
-    Ok(())
+    use_files(&rt, rt.alloc(), &files, &shape, plan)
 }

@@ -23,6 +23,19 @@ fn read(alloc: Global, files: &BaseFiles, shape: &Shape) -> Option<Result<Base, 
     Some(read_base(alloc, files, shape))
 }
 
+/// Prints what came of reading files.
+fn print<R: Print>(rt: &R, read: &Option<Result<Base, BaseError>>) -> io::Result<()> {
+    match read {
+        None => println!(rt; "not read: a file is too long")?,
+        Some(Err(error)) => println!(rt; "not read: {error:?}")?,
+        Some(Ok(base)) => {
+            let count = base.slot_count();
+            println!(rt; "read: {count} slots")?;
+        }
+    }
+    Ok(())
+}
+
 /// Reads the files, prints what came of it, and answers the base.
 pub fn report<R: Print>(
     rt: &R,
@@ -33,19 +46,10 @@ pub fn report<R: Print>(
     requires { IsShape shape.now }
     ensures { IfOk result (λ read. IfSome read (λ base. All (IsSlot shape.now.kind) base.conference.slots)) }
 {
-    match read(alloc, files, shape) {
-        None => {
-            println!(rt; "not read: a file is too long")?;
-            Ok(None)
-        }
-        Some(Err(error)) => {
-            println!(rt; "not read: {error:?}")?;
-            Ok(None)
-        }
-        Some(Ok(base)) => {
-            let count = base.slot_count();
-            println!(rt; "read: {count} slots")?;
-            Ok(Some(base))
-        }
+    let read = read(alloc, files, shape);
+    print(rt, &read)?;
+    match read {
+        Some(Ok(base)) => Ok(Some(base)),
+        _ => Ok(None),
     }
 }

@@ -108,14 +108,12 @@ fn changed(alloc: Global, bytes: &[u8], change: &str) -> Result<Bytes, Fail> {
     Ok(Bytes::from_vec(made))
 }
 
-/// The files of these texts.
-fn files_of(alloc: Global, texts: [&str; 4]) -> Result<BaseFiles, Fail> {
-    let mut files = no_files(alloc);
+/// Makes files those of these texts.
+fn fill(alloc: Global, files: &mut BaseFiles, texts: [&str; 4]) -> Result<(), Fail> {
     for (number, text) in (2..6).zip(texts) {
-        let bytes = bytes_of(alloc, text)?;
-        set(&mut files, number, bytes);
+        set(files, number, bytes_of(alloc, text)?);
     }
-    Ok(files)
+    Ok(())
 }
 
 /// The texts of the files of a name.
@@ -140,19 +138,6 @@ fn change(alloc: Global, files: &mut BaseFiles, number: &str, change: &str) -> R
     Ok(())
 }
 
-/// What is read of the files of a name.
-fn read(
-    alloc: Global,
-    name: &str,
-    files: &BaseFiles,
-) -> Result<Result<Conference, BaseError>, Fail> {
-    if !are_short(files) {
-        return Err(Fail::from("a file is long"));
-    }
-    let shape = shape(alloc, name)?;
-    Ok(read_conference(alloc, files, &shape))
-}
-
 /// The counts and the pointers of a conference, or its first damage.
 fn told(alloc: Global, read: &Result<Conference, BaseError>) -> Result<String, AllocError> {
     match read {
@@ -169,19 +154,33 @@ fn told(alloc: Global, read: &Result<Conference, BaseError>) -> Result<String, A
     }
 }
 
-/// The message in a place.
-fn message_in(
+/// The message in a place of a conference, or without one what is told of it.
+fn found_in(
     alloc: Global,
     read: &Result<Conference, BaseError>,
-    place: usize,
-) -> Result<String, AllocError> {
-    let Ok(conference) = read else {
-        return told(alloc, read);
+    place: Option<usize>,
+) -> Result<String, Fail> {
+    let (Ok(conference), Some(place)) = (read, place) else {
+        return Ok(told(alloc, read)?);
     };
     match conference.slots.get(place) {
-        Some(Slot::Held(message)) => line_of(alloc, message),
-        _ => String::from_str(alloc, "none"),
+        Some(Slot::Held(message)) => Ok(line_of(alloc, message)?),
+        _ => Ok(String::from_str(alloc, "none")?),
     }
+}
+
+/// What is found of the conference of a name in its files.
+fn read(
+    alloc: Global,
+    name: &str,
+    files: &BaseFiles,
+    place: Option<usize>,
+) -> Result<String, Fail> {
+    if !are_short(files) {
+        return Err(Fail::from("a file is long"));
+    }
+    let shape = shape(alloc, name)?;
+    found_in(alloc, &read_conference(alloc, files, &shape), place)
 }
 
 /// What is read of conferences.
@@ -192,14 +191,25 @@ impl Subject for Conferences {
     fn found(&mut self, alloc: Global, asked: &str) -> Result<String, Fail> {
         let (name, words) = asked.split_once(' ').unwrap_or((asked, ""));
         let (verb, words) = words.split_once(' ').unwrap_or(("", ""));
-        let mut files = files_of(alloc, texts_of(name))?;
-        if verb == "message" {
-            let place = number_of(words)? as usize;
-            return Ok(message_in(alloc, &read(alloc, name, &files)?, place)?);
-        }
-        change(alloc, &mut files, verb, words)?;
-        Ok(told(alloc, &read(alloc, name, &files)?)?)
+        read_changed(alloc, &mut no_files(alloc), name, verb, words)
     }
+}
+
+/// Makes files those of a name, with a change of one, or looks at a message in them.
+fn read_changed(
+    alloc: Global,
+    files: &mut BaseFiles,
+    name: &str,
+    verb: &str,
+    words: &str,
+) -> Result<String, Fail> {
+    fill(alloc, files, texts_of(name))?;
+    if verb == "message" {
+        let place = number_of(words)? as usize;
+        return read(alloc, name, files, Some(place));
+    }
+    change(alloc, files, verb, words)?;
+    read(alloc, name, files, None)
 }
 
 #[test]

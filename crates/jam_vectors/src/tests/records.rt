@@ -1,8 +1,12 @@
 //! Records of JAM, read and written.
+ghost use Rattle.std.specs.Prelude.{◌<◌, ◌^◌, length};
+ghost use Rattle.jam_records.specs.Subfields.{subfields_text};
+
 use super::texts::{Subject, bytes_of, expect, parted};
 use jam_records::{
-    address_text, read_base_header, read_index, read_last, read_message_header, read_subfields,
-    write_base_header, write_index, write_last, write_message_header, write_subfields,
+    Subfields, address_text, read_base_header, read_index, read_last, read_message_header,
+    read_subfields, write_base_header, write_index, write_last, write_message_header,
+    write_subfields,
 };
 use std::alloc::{AllocError, Global};
 use std::test::Fail;
@@ -83,18 +87,23 @@ fn subfields(alloc: Global, bytes: &[u8]) -> Result<String, AllocError> {
     }
     match read_subfields(alloc, bytes) {
         Err(error) => format!(in alloc; "{error:?}"),
-        Ok(subfields) => {
-            let count = subfields.len();
-            let Some(first) = subfields.get(0) else {
-                return format!(in alloc; "{count}");
-            };
-            let value = String::from_utf8_lossy(alloc, first.value.as_slice())?;
-            let again = write_subfields(alloc, &subfields.copy(alloc)?)?;
-            let same = again.as_slice() == bytes;
-            let (lo, hi) = (first.lo, first.hi);
-            format!(in alloc; "{count} {lo} {hi} {value:?} {same}")
-        }
+        Ok(subfields) => subfields_read(alloc, &subfields, bytes),
     }
+}
+
+/// The same of subfields that bytes were read as.
+fn subfields_read(alloc: Global, subfields: &Subfields, bytes: &[u8]) -> Result<String, AllocError>
+    requires { length (subfields_text subfields.now) < 2 ^ 31 }
+{
+    let count = subfields.len();
+    let Some(first) = subfields.get(0) else {
+        return format!(in alloc; "{count}");
+    };
+    let again = write_subfields(alloc, &subfields.copy(alloc)?)?;
+    let same = again.as_slice() == bytes;
+    let value = String::from_utf8_lossy(alloc, first.value.as_slice())?;
+    let (lo, hi) = (first.lo, first.hi);
+    format!(in alloc; "{count} {lo} {hi} {value:?} {same}")
 }
 
 fn base(alloc: Global, bytes: &[u8]) -> Result<String, AllocError> {

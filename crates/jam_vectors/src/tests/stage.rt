@@ -6,6 +6,7 @@ ghost use Rattle.jam_records.specs.declared.message.Kind.TheVariants.{Local};
 use super::conference::{are_short, general, line_of};
 use super::patched::{bytes_put, file_of, no_files, patched};
 use super::texts::{bytes_of, number_of, parted};
+use intent_journal::Patches;
 use jam_base::{Base, BaseChange, BaseFiles, read_base};
 use jam_records::{Kind, Messages, Slot};
 use std::alloc::{AllocError, Global};
@@ -58,12 +59,18 @@ fn written(change: &BaseChange) -> u64 {
         .saturating_add(15)
 }
 
+/// The files that patches make of none.
+fn made(alloc: Global, patches: &Patches) -> Result<BaseFiles, Fail> {
+    let mut files = no_files(alloc);
+    patched(alloc, &mut files, patches)?;
+    Ok(files)
+}
+
 impl Stage {
     /// The base of four readers and no messages.
     pub fn new(alloc: Global) -> Result<Stage, Fail> {
         let change = fresh(alloc)?;
-        let mut files = no_files(alloc);
-        patched(alloc, &mut files, &change.patches)?;
+        let files = made(alloc, &change.patches)?;
         Ok(Stage {
             base: change.base,
             files,
@@ -71,20 +78,30 @@ impl Stage {
         })
     }
 
+    /// Makes the patches of a change, and answers what stands behind the counts then.
+    fn patch(&mut self, alloc: Global, change: &BaseChange) -> Result<&'static str, Fail> {
+        self.written = written(change);
+        patched(alloc, &mut self.files, &change.patches)?;
+        if change.patches.len() == 0 {
+            Ok(" unchanged")
+        } else {
+            Ok("")
+        }
+    }
+
+    /// The counts behind a change, where its patches were made.
+    fn told_change(&self, alloc: Global, end: Result<&'static str, Fail>) -> Result<String, Fail> {
+        let end = end?;
+        Ok(self.counts(alloc, end)?)
+    }
+
     /// Makes a change, and answers the counts behind it.
     pub fn make(&mut self, alloc: Global, change: BaseChange) -> Result<String, Fail>
         requires { change.base.shape.kind ≡ Kind.Local }
     {
-        let done = patched(alloc, &mut self.files, &change.patches);
-        let end = if change.patches.len() == 0 {
-            " unchanged"
-        } else {
-            ""
-        };
-        self.written = written(&change);
+        let end = self.patch(alloc, &change);
         self.base = change.base;
-        done?;
-        Ok(self.counts(alloc, end)?)
+        self.told_change(alloc, end)
     }
 
     fn counts(&self, alloc: Global, end: &str) -> Result<String, AllocError> {
@@ -118,18 +135,32 @@ impl Stage {
         Ok(format!(in alloc; "{len} bytes, not {other}, that differ from byte {place:?} on")?)
     }
 
+    /// Makes it the base of no messages.
+    fn renew(&mut self, alloc: Global) -> Result<(), Fail> {
+        *self = Stage::new(alloc)?;
+        Ok(())
+    }
+
+    /// Makes it the base that its files are read as.
+    fn read(&mut self, alloc: Global) -> Result<String, Fail> {
+        self.base = base_of(alloc, &self.files)?;
+        Ok(self.counts(alloc, "")?)
+    }
+
     /// `new`, `join` and `read` make the base of no messages, of that and a fifth reader, and of the files.
     pub fn look(&mut self, alloc: Global, verb: &str, words: &str) -> Result<String, Fail> {
         match verb {
-            "new" => *self = Stage::new(alloc)?,
-            "read" => self.base = base_of(alloc, &self.files)?,
-            "join" => {
-                *self = Stage::new(alloc)?;
-                return self.make(alloc, joined(alloc)?);
+            "new" => {
+                self.renew(alloc)?;
+                Ok(self.counts(alloc, "")?)
             }
-            _ => return Ok(self.told(alloc, verb, number_of(words)?)?),
+            "read" => self.read(alloc),
+            "join" => {
+                self.renew(alloc)?;
+                self.make(alloc, joined(alloc)?)
+            }
+            _ => Ok(self.told(alloc, verb, number_of(words)?)?),
         }
-        Ok(self.counts(alloc, "")?)
     }
 
     /// `reply NUMBER`, `pointer USER`, `cost BYTES` and `message NUMBER`.

@@ -141,6 +141,12 @@ fn with_message(alloc: Global, slots: &Slots, message: &Message) -> Result<Threa
     Ok(threads)
 }
 
+/// Adds the links of a slot, and the number that it answers.
+fn add_link(alloc: Global, text: &mut String, link: Link, original: u32) -> Result<(), AllocError> {
+    text.push_str(text_of(alloc, link)?.as_str())?;
+    text.push_str(format!(in alloc; " {original}")?.as_str())
+}
+
 /// The links of the slots, and the number that each answers, once one message more is there.
 fn found_with(alloc: Global, slots: &Slots, message: &Message) -> Result<String, AllocError>
     requires { length slots.now < 10 }
@@ -149,8 +155,7 @@ fn found_with(alloc: Global, slots: &Slots, message: &Message) -> Result<String,
     let mut text = String::new(alloc);
     for place in 0..slots.len() {
         let (link, original) = (threads.link(place), threads.reply_to(place as u32 + 1));
-        let one = format!(in alloc; " {},{},{} {original}", link.to, link.first, link.next)?;
-        text.push_str(one.as_str())?;
+        add_link(alloc, &mut text, link, original)?;
     }
     Ok(text)
 }

@@ -46,23 +46,26 @@ fn refuses<S: Shelf>(alloc: Global, shelf: &mut S, text: &str) -> Result<bool, F
 }
 
 #[test]
+fn a_shelf_in_memory_is_used(rt: HostRuntime) -> Result<(), Fail> {
+    let fails = CallNumbers::new(rt.alloc());
+    let mut shelf = MemoryShelf::new(rt.alloc(), FaultPlan { fails, stop: None });
+    use_shelf(&rt, rt.alloc(), &mut shelf)
+}
+
+#[test]
 fn shelf_files_lie_at_their_names(rt: HostRuntime) -> Result<(), Fail> {
     let folder = "qwkdoor_test_shelf";
     let _ = fs::remove_dir_all(&rt, folder);
-    let plan = FaultPlan {
-        fails: CallNumbers::new(rt.alloc()),
-        stop: None,
-    };
-    use_shelf(&rt, rt.alloc(), &mut MemoryShelf::new(rt.alloc(), plan))?;
-    let mut shelf = FolderShelf::new(rt, folder)?;
-    use_shelf(&rt, rt.alloc(), &mut shelf)?;
+    {
+        let mut shelf = FolderShelf::new(rt, folder)?;
+        use_shelf(&rt, rt.alloc(), &mut shelf)?;
+        assert!(rt; refuses(rt.alloc(), &mut shelf, "out/a")?);
+        assert!(rt; refuses(rt.alloc(), &mut shelf, "out/text/below")?);
+    }
     assert_eq!(rt;
         fs::read(&rt, "qwkdoor_test_shelf/out/text")?.as_slice(),
         b"xyz".as_slice()
     );
-    for text in ["out/a", "out/text/below"] {
-        assert!(rt; refuses(rt.alloc(), &mut shelf, text)?, "{text}");
-    }
     fs::remove_dir_all(&rt, folder)?;
     Ok(())
 }

@@ -197,8 +197,10 @@ fn is_image(host: &MemoryHost) -> bool {
 }
 
 fn leaves_image(alloc: Global, host: &MemoryHost, seed: u32) -> Option<bool> {
-    let left = crashed(alloc, host, ImageChoice::Mixed(seed)).ok()?;
-    Some(is_image(&left))
+    match crashed(alloc, host, ImageChoice::Mixed(seed)) {
+        Ok(left) => Some(is_image(&left)),
+        Err(_) => None,
+    }
 }
 
 /// Plays the history, and looks at each image that a crash may leave of it.
