@@ -1,8 +1,8 @@
 #!/bin/sh
 # Migrates the board that program 1.0 left, bench/board-1.0, in runs of `check` that are killed (SIGKILL), each after a
-# random few milliseconds on a copy of its own: the ledger is the one of 1.0 or the one of today then, the next `check`
-# says what it said on 1.0 but for the size, and the files of the conferences are as they were, byte for byte. Says how
-# many were killed before and after. .ci/run kills 10. usage: bench/upgrade.sh [TIMES]
+# random few hundredths of a second, on a copy of its own: the ledger is the one of 1.0 or the one of today then, the next
+# `check` says what it said on 1.0 but for the size, and the files of the conferences are as they were, byte for byte.
+# Says how many were killed before and after. .ci/run kills 10. usage: bench/upgrade.sh [TIMES]
 # PROGRAM may name the program.
 
 times=${1:-100}
@@ -58,7 +58,7 @@ for _ in $(seq "$times"); do
     renew
     "$program" "$work/data" "$shelf" check >/dev/null 2>&1 </dev/null &
     run=$!
-    sleep "$(awk -v seed="$run" 'BEGIN { srand(seed); printf "%.4f", rand() * 0.01 }')"
+    sleep "$(awk -v seed="$run" 'BEGIN { srand(seed); printf "%.4f", rand() * 0.03 }')"
     kill -KILL "$run" 2>/dev/null
     wait "$run" 2>/dev/null
     if cmp -s "$old/LEDGER.DAT" "$work/data/LEDGER.DAT"; then
