@@ -1,6 +1,6 @@
 //! What the files of boards are read as.
 use super::ledger_texts::{ledger_text, version_of};
-use board_layout::{FoundBoard, read_board};
+use board_layout::{FoundBoard, ReadError, read_board};
 use byte_lists::Bytes;
 use case_texts::{Miss, bytes_of, expect_cases, number_of};
 use door_outside::FileId;
@@ -28,15 +28,25 @@ fn put(host: &mut MemoryHost, number: u32, bytes: &[u8]) -> Result<(), Miss> {
     Ok(())
 }
 
-/// Puts the files of the board of three conferences and these users, without messages, with its ledger in a version.
-fn put_board(alloc: Global, host: &mut MemoryHost, version: u8, users: &[u8]) -> Result<(), Miss> {
+/// Puts the ledger of three conferences and these users, in a version.
+fn put_ledger(alloc: Global, host: &mut MemoryHost, version: u8, users: &[u8]) -> Result<(), Miss> {
     let ledger = ledger_text(alloc, version, users, b"")?;
-    put(host, 0, ledger.as_slice())?;
-    let header = bytes_of(alloc, HEADER.as_bytes())?;
+    put(host, 0, ledger.as_slice())
+}
+
+/// Gives three conferences a base header.
+fn put_headers(host: &mut MemoryHost, header: &[u8]) -> Result<(), Miss> {
     for number in [2, 6, 10] {
-        put(host, number, header.as_slice())?;
+        put(host, number, header)?;
     }
     Ok(())
+}
+
+/// Puts the files of the board of three conferences and these users, without messages, with its ledger in a version.
+fn put_board(alloc: Global, host: &mut MemoryHost, version: u8, users: &[u8]) -> Result<(), Miss> {
+    put_ledger(alloc, host, version, users)?;
+    let header = bytes_of(alloc, HEADER.as_bytes())?;
+    put_headers(host, header.as_slice())
 }
 
 /// Puts files, each by its number and its bytes.
@@ -66,28 +76,51 @@ fn described(alloc: Global, found: &FoundBoard) -> Result<String, AllocError> {
     )
 }
 
-/// What the files of a host are read as.
-fn outcome(alloc: Global, host: &mut MemoryHost) -> Result<String, AllocError> {
-    match read_board(alloc, host) {
-        Ok(Some(found)) => described(alloc, &found),
+/// What comes of a read.
+fn told(alloc: Global, read: &Result<Option<FoundBoard>, ReadError>) -> Result<String, AllocError> {
+    match read {
+        Ok(Some(found)) => described(alloc, found),
         Ok(None) => String::from_str(alloc, "none"),
         Err(error) => format!(in alloc; "{error}"),
     }
 }
 
-/// What a board is read as: the call from which on all fail, the version of its ledger or `-` for no board, its users, and
-/// files in place of its own.
+/// What the files of a host are read as.
+fn outcome(alloc: Global, host: &mut MemoryHost) -> Result<String, AllocError> {
+    let read = read_board(alloc, host);
+    told(alloc, &read)
+}
+
+/// What a board on empty files is read as: the version of its ledger or `-` for no board, its users, and files in place of
+/// its own.
+fn board_on(
+    alloc: Global,
+    host: &mut MemoryHost,
+    version: &[u8],
+    users: &[u8],
+    files: &[Bytes],
+) -> Result<String, Miss> {
+    let version = version_of(version)?;
+    if version != b'-' {
+        put_board(alloc, host, version, users)?;
+    }
+    put_files(host, files)?;
+    Ok(outcome(alloc, host)?)
+}
+
+/// The same where all calls fail from one on.
 fn board_read(alloc: Global, words: &[Bytes]) -> Result<String, Miss> {
     let [stop, version, users, files @ ..] = words else {
         return Err(Miss::Words);
     };
     let mut host = empty(alloc, number_of(stop.as_slice())?);
-    let version = version_of(version.as_slice())?;
-    if version != b'-' {
-        put_board(alloc, &mut host, version, users.as_slice())?;
-    }
-    put_files(&mut host, files)?;
-    Ok(outcome(alloc, &mut host)?)
+    board_on(
+        alloc,
+        &mut host,
+        version.as_slice(),
+        users.as_slice(),
+        files,
+    )
 }
 
 /// The first damage comes by file; a high behind the conferences, whose last-read record of Eve is there. The faults are

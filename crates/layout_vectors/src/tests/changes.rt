@@ -1,5 +1,5 @@
 //! A further user of a new board.
-use board_changes::{enrolled, fits_user, made, size_with_user};
+use board_changes::{NewBoard, enrolled, fits_user, made, size_with_user};
 use board_layout::StoredBoard;
 use byte_lists::Bytes;
 use case_texts::{Miss, expect_cases, number_of};
@@ -10,14 +10,14 @@ use std::alloc::{AllocError, Global};
 const SETUP: &str =
     "board: Test Board\ncity: Springfield\nphone: 555-0100\nsysop: Sam Sysop\nbbsid: TESTBBS\nserial: 12345\nzones: 1 2\nconference: 0 local p GENERAL\nconference: 1 net - NETMAIL\nconference: 7 local r NEWS\n";
 
-/// The board of the setup.
-fn new_board(alloc: Global) -> Result<StoredBoard, Miss> {
+/// What makes the board of the setup.
+fn new_board(alloc: Global) -> Result<NewBoard, Miss> {
     let text = SETUP.as_bytes();
     if text.len() > 0x7FFF_FFFF {
         return Err(Miss::Unreached);
     }
     match Setup::parse(alloc, text) {
-        Ok(setup) => Ok(made(alloc, setup, 1_000_000_000)?.board),
+        Ok(setup) => Ok(made(alloc, setup, 1_000_000_000)?),
         Err(_) => Err(Miss::Unreached),
     }
 }
@@ -38,17 +38,12 @@ fn journal(
 
 /// How many bytes a board has with a user of a name in places, and whether he fits; where he does, how many the journal of
 /// his enrolment has.
-fn outcome(
-    alloc: Global,
-    board: &StoredBoard,
-    name: &[u8],
-    members: u64,
-) -> Result<String, AllocError> {
+fn outcome(alloc: Global, board: &StoredBoard, name: &[u8], members: u64) -> Result<String, Miss> {
     let size = size_with_user(board, name, false, members);
-    match journal(alloc, board, name, members)? {
-        Some(journal) => format!(in alloc; "{size} fits, {journal} journal"),
-        None => format!(in alloc; "{size} refused"),
-    }
+    Ok(match journal(alloc, board, name, members)? {
+        Some(journal) => format!(in alloc; "{size} fits, {journal} journal")?,
+        None => format!(in alloc; "{size} refused")?,
+    })
 }
 
 /// That of the new board.
@@ -57,8 +52,8 @@ fn with_user(alloc: Global, words: &[Bytes]) -> Result<String, Miss> {
         return Err(Miss::Words);
     };
     let members = u64::from(number_of(members.as_slice())?);
-    let board = new_board(alloc)?;
-    Ok(outcome(alloc, &board, name.as_slice(), members)?)
+    let new = new_board(alloc)?;
+    outcome(alloc, &new.board, name.as_slice(), members)
 }
 
 /// The places are the bits of a number. The new board has a ledger of 119 bytes and three base headers of 1,024; a user's

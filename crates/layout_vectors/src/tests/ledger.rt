@@ -3,7 +3,7 @@ ghost use Rattle.std.specs.Prelude.{IfOk};
 ghost use Rattle.board_ledger.specs.Valid.{IsStored};
 
 use super::ledger_texts::{ledger_in, ledger_text, version_of};
-use board_ledger::{Ledger, LedgerError, UploadRecord, User, upload_patches};
+use board_ledger::{Ledger, LedgerError, OpenOffer, UploadRecord, User, upload_patches};
 use byte_lists::Bytes;
 use case_texts::{Miss, expect_cases, quoted};
 use intent_journal::{Patch, Patches};
@@ -17,22 +17,27 @@ fn is_written(alloc: Global, ledger: &Ledger, bytes: &[u8]) -> Result<bool, Allo
     Ok(ledger.size() == bytes.len() as u64 && written.as_slice() == bytes)
 }
 
-/// How many bytes there are, of which version, and whether these are written of them; or what is damaged.
-fn outcome(alloc: Global, bytes: &[u8], today: &[u8]) -> Result<String, AllocError> {
+/// Of how many bytes a ledger was read, of which version, and whether these are written of it.
+fn ledger_found(alloc: Global, ledger: &Ledger, size: usize, today: &[u8]) -> Result<String, Miss>
+    requires { IsStored ledger.now }
+{
+    let is_written = is_written(alloc, ledger, today)?;
+    let version = ledger.version();
+    Ok(format!(in alloc; "{size} version {version} written {is_written}")?)
+}
+
+/// That of bytes, or what is damaged.
+fn outcome(alloc: Global, bytes: &[u8], today: &[u8]) -> Result<String, Miss> {
     match Ledger::read(alloc, bytes) {
-        Ok(ledger) => {
-            let is_written = is_written(alloc, &ledger, today)?;
-            let version = ledger.version();
-            format!(in alloc; "{} version {version} written {is_written}", bytes.len())
-        }
-        Err(error) => format!(in alloc; "{error}"),
+        Ok(ledger) => ledger_found(alloc, &ledger, bytes.len(), today),
+        Err(error) => Ok(format!(in alloc; "{error}")?),
     }
 }
 
 /// What comes of a ledger, which is written as it is.
 fn read_all(alloc: Global, words: &[Bytes]) -> Result<String, Miss> {
     let bytes = ledger_in(alloc, words)?;
-    Ok(outcome(alloc, bytes.as_slice(), bytes.as_slice())?)
+    outcome(alloc, bytes.as_slice(), bytes.as_slice())
 }
 
 const KEPT: &str = r#"
@@ -54,7 +59,7 @@ fn read_old(alloc: Global, words: &[Bytes]) -> Result<String, Miss> {
     };
     let bytes = ledger_text(alloc, b'1', users.as_slice(), uploads.as_slice())?;
     let today = ledger_text(alloc, b'2', users.as_slice(), uploads.as_slice())?;
-    Ok(outcome(alloc, bytes.as_slice(), today.as_slice())?)
+    outcome(alloc, bytes.as_slice(), today.as_slice())
 }
 
 const OLD: &str = r#"
@@ -174,6 +179,13 @@ fn setup_of(alloc: Global, ledger: &Ledger) -> Result<String, Miss> {
     )?)
 }
 
+/// Adds an offer with its highs.
+fn add_offer(alloc: Global, text: &mut String, offer: &OpenOffer) -> Result<(), AllocError> {
+    let highs = offer.highs.as_slice();
+    let offer = format!(in alloc; ", {} {highs:?}", offer.number)?;
+    text.push_str(offer.as_str())
+}
+
 /// A user's name, rights, conferences and last packet, and each offer with its highs.
 fn user_text(alloc: Global, user: &User) -> Result<String, AllocError> {
     let mut text = format!(in alloc;
@@ -184,9 +196,7 @@ fn user_text(alloc: Global, user: &User) -> Result<String, AllocError> {
         user.last
     )?;
     for offer in user.offers.as_slice() {
-        let highs = offer.highs.as_slice();
-        let offer = format!(in alloc; ", {} {highs:?}", offer.number)?;
-        text.push_str(offer.as_str())?;
+        add_offer(alloc, &mut text, offer)?;
     }
     Ok(text)
 }
@@ -201,19 +211,24 @@ fn upload_text(alloc: Global, upload: &UploadRecord) -> Result<String, AllocErro
     )
 }
 
-/// What is read of a ledger: its setup, its second user or its second upload.
+/// The setup of a ledger, its second user or its second upload.
+fn value_in(alloc: Global, ledger: &Ledger, value: &[u8]) -> Result<String, Miss> {
+    match value {
+        b"setup" => setup_of(alloc, ledger),
+        b"user" => Ok(user_text(alloc, ledger.users.get(1).ok_or(Miss::Words)?)?),
+        b"upload" => Ok(upload_text(alloc, ledger.uploads.get(1).ok_or(Miss::Words)?)?),
+        _ => Err(Miss::Words),
+    }
+}
+
+/// That of a ledger that is read.
 fn value_of(alloc: Global, words: &[Bytes]) -> Result<String, Miss> {
     let [value, version, users, uploads] = words else {
         return Err(Miss::Words);
     };
     let version = version_of(version.as_slice())?;
     let ledger = ledger_of(alloc, version, users.as_slice(), uploads.as_slice())?;
-    match value.as_slice() {
-        b"setup" => setup_of(alloc, &ledger),
-        b"user" => Ok(user_text(alloc, ledger.users.get(1).ok_or(Miss::Words)?)?),
-        b"upload" => Ok(upload_text(alloc, ledger.uploads.get(1).ok_or(Miss::Words)?)?),
-        _ => Err(Miss::Words),
-    }
+    value_in(alloc, &ledger, value.as_slice())
 }
 
 const VALUES: &str = r#"
@@ -267,6 +282,25 @@ fn patch_text(alloc: Global, patch: &Patch) -> Result<String, AllocError> {
     }
 }
 
+/// Adds each of these patches.
+fn add_patches(alloc: Global, text: &mut String, patches: &Patches) -> Result<(), AllocError> {
+    for patch in patches.as_slice() {
+        text.push_str(patch_text(alloc, patch)?.as_str())?;
+    }
+    Ok(())
+}
+
+/// The patches by which a ledger without upload records gets the first of another ledger of as many users.
+fn patches_found(alloc: Global, ledger: &Ledger, other: &Ledger) -> Result<String, Miss>
+    requires ledger { IsStored ledger.now }
+    requires other { IsStored other.now }
+{
+    let patches = first_upload(alloc, ledger, other)?.ok_or(Miss::Unreached)?;
+    let mut text = String::new(alloc);
+    add_patches(alloc, &mut text, &patches)?;
+    Ok(text)
+}
+
 /// The patches by which the ledger of these users gets its first upload record.
 fn upload_put(alloc: Global, words: &[Bytes]) -> Result<String, Miss> {
     let [users, uploads] = words else {
@@ -274,12 +308,7 @@ fn upload_put(alloc: Global, words: &[Bytes]) -> Result<String, Miss> {
     };
     let ledger = ledger_of(alloc, b'2', users.as_slice(), b"")?;
     let other = ledger_of(alloc, b'2', users.as_slice(), uploads.as_slice())?;
-    let patches = first_upload(alloc, &ledger, &other)?.ok_or(Miss::Unreached)?;
-    let mut text = String::new(alloc);
-    for patch in patches.as_slice() {
-        text.push_str(patch_text(alloc, patch)?.as_str())?;
-    }
-    Ok(text)
+    patches_found(alloc, &ledger, &other)
 }
 
 const PUT: &str = r#"

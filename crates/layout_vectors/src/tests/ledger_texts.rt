@@ -79,6 +79,36 @@ fn add_uploads(alloc: Global, bytes: &mut Bytes, uploads: &[u8]) -> Result<(), M
     Ok(())
 }
 
+/// Adds the setup with these counts of users and uploads, in a version, which is a digit.
+fn add_setup(
+    alloc: Global,
+    bytes: &mut Bytes,
+    version: u8,
+    users: usize,
+    uploads: usize,
+) -> Result<(), Miss> {
+    add(alloc, bytes, LETTERS)?;
+    bytes.add(&[version & 0x0F])?;
+    add(alloc, bytes, CONFERENCES)?;
+    bytes.add(&[(users % 256) as u8, 0])?;
+    add(alloc, bytes, ZONES)?;
+    bytes.add(&[(uploads % 256) as u8, 0, 0, 0])?;
+    add(alloc, bytes, SETUP)
+}
+
+/// Adds the ledger with the records of these users and uploads.
+fn add_ledger(
+    alloc: Global,
+    bytes: &mut Bytes,
+    version: u8,
+    users: &[u8],
+    uploads: &[u8],
+) -> Result<(), Miss> {
+    add_setup(alloc, bytes, version, users.len(), uploads.len())?;
+    add_users(alloc, bytes, version, users)?;
+    add_uploads(alloc, bytes, uploads)
+}
+
 /// The ledger with the records of these users and uploads, in a version, which is a digit.
 pub fn ledger_text(
     alloc: Global,
@@ -87,31 +117,31 @@ pub fn ledger_text(
     uploads: &[u8],
 ) -> Result<Bytes, Miss> {
     let mut bytes = Bytes::new(alloc);
-    add(alloc, &mut bytes, LETTERS)?;
-    bytes.add(&[version & 0x0F])?;
-    add(alloc, &mut bytes, CONFERENCES)?;
-    bytes.add(&[(users.len() % 256) as u8, 0])?;
-    add(alloc, &mut bytes, ZONES)?;
-    bytes.add(&[(uploads.len() % 256) as u8, 0, 0, 0])?;
-    add(alloc, &mut bytes, SETUP)?;
-    add_users(alloc, &mut bytes, version, users)?;
-    add_uploads(alloc, &mut bytes, uploads)?;
+    add_ledger(alloc, &mut bytes, version, users, uploads)?;
     Ok(bytes)
 }
 
-/// The bytes after a change: `cut` keeps so many, `add` adds these, and a place has these from there on.
-fn changed(alloc: Global, bytes: &[u8], place: &[u8], value: &[u8]) -> Result<Bytes, Miss> {
-    let mut made = bytes.to_vec(alloc)?;
+/// Gives bytes others from a place on.
+fn put_at(made: &mut Vec<u8>, at: usize, value: &[u8]) {
+    for (old, new) in made.iter_mut().skip(at).zip(value) {
+        *old = *new;
+    }
+}
+
+/// Changes bytes: `cut` keeps so many, `add` adds these, and a place has these from there on.
+fn change(made: &mut Vec<u8>, place: &[u8], value: &[u8]) -> Result<(), Miss> {
     match place {
         b"cut" => made.truncate(number_of(value)? as usize),
         b"add" => made.extend_from_slice(value)?,
-        _ => {
-            let at = number_of(place)? as usize;
-            for (old, new) in made.iter_mut().skip(at).zip(value) {
-                *old = *new;
-            }
-        }
+        _ => put_at(made, number_of(place)? as usize, value),
     }
+    Ok(())
+}
+
+/// The bytes after a change.
+fn changed(alloc: Global, bytes: &[u8], place: &[u8], value: &[u8]) -> Result<Bytes, Miss> {
+    let mut made = bytes.to_vec(alloc)?;
+    change(&mut made, place, value)?;
     Ok(Bytes::from_vec(made))
 }
 

@@ -63,7 +63,7 @@ fn a_short_read_makes_no_zeros(rt: HostRuntime) -> Result<(), Fail> {
         item: 3,
         rule: DamageRule::Short,
     };
-    let found = read_board(rt.alloc(), &mut ShortHost);
-    assert!(rt; matches!(&found, Err(ReadError::Damaged(damage)) if *damage == short));
+    let error = read_board(rt.alloc(), &mut ShortHost).err();
+    assert_eq!(rt; error, Some(ReadError::Damaged(short)));
     Ok(())
 }

@@ -2,6 +2,7 @@
 use super::numbered::played_numbered;
 use byte_lists::Bytes;
 use example_runs::{Miss, expect_transcript, file_of};
+use memory_outside::MemoryShelf;
 use qwk_control::{Control, read_control, write_control};
 use std::alloc::Global;
 
@@ -34,10 +35,11 @@ fn expect_written(alloc: Global, control: &Control, file: &Bytes) -> Result<(), 
         return Err(Miss::Broken("it can't be written"));
     }
     let text = write_control(alloc, control)?;
-    if text.as_slice() != file.as_slice() {
-        return Err(Miss::Broken("it is written otherwise"));
+    if text.as_slice() == file.as_slice() {
+        Ok(())
+    } else {
+        Err(Miss::Broken("it is written otherwise"))
     }
-    Ok(())
 }
 
 /// Looks whether a file that is read is written so.
@@ -48,12 +50,17 @@ fn expect_read(alloc: Global, file: &Bytes) -> Result<(), Miss> {
     }
 }
 
+/// Looks whether the file of a shelf is.
+fn expect_same(alloc: Global, shelf: &MemoryShelf, name: &str) -> Result<(), Miss> {
+    let file = file_of(alloc, shelf, name)?;
+    expect_read(alloc, &file)
+}
+
 #[test]
 fn a_packet_names_65536_conferences(rt: HostRuntime) -> Result<(), Miss> {
     let alloc = rt.alloc();
     let stage = played_numbered(alloc, MANY)?;
-    let file = file_of(alloc, &stage.shelf, "big/CONTROL.DAT")?;
-    expect_read(alloc, &file)
+    expect_same(alloc, &stage.shelf, "big/CONTROL.DAT")
 }
 
 /// A file with lines behind the last that is looked at, as long as it may be, and then a byte longer.

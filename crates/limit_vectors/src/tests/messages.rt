@@ -4,10 +4,9 @@ ghost use Rattle.intent_journal.specs.Hosts.{IsSettled};
 ghost use Rattle.mail_board.specs.Held.{Rests};
 ghost use Rattle.memory_outside.specs.MemoryHost.{disk_of};
 
-use anyhow::{Context, bail, ensure};
 use byte_lists::Bytes;
 use door_outside::Host;
-use example_runs::{no_faults, played};
+use example_runs::{Miss, no_faults, played};
 use jam_records::Message;
 use mail_board::{Board, Loaded};
 use memory_outside::{ImageChoice, MemoryHost};
@@ -55,19 +54,21 @@ fn text_of(alloc: Global, found: &Option<Message>) -> Result<String, AllocError>
     }
 }
 
-/// The message of a number in a place.
+/// The message of a number in a place, or why none is read.
 fn message_text<H: Host>(
     alloc: Global,
     board: &Board,
     host: &mut H,
     place: u8,
     number: u32,
-) -> anyhow::Result<String>
+) -> Result<String, AllocError>
     requires sure { IsFalse board.now.doubtful }
     requires rests { IsTrue H.tells → Rests board.now.board (H.disk host.old) }
 {
-    let found = board.message(alloc, host, place, number)?;
-    Ok(text_of(alloc, &found)?)
+    match board.message(alloc, host, place, number) {
+        Ok(found) => text_of(alloc, &found),
+        Err(error) => format!(in alloc; "{error:?}"),
+    }
 }
 
 /// What a board says of a number in a place: the msgid that it generates, and the message.
@@ -77,24 +78,36 @@ fn told<H: Host>(
     host: &mut H,
     place: u8,
     number: u32,
-) -> anyhow::Result<String>
+) -> Result<String, AllocError>
     requires sure { IsFalse board.now.doubtful }
     requires rests { IsTrue H.tells → Rests board.now.board (H.disk host.old) }
 {
     let message = message_text(alloc, board, host, place, number)?;
     let msgid = generated(alloc, board, place, number)?;
     let msgid = msgid.as_slice().escape_ascii();
-    Ok(format!(in alloc; "{place} {number} {msgid} = {message}")?)
+    format!(in alloc; "{place} {number} {msgid} = {message}")
 }
 
-/// What the board of a host says of a number in a place.
-fn row_of<H: Host>(alloc: Global, host: &mut H, place: u8, number: u32) -> anyhow::Result<String>
+/// What the board of a host says of a number in a place, or why there is no board.
+fn told_by<H: Host>(
+    alloc: Global,
+    host: &mut H,
+    place: u8,
+    number: u32,
+) -> Result<String, AllocError>
     requires { IsTrue H.tells → IsSettled (H.disk host.old) }
 {
-    match Board::load(alloc, host)? {
-        Loaded::Ready(board) => told(alloc, &board, host, place, number),
-        Loaded::NotMade => bail!("there is no board"),
+    match Board::load(alloc, host) {
+        Ok(Loaded::Ready(board)) => told(alloc, &board, host, place, number),
+        Ok(Loaded::NotMade) => String::from_str(alloc, "there is no board"),
+        Err(error) => format!(in alloc; "{error:?}"),
     }
+}
+
+/// What the board that the last run has synced says of a number in a place.
+fn row_of(alloc: Global, last: &MemoryHost, place: u8, number: u32) -> Result<String, AllocError> {
+    let mut host = synced(alloc, last)?;
+    told_by(alloc, &mut host, place, number)
 }
 
 /// The place and the number that a row begins with.
@@ -103,15 +116,28 @@ fn place_and_number(row: &str) -> Option<(u8, u32)> {
     Some((words.next()?.parse().ok()?, words.next()?.parse().ok()?))
 }
 
-/// Looks at each row of a table on the board that was synced.
-fn expect_rows(alloc: Global, last: &MemoryHost, rows: &str) -> anyhow::Result<()> {
-    for row in rows.lines() {
-        let (place, number) = place_and_number(row).context("a row has no number")?;
-        let mut host = synced(alloc, last)?;
-        let found = row_of(alloc, &mut host, place, number)?;
-        ensure!(found.as_str() == row, "{found} in place of {row}");
+/// Looks whether a row was found.
+fn expect_row(alloc: Global, found: &str, row: &str) -> Result<(), Miss> {
+    if found != row {
+        return Err(Miss::said(alloc, "a row", found.as_bytes(), row)?);
     }
     Ok(())
+}
+
+/// Looks at each row of a table on the board that was synced.
+fn expect_rows(alloc: Global, last: &MemoryHost, rows: &str) -> Result<(), Miss> {
+    for row in rows.lines() {
+        let (place, number) = place_and_number(row).ok_or("a row has no number")?;
+        let found = row_of(alloc, last, place, number)?;
+        expect_row(alloc, found.as_str(), row)?;
+    }
+    Ok(())
+}
+
+/// Looks at each row on the board that a transcript leaves.
+fn expect_rows_after(alloc: Global, transcript: &str, rows: &str) -> Result<(), Miss> {
+    let stage = played(alloc, transcript)?;
+    expect_rows(alloc, &stage.host, rows)
 }
 
 /// Three messages, of which the second is deleted, and a slot behind them whose message is gone; a letter in the net
@@ -158,10 +184,8 @@ const ROWS: &str = r#"0 0 0.0.TESTBBS = none
 "#;
 
 #[test]
-fn each_message_of_a_board_is_given(rt: HostRuntime) -> anyhow::Result<()> {
-    let alloc = rt.alloc();
-    let stage = played(alloc, BOARD)?;
-    expect_rows(alloc, &stage.host, ROWS)
+fn each_message_of_a_board_is_given(rt: HostRuntime) -> Result<(), Miss> {
+    expect_rows_after(rt.alloc(), BOARD, ROWS)
 }
 
 /// A conference of 9,999 messages, of which the last but one is deleted.
@@ -181,8 +205,6 @@ const LAST_ROWS: &str =
 "#;
 
 #[test]
-fn the_last_messages_of_a_full_conference_are_given(rt: HostRuntime) -> anyhow::Result<()> {
-    let alloc = rt.alloc();
-    let stage = played(alloc, FULL)?;
-    expect_rows(alloc, &stage.host, LAST_ROWS)
+fn the_last_messages_of_a_full_conference_are_given(rt: HostRuntime) -> Result<(), Miss> {
+    expect_rows_after(rt.alloc(), FULL, LAST_ROWS)
 }

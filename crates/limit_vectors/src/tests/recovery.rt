@@ -40,27 +40,28 @@ fn add_patches(patches: &mut Bytes, host: &MemoryHost) -> Result<u32, Miss> {
     Ok(count)
 }
 
+/// Adds what an open journal of so many patches is.
+fn add_open(journal: &mut Bytes, count: u32, patches: &[u8]) -> Result<(), Miss> {
+    journal.add(b"OQDJ1")?;
+    journal.add(&count.to_le_bytes())?;
+    journal.add(&length_of(patches)?)?;
+    journal.add(patches)?;
+    Ok(())
+}
+
 /// An open journal that makes all data files those of a host.
 fn journal_of(alloc: Global, host: &MemoryHost) -> Result<Bytes, Miss> {
     let mut patches = Bytes::new(alloc);
     let count = add_patches(&mut patches, host)?;
     let mut journal = Bytes::new(alloc);
-    journal.add(b"OQDJ1")?;
-    journal.add(&count.to_le_bytes())?;
-    journal.add(&length_of(patches.as_slice())?)?;
-    journal.add(patches.as_slice())?;
+    add_open(&mut journal, count, patches.as_slice())?;
     Ok(journal)
 }
 
-/// The files of a full board in an open journal, beside files that are empty.
-fn open_host(alloc: Global, full: &MemoryHost) -> Result<MemoryHost, Miss> {
-    let mut host = empty_host(alloc);
-    put_data(
-        &mut host,
-        FileId::journal(),
-        journal_of(alloc, full)?.as_slice(),
-    )?;
-    Ok(host)
+/// Puts the files of a full board into an open journal.
+fn put_open(alloc: Global, host: &mut MemoryHost, full: &MemoryHost) -> Result<(), Miss> {
+    let journal = journal_of(alloc, full)?;
+    put_data(host, FileId::journal(), journal.as_slice())
 }
 
 /// What a recovery leaves that is stopped once it has written some of the files.
@@ -73,9 +74,10 @@ fn stopped(alloc: Global, host: &MemoryHost, shelf: &mut MemoryShelf) -> Result<
     Ok(left)
 }
 
-/// What a crash in the recovery of a full board's files leaves.
+/// What a crash in the recovery of a full board's files leaves, beside files that were empty.
 fn torn(alloc: Global, full: &MemoryHost, shelf: &mut MemoryShelf) -> Result<MemoryHost, Miss> {
-    let open = open_host(alloc, full)?;
+    let mut open = empty_host(alloc);
+    put_open(alloc, &mut open, full)?;
     stopped(alloc, &open, shelf)
 }
 
@@ -87,8 +89,10 @@ fn recovers(
     shelf: &mut MemoryShelf,
 ) -> Result<(), Miss> {
     let mut steps = Steps::of(alloc, full, shelf, "")?;
-    steps.after_crash(alloc, torn, ImageChoice::Mixed(1), shelf)?;
-    Ok(())
+    match steps.after_crash(alloc, torn, ImageChoice::Mixed(1), shelf) {
+        Ok(_) => Ok(()),
+        Err(miss) => Err(miss),
+    }
 }
 
 #[test]

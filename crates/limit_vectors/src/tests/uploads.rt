@@ -2,7 +2,7 @@
 use super::numbered::expect_numbered;
 use byte_lists::Bytes;
 use door_outside::FileId;
-use example_runs::{Miss, played, put_data};
+use example_runs::{Miss, Stage, played, put_data};
 use memory_outside::MemoryHost;
 use std::alloc::{AllocError, Global};
 
@@ -63,21 +63,21 @@ fn add_record(records: &mut Bytes, number: u32) -> Result<(), AllocError> {
     records.add(&[0; 36])
 }
 
-/// A ledger with so many upload records behind it, which has none yet.
-fn with_records(alloc: Global, ledger: &[u8], count: u32) -> Result<Bytes, Miss> {
-    let mut made = Bytes::new(alloc);
+/// Makes a ledger with so many upload records behind it, of one that has none yet.
+fn add_ledger(made: &mut Bytes, ledger: &[u8], count: u32) -> Result<(), Miss> {
     made.add(ledger.get(..12).ok_or("too short")?)?;
     made.add(&count.to_le_bytes())?;
     made.add(ledger.get(16..).ok_or("too short")?)?;
     for number in 0..count {
-        add_record(&mut made, number)?;
+        add_record(made, number)?;
     }
-    Ok(made)
+    Ok(())
 }
 
 /// Gives the board of a host so many upload records.
 fn put_records(alloc: Global, host: &mut MemoryHost, count: u32) -> Result<(), Miss> {
-    let ledger = with_records(alloc, host.file(FileId::ledger()), count)?;
+    let mut ledger = Bytes::new(alloc);
+    add_ledger(&mut ledger, host.file(FileId::ledger()), count)?;
     put_data(host, FileId::ledger(), ledger.as_slice())
 }
 
@@ -118,10 +118,15 @@ refused uploads 100000
 damaged 0 0 count
 "#;
 
+/// Plays that on a board that has all records but one.
+fn expect_last(alloc: Global, stage: &mut Stage) -> Result<(), Miss> {
+    put_records(alloc, &mut stage.host, 99_999)?;
+    stage.play(alloc, LAST)
+}
+
 #[test]
 fn a_hundred_thousand_uploads_are_kept(rt: HostRuntime) -> Result<(), Miss> {
     let alloc = rt.alloc();
     let mut stage = played(alloc, BOARD)?;
-    put_records(alloc, &mut stage.host, 99_999)?;
-    stage.play(alloc, LAST)
+    expect_last(alloc, &mut stage)
 }

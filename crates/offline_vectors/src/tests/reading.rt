@@ -3,71 +3,129 @@ mod scans;
 
 use super::packets;
 use byte_lists::Bytes;
-use offline_reader::{ShowError, list_folder, list_packet, show_message};
+use case_texts::{Miss, expect_cases, number_of, quoted};
+use offline_reader::{list_folder, list_packet, show_message};
 use qwk_blocks::{QwkMessage, QwkMessages};
+use qwk_control::Control;
 use std::alloc::{AllocError, Global};
-use std::test::Fail;
 
-/// A message of this status and activity with a control character in its sender's name and one in its line.
-fn message(alloc: Global, status: u8, activity: u8) -> Result<QwkMessage, AllocError> {
-    let mut message = packets::message(alloc, status, b"BOB\x7FRAY")?;
+/// Gives a message a control character in its sender's name and one in its line.
+fn fill(alloc: Global, message: &mut QwkMessage) -> Result<(), AllocError> {
+    packets::send(message, b"BOB\x7FRAY")?;
+    message.lines.add(Bytes::from_slice(alloc, b"tab\there")?)
+}
+
+/// Adds such a message of this status and activity.
+fn add_message(
+    alloc: Global,
+    messages: &mut QwkMessages,
+    status: u8,
+    activity: u8,
+) -> Result<(), AllocError> {
+    let mut message = packets::message(alloc, status);
     message.header.activity = activity;
     message.header.conference = 65535;
-    message.lines.add(Bytes::from_slice(alloc, b"tab\there")?)?;
-    Ok(message)
+    fill(alloc, &mut message)?;
+    messages.add(message)
 }
 
+/// The list of a packet to which such a message is added.
+fn list_with(
+    alloc: Global,
+    messages: &mut QwkMessages,
+    status: u8,
+    activity: u8,
+) -> Result<String, AllocError> {
+    add_message(alloc, messages, status, activity)?;
+    let text = list_packet(alloc, messages)?;
+    quoted(alloc, text.as_slice())
+}
+
+fn list(alloc: Global, words: &[Bytes]) -> Result<String, Miss> {
+    let [status, activity] = words else {
+        return Err(Miss::Words);
+    };
+    let ([status], [activity]) = (status.as_slice(), activity.as_slice()) else {
+        return Err(Miss::Words);
+    };
+    let mut messages = QwkMessages::new(alloc);
+    Ok(list_with(alloc, &mut messages, *status, *activity)?)
+}
+
+/// A case is the status and the activity of a packet's one message, and what is found is the list of the packet.
+const KINDS: &str = r#"
+" " \xE1 => "1 65535/- public BOB?RAY > ALL:  [1]\n1 messages\n"
+- \0 => "1 65535/- public BOB?RAY > ALL:  [1]\n1 messages\n"
++ \xE1 => "1 65535/- private BOB?RAY > ALL:  [1]\n1 messages\n"
+* \xE1 => "1 65535/- private BOB?RAY > ALL:  [1]\n1 messages\n"
+~ \xE1 => "1 65535/- comment BOB?RAY > ALL:  [1]\n1 messages\n"
+` \xE1 => "1 65535/- comment BOB?RAY > ALL:  [1]\n1 messages\n"
+% \xE1 => "1 65535/- password BOB?RAY > ALL:  [1]\n1 messages\n"
+$ \xE1 => "1 65535/- password BOB?RAY > ALL:  [1]\n1 messages\n"
++ \xE2 => "1 65535/- killed BOB?RAY > ALL:  [1]\n1 messages\n"
+"#;
+
 #[test]
-fn kinds_follow_status_and_activity(rt: HostRuntime) -> Result<(), Fail> {
-    for (status, activity, kind) in [
-        (b' ', 0xE1, "public"),
-        (b'-', 0, "public"),
-        (b'+', 0xE1, "private"),
-        (b'*', 0xE1, "private"),
-        (b'~', 0xE1, "comment"),
-        (b'`', 0xE1, "comment"),
-        (b'%', 0xE1, "password"),
-        (b'$', 0xE1, "password"),
-        (b'+', 0xE2, "killed"),
-    ] {
-        let mut messages = QwkMessages::new(rt.alloc());
-        messages.add(message(rt.alloc(), status, activity)?)?;
-        let text = list_packet(rt.alloc(), &messages)?;
-        let wanted = format!(in rt.alloc(); "1 65535/- {kind} BOB?RAY > ALL:  [1]\n1 messages\n")?;
-        assert_eq!(rt; text.as_slice(), wanted.as_bytes());
+fn kinds_follow_status_and_activity(rt: HostRuntime) -> Result<(), Miss> {
+    expect_cases(rt.alloc(), KINDS, list)
+}
+
+/// The message in a place of a packet to which one is added, or why none is shown.
+fn show_with(alloc: Global, messages: &mut QwkMessages, place: u32) -> Result<String, AllocError> {
+    add_message(alloc, messages, b' ', 0xE1)?;
+    match show_message(alloc, messages, place) {
+        Ok(text) => quoted(alloc, text.as_slice()),
+        Err(error) => format!(in alloc; "{error:?}"),
     }
-    Ok(())
 }
 
-#[test]
-fn messages_are_shown(rt: HostRuntime) -> Result<(), Fail> {
-    let mut messages = QwkMessages::new(rt.alloc());
-    messages.add(message(rt.alloc(), b' ', 0xE1)?)?;
-    let text = show_message(rt.alloc(), &messages, 1)?;
-    let wanted =
-        "From: BOB?RAY\nTo: ALL\nSubject: \nDate: 09-09-01 01:46\nConference: 65535\nNumber: -\nReference: -\n\ntab?here\n";
-    assert_eq!(rt; text.as_slice(), wanted.as_bytes());
-    Ok(())
+fn show(alloc: Global, words: &[Bytes]) -> Result<String, Miss> {
+    let [place] = words else {
+        return Err(Miss::Words);
+    };
+    let place = number_of(place.as_slice())?;
+    Ok(show_with(alloc, &mut QwkMessages::new(alloc), place)?)
 }
 
-#[test]
-fn other_places_have_no_message(rt: HostRuntime) -> Result<(), Fail> {
-    let mut messages = QwkMessages::new(rt.alloc());
-    messages.add(message(rt.alloc(), b' ', 0xE1)?)?;
-    for place in [0, 2, 4_294_967_295] {
-        let none = show_message(rt.alloc(), &messages, place);
-        assert!(rt; matches!(none, Err(ShowError::NoMessage)));
-    }
-    Ok(())
-}
+/// A case is a place in a packet of one message, and what is found is the message there.
+const SHOWN: &str = r#"
+1 => "From: BOB?RAY\nTo: ALL\nSubject: \nDate: 09-09-01 01:46\nConference: 65535\nNumber: -\nReference: -\n\ntab?here\n"
+0 => NoMessage
+2 => NoMessage
+4294967295 => NoMessage
+"#;
 
 #[test]
-fn a_board_and_a_user_are_shown(rt: HostRuntime) -> Result<(), Fail> {
-    let control = packets::control(rt.alloc(), b"Test\x01Board", b"ANN LEE")?;
-    let text = list_folder(rt.alloc(), &control, &QwkMessages::new(rt.alloc()))?;
-    assert_eq!(rt;
-        text.as_slice(),
-        b"board Test?Board\nuser ANN LEE\n0 messages\n".as_slice()
-    );
-    Ok(())
+fn messages_are_shown(rt: HostRuntime) -> Result<(), Miss> {
+    expect_cases(rt.alloc(), SHOWN, show)
+}
+
+/// The list of a folder without messages, whose packet says this of a board and a user.
+fn list_named(
+    alloc: Global,
+    control: &mut Control,
+    board: &[u8],
+    user: &[u8],
+) -> Result<String, AllocError> {
+    packets::name(control, board, user)?;
+    let text = list_folder(alloc, control, &QwkMessages::new(alloc))?;
+    quoted(alloc, text.as_slice())
+}
+
+fn list_empty(alloc: Global, words: &[Bytes]) -> Result<String, Miss> {
+    let [board, user] = words else {
+        return Err(Miss::Words);
+    };
+    let mut control = packets::control(alloc);
+    Ok(list_named(alloc, &mut control, board.as_slice(), user.as_slice())?)
+}
+
+/// A case is the name of a board and of a user, and what is found is the list of a folder without messages.
+const FOLDERS: &str = r#"
+"Test\x01Board" "ANN LEE" => "board Test?Board\nuser ANN LEE\n0 messages\n"
+"#;
+
+#[test]
+fn a_board_and_a_user_are_shown(rt: HostRuntime) -> Result<(), Miss> {
+    expect_cases(rt.alloc(), FOLDERS, list_empty)
 }

@@ -5,66 +5,84 @@ use long_names::{plain, with_long};
 use qwk_blocks::{Header, QwkMessage};
 use std::alloc::{AllocError, Global};
 
-/// A header with these texts.
-fn header_of(to: Bytes, from: Bytes, subject: Bytes, password: Bytes) -> Header {
-    Header {
-        status: b' ',
-        number: Some(1),
-        date: *b"09-09-01",
-        time: *b"01:46",
-        to,
-        from,
-        subject,
-        password,
-        reference: Some(0),
-        activity: 0xE1,
-        conference: 0,
-        logical: 1,
-        tag: b' ',
+/// A message without texts.
+fn empty_message(alloc: Global) -> QwkMessage {
+    QwkMessage {
+        header: Header {
+            status: b' ',
+            number: Some(1),
+            date: *b"09-09-01",
+            time: *b"01:46",
+            to: Bytes::new(alloc),
+            from: Bytes::new(alloc),
+            subject: Bytes::new(alloc),
+            password: Bytes::new(alloc),
+            reference: Some(0),
+            activity: 0xE1,
+            conference: 0,
+            logical: 1,
+            tag: b' ',
+        },
+        lines: Lines::new(alloc),
     }
 }
 
-/// The message of a case.
-fn message_of(alloc: Global, words: &[Bytes]) -> Result<QwkMessage, Miss> {
+/// Gives an empty message the texts of a case.
+fn fill(alloc: Global, message: &mut QwkMessage, words: &[Bytes]) -> Result<(), Miss> {
     let [to, from, subject, text @ ..] = words else {
         return Err(Miss::Words);
     };
-    let mut lines = Lines::new(alloc);
+    message.header.to.add(to.as_slice())?;
+    message.header.from.add(from.as_slice())?;
+    message.header.subject.add(subject.as_slice())?;
     for line in text {
-        lines.add(line.copy(alloc)?)?;
+        message.lines.add(line.copy(alloc)?)?;
     }
-    let to = to.copy(alloc)?;
-    let from = from.copy(alloc)?;
-    let subject = subject.copy(alloc)?;
-    let header = header_of(to, from, subject, Bytes::new(alloc));
-    Ok(QwkMessage { header, lines })
+    Ok(())
 }
 
-/// A message in the words of a case.
-fn described(alloc: Global, message: &QwkMessage) -> Result<String, AllocError> {
+/// Adds the texts of a message in the words of a case.
+fn add_texts(alloc: Global, found: &mut String, message: &QwkMessage) -> Result<(), AllocError> {
     let header = &message.header;
-    let mut found = quoted(alloc, header.to.as_slice())?;
-    for text in [header.from.as_slice(), header.subject.as_slice()] {
-        found.push_str(" ")?;
-        found.push_str(quoted(alloc, text)?.as_str())?;
-    }
+    found.push_str(quoted(alloc, header.to.as_slice())?.as_str())?;
+    found.push_str(" ")?;
+    found.push_str(quoted(alloc, header.from.as_slice())?.as_str())?;
+    found.push_str(" ")?;
+    found.push_str(quoted(alloc, header.subject.as_slice())?.as_str())?;
     for line in message.lines.as_slice() {
         found.push_str(" ")?;
         found.push_str(quoted(alloc, line.as_slice())?.as_str())?;
     }
+    Ok(())
+}
+
+/// A message in the words of a case.
+fn described(alloc: Global, message: &QwkMessage) -> Result<String, AllocError> {
+    let mut found = String::new(alloc);
+    add_texts(alloc, &mut found, message)?;
     Ok(found)
 }
 
 /// The message as it is read.
+fn read_filled(alloc: Global, message: &mut QwkMessage, words: &[Bytes]) -> Result<String, Miss> {
+    fill(alloc, message, words)?;
+    let read = plain(alloc, message)?;
+    Ok(described(alloc, &read)?)
+}
+
 fn read(alloc: Global, words: &[Bytes]) -> Result<String, Miss> {
-    let message = message_of(alloc, words)?;
-    Ok(described(alloc, &plain(alloc, &message)?)?)
+    read_filled(alloc, &mut empty_message(alloc), words)
 }
 
 /// The message as it goes.
+fn gone_filled(alloc: Global, message: &mut QwkMessage, words: &[Bytes]) -> Result<String, Miss> {
+    fill(alloc, message, words)?;
+    let gone = with_long(alloc, message)?;
+    Ok(described(alloc, &gone)?)
+}
+
 fn gone(alloc: Global, words: &[Bytes]) -> Result<String, Miss> {
-    let message = message_of(alloc, words)?;
-    Ok(described(alloc, &with_long(alloc, &message)?)?)
+    gone_filled(alloc, &mut empty_message(alloc), words)
 }
 
 const GONE: &str = r#"

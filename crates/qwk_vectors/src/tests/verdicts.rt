@@ -33,56 +33,83 @@ fn conference(kind: Kind) -> ConferenceView {
     }
 }
 
-/// Ann Lee's view of a conference.
-fn ann(alloc: Global, conference: ConferenceView) -> Result<View, AllocError> {
-    Ok(View {
-        user: Bytes::from_slice(alloc, b"Ann Lee")?,
+/// A view of a conference, without names and zones.
+fn view(alloc: Global, conference: ConferenceView) -> View {
+    View {
+        user: Bytes::new(alloc),
         net: true,
         is_sysop: false,
-        sysop: Bytes::from_slice(alloc, b"Sam Sysop")?,
-        zones: List::from_vec([1, 2].to_vec(alloc)?),
+        sysop: Bytes::new(alloc),
+        zones: List::new(alloc),
         conference: Some(conference),
         reply: Bytes::new(alloc),
         room: 1 << 20,
-    })
-}
-
-fn header(alloc: Global) -> Result<Header, AllocError> {
-    Ok(Header {
-        status: b' ',
-        number: Some(1),
-        date: *b"09-09-01",
-        time: *b"01:46",
-        to: Bytes::from_slice(alloc, b"BOB RAY")?,
-        from: Bytes::from_slice(alloc, b"ANN LEE")?,
-        subject: Bytes::from_slice(alloc, b"Hello")?,
-        password: Bytes::new(alloc),
-        reference: None,
-        activity: 0xE1,
-        conference: 1,
-        logical: 1,
-        tag: b' ',
-    })
-}
-
-/// A message of Ann's to Bob Ray in conference 1, with these lines.
-fn letter(alloc: Global, lines: &[Bytes]) -> Result<QwkMessage, AllocError> {
-    let mut text = Lines::new(alloc);
-    for line in lines {
-        text.add(line.copy(alloc)?)?;
     }
-    let header = header(alloc)?;
-    Ok(QwkMessage {
-        header,
-        lines: text,
-    })
 }
 
-/// The rule that refuses with its word, and else `posted`.
-fn refusal(alloc: Global, view: &View, message: &QwkMessage) -> Result<String, Miss> {
-    match judge(alloc, view, message, NOW)? {
-        Verdict::Refused(rule) => refused(alloc, rule),
-        Verdict::Post(_) => Ok(String::from_str(alloc, "posted")?),
+/// A message in conference 1, without texts.
+fn message(alloc: Global) -> QwkMessage {
+    QwkMessage {
+        header: Header {
+            status: b' ',
+            number: Some(1),
+            date: *b"09-09-01",
+            time: *b"01:46",
+            to: Bytes::new(alloc),
+            from: Bytes::new(alloc),
+            subject: Bytes::new(alloc),
+            password: Bytes::new(alloc),
+            reference: None,
+            activity: 0xE1,
+            conference: 1,
+            logical: 1,
+            tag: b' ',
+        },
+        lines: Lines::new(alloc),
+    }
+}
+
+/// A message that is uploaded, and who uploads it to which conference.
+#[derive(Drop)]
+struct Upload {
+    view: View,
+    message: QwkMessage,
+}
+
+impl Upload {
+    /// One without names and texts.
+    fn new(alloc: Global, conference: ConferenceView) -> Upload {
+        Upload {
+            view: view(alloc, conference),
+            message: message(alloc),
+        }
+    }
+
+    /// Makes it a message of Ann's to Bob Ray.
+    fn fill(&mut self) -> Result<(), AllocError> {
+        self.view.user.add(b"Ann Lee")?;
+        self.view.sysop.add(b"Sam Sysop")?;
+        self.view.zones.add(1)?;
+        self.view.zones.add(2)?;
+        self.message.header.to.add(b"BOB RAY")?;
+        self.message.header.from.add(b"ANN LEE")?;
+        self.message.header.subject.add(b"Hello")
+    }
+
+    /// Adds these lines to it.
+    fn add_lines(&mut self, alloc: Global, lines: &[Bytes]) -> Result<(), AllocError> {
+        for line in lines {
+            self.message.lines.add(line.copy(alloc)?)?;
+        }
+        Ok(())
+    }
+
+    /// The rule that refuses with its word, and else `posted`.
+    fn refusal(&self, alloc: Global) -> Result<String, Miss> {
+        match judge(alloc, &self.view, &self.message, NOW)? {
+            Verdict::Refused(rule) => refused(alloc, rule),
+            Verdict::Post(_) => Ok(String::from_str(alloc, "posted")?),
+        }
     }
 }
 
@@ -156,40 +183,38 @@ fn break_message(alloc: Global, rule: Rule, message: &mut QwkMessage) -> Result<
     Ok(())
 }
 
-/// Ann's view of a conference of this kind, in which these rules are broken.
-fn broken_view(alloc: Global, kind: Kind, rules: &[Rule]) -> Result<View, AllocError> {
+/// A conference of this kind, in which these rules are broken.
+fn broken_conference(kind: Kind, rules: &[Rule]) -> ConferenceView {
     let mut conference = conference(kind);
     for rule in rules {
         break_conference(*rule, &mut conference);
     }
-    let mut view = ann(alloc, conference)?;
-    for rule in rules {
-        break_view(alloc, *rule, &mut view);
-    }
-    Ok(view)
+    conference
 }
 
-/// A message that breaks these rules.
-fn broken_message(alloc: Global, rules: &[Rule]) -> Result<QwkMessage, AllocError> {
-    let lines = [
-        Bytes::from_slice(alloc, b"Ann@2:5020/400.1")?,
-        Bytes::from_slice(alloc, b"Hi")?,
-    ];
-    let mut message = letter(alloc, &lines)?;
-    for rule in rules {
-        break_message(alloc, *rule, &mut message)?;
+impl Upload {
+    /// Makes it a letter of two lines that breaks these rules, and judges it.
+    fn judge_broken(&mut self, alloc: Global, rules: &[Rule]) -> Result<String, Miss> {
+        self.fill()?;
+        let lines = &mut self.message.lines;
+        lines.add(Bytes::from_slice(alloc, b"Ann@2:5020/400.1")?)?;
+        lines.add(Bytes::from_slice(alloc, b"Hi")?)?;
+        for rule in rules {
+            break_view(alloc, *rule, &mut self.view);
+            break_message(alloc, *rule, &mut self.message)?;
+        }
+        self.refusal(alloc)
     }
-    Ok(message)
 }
 
 fn judge_broken(alloc: Global, words: &[Bytes]) -> Result<String, Miss> {
     let [kind, rules @ ..] = words else {
         return Err(Miss::Words);
     };
+    let kind = kind_of(kind)?;
     let rules = rules_of(alloc, rules)?;
-    let view = broken_view(alloc, kind_of(kind)?, rules.as_slice())?;
-    let message = broken_message(alloc, rules.as_slice())?;
-    refusal(alloc, &view, &message)
+    let conference = broken_conference(kind, rules.as_slice());
+    Upload::new(alloc, conference).judge_broken(alloc, rules.as_slice())
 }
 
 /// A case is the kind of a conference, and the rules that are broken in order. To isn't judged in net mail.
@@ -232,6 +257,23 @@ fn the_first_rule_refuses(rt: HostRuntime) -> Result<(), Miss> {
     expect_cases(rt.alloc(), BROKEN, judge_broken)
 }
 
+impl Upload {
+    /// Sends these lines to a name, where there is so much room for messages, and judges them.
+    fn judge_size(
+        &mut self,
+        alloc: Global,
+        room: u32,
+        to: &Bytes,
+        lines: &[Bytes],
+    ) -> Result<String, Miss> {
+        self.fill()?;
+        self.add_lines(alloc, lines)?;
+        self.view.room = u64::from(room);
+        self.message.header.to = to.copy(alloc)?;
+        self.refusal(alloc)
+    }
+}
+
 fn judge_size(alloc: Global, words: &[Bytes]) -> Result<String, Miss> {
     let [kind, slots, room, to, lines @ ..] = words else {
         return Err(Miss::Words);
@@ -239,11 +281,7 @@ fn judge_size(alloc: Global, words: &[Bytes]) -> Result<String, Miss> {
     let mut conference = conference(kind_of(kind)?);
     conference.slots = number_of(slots.as_slice())?;
     let room = number_of(room.as_slice())?;
-    let mut message = letter(alloc, lines)?;
-    message.header.to = to.copy(alloc)?;
-    let mut view = ann(alloc, conference)?;
-    view.room = u64::from(room);
-    refusal(alloc, &view, &message)
+    Upload::new(alloc, conference).judge_size(alloc, room, to, lines)
 }
 
 /// A case is the kind of a conference, its slots, the room for its messages, To, and lines. The address line takes no room,
@@ -269,16 +307,21 @@ fn add_text(alloc: Global, found: &mut String, name: &str, text: &Bytes) -> Resu
     found.push_str(quoted(alloc, text.as_slice())?.as_str())
 }
 
+/// Adds the texts of a message that is posted.
+fn add_texts(alloc: Global, found: &mut String, draft: &Message) -> Result<(), AllocError> {
+    add_text(alloc, found, " from ", &draft.from)?;
+    add_text(alloc, found, " to ", &draft.to)?;
+    add_text(alloc, found, " at ", &draft.destination)?;
+    add_text(alloc, found, " says ", &draft.body)
+}
+
 /// The message that the board keeps.
 fn posted(alloc: Global, draft: &Message) -> Result<String, Miss> {
     let mut found = format!(in alloc;
         "written {} processed {} private {}",
         draft.written, draft.processed, draft.private
     )?;
-    add_text(alloc, &mut found, " from ", &draft.from)?;
-    add_text(alloc, &mut found, " to ", &draft.to)?;
-    add_text(alloc, &mut found, " at ", &draft.destination)?;
-    add_text(alloc, &mut found, " says ", &draft.body)?;
+    add_texts(alloc, &mut found, draft)?;
     Ok(found)
 }
 
@@ -290,17 +333,25 @@ fn set_fields(header: &mut Header, status: &Bytes, date: &Bytes, time: &Bytes) -
     Ok(())
 }
 
+impl Upload {
+    /// Judges these lines of Ann's.
+    fn judge_letter(&mut self, alloc: Global, lines: &[Bytes]) -> Result<String, Miss> {
+        self.fill()?;
+        self.add_lines(alloc, lines)?;
+        match judge(alloc, &self.view, &self.message, NOW)? {
+            Verdict::Post(draft) => posted(alloc, &draft),
+            Verdict::Refused(rule) => refused(alloc, rule),
+        }
+    }
+}
+
 fn judge_letter(alloc: Global, words: &[Bytes]) -> Result<String, Miss> {
     let [kind, status, date, time, lines @ ..] = words else {
         return Err(Miss::Words);
     };
-    let view = ann(alloc, conference(kind_of(kind)?))?;
-    let mut message = letter(alloc, lines)?;
-    set_fields(&mut message.header, status, date, time)?;
-    match judge(alloc, &view, &message, NOW)? {
-        Verdict::Post(draft) => posted(alloc, &draft),
-        Verdict::Refused(rule) => refused(alloc, rule),
-    }
+    let mut upload = Upload::new(alloc, conference(kind_of(kind)?));
+    set_fields(&mut upload.message.header, status, date, time)?;
+    upload.judge_letter(alloc, lines)
 }
 
 /// A case is the kind of a conference, a status, a date, a time, and lines: net mail that goes to its address or to none, a

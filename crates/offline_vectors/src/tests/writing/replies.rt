@@ -1,95 +1,129 @@
-use super::{packet, replied};
+use super::{NOW, all_described, fill_control, no_replies, packets};
 use byte_lists::Bytes;
-use offline_writer::ReplyError;
+use case_texts::{Miss, expect_cases, number_of};
+use offline_writer::reply_to;
+use qwk_blocks::{QwkMessage, QwkMessages};
+use qwk_control::Control;
+use rep_packet::Rep;
 use std::alloc::{AllocError, Global};
-use std::test::Fail;
 
-#[test]
-fn a_reply_takes_its_fields_from_the_message(rt: HostRuntime) -> Result<(), Fail> {
-    for (status, number, wanted, reference) in [
-        (b' ', Some(7), b' ', Some(7)),
-        (b'+', Some(7), b'+', Some(7)),
-        (b'*', None, b'+', Some(0)),
-        (b'~', None, b' ', Some(0)),
-    ] {
-        let messages = packet(rt.alloc(), status, number)?;
-        let rep = replied(rt.alloc(), &messages, b"ANN LEE", 1, b"Thanks\n")?;
-        let reply = rep.messages.get(0).ok_or("no reply")?;
-        assert_eq!(rt; reply.header.status, wanted);
-        assert_eq!(rt; reply.header.number, Some(263));
-        assert_eq!(rt; reply.header.reference, reference);
-        assert_eq!(rt; reply.header.conference, 263);
-        assert_eq!(rt; reply.header.to.as_slice(), b"BOB RAY".as_slice());
-    }
-    Ok(())
+/// What a user replies to, and with what.
+#[derive(Drop)]
+struct Desk {
+    control: Control,
+    messages: QwkMessages,
+    rep: Rep,
 }
 
-#[test]
-fn a_reply_has_the_fields_of_a_new_message(rt: HostRuntime) -> Result<(), Fail> {
-    let messages = packet(rt.alloc(), b' ', Some(7))?;
-    let rep = replied(rt.alloc(), &messages, b"ANN LEE", 1, b"One\r\n\nTwo")?;
-    let reply = rep.messages.get(0).ok_or("no reply")?;
-    assert_eq!(rt; &reply.header.date, b"09-09-01");
-    assert_eq!(rt; &reply.header.time, b"01:46");
-    assert_eq!(rt; reply.header.subject.as_slice(), b"Hello".as_slice());
-    assert_eq!(rt; reply.header.activity, 0xE1);
-    assert_eq!(rt; reply.header.logical, 1);
-    assert_eq!(rt; reply.header.tag, b' ');
-    assert_eq!(rt; reply.lines.len(), 3);
-    Ok(())
+/// One with empty packets.
+fn empty_desk(alloc: Global) -> Desk {
+    Desk {
+        control: packets::control(alloc),
+        messages: QwkMessages::new(alloc),
+        rep: no_replies(alloc),
+    }
 }
 
-#[test]
-fn from_is_cut(rt: HostRuntime) -> Result<(), Fail> {
-    let messages = packet(rt.alloc(), b' ', Some(7))?;
-    for (user, from) in [
-        (
-            b"ABCDEFGHIJKLMNOPQRSTUVWXYZ".as_slice(),
-            b"ABCDEFGHIJKLMNOPQRSTUVWXY".as_slice(),
-        ),
-        (b"ABCDEFGHIJKLMNOPQRSTUVW \0Z", b"ABCDEFGHIJKLMNOPQRSTUVW"),
-        (b"", b""),
-    ] {
-        let rep = replied(rt.alloc(), &messages, user, 1, b"")?;
-        let reply = rep.messages.get(0).ok_or("no reply")?;
-        assert_eq!(rt; reply.header.from.as_slice(), from);
-    }
-    Ok(())
+/// Sends a message from Bob Ray, with values that a reply has otherwise.
+fn fill(message: &mut QwkMessage, number: Option<u32>) -> Result<(), AllocError> {
+    packets::send(message, b"BOB RAY")?;
+    let header = &mut message.header;
+    header.number = number;
+    header.date = *b"01-01-70";
+    header.time = *b"00:00";
+    header.reference = Some(5);
+    header.activity = 0xE2;
+    header.logical = 9;
+    header.tag = b'*';
+    header.subject.add(b"Hello")
 }
 
-#[test]
-fn what_cannot_be_put_into_qwk(rt: HostRuntime) -> Result<(), Fail> {
-    let messages = packet(rt.alloc(), b' ', Some(7))?;
-    for (place, text, wanted) in [
-        (0, b"".as_slice(), ReplyError::NoMessage),
-        (2, b"\xE3", ReplyError::NoMessage),
-        (1, b"One\nTwo\xE3\n", ReplyError::Text(1)),
-        (1, b"One\rTwo\n", ReplyError::Text(1)),
-        (1, b"One\r\r\n", ReplyError::Text(1)),
-        (1, b"One\r", ReplyError::Text(1)),
-    ] {
-        let error = replied(rt.alloc(), &messages, b"ANN LEE", place, text).err();
-        assert_eq!(rt; error, Some(wanted));
-    }
-    Ok(())
+/// Adds such a message of this status, in conference 263.
+fn add_message(
+    alloc: Global,
+    messages: &mut QwkMessages,
+    status: u8,
+    number: Option<u32>,
+) -> Result<(), AllocError> {
+    let mut message = packets::message(alloc, status);
+    fill(&mut message, number)?;
+    messages.add(message)
 }
 
-/// A text of one line with so many bytes.
-fn line(alloc: Global, count: usize) -> Result<Bytes, AllocError> {
-    let mut text = Bytes::new(alloc);
-    for _ in 0..count {
-        text.add(b"x")?;
+/// The packet with the reply to the message in a place, or why there is none.
+fn replied(alloc: Global, desk: &mut Desk, place: u32, text: &[u8]) -> Result<String, AllocError> {
+    let messages = &desk.messages;
+    match reply_to(
+        alloc,
+        &desk.control,
+        messages,
+        place,
+        text,
+        &mut desk.rep,
+        NOW,
+    ) {
+        Ok(()) => all_described(alloc, &desk.rep),
+        Err(error) => format!(in alloc; "{error:?}"),
     }
-    Ok(text)
 }
 
+/// Replies to the message of a case.
+fn reply_on(alloc: Global, desk: &mut Desk, words: &[Bytes]) -> Result<String, Miss> {
+    let [status, number, user, place, text] = words else {
+        return Err(Miss::Words);
+    };
+    let status = status.as_slice().first().ok_or(Miss::Words)?;
+    let number = number_of(number.as_slice()).ok();
+    let place = number_of(place.as_slice())?;
+    desk.rep.bbsid.add(b"TESTBBS")?;
+    fill_control(alloc, &mut desk.control, user.as_slice())?;
+    add_message(alloc, &mut desk.messages, *status, number)?;
+    Ok(replied(alloc, desk, place, text.as_slice())?)
+}
+
+fn reply(alloc: Global, words: &[Bytes]) -> Result<String, Miss> {
+    reply_on(alloc, &mut empty_desk(alloc), words)
+}
+
+/// A case is the status and the number of a packet's one message, its user, the place that is replied to, and a text.
+const MESSAGES: &str = r#"
+" " 7 "ANN LEE" 1 Thanks\n => 1 messages; " \xe1 " 09-09-01 01:46 "BOB RAY" "ANN LEE" "Hello" Some(263) Some(7) 263 1 1
++ 7 "ANN LEE" 1 Thanks\n => 1 messages; "+\xe1 " 09-09-01 01:46 "BOB RAY" "ANN LEE" "Hello" Some(263) Some(7) 263 1 1
+* none "ANN LEE" 1 Thanks\n => 1 messages; "+\xe1 " 09-09-01 01:46 "BOB RAY" "ANN LEE" "Hello" Some(263) Some(0) 263 1 1
+~ none "ANN LEE" 1 Thanks\n => 1 messages; " \xe1 " 09-09-01 01:46 "BOB RAY" "ANN LEE" "Hello" Some(263) Some(0) 263 1 1
+" " 7 "ANN LEE" 1 One\r\n\nTwo => 1 messages; " \xe1 " 09-09-01 01:46 "BOB RAY" "ANN LEE" "Hello" Some(263) Some(7) 263 1 3
+"#;
+
 #[test]
-fn a_text_has_at_most_16384_bytes(rt: HostRuntime) -> Result<(), Fail> {
-    let messages = packet(rt.alloc(), b' ', Some(7))?;
-    for (count, wanted) in [(16_383, None), (16_384, Some(ReplyError::Text(1)))] {
-        let text = line(rt.alloc(), count)?;
-        let error = replied(rt.alloc(), &messages, b"ANN LEE", 1, text.as_slice()).err();
-        assert_eq!(rt; error, wanted);
-    }
-    Ok(())
+fn a_reply_takes_its_fields_from_the_message(rt: HostRuntime) -> Result<(), Miss> {
+    expect_cases(rt.alloc(), MESSAGES, reply)
+}
+
+/// Users whose names don't fit, and one without a name.
+const USERS: &str = r#"
+" " 7 ABCDEFGHIJKLMNOPQRSTUVWXYZ 1 "" => 1 messages; " \xe1 " 09-09-01 01:46 "BOB RAY" "ABCDEFGHIJKLMNOPQRSTUVWXY" "Hello" Some(263) Some(7) 263 1 0
+" " 7 "ABCDEFGHIJKLMNOPQRSTUVW \0Z" 1 "" => 1 messages; " \xe1 " 09-09-01 01:46 "BOB RAY" "ABCDEFGHIJKLMNOPQRSTUVW" "Hello" Some(263) Some(7) 263 1 0
+" " 7 "" 1 "" => 1 messages; " \xe1 " 09-09-01 01:46 "BOB RAY" "" "Hello" Some(263) Some(7) 263 1 0
+"#;
+
+#[test]
+fn from_is_cut(rt: HostRuntime) -> Result<(), Miss> {
+    expect_cases(rt.alloc(), USERS, reply)
+}
+
+/// Places without a message, and texts that QWK can't hold: a text has at most 16,384 bytes as it is stored.
+const TEXTS: &str = r#"
+" " 7 "ANN LEE" 0 "" => NoMessage
+" " 7 "ANN LEE" 2 \xE3 => NoMessage
+" " 7 "ANN LEE" 1 One\nTwo\xE3\n => Text(1)
+" " 7 "ANN LEE" 1 One\rTwo\n => Text(1)
+" " 7 "ANN LEE" 1 One\r\r\n => Text(1)
+" " 7 "ANN LEE" 1 One\r => Text(1)
+" " 7 "ANN LEE" 1 x\{16383} => 1 messages; " \xe1 " 09-09-01 01:46 "BOB RAY" "ANN LEE" "Hello" Some(263) Some(7) 263 1 1
+" " 7 "ANN LEE" 1 x\{16384} => Text(1)
+"#;
+
+#[test]
+fn what_cannot_be_put_into_qwk(rt: HostRuntime) -> Result<(), Miss> {
+    expect_cases(rt.alloc(), TEXTS, reply)
 }

@@ -1,63 +1,120 @@
-use super::composed;
+use super::{NOW, all_described, fill_control, no_replies, packets};
 use byte_lists::Bytes;
+use case_texts::{Miss, expect_cases, number_of};
 use import_sheet::{Sheet, Sheets};
-use offline_writer::ComposeError;
+use offline_writer::compose;
+use qwk_control::Control;
+use rep_packet::Rep;
 use std::alloc::{AllocError, Global};
-use std::test::Fail;
+use text_fields::split_at_byte;
 
-/// An entry to Ann.
-fn entry(alloc: Global, subject: &[u8], private: bool, body: &[u8]) -> Result<Sheet, AllocError> {
-    Ok(Sheet {
-        from: Bytes::from_slice(alloc, b"Somebody else")?,
-        to: Bytes::from_slice(alloc, b"Ann")?,
-        subject: Bytes::from_slice(alloc, subject)?,
+/// What a user composes, and of what.
+#[derive(Drop)]
+struct Desk {
+    control: Control,
+    sheets: Sheets,
+    rep: Rep,
+}
+
+/// One with empty packets and without entries.
+fn empty_desk(alloc: Global) -> Desk {
+    Desk {
+        control: packets::control(alloc),
+        sheets: Sheets::new(alloc),
+        rep: no_replies(alloc),
+    }
+}
+
+/// An entry without texts.
+fn empty_entry(alloc: Global, private: bool) -> Sheet {
+    Sheet {
+        from: Bytes::new(alloc),
+        to: Bytes::new(alloc),
+        subject: Bytes::new(alloc),
         date: Some(1),
         msgid: Bytes::new(alloc),
         reply: Bytes::new(alloc),
         private,
-        body: Bytes::from_slice(alloc, body)?,
-    })
-}
-
-/// Two entries that can be put into QWK.
-fn entries(alloc: Global) -> Result<Sheets, AllocError> {
-    let mut sheets = Sheets::new(alloc);
-    sheets.add(entry(alloc, b"One", false, b"Ann@2:5020/400.1\rHi\r")?)?;
-    sheets.add(entry(alloc, b"1234567890123456789012345", true, b"\r\rlast")?)?;
-    Ok(sheets)
-}
-
-#[test]
-fn entries_become_messages(rt: HostRuntime) -> Result<(), Fail> {
-    let sheets = entries(rt.alloc())?;
-    let rep = composed(rt.alloc(), 1, &sheets)?;
-    for (place, status, logical, lines) in [(0, b' ', 1, 2), (1, b'+', 2, 3)] {
-        let message = rep.messages.get(place).ok_or("no message")?;
-        assert_eq!(rt; message.header.status, status);
-        assert_eq!(rt; message.header.number, Some(1));
-        assert_eq!(rt; message.header.reference, Some(0));
-        assert_eq!(rt; message.header.from.as_slice(), b"ANN LEE".as_slice());
-        assert_eq!(rt; message.header.logical, logical);
-        assert_eq!(rt; message.lines.len(), lines);
+        body: Bytes::new(alloc),
     }
+}
+
+/// Sends an entry to Ann.
+fn fill(entry: &mut Sheet, subject: &[u8], body: &[u8]) -> Result<(), AllocError> {
+    entry.from.add(b"Somebody else")?;
+    entry.to.add(b"Ann")?;
+    entry.subject.add(subject)?;
+    entry.body.add(body)
+}
+
+/// Adds the entry of a word, which is `private` or `public`, the subject and the body.
+fn add_entry(alloc: Global, sheets: &mut Sheets, word: &[u8]) -> Result<(), Miss> {
+    let (kind, texts) = split_at_byte(word, b'|').ok_or(Miss::Words)?;
+    let (subject, body) = split_at_byte(texts, b'|').ok_or(Miss::Words)?;
+    let mut entry = empty_entry(alloc, kind == b"private".as_slice());
+    fill(&mut entry, subject, body)?;
+    sheets.add(entry)?;
     Ok(())
 }
 
-#[test]
-fn the_first_that_cannot_be_put_into_qwk(rt: HostRuntime) -> Result<(), Fail> {
-    let mut sheets = entries(rt.alloc())?;
-    sheets.add(entry(rt.alloc(), b"1234567890123456789012345\xE3", false, b"")?)?;
-    sheets.add(entry(rt.alloc(), b"", false, b"\xE3\r")?)?;
-    for (conference, wanted) in [(0, ComposeError::Text(3)), (5, ComposeError::NoConference)] {
-        let error = composed(rt.alloc(), conference, &sheets).err();
-        assert_eq!(rt; error, Some(wanted));
+/// The packet with the messages of a sheet to a conference, or why there are none.
+fn composed(alloc: Global, desk: &mut Desk, conference: u16) -> Result<String, Miss> {
+    if desk.sheets.len() > 100 {
+        return Err(Miss::Words);
     }
-    Ok(())
+    match compose(
+        alloc,
+        &desk.control,
+        conference,
+        &desk.sheets,
+        &mut desk.rep,
+        NOW,
+    ) {
+        Ok(()) => Ok(all_described(alloc, &desk.rep)?),
+        Err(error) => Ok(format!(in alloc; "{error:?}")?),
+    }
 }
 
+/// Composes the messages of a case.
+fn compose_on(alloc: Global, desk: &mut Desk, words: &[Bytes]) -> Result<String, Miss> {
+    let [conference, entries @ ..] = words else {
+        return Err(Miss::Words);
+    };
+    let conference = u16::try_from(number_of(conference.as_slice())?);
+    let conference = conference.ok().ok_or(Miss::Words)?;
+    desk.rep.bbsid.add(b"TESTBBS")?;
+    fill_control(alloc, &mut desk.control, b"ANN LEE")?;
+    for entry in entries {
+        add_entry(alloc, &mut desk.sheets, entry.as_slice())?;
+    }
+    composed(alloc, desk, conference)
+}
+
+fn compose_case(alloc: Global, words: &[Bytes]) -> Result<String, Miss> {
+    compose_on(alloc, &mut empty_desk(alloc), words)
+}
+
+/// A case is a conference and entries.
+const ENTRIES: &str = r#"
+1 public|One|Ann@2:5020/400.1\rHi\r private|1234567890123456789012345|\r\rlast
+=> 2 messages; " \xe1 " 09-09-01 01:46 "Ann" "ANN LEE" "One" Some(1) Some(0) 1 1 2; "+\xe1 " 09-09-01 01:46 "Ann" "ANN LEE" "1234567890123456789012345" Some(1) Some(0) 1 2 3
+0 public|One|Ann@2:5020/400.1\rHi\r private|1234567890123456789012345|\r\rlast public|1234567890123456789012345\xE3| public||\xE3\r
+=> Text(3)
+5 public|One|Ann@2:5020/400.1\rHi\r private|1234567890123456789012345|\r\rlast public|1234567890123456789012345\xE3| public||\xE3\r
+=> NoConference
+"#;
+
 #[test]
-fn no_entries_are_no_refusal(rt: HostRuntime) -> Result<(), Fail> {
-    let rep = composed(rt.alloc(), 0, &Sheets::new(rt.alloc()))?;
-    assert_eq!(rt; rep.messages.len(), 0);
-    Ok(())
+fn entries_become_messages(rt: HostRuntime) -> Result<(), Miss> {
+    expect_cases(rt.alloc(), ENTRIES, compose_case)
+}
+
+/// No entries are no refusal.
+const NO_ENTRIES: &str = r#"
+0 => 0 messages
+"#;
+
+#[test]
+fn no_entries_are_no_refusal(rt: HostRuntime) -> Result<(), Miss> {
+    expect_cases(rt.alloc(), NO_ENTRIES, compose_case)
 }
