@@ -12,6 +12,7 @@ use Rattle.door_upload.specs.declared.answer.UploadError.TheVariants as error
 use Rattle.door_upload.specs.declared.answer.Uploaded.TheVariants as answer
 use Rattle.door_upload.specs.declared.preparing.Uploading.{Uploading}
 use Rattle.door_upload.specs.declared.preparing.Uploading.TheVariants as found
+use Rattle.jam_records.specs.declared.damage.Damage.{Damage}
 use Rattle.mail_board.proofs.NextLaws.{fits_board}
 use Rattle.mail_board.proofs.PostedSlots.{posting_keeps}
 use Rattle.mail_board.specs.Changes.{changed, Fits}
@@ -31,13 +32,19 @@ early OtherBoard = tt
 early Uploads = tt
 early (Size bytes) = tt
 
-never_disk : (why : UploadRefusal) → error_of why ≡ error.DiskFault → ⊥
-never_disk NoUser is = cc is
-never_disk (Broken fault) is = cc is
-never_disk NoBoardId is = cc is
-never_disk OtherBoard is = cc is
-never_disk Uploads is = cc is
-never_disk (Size bytes) is = cc is
+-- neither it nor an error of the board's change is damage
+never_damage : (damage : Damage) (why : UploadRefusal) → error_of why ≡ error.Damaged damage → ⊥
+never_damage damage NoUser is = cc is
+never_damage damage (Broken fault) is = cc is
+never_damage damage NoBoardId is = cc is
+never_damage damage OtherBoard is = cc is
+never_damage damage Uploads is = cc is
+never_damage damage (Size bytes) is = cc is
+
+pub change_undamaged : (damage : Damage) (e : ChangeError) → of_change e ≡ error.Damaged damage → ⊥
+change_undamaged damage change_error.DiskFault is = cc is
+change_undamaged damage change_error.Doubt is = cc is
+change_undamaged damage change_error.OutOfMemory is = cc is
 
 kept_early : (h : HeldBoard) (e : UploadError) (r : Result Upload UploadRefusal) → IsKeptFrom h e r → LeavesAll (Err e)
 kept_early h e r (inl (why, is, same)) = subst (λ (x : UploadError). LeavesAll (Err x)) (sym same) (early why)
@@ -80,6 +87,14 @@ module _ (name bytes : List ℕ) (now : ℕ) (h : HeldBoard) where
         by : FindsIn name bytes now h (Err e) → LeavesAll (Err e)
         by (inl starved) = let one : e ≡ error.OutOfMemory = cc starved in subst (λ (x : UploadError). LeavesAll (Err x)) (sym one) tt
         by (inr (r, gives, kept)) = kept_early h e r kept
+
+    pub unprepared_undamaged : (damage : Damage) → e ≡ error.Damaged damage → ⊥
+    unprepared_undamaged damage is = by finds
+      where
+        by : FindsIn name bytes now h (Err e) → ⊥
+        by (inl starved) = let one : e ≡ error.OutOfMemory = cc starved in cc (sym one ∙ is)
+        by (inr (r, gives, inl (why, refused, same))) = never_damage damage why (sym same ∙ is)
+        by (inr (r, gives, inr (new, doubt, same))) = cc (sym same ∙ is)
 
     pub unprepared_answers : (r : Result Upload UploadRefusal) → UploadGives name bytes now h.board r → Answers h.doubtful r (Err e)
     unprepared_answers r gives = by finds

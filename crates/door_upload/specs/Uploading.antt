@@ -11,7 +11,7 @@ use Rattle.rep_packet.specs.declared.fault.RepError.TheVariants as rep
 use Rattle.door_upload.specs.Upload.{Upload, UploadRefusal, UploadGives}
 use Rattle.door_upload.specs.Upload as upload
 use Rattle.door_upload.specs.declared.answer.UploadError.{UploadError}
-use Rattle.door_upload.specs.declared.answer.UploadError.TheVariants.{NoUser, Broken, NoBoardId, OtherBoard, Uploads, Size, DiskFault, Doubt, OutOfMemory}
+use Rattle.door_upload.specs.declared.answer.UploadError.TheVariants.{NoUser, Broken, NoBoardId, OtherBoard, Uploads, Size, DiskFault, Doubt, Damaged, OutOfMemory}
 use Rattle.door_upload.specs.declared.answer.Uploaded.{Uploaded}
 use Rattle.door_upload.specs.declared.answer.Uploaded.TheVariants.{Again, Judged}
 use Rattle.door_upload.specs.declared.preparing.Uploading.{Uploading}
@@ -95,4 +95,5 @@ LeavesAll (Err Uploads) = Unit {0}
 LeavesAll (Err (Size bytes)) = Unit {0}
 LeavesAll (Err DiskFault) = ⊥
 LeavesAll (Err Doubt) = Unit {0}
+LeavesAll (Err (Damaged damage)) = Unit {0}
 LeavesAll (Err OutOfMemory) = Unit {0}

@@ -1,5 +1,6 @@
 // What an upload answers.
 use board_ledger::Counts;
+use jam_records::Damage;
 use mail_board::ChangeError;
 use packet_verdicts::Outcomes;
 use qwk_blocks::QwkFault;
@@ -43,6 +44,10 @@ pub enum UploadError {
     /// An earlier change ended with a disk fault, so nothing was done.
     #[error("the board is in doubt")]
     Doubt,
+    /// What the host gave as a message's text can't be one of the board's. This is the rule that it breaks. It never
+    /// comes, since an upload fetches no text.
+    #[error("damaged: file {file}, record {item}, {rule:?}", file = .0.file, item = .0.item, rule = .0.rule)]
+    Damaged(Damage),
     /// There is no memory for the upload. Nothing was done.
     #[error("out of memory")]
     OutOfMemory,

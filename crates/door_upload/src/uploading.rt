@@ -4,6 +4,7 @@ ghost use Rattle.board_layout.specs.Layout.{IsLayout};
 ghost use Rattle.board_layout.specs.Valid.{IsBoard};
 ghost use Rattle.door_outside.specs.Disk.{AllNow, Between};
 ghost use Rattle.intent_journal.specs.Hosts.{IsSettled};
+ghost use Rattle.jam_records.specs.declared.damage.Damage.{Damage};
 ghost use Rattle.mail_board.specs.Causes.{HasFault};
 ghost use Rattle.mail_board.specs.Held.{BeforeOrNext, Rests};
 ghost use Rattle.mail_board.specs.Readers.{user_id};
@@ -27,7 +28,7 @@ use std::alloc::Global;
 /// than a block, `NoBoardId`, any other `Broken`), else `OtherBoard`; where he didn't send it before, `Uploads` where
 /// there are 100,000 records, else `Size`, else `Doubt` where the board is doubtful, and `OutOfMemory` before the
 /// first write: all of them leave all as it was. `DiskFault` comes only where the host's count of disk faults rose,
-/// and then the board is doubtful.
+/// and then the board is doubtful. `Damaged` never comes, since no message's text is fetched.
 pub fn upload<H: Host>(
     alloc: Global,
     board: &mut Board,
@@ -48,6 +49,7 @@ pub fn upload<H: Host>(
     ensures gives { IsErrOf result UploadError.OutOfMemory ⊎ ((r : _) × UploadGives user.now bytes.now now board.old.board r) }
     ensures no_user { user_id user.now board.old.board ≡ None → result ≡ Err UploadError.NoUser }
     ensures answer { (r : _) → UploadGives user.now bytes.now now board.old.board r → Answers board.old.doubtful r result }
+    ensures undamaged { (damage : Damage) → ¬ (result ≡ Err (UploadError.Damaged damage)) }
     ensures unchanged { LeavesAll result → (board.new ≡ board.old) × (host.new ≡ host.old) }
     ensures board { OnOk result ((r : _) → UploadGives user.now bytes.now now board.old.board r → board.new ≡ record board.old { board = board_after board.old.board r }) }
     ensures rests { OnOk result (IsTrue H.tells → IsFalse board.old.doubtful → (r : _) → UploadGives user.now bytes.now now board.old.board r → Rests (board_after board.old.board r) (H.disk host.new)) }

@@ -1,7 +1,7 @@
 -- How the command `upload` ends, by what the upload answered.
 use Rattle.std.specs.Prelude.{Result, Ok, Err}
 use Rattle.board_commands.specs.declared.halt.BoardHalt.{BoardHalt}
-use Rattle.board_commands.specs.declared.halt.BoardHalt.TheVariants.{Refused, DiskFault, OutOfMemory}
+use Rattle.board_commands.specs.declared.halt.BoardHalt.TheVariants.{Refused, Damaged, DiskFault, OutOfMemory}
 use Rattle.door_upload.specs.declared.answer.UploadError.{UploadError}
 use Rattle.door_upload.specs.declared.answer.UploadError.TheVariants as error
 use Rattle.shelf_files.specs.declared.refusal.Refusal.TheVariants as refusal
@@ -16,6 +16,7 @@ halt_of error.Uploads = Refused refusal.Uploads
 halt_of (error.Size bytes) = Refused (refusal.Size bytes)
 halt_of error.DiskFault = DiskFault
 halt_of error.Doubt = DiskFault
+halt_of (error.Damaged d) = Damaged d
 halt_of error.OutOfMemory = OutOfMemory
 
 abbrev pub halted : {T : Type 0} → Result T UploadError → Result T BoardHalt

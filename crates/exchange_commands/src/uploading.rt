@@ -50,6 +50,7 @@ fn answered(uploaded: Result<Uploaded, UploadError>) -> Result<Uploaded, BoardHa
         Err(UploadError::Size(bytes)) => Err(BoardHalt::Refused(Refusal::Size(bytes))),
         Err(UploadError::DiskFault) => Err(BoardHalt::DiskFault),
         Err(UploadError::Doubt) => unreachable!(),
+        Err(UploadError::Damaged(damage)) => Err(BoardHalt::Damaged(damage)),
         Err(UploadError::OutOfMemory) => Err(BoardHalt::OutOfMemory),
     }
 }

@@ -2,9 +2,10 @@ use Rattle.std.proofs.Common.{rules, ◌≡◌, ◌≢◌, true≢false, Ok, Err
 use Rattle.board_layout.specs.Board.{Board}
 use Rattle.board_layout.specs.Layout.{IsLayout}
 use Rattle.door_outside.specs.Disk.{AllNow, Between}
-use Rattle.door_upload.proofs.AnswerLaws.{again_answers, new_answers, new_board, new_certain, new_kept, new_valid, unchanged_answers, unprepared_answers, unprepared_valid}
+use Rattle.door_upload.proofs.AnswerLaws.{again_answers, change_undamaged, new_answers, new_board, new_certain, new_kept, new_valid, unchanged_answers, unprepared_answers, unprepared_undamaged, unprepared_valid}
 use Rattle.door_upload.specs.Upload.{board_after}
 use Rattle.door_upload.specs.Uploading.{Answers, FindsIn, of_change}
+use Rattle.door_upload.specs.declared.answer.UploadError.TheVariants.{Damaged}
 use Rattle.door_upload.specs.declared.preparing.Uploading.{Uploading}
 use Rattle.mail_board.proofs.CommitLaws.{calm_now}
 use Rattle.mail_board.proofs.DataLaws.{layout_moves}
@@ -23,6 +24,12 @@ pub returns-in_err-counts-clause-answer : goal.returns-in_err-counts-clause-answ
 returns-in_err-counts-clause-answer g c = λ r gives.
     let is : c.from_residual.result ≡ Err c.in_err-counts.field-0.0 = search rules in
     subst (Answers c.args.board.now.doubtful r) (sym is) (unprepared_answers c.args.user.now c.args.bytes.now c.args.now c.args.board.now c.in_err-counts.field-0.0 c.in_err-counts.ensures.finds r gives)
+
+pub returns-in_err-counts-clause-undamaged : goal.returns-in_err-counts-clause-undamaged
+returns-in_err-counts-clause-undamaged g c = λ damage damaged.
+    let is : c.from_residual.result ≡ Err c.in_err-counts.field-0.0 = search rules in
+    let same : c.in_err-counts.field-0.0 ≡ Damaged damage = cc (sym is ∙ damaged) in
+    unprepared_undamaged c.args.user.now c.args.bytes.now c.args.now c.args.board.now c.in_err-counts.field-0.0 c.in_err-counts.ensures.finds damage same
 
 pub returns-in_err-counts-clause-valid : goal.returns-in_err-counts-clause-valid
 returns-in_err-counts-clause-valid g c = λ certain r gives new.
@@ -62,6 +69,13 @@ returns-in_err-change-in-Judged-clause-answer g c = λ r gives.
     let finds = subst (λ (u : Uploading). FindsIn c.args.user.now c.args.bytes.now c.args.now c.args.board.now (Ok u)) c.in-Judged.is c.in_ok-counts.ensures.finds in
     let certain : e ≢ Doubt = λ doubt. true≢false (sym (c.change.ensures.doubt.0 (c.in_err-change-in-Judged.was ∙ ap Err doubt)) ∙ new_certain c.args.user.now c.args.bytes.now c.args.now c.args.board.now c.in-Judged.change c.in-Judged.outcomes finds) in
     subst (Answers c.args.board.now.doubtful r) (sym is) (unchanged_answers c.args.user.now c.args.bytes.now c.args.now c.args.board.now c.in-Judged.change c.in-Judged.outcomes finds r gives e certain)
+
+pub returns-in_err-change-in-Judged-clause-undamaged : goal.returns-in_err-change-in-Judged-clause-undamaged
+returns-in_err-change-in-Judged-clause-undamaged g c = λ damage damaged.
+    let e = c.in_err-change-in-Judged.field-0.0 in
+    let is : c.from_residual-in_err-change-in-Judged.result ≡ Err (of_change e) = search rules in
+    let same : of_change e ≡ Damaged damage = cc (sym is ∙ damaged) in
+    change_undamaged damage e same
 
 pub returns-in_err-change-in-Judged-clause-valid : goal.returns-in_err-change-in-Judged-clause-valid
 returns-in_err-change-in-Judged-clause-valid g c = λ certain r gives new.
