@@ -1,6 +1,9 @@
 -- What each command makes of a board, and of no board: nothing, or one change, and then why.
 use Rattle.std.proofs.Common.{◌≡◌, ◌⊎◌, ℕ, ◌+◌, Bool, true, false, cond, List, Option, Some, None, Result, Ok, Err, refl, ap, ◌∙◌, inl, inr}
 use Rattle.std.proofs.lemmas.Bool.{cond-false, cond-true}
+use Rattle.adopt_commands.specs.Adopt.{adopt_at, base_turn}
+use Rattle.adopt_commands.specs.Adopted.{adopted}
+use Rattle.adopt_commands.specs.BaseFiles.{base_of}
 use Rattle.board_changes.specs.Changed.{made}
 use Rattle.board_commands.specs.Enroll.{enroll_refusals, enrolling, first_refusal, is_net}
 use Rattle.board_commands.specs.Init.{made_of}
@@ -27,6 +30,7 @@ use Rattle.exchange_commands.specs.Ack.{turn_of as ack_turn_of}
 use Rattle.exchange_commands.specs.Export.{handing_of}
 use Rattle.exchange_commands.specs.Handing.{Handing}
 use Rattle.import_sheet.specs.declared.sheet.Sheet.{Sheet}
+use Rattle.jam_adopt.specs.declared.found.Found.{Found}
 use Rattle.jam_records.specs.declared.message.Message.{Message}
 use Rattle.mail_board.specs.Changes.{changed}
 use Rattle.mail_board.specs.Readers.{is_offered, offer_of, place_of, user_id}
@@ -62,6 +66,7 @@ from_none now (command.Init file) shelf stepped (same, (turn, (read, reads, is),
 from_none now (command.Enroll name flags conferences) shelf stepped (same, (turn, (choice, reads, is), next, reply)) = inl (next ∙ ap (λ (t : Turn). state_of t.board) is)
 from_none now command.Check shelf stepped (same, (turn, is, next, reply)) = inl (next ∙ ap (λ (t : Turn). state_of t.board) is)
 from_none now (command.Import conference file) shelf stepped (same, (turn, is, next, reply)) = inl (next ∙ ap (λ (t : Turn). state_of t.board) is)
+from_none now (command.Adopt conference prefix) shelf stepped (same, (turn, is, next, reply)) = inl (next ∙ ap (λ (t : Turn). state_of t.board) is)
 from_none now (command.Kill conference number) shelf stepped (same, (turn, is, next, reply)) = inl (next ∙ ap (λ (t : Turn). state_of t.board) is)
 from_none now (command.Export name limit folder) shelf stepped (handing, is, next, new, reply) = inl (next ∙ ap (λ (h : Handing). state_of h.board) is)
 from_none now (command.Ack name packet) shelf stepped (same, (turn, is, next, reply)) = inl (next ∙ ap (λ (t : Turn). state_of t.board) is)
@@ -130,6 +135,14 @@ module _ (now : ℕ) (b : Board) (c : BoardCommand) (next : State) (class : Clas
   by_place : (conference : ℕ) (file : List ℕ) (shelf : Files) (o : Option ℕ) (turn : Turn) → ImportsAt conference file now shelf b o turn → next ≡ state_of turn.board → Turns now b c next class
   by_place conference file shelf None turn is then = inl (then ∙ ap (λ (t : Turn). state_of t.board) is)
   by_place conference file shelf (Some place) turn (read, reads, is) then = by_sheet conference place read turn is then
+
+  by_base : (conference place : ℕ) (read : Result (List Found) Refusal) (turn : Turn) → turn ≡ base_turn conference place b read → next ≡ state_of turn.board → Turns now b c next class
+  by_base conference place (Err why) turn is then = inl (then ∙ ap (λ (t : Turn). state_of t.board) is)
+  by_base conference place (Ok records) turn is then = inr (Spread (adopted conference place b records).1, then ∙ ap (λ (t : Turn). state_of t.board) is, tt)
+
+  by_adopt : (conference : ℕ) (prefix : List ℕ) (shelf : Files) (o : Option ℕ) (turn : Turn) → turn ≡ adopt_at conference prefix shelf b o → next ≡ state_of turn.board → Turns now b c next class
+  by_adopt conference prefix shelf None turn is then = inl (then ∙ ap (λ (t : Turn). state_of t.board) is)
+  by_adopt conference prefix shelf (Some place) turn is then = by_base conference place (base_of shelf prefix) turn is then
 
   by_kill : (conference number place : ℕ) (has : Bool) (turn : Turn) → has_message place number b ≡ has → turn ≡ killing conference number place b → next ≡ state_of turn.board → Turns now b c next class
   by_kill conference number place true turn has is then =
@@ -229,6 +242,8 @@ turn_on now b (command.Enroll name flags conferences) shelf stepped (same, (turn
     by_enroll now b (command.Enroll name flags conferences) stepped.world.state stepped.class name (is_net flags) choice (first_refusal (enroll_refusals name (is_net flags) choice b)) turn is next
 turn_on now b command.Check shelf stepped (same, (turn, is, next, reply)) = inl (next ∙ ap (λ (t : Turn). state_of t.board) is)
 turn_on now b (command.Import conference file) shelf stepped (same, (turn, is, next, reply)) = by_place now b (command.Import conference file) stepped.world.state stepped.class conference file shelf (place_of conference b) turn is next
+turn_on now b (command.Adopt conference prefix) shelf stepped (same, (turn, is, next, reply)) =
+    by_adopt now b (command.Adopt conference prefix) stepped.world.state stepped.class conference prefix shelf (place_of conference b) turn is next
 turn_on now b (command.Kill conference number) shelf stepped (same, (turn, is, next, reply)) = by_kill_at now b (command.Kill conference number) stepped.world.state stepped.class conference number (place_of conference b) turn is next
 turn_on now b (command.Export name limit folder) shelf stepped (handing, is, next, new, reply) =
     by_export now b (command.Export name limit folder) stepped.world.state stepped.class name limit folder shelf handing refl is next (ap (λ (r : Reply). r.class) reply)

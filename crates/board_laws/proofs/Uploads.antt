@@ -10,13 +10,14 @@ use Rattle.door_upload.specs.declared.answer.Uploaded.TheVariants as answer
 use Rattle.entry_runs.specs.Entry.{Reply}
 use Rattle.entry_runs.specs.declared.class.Class.TheVariants as class
 use Rattle.mail_board.specs.Readers.{upload_of}
+use Rattle.mail_intake.specs.Lines.{counts_line}
 use Rattle.packet_verdicts.proofs.Counting.{all_counted, all_told}
 use Rattle.packet_verdicts.specs.Judged.{judged, refused_count}
 use Rattle.post_changes.specs.Posted.{uploaded}
 use Rattle.qwk_blocks.specs.declared.message.QwkMessage.{QwkMessage}
 use Rattle.rep_packet.specs.declared.rep.Rep.{Rep}
 use Rattle.sha2.specs.Sha256.{sha256}
-use Rattle.exchange_commands.specs.Upload.{counts_line, tally, turn_of, uploaded_text}
+use Rattle.exchange_commands.specs.Upload.{tally, turn_of, uploaded_text}
 
 -- the packet was recorded, and its counts are said again
 pub record SaidAgain (b : Board) (user : ℕ) (digest : List ℕ) (next : State) (reply : Reply) : Type 0 where

@@ -1,5 +1,6 @@
 -- What an entry is to a board.
 use Rattle.std.specs.Prelude.{◌≡◌, ℕ, List}
+use Rattle.adopt_commands.specs.Adopt.{adopts}
 use Rattle.entry_runs.specs.Door.{World}
 use Rattle.entry_runs.specs.Runs.{Stepped}
 use Rattle.board_commands.specs.Check.{checks}
@@ -21,6 +22,8 @@ pub data BoardCommand : Type 0 where
   Check : BoardCommand
   -- the number of the conference, and the sheet
   Import : ℕ → List ℕ → BoardCommand
+  -- the number of the conference, and the prefix of the base
+  Adopt : ℕ → List ℕ → BoardCommand
   -- the number of the conference, and that of the message
   Kill : ℕ → ℕ → BoardCommand
   -- the name of the user, the limit, and the folder
@@ -40,6 +43,7 @@ does now (Init file) world stepped = (inits file now).Step world stepped
 does now (Enroll name flags conferences) world stepped = (enrolls name flags conferences).Step world stepped
 does now Check world stepped = checks.Step world stepped
 does now (Import conference file) world stepped = (imports conference file now).Step world stepped
+does now (Adopt conference prefix) world stepped = (adopts conference prefix).Step world stepped
 does now (Kill conference number) world stepped = (kills conference number).Step world stepped
 does now (Export name limit folder) world stepped = (exports name limit folder now).Step world stepped
 does now (Ack name packet) world stepped = (acknowledges name packet now).Step world stepped

@@ -1,5 +1,5 @@
 //! The worked examples of the commands over a board and over packets, as tests: its users, its messages and its damage;
-//! batches and made-up messages; what is listed, scanned and read, and what is written back.
+//! batches, made-up messages and bases of other tools; what is listed, scanned and read, and what is written back.
 #![tactic(auto)]
 
 #[cfg(test)]

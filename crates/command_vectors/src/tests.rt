@@ -1,3 +1,4 @@
+mod adopt_runs;
 mod batch_runs;
 mod board_runs;
 mod damage_runs;

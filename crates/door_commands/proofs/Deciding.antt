@@ -13,7 +13,7 @@ use Rattle.door_commands.specs.Words.{CommandReads, IsFlags, IsNoCommand, NamesC
 use Rattle.door_commands.specs.declared.command.Command.{Command}
 use Rattle.door_commands.specs.declared.command.Command.TheVariants as command
 use Rattle.door_commands.specs.declared.verb.Verb.{Verb}
-use Rattle.door_commands.specs.declared.verb.Verb.TheVariants.{AckPacket, BatchFile, CheckBoard, ComposeSheet, EnrollUser, ExportPacket, ImportSheet, InitBoard, KillMessage, ListFile, ReadFolder, ReplyTo, SampleMessages, ScanFile, UploadPacket}
+use Rattle.door_commands.specs.declared.verb.Verb.TheVariants.{AckPacket, AdoptBase, BatchFile, CheckBoard, ComposeSheet, EnrollUser, ExportPacket, ImportSheet, InitBoard, KillMessage, ListFile, ReadFolder, ReplyTo, SampleMessages, ScanFile, UploadPacket}
 use Rattle.door_outside.specs.Name.{HasParts, IsNameByte, IsPart, IsShelfName, parts}
 use Rattle.line_words.proofs.LineLaws.{SoFar, bare_line, bare_word, badly_ended, begun, breaks_off, ends, goes_on, open_quote, well_ended}
 use Rattle.line_words.specs.Line.{Begins, BeginsBare, BeginsQuoted, EndsWord, LineReads, SkipsSpaces}
@@ -238,6 +238,23 @@ ack_or_not words = elim (text_and_number words) [
   | inr none ↦ inr (λ c x. none x.0 x.1 x.2 x.3 x.4)
 ]
 
+adopt_or_not : (words : List (List ℕ)) → IsBehind AdoptBase words
+adopt_or_not words = elim (two_words words) [
+  | inl w ↦ by w (number_or_not w.0) (parts_or_not 4 (w.1 ++ codes ".JHR"))
+  | inr none ↦ inr (λ c x. none x.0 x.1 x.3)
+]
+  where
+    by : (w : (a b : List ℕ) × (words ≡ a ∷ b ∷ [])) → ((n : ℕ) × NumberWord w.0 n) ⊎ ((n : ℕ) → NumberWord w.0 n → ⊥) → Decided (IsShelfName (w.1 ++ codes ".JHR")) → IsBehind AdoptBase words
+    by w (inl n) (inl named) = inl (command.Adopt n.0 w.1, (w.0, w.1, n.0, w.2, n.1, named, refl))
+    by w (inl n) (inr refuted) = inr (λ c x.
+        let e : w.0 ∷ w.1 ∷ [] ≡ x.0 ∷ x.1 ∷ [] = sym w.2 ∙ x.3 in
+        let same : x.1 ≡ w.1 = cc in
+        refuted (subst (λ (t : List ℕ). IsShelfName (t ++ codes ".JHR")) same x.5))
+    by w (inr refuted) named = inr (λ c x.
+        let e : w.0 ∷ w.1 ∷ [] ≡ x.0 ∷ x.1 ∷ [] = sym w.2 ∙ x.3 in
+        let same : x.0 ≡ w.0 = cc in
+        refuted x.2 (subst (λ (t : List ℕ). NumberWord t x.2) same x.4))
+
 enroll_or_not : (words : List (List ℕ)) → IsBehind EnrollUser words
 enroll_or_not words = elim (three_words words) [
   | inl w ↦ elim (both (one_of (same_text w.1 (codes "-")) (same_text w.1 (codes "n"))) (conferences_or_not w.2)) [
@@ -332,6 +349,7 @@ read_or_not words = by (folder_alone words) (folder_and_place words)
 -- a line for each verb
 behind_or_not : (verb : Verb) (words : List (List ℕ)) → IsBehind verb words
 behind_or_not AckPacket words = ack_or_not words
+behind_or_not AdoptBase words = adopt_or_not words
 behind_or_not BatchFile words = elim (file_alone words) [ inl f ↦ inl (command.Batch f.0, (f.0, f.1, f.2, refl)) | inr none ↦ inr (λ c x. none x.0 x.1 x.2) ]
 behind_or_not CheckBoard words = elim (no_words words) [ inl none ↦ inl (command.Check, (none, refl)) | inr some ↦ inr (λ c x. some x.0) ]
 behind_or_not ComposeSheet words = elim (writing_or_not words) [

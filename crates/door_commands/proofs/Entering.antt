@@ -12,11 +12,12 @@ use Rattle.door_commands.specs.declared.entry.Entry.{Entry}
 use Rattle.door_commands.specs.declared.entry.Entry.TheVariants.{Run, Wrong}
 use Rattle.door_commands.specs.declared.entry.Usage.TheVariants.{Words}
 use Rattle.door_commands.specs.declared.verb.Verb.{Verb}
-use Rattle.door_commands.specs.declared.verb.Verb.TheVariants.{AckPacket, BatchFile, CheckBoard, ComposeSheet, EnrollUser, ExportPacket, ImportSheet, InitBoard, KillMessage, ListFile, ReadFolder, ReplyTo, SampleMessages, ScanFile, UploadPacket}
+use Rattle.door_commands.specs.declared.verb.Verb.TheVariants.{AckPacket, AdoptBase, BatchFile, CheckBoard, ComposeSheet, EnrollUser, ExportPacket, ImportSheet, InitBoard, KillMessage, ListFile, ReadFolder, ReplyTo, SampleMessages, ScanFile, UploadPacket}
 
 -- the names in what words are read as: a line for each verb
 behind_runs : (verb : Verb) (rest : List (List ℕ)) (c : Command) → ReadsBehind verb rest c → ¬ IsBatch c → CanRun c
 behind_runs AckPacket rest c x single = subst CanRun (sym x.5) tt
+behind_runs AdoptBase rest c x single = subst CanRun (sym x.6) x.5
 behind_runs BatchFile rest c x single = absurd (single (x.0, x.3))
 behind_runs CheckBoard rest c x single = subst CanRun (sym x.1) tt
 behind_runs ComposeSheet rest c x single = subst CanRun (sym x.5) x.4.folder_is

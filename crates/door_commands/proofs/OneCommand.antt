@@ -7,12 +7,12 @@ use Rattle.command_words.specs.NumberWord.{NumberWord}
 use Rattle.door_commands.specs.declared.command.Command.{Command}
 use Rattle.door_commands.specs.declared.command.Command.TheVariants as command
 use Rattle.door_commands.specs.declared.verb.Verb.{Verb}
-use Rattle.door_commands.specs.declared.verb.Verb.TheVariants.{AckPacket, BatchFile, CheckBoard, ComposeSheet, EnrollUser, ExportPacket, ImportSheet, InitBoard, KillMessage, ListFile, ReadFolder, ReplyTo, SampleMessages, ScanFile, UploadPacket}
+use Rattle.door_commands.specs.declared.verb.Verb.TheVariants.{AckPacket, AdoptBase, BatchFile, CheckBoard, ComposeSheet, EnrollUser, ExportPacket, ImportSheet, InitBoard, KillMessage, ListFile, ReadFolder, ReplyTo, SampleMessages, ScanFile, UploadPacket}
 use Rattle.door_commands.specs.Words.{first_word, ReadsBehind, CommandReads, WritingReads}
 
 -- all verbs in order
 abbrev pub verbs : List Verb
-verbs = AckPacket ∷ BatchFile ∷ CheckBoard ∷ ComposeSheet ∷ EnrollUser ∷ ExportPacket ∷ ImportSheet ∷ InitBoard ∷ KillMessage ∷ ListFile ∷ ReadFolder ∷ ReplyTo ∷ SampleMessages ∷ ScanFile ∷ UploadPacket ∷ []
+verbs = AckPacket ∷ AdoptBase ∷ BatchFile ∷ CheckBoard ∷ ComposeSheet ∷ EnrollUser ∷ ExportPacket ∷ ImportSheet ∷ InitBoard ∷ KillMessage ∷ ListFile ∷ ReadFolder ∷ ReplyTo ∷ SampleMessages ∷ ScanFile ∷ UploadPacket ∷ []
 
 -- the verb of a first word
 verb_of : List ℕ → Option Verb
@@ -22,6 +22,7 @@ verb_of word = find (λ verb. bytes_eq (first_word verb) word) verbs
 verb_back : (verb : Verb) → verb_of (first_word verb) ≡ Some verb
 unfolding verb_of
 verb_back AckPacket = refl
+verb_back AdoptBase = refl
 verb_back BatchFile = refl
 verb_back CheckBoard = refl
 verb_back ComposeSheet = refl
@@ -40,20 +41,21 @@ verb_back UploadPacket = refl
 -- a word that none of them begins with is that of no verb
 pub no_verb : (word : List ℕ) → All (λ verb. ¬ (word ≡ first_word verb)) verbs → (verb : Verb) → ¬ (word ≡ first_word verb)
 no_verb word none AckPacket = none 0 AckPacket (omega arith)
-no_verb word none BatchFile = none 1 AckPacket (omega arith)
-no_verb word none CheckBoard = none 2 AckPacket (omega arith)
-no_verb word none ComposeSheet = none 3 AckPacket (omega arith)
-no_verb word none EnrollUser = none 4 AckPacket (omega arith)
-no_verb word none ExportPacket = none 5 AckPacket (omega arith)
-no_verb word none ImportSheet = none 6 AckPacket (omega arith)
-no_verb word none InitBoard = none 7 AckPacket (omega arith)
-no_verb word none KillMessage = none 8 AckPacket (omega arith)
-no_verb word none ListFile = none 9 AckPacket (omega arith)
-no_verb word none ReadFolder = none 10 AckPacket (omega arith)
-no_verb word none ReplyTo = none 11 AckPacket (omega arith)
-no_verb word none SampleMessages = none 12 AckPacket (omega arith)
-no_verb word none ScanFile = none 13 AckPacket (omega arith)
-no_verb word none UploadPacket = none 14 AckPacket (omega arith)
+no_verb word none AdoptBase = none 1 AckPacket (omega arith)
+no_verb word none BatchFile = none 2 AckPacket (omega arith)
+no_verb word none CheckBoard = none 3 AckPacket (omega arith)
+no_verb word none ComposeSheet = none 4 AckPacket (omega arith)
+no_verb word none EnrollUser = none 5 AckPacket (omega arith)
+no_verb word none ExportPacket = none 6 AckPacket (omega arith)
+no_verb word none ImportSheet = none 7 AckPacket (omega arith)
+no_verb word none InitBoard = none 8 AckPacket (omega arith)
+no_verb word none KillMessage = none 9 AckPacket (omega arith)
+no_verb word none ListFile = none 10 AckPacket (omega arith)
+no_verb word none ReadFolder = none 11 AckPacket (omega arith)
+no_verb word none ReplyTo = none 12 AckPacket (omega arith)
+no_verb word none SampleMessages = none 13 AckPacket (omega arith)
+no_verb word none ScanFile = none 14 AckPacket (omega arith)
+no_verb word none UploadPacket = none 15 AckPacket (omega arith)
 
 one_verb : (a b : Verb) → first_word a ≡ first_word b → a ≡ b
 one_verb a b same = let e : Some a ≡ Some b = sym (verb_back a) ∙ ap verb_of same ∙ verb_back b in cc
@@ -83,6 +85,12 @@ behind_unique AckPacket words a b x y =
     let word : x.1 ≡ y.1 = cc in
     let packet : x.2 ≡ y.2 = one_number x.1 y.1 x.2 y.2 word x.4 y.4 in
     x.5 ∙ (λ i. command.Ack (user i) (packet i)) ∙ sym y.5
+behind_unique AdoptBase words a b x y =
+    let e = sym x.3 ∙ y.3 in
+    let word : x.0 ≡ y.0 = cc in
+    let prefix : x.1 ≡ y.1 = cc in
+    let conference : x.2 ≡ y.2 = one_number x.0 y.0 x.2 y.2 word x.4 y.4 in
+    x.6 ∙ (λ i. command.Adopt (conference i) (prefix i)) ∙ sym y.6
 behind_unique BatchFile words a b x y = let e = sym x.1 ∙ y.1 in let file : x.0 ≡ y.0 = cc in x.3 ∙ ap command.Batch file ∙ sym y.3
 behind_unique CheckBoard words a b x y = x.1 ∙ sym y.1
 behind_unique ComposeSheet words a b x y =

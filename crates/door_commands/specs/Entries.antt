@@ -1,7 +1,7 @@
 -- The entries of a run.
-use Rattle.std.specs.Prelude.{◌≡◌, ◌⊎◌, ◌≤◌, ℕ, List, [], ◌∷◌, ◌++◌, Result, IsErrOf}
+use Rattle.std.specs.Prelude.{◌≡◌, ◌⊎◌, ◌≤◌, ℕ, List, [], ◌∷◌, ◌++◌, codes, Result, IsErrOf}
 use Rattle.door_outside.specs.Cause.{Rose}
-use Rattle.door_outside.specs.Name.{HasParts}
+use Rattle.door_outside.specs.Name.{HasParts, IsShelfName}
 use Rattle.door_outside.specs.Shelf.{Files}
 use Rattle.shelf_files.specs.ShelfFile.{file_of}
 use Rattle.shelf_files.specs.declared.refusal.Refusal.{Refusal}
@@ -41,6 +41,7 @@ pub record UnreadCauses {T : Type 0} (old new : ℕ) (result : Result T Unread) 
 -- the names in a command are such as its words have; a batch is entries, and none itself
 abbrev pub CanRun : Command → Type 0
 CanRun (command.Ack user packet) = Unit {0}
+CanRun (command.Adopt conference prefix) = IsShelfName (prefix ++ codes ".JHR")
 CanRun (command.Batch file) = ⊥
 CanRun command.Check = Unit {0}
 CanRun (command.Compose folder conference sheet rep) = HasParts 3 folder

@@ -1,5 +1,5 @@
 -- The words of commands.
-use Rattle.std.specs.Prelude.{◌≡◌, ◌⊎◌, ℕ, List, [], ◌∷◌, Option, Some, None, codes}
+use Rattle.std.specs.Prelude.{◌≡◌, ◌⊎◌, ℕ, List, [], ◌∷◌, ◌++◌, Option, Some, None, codes}
 use Rattle.door_outside.specs.Name.{HasParts, IsShelfName}
 use Rattle.command_words.specs.Choice.{ChoiceReads}
 use Rattle.command_words.specs.NumberWord.{NumberWord}
@@ -7,7 +7,7 @@ use Rattle.command_words.specs.declared.choice.Choice.{Choice}
 use Rattle.door_commands.specs.declared.command.Command.{Command}
 use Rattle.door_commands.specs.declared.command.Command.TheVariants as command
 use Rattle.door_commands.specs.declared.verb.Verb.{Verb}
-use Rattle.door_commands.specs.declared.verb.Verb.TheVariants.{AckPacket, BatchFile, CheckBoard, ComposeSheet, EnrollUser, ExportPacket, ImportSheet, InitBoard}
+use Rattle.door_commands.specs.declared.verb.Verb.TheVariants.{AckPacket, AdoptBase, BatchFile, CheckBoard, ComposeSheet, EnrollUser, ExportPacket, ImportSheet, InitBoard}
 use Rattle.door_commands.specs.declared.verb.Verb.TheVariants.{KillMessage, ListFile, ReadFolder, ReplyTo, SampleMessages, ScanFile, UploadPacket}
 
 -- `-`, or `n`: the user may send net mail
@@ -21,6 +21,7 @@ NamesConferences word = (choice : Choice) × ChoiceReads word choice
 -- the first word of a verb: no two are alike
 abbrev pub first_word : Verb → List ℕ
 first_word AckPacket = codes "ack"
+first_word AdoptBase = codes "adopt"
 first_word BatchFile = codes "batch"
 first_word CheckBoard = codes "check"
 first_word ComposeSheet = codes "compose"
@@ -48,6 +49,9 @@ pub record WritingReads (words : List (List ℕ)) (folder : List ℕ) (number : 
 -- the words behind it, and the command that they are
 abbrev pub ReadsBehind : Verb → List (List ℕ) → Command → Type 0
 ReadsBehind AckPacket words c = (user word : List ℕ) × (packet : ℕ) × (words ≡ user ∷ word ∷ []) × NumberWord word packet × (c ≡ command.Ack user packet)
+ReadsBehind AdoptBase words c =
+    (word prefix : List ℕ) × (conference : ℕ) × (words ≡ word ∷ prefix ∷ []) × NumberWord word conference × IsShelfName (prefix ++ codes ".JHR")
+    × (c ≡ command.Adopt conference prefix)
 ReadsBehind BatchFile words c = (file : List ℕ) × (words ≡ file ∷ []) × IsShelfName file × (c ≡ command.Batch file)
 ReadsBehind CheckBoard words c = (words ≡ []) × (c ≡ command.Check)
 ReadsBehind ComposeSheet words c =

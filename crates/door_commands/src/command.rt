@@ -1,8 +1,8 @@
 ghost use Rattle.std.specs.Prelude.{◌↔◌, ◌∷◌, [], IfOk, IsTrue};
 ghost use Rattle.door_commands.specs.Words.{BehindOf, IsFlags, NamesConferences};
-ghost use Rattle.door_commands.specs.declared.verb.Verb.TheVariants.{AckPacket, BatchFile, CheckBoard, ComposeSheet, EnrollUser, ExportPacket, ImportSheet, InitBoard, KillMessage, ListFile, ReadFolder, ReplyTo, SampleMessages, ScanFile, UploadPacket};
+ghost use Rattle.door_commands.specs.declared.verb.Verb.TheVariants.{AckPacket, AdoptBase, BatchFile, CheckBoard, ComposeSheet, EnrollUser, ExportPacket, ImportSheet, InitBoard, KillMessage, ListFile, ReadFolder, ReplyTo, SampleMessages, ScanFile, UploadPacket};
 
-use crate::names::folder_of;
+use crate::names::{folder_of, names_base};
 use crate::verb::Verb;
 use crate::words::Words;
 use crate::writing::writing_of;
@@ -18,6 +18,12 @@ pub enum Command {
     Ack {
         user: Bytes,
         packet: u32,
+    },
+    /// `adopt CONF PREFIX`: appends the messages of another tool's base in the conference of a number. The base is the
+    /// files of a prefix, which has at most 4 parts with the ending .JHR.
+    Adopt {
+        conference: u32,
+        prefix: Bytes,
     },
     /// `batch FILE`: carries out the commands of a file, a line each.
     Batch {
@@ -111,6 +117,25 @@ fn parse_ack(alloc: Global, rest: &[Bytes]) -> Result<Option<Command>, AllocErro
     Ok(Some(Command::Ack {
         user: user.copy(alloc)?,
         packet,
+    }))
+}
+
+/// The command of `adopt` with the words behind it.
+fn parse_adopt(alloc: Global, rest: &[Bytes]) -> Result<Option<Command>, AllocError>
+    ensures { IfOk result (BehindOf AdoptBase rest.now) }
+{
+    let [conference, prefix] = rest else {
+        return Ok(None);
+    };
+    let Some(conference) = number_of(conference.as_slice()) else {
+        return Ok(None);
+    };
+    if !names_base(alloc, prefix.as_slice())? {
+        return Ok(None);
+    }
+    Ok(Some(Command::Adopt {
+        conference,
+        prefix: prefix.copy(alloc)?,
     }))
 }
 
@@ -361,6 +386,7 @@ fn parse_behind(alloc: Global, verb: Verb, rest: &[Bytes]) -> Result<Option<Comm
 {
     match verb {
         Verb::AckPacket => parse_ack(alloc, rest),
+        Verb::AdoptBase => parse_adopt(alloc, rest),
         Verb::BatchFile => parse_batch(alloc, rest),
         Verb::CheckBoard => Ok(parse_check(rest)),
         Verb::ComposeSheet => parse_compose(alloc, rest),

@@ -1,7 +1,8 @@
 // The names on the shelf that words are.
-ghost use Rattle.std.specs.Prelude.{◌≡◌, IfOk, MatchOption};
+ghost use Rattle.std.specs.Prelude.{◌≡◌, ◌↔◌, ◌++◌, codes, IfOk, IsTrue, MatchOption};
 ghost use Rattle.door_outside.specs.Name.{HasParts, IsShelfName};
 
+use byte_lists::Bytes;
 use door_outside::ShelfName;
 use std::alloc::{AllocError, Global};
 
@@ -30,4 +31,14 @@ pub(crate) fn files_of(
         Some(rep) => Ok(Some((file, rep))),
         None => Ok(None),
     }
+}
+
+/// Whether a word is the prefix of the names of another tool's base: it is a shelf name with .JHR behind it, and then
+/// with each other ending as well.
+pub(crate) fn names_base(alloc: Global, prefix: &[u8]) -> Result<bool, AllocError>
+    ensures { IfOk result (λ names. IsTrue names ↔ IsShelfName (prefix.now ++ codes ".JHR")) }
+{
+    let mut name = Bytes::from_slice(alloc, prefix)?;
+    name.add(b".JHR")?;
+    Ok(ShelfName::parse(alloc, name.as_slice())?.is_some())
 }

@@ -3,6 +3,8 @@
 pub enum Verb {
     /// `ack`
     AckPacket,
+    /// `adopt`
+    AdoptBase,
     /// `batch`
     BatchFile,
     /// `check`
@@ -33,8 +35,9 @@ pub enum Verb {
     UploadPacket,
 }
 
-const VERBS: [Verb; 15] = [
+const VERBS: [Verb; 16] = [
     Verb::AckPacket,
+    Verb::AdoptBase,
     Verb::BatchFile,
     Verb::CheckBoard,
     Verb::ComposeSheet,
@@ -62,6 +65,7 @@ impl Verb {
     {
         match self {
             Verb::AckPacket => b"ack",
+            Verb::AdoptBase => b"adopt",
             Verb::BatchFile => b"batch",
             Verb::CheckBoard => b"check",
             Verb::ComposeSheet => b"compose",

@@ -1,5 +1,5 @@
 -- The command `upload`.
-use Rattle.std.specs.Prelude.{◌≡◌, ℕ, ◌+◌, ◌-◌, List, [], ◌∷◌, ◌++◌, length, codes, decimal, Option, Some, None, Result, Ok, Err}
+use Rattle.std.specs.Prelude.{◌≡◌, ℕ, ◌+◌, ◌-◌, List, [], ◌∷◌, ◌++◌, length, codes, Option, Some, None, Result, Ok, Err}
 use Rattle.board_commands.specs.State.{State}
 use Rattle.board_commands.specs.Turns.{Turn, refuses, on_board}
 use Rattle.board_layout.specs.Board.{Board}
@@ -10,6 +10,7 @@ use Rattle.door_upload.specs.declared.answer.Uploaded.{Uploaded}
 use Rattle.door_upload.specs.declared.answer.Uploaded.TheVariants.{Again, Judged}
 use Rattle.entry_runs.specs.Door.{Act}
 use Rattle.mail_board.specs.Readers.{user_id}
+use Rattle.mail_intake.specs.Lines.{posted_line, refused_line, counts_line}
 use Rattle.netmail_rules.specs.RuleWord.{rule_word}
 use Rattle.packet_verdicts.specs.Judged.{refused_count}
 use Rattle.packet_verdicts.specs.declared.outcome.Outcome.{Outcome}
@@ -26,17 +27,13 @@ rep_limit = 1048576
 -- ---- the reply
 -- what became of the message in a place, from 1
 abbrev pub outcome_line : ℕ → Outcome → List ℕ
-outcome_line place (Posted conference number) = decimal place ++ (codes " posted " ++ (decimal conference ++ (codes " " ++ (decimal number ++ codes "\n"))))
-outcome_line place (Refused rule) = decimal place ++ (codes " refused " ++ (rule_word rule ++ codes "\n"))
+outcome_line place (Posted conference number) = posted_line place conference number
+outcome_line place (Refused rule) = refused_line place (rule_word rule)
 
 -- of the messages from a place on
 abbrev pub outcome_lines : ℕ → List Outcome → List ℕ
 outcome_lines place [] = []
 outcome_lines place (outcome ∷ outcomes) = outcome_line place outcome ++ outcome_lines (place + 1) outcomes
-
--- how many were posted and refused
-abbrev pub counts_line : ℕ → ℕ → List ℕ
-counts_line posted refused = codes "posted " ++ (decimal posted ++ (codes " refused " ++ (decimal refused ++ codes "\n")))
 
 -- the counts of outcomes
 abbrev pub tally : List Outcome → List ℕ

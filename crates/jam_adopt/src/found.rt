@@ -1,3 +1,6 @@
+ghost use Rattle.std.specs.Prelude.{◌≡◌};
+ghost use Rattle.jam_adopt.specs.RuleWord.{foreign_word};
+
 use byte_lists::{Duplicate, List};
 use jam_records::Message;
 use std::alloc::{AllocError, Global};
@@ -13,6 +16,20 @@ pub enum ForeignRule {
     Text,
     /// The body is too long.
     Length,
+}
+
+impl ForeignRule {
+    /// The word of the rule, as a verdict line has it.
+    pub fn word(self) -> &'static [u8]
+        ensures { result.now ≡ foreign_word self }
+    {
+        match self {
+            ForeignRule::Header => b"header",
+            ForeignRule::Subfields => b"subfields",
+            ForeignRule::Text => b"text",
+            ForeignRule::Length => b"length",
+        }
+    }
 }
 
 /// What becomes of a record.

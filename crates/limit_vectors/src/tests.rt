@@ -1,3 +1,4 @@
+mod adoptions;
 mod batches;
 mod boards;
 mod control;

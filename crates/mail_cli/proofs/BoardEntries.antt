@@ -6,6 +6,7 @@ use Rattle.mail_cli.specs.BoardEntry.{board_command, steps}
 
 pub are_commands : AreCommands board_command steps
 are_commands now (Run (command.Ack user packet)) world stepped step = step
+are_commands now (Run (command.Adopt conference prefix)) world stepped step = step
 are_commands now (Run (command.Batch file)) world stepped step = step.1
 are_commands now (Run command.Check) world stepped step = step
 are_commands now (Run (command.Compose folder conference sheet rep)) world stepped step = step.1

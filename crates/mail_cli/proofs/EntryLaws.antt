@@ -2,6 +2,7 @@
 use Rattle.std.proofs.Common.{◌≡◌, ◌≢◌, ℕ, [], refl, sym, subst}
 use Rattle.std.specs.Prelude.{IsTrue}
 use Rattle.std.proofs.lemmas.Bool.{true≢false}
+use Rattle.adopt_commands.proofs.AdoptActs.{adopt_turns}
 use Rattle.entry_runs.specs.Door.{World, AreLawful}
 use Rattle.entry_runs.specs.Runs.{Stepped}
 use Rattle.entry_runs.specs.declared.class.Class.TheVariants.{Damaged}
@@ -47,6 +48,7 @@ keeps_on_shelf shelf_act laws = record {
 -- one line for each command
 pub lawful : (now : ℕ) → AreLawful (door now)
 lawful now (Run (command.Ack user packet)) = lawful_on_board _ (ack_turns user packet now)
+lawful now (Run (command.Adopt conference prefix)) = lawful_on_board _ (adopt_turns conference prefix)
 lawful now (Run (command.Batch file)) = lawful_on_shelf nothing lawful_nothing
 lawful now (Run command.Check) = lawful_on_board _ check_turns
 lawful now (Run (command.Compose folder conference sheet rep)) = lawful_on_shelf (composes folder conference sheet rep now) (lawful_composes folder conference sheet rep now)
@@ -68,6 +70,7 @@ lawful now (Refuse why) = lawful_on_shelf (says (refused why)) (lawful_saying (r
 -- what else a run takes of an entry, a line for each command
 keeps : (now : ℕ) (entry : Entry) → KeepsState (act now entry)
 keeps now (Run (command.Ack user packet)) = keeps_state _ (ack_turns user packet now)
+keeps now (Run (command.Adopt conference prefix)) = keeps_state _ (adopt_turns conference prefix)
 keeps now (Run (command.Batch file)) = keeps_on_shelf nothing lawful_nothing
 keeps now (Run command.Check) = keeps_state _ check_turns
 keeps now (Run (command.Compose folder conference sheet rep)) = keeps_on_shelf (composes folder conference sheet rep now) (lawful_composes folder conference sheet rep now)
@@ -95,6 +98,7 @@ still_spoiled now world entry stepped step spoiled = (keeps now entry).still_spo
 -- every entry that touches the board migrates it in the one way, a line for each command
 pub one_migration : (now : ℕ) (entry : Entry) (state : State) → IsTrue (act now entry).reach.board → (act now entry).migrated state ≡ migrated state
 one_migration now (Run (command.Ack user packet)) state on = refl
+one_migration now (Run (command.Adopt conference prefix)) state on = refl
 one_migration now (Run (command.Batch file)) state on = absurd (true≢false (sym on))
 one_migration now (Run command.Check) state on = refl
 one_migration now (Run (command.Compose folder conference sheet rep)) state on = absurd (true≢false (sym on))

@@ -162,6 +162,7 @@ module _ (start : State) where
 moved : (now : ℕ) (entry : Entry) (world : World State) (stepped : Stepped (World State)) (state : State) → touches (door now) entry ≡ false → Step (door now) world entry stepped
     → Step (door now) (here state world.shelf) entry (record { world = here state stepped.world.shelf; reply = stepped.reply; class = stepped.class })
 moved now (Run (command.Ack user packet)) world stepped state off step = absurd (true≢false off)
+moved now (Run (command.Adopt conference prefix)) world stepped state off step = absurd (true≢false off)
 moved now (Run (command.Batch file)) world stepped state off step = (step.0, refl)
 moved now (Run command.Check) world stepped state off step = absurd (true≢false off)
 moved now (Run (command.Compose folder conference sheet rep)) world stepped state off step = (step.0, refl)

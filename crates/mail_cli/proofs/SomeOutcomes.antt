@@ -5,6 +5,7 @@ use Rattle.std.proofs.lemmas.List.Elements.{All-nil, All-cons}
 use Rattle.std.specs.List.{All}
 use Rattle.std.specs.Prelude.{Result, Ok, Err, IsTrue, true, false}
 use Rattle.std.specs.Str.Lines.{lines}
+use Rattle.adopt_commands.specs.Adopt.{adopt_turn}
 use Rattle.board_commands.specs.Check.{checked}
 use Rattle.board_commands.specs.Damages.{damaged}
 use Rattle.board_commands.specs.Enroll.{Enrolls, enroll_turn, is_net}
@@ -329,6 +330,8 @@ some_upload name file now shelf (Some b) = by (user_id name b)
 -- a line for each command
 outcome_of : (now : ℕ) (entry : Entry) → EntryCanRun entry → (state : State) (shelf : Shelf.Files) → HasDamage state → HasOutcome (act now entry) (here state shelf)
 outcome_of now (Run (command.Ack user packet)) can state shelf has = some_turn (λ shelf board turn. turn ≡ ack_turn user packet now board) (λ shelf board. (ack_turn user packet now board, refl)) state shelf has
+outcome_of now (Run (command.Adopt conference prefix)) can state shelf has =
+    some_turn (λ shelf board turn. turn ≡ adopt_turn conference prefix shelf board) (λ shelf board. (adopt_turn conference prefix shelf board, refl)) state shelf has
 outcome_of now (Run (command.Batch file)) can state shelf has = absurd can
 outcome_of now (Run command.Check) can state shelf has = some_turn (λ shelf board turn. turn ≡ checked board) (λ shelf board. (checked board, refl)) state shelf has
 outcome_of now (Run (command.Compose folder conference sheet rep)) can state shelf has =

@@ -9,6 +9,7 @@ use Rattle.mail_cli.specs.Step.{act}
 
 abbrev pub board_command : Entry → BoardCommand
 board_command (Run (command.Ack user packet)) = board.Ack user packet
+board_command (Run (command.Adopt conference prefix)) = board.Adopt conference prefix
 board_command (Run (command.Batch file)) = board.Other
 board_command (Run command.Check) = board.Check
 board_command (Run (command.Compose folder conference sheet rep)) = board.Other

@@ -14,6 +14,7 @@ use Rattle.mail_cli.specs.Step.{does}
 -- the command posts messages
 abbrev pub PostsMessages : Command → Type 0
 PostsMessages (command.Ack user packet) = ⊥
+PostsMessages (command.Adopt conference prefix) = Unit {0}
 PostsMessages (command.Batch file) = ⊥
 PostsMessages command.Check = ⊥
 PostsMessages (command.Compose folder conference sheet rep) = ⊥

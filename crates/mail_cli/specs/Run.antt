@@ -24,6 +24,7 @@ use Rattle.door_commands.specs.declared.entry.Entry.{Entry}
 -- it is one of those by which a caller gets his mail and answers it
 abbrev pub IsForCaller : Command → Type 0
 IsForCaller (command.Ack user packet) = Unit {0}
+IsForCaller (command.Adopt conference prefix) = ⊥
 IsForCaller (command.Batch file) = ⊥
 IsForCaller command.Check = ⊥
 IsForCaller (command.Compose folder conference sheet rep) = ⊥

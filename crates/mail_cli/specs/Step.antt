@@ -1,6 +1,7 @@
 -- What an entry does.
 use Rattle.std.specs.Prelude.{◌≡◌, ℕ, Bool, true, false, List}
 use Rattle.std.specs.List.{list_any}
+use Rattle.adopt_commands.specs.Adopt.{adopts}
 use Rattle.entry_runs.specs.Door.{Act, Door}
 use Rattle.entry_runs.specs.Entry.{Reply, ShelfAct, on_shelf, looks}
 use Rattle.board_commands.specs.Check.{checks}
@@ -32,6 +33,7 @@ nothing = looks (λ shelf answer. ⊥)
 -- one line for each command: what it does at a moment, and what it may reach
 abbrev pub does : ℕ → Command → Act State
 does now (command.Ack user packet) = acknowledges user packet now
+does now (command.Adopt conference prefix) = adopts conference prefix
 does now (command.Batch file) = on_shelf nothing
 does now command.Check = checks
 does now (command.Compose folder conference sheet rep) = on_shelf (composes folder conference sheet rep now)
@@ -63,6 +65,7 @@ door now = record { Stores = Stores; act = act now }
 -- the command names a file or a folder of the shelf: only such a one reads or writes any
 abbrev pub uses_shelf : Command → Bool
 uses_shelf (command.Ack user packet) = false
+uses_shelf (command.Adopt conference prefix) = true
 uses_shelf (command.Batch file) = true
 uses_shelf command.Check = false
 uses_shelf (command.Compose folder conference sheet rep) = true

@@ -15,6 +15,7 @@ ghost use Rattle.mail_cli.specs.Step.{does, door, entry_uses_shelf, uses_shelf};
 ghost use Rattle.door_commands.specs.declared.entry.Entry.TheVariants.{Run};
 
 use crate::answer::Answer;
+use adopt_commands::adopt;
 use board_commands::{check, enroll, init};
 use door_commands::{Command, Entry};
 use door_outside::{Host, Shelf, ShelfName};
@@ -179,6 +180,10 @@ fn carry_out_on_board<H: Host, S: Shelf>(
         Command::Sample { seed, count } => {
             Answer::of_sampled(sample(alloc, host, kept, *seed, *count, now))
         }
+        Command::Adopt { conference, prefix } => {
+            let prefix = prefix.as_slice();
+            Answer::of_report(adopt(alloc, host, shelf, kept, *conference, prefix))
+        }
         _ => unreachable!(),
     }
 }
@@ -222,6 +227,7 @@ fn carry_out<H: Host, S: Shelf>(
         Command::Show { folder, place } => Answer::of_text(show(alloc, shelf, folder, *place)),
         Command::Scan { file } => Answer::of_count(scan(alloc, shelf, file)),
         Command::Ack { .. }
+        | Command::Adopt { .. }
         | Command::Check
         | Command::Enroll { .. }
         | Command::Export { .. }

@@ -105,7 +105,7 @@ entry_fits own entry is =
       body = subst (λ (text : List ℕ). is_right_body text ≡ true) (sym is.text) (right_body is.body is.bodied.short);
     }
 
-private_enough : (private net : Bool) → ((private || net) || not net) ≡ true
+pub private_enough : (private net : Bool) → ((private || net) || not net) ≡ true
 private_enough true net = refl
 private_enough false true = refl
 private_enough false false = refl

@@ -12,32 +12,21 @@ ghost use Rattle.entry_runs.specs.Promise.{counts, ended, HasCauses};
 ghost use Rattle.intent_journal.specs.Journal.{IsClosed};
 ghost use Rattle.shelf_files.specs.Sheets.{AreEntries};
 ghost use Rattle.shelf_files.specs.declared.refusal.Refusal.TheVariants.{Slots};
-ghost use Rattle.message_commands.specs.Import.{imported_line, imports, kind_of, slot_count};
+ghost use Rattle.message_commands.specs.Import.{imported_line, imports, slot_count};
 ghost use Rattle.message_commands.specs.Importing.{MayImport};
 
 use crate::entries::messages_of;
-use crate::placing::place_in;
+use crate::placing::{kind_in, place_in};
 use board_commands::{BoardHalt, board_in, find, make_change, size_refusal};
 use door_outside::{Host, Shelf, ShelfName};
 use import_sheet::Sheets;
-use jam_records::{Kind, Messages};
+use jam_records::Messages;
 use mail_board::{Board, Change, Loaded};
 use shelf_files::{Refusal, sheet_in};
 use std::alloc::Global;
 
 /// How many slots a conference may have.
 const SLOT_LIMIT: u64 = 9_999;
-
-/// The kind of the conference in a place.
-fn kind_in(board: &Board, place: u8) -> Kind
-    requires { place < length board.now.board.conferences }
-    ensures { result ≡ kind_of place board.now.board }
-{
-    match board.setup().conferences.get(usize::from(place)) {
-        Some(conference) => conference.kind,
-        None => unreachable!(),
-    }
-}
 
 /// Why the conference in a place would have too many slots with more messages, where it would.
 fn slots_refusal(board: &Board, place: u8, messages: &Messages) -> Option<Refusal>

@@ -15,4 +15,5 @@ mod texts;
 
 pub use importing::import;
 pub use killing::kill;
+pub use placing::place_in;
 pub use sampling::sample;

@@ -1,11 +1,13 @@
-// The conference that a command names.
+//! The conference that a command names.
 ghost use Rattle.std.specs.Prelude.{◌≡◌, ◌<◌, Some, None, length, IfOk, IfSome, MatchResult};
 ghost use Rattle.board_commands.specs.declared.halt.BoardHalt.TheVariants.{Refused};
 ghost use Rattle.board_layout.specs.Valid.{IsBoard};
 ghost use Rattle.mail_board.specs.Readers.{place_of};
+ghost use Rattle.message_commands.specs.Import.{kind_of};
 ghost use Rattle.shelf_files.specs.declared.refusal.Refusal.TheVariants as refusal;
 
 use board_commands::BoardHalt;
+use jam_records::Kind;
 use mail_board::Board;
 use shelf_files::Refusal;
 
@@ -22,7 +24,7 @@ fn place_numbered(board: &Board, conference: u32) -> Option<u8>
 }
 
 /// The place of the conference of a number, refused where no conference has it.
-pub(crate) fn place_in(board: &Board, conference: u32) -> Result<u8, BoardHalt>
+pub fn place_in(board: &Board, conference: u32) -> Result<u8, BoardHalt>
     requires { IsBoard board.now.board }
     ensures place { MatchResult result (λ place. place_of conference board.now.board ≡ Some place) (λ e. (e ≡ Refused refusal.NoConference) × (place_of conference board.now.board ≡ None)) }
     ensures within { IfOk result (λ place. place < length board.now.board.conferences) }
@@ -30,5 +32,16 @@ pub(crate) fn place_in(board: &Board, conference: u32) -> Result<u8, BoardHalt>
     match place_numbered(board, conference) {
         Some(place) => Ok(place),
         None => Err(BoardHalt::Refused(Refusal::NoConference)),
+    }
+}
+
+/// The kind of the conference in a place that is there.
+pub(crate) fn kind_in(board: &Board, place: u8) -> Kind
+    requires { place < length board.now.board.conferences }
+    ensures { result ≡ kind_of place board.now.board }
+{
+    match board.setup().conferences.get(usize::from(place)) {
+        Some(conference) => conference.kind,
+        None => unreachable!(),
     }
 }

@@ -6,7 +6,7 @@ use Rattle.setup_file.specs.declared.error.SetupRule.{SetupRule}
 use Rattle.setup_file.specs.declared.error.SetupRule.TheVariants as setup
 use Rattle.shelf_files.specs.declared.refusal.Refusal.{Refusal}
 use Rattle.shelf_files.specs.declared.refusal.Refusal.TheVariants.{NoFile, TooLarge, Broken, ControlShort, ControlNumber, ControlId, NoMessage, NoBoardId, OtherBoard, NoConference}
-use Rattle.shelf_files.specs.declared.refusal.Refusal.TheVariants.{Sheet, Text, NotMade, Exists, Name, DupUser, Users, NoUser, Limit, Packets, NoPacket, Uploads, Count, Setup, Slots, Size}
+use Rattle.shelf_files.specs.declared.refusal.Refusal.TheVariants.{Sheet, Text, NotMade, Exists, Name, DupUser, Users, NoUser, Limit, Packets, NoPacket, Uploads, Count, Setup, Slots, Size, ForeignShort, ForeignSignature}
 use Rattle.shelf_files.specs.declared.said.Said.{Said}
 use Rattle.shelf_files.specs.declared.said.Said.TheVariants as said
 
@@ -39,7 +39,7 @@ setup_word setup.Order = codes "order"
 setup_word setup.Many = codes "many"
 setup_word setup.Missing = codes "missing"
 
--- the line that names the packet which is offered, if one is
+-- the line that names the open packet with the greatest number, if one is open
 abbrev pub packet_line : Option ℕ → List ℕ
 packet_line None = line_of (codes "nopacket ") (codes "none")
 packet_line (Some packet) = line_of (codes "nopacket ") (decimal packet)
@@ -73,3 +73,5 @@ refusal_line Count = line_of (codes "count") []
 refusal_line (Setup line rule) = ruled_line (codes "setup ") line (setup_word rule)
 refusal_line (Slots count) = line_of (codes "slots ") (decimal count)
 refusal_line (Size bytes) = line_of (codes "size ") (decimal bytes)
+refusal_line ForeignShort = line_of (codes "foreign short") []
+refusal_line ForeignSignature = line_of (codes "foreign signature") []

@@ -12,6 +12,10 @@ packet_limit = 41943040
 abbrev pub file_limit : ℕ
 file_limit = 4194304
 
+-- the most bytes of each file of another tool's base
+abbrev pub foreign_limit : ℕ
+foreign_limit = 16777216
+
 -- a file of at most so many bytes, or why there is none
 abbrev pub within : List ℕ → ℕ → Option (List ℕ) → Result (List ℕ) Refusal
 within name most None = Err (NoFile name)

@@ -50,7 +50,7 @@ pub enum Refusal {
     Limit,
     /// The user's last packet has the last number that there is.
     Packets,
-    /// The packet isn't the one of this number that is offered to the user, or none is.
+    /// No packet of that number is open for the user. This is the greatest number of those that are, where one is.
     NoPacket(Option<u32>),
     /// There are as many upload records as may be kept.
     Uploads,
@@ -62,6 +62,10 @@ pub enum Refusal {
     Slots(u64),
     /// The data files would have so many bytes, more than they may.
     Size(u64),
+    /// The .JHR of another tool's base has fewer bytes than its base header.
+    ForeignShort,
+    /// The .JHR of another tool's base doesn't begin with the signature of JAM.
+    ForeignSignature,
 }
 
 /// The word of a rule of setup files.
@@ -83,7 +87,7 @@ fn setup_word(rule: SetupRule) -> &'static [u8]
     }
 }
 
-/// What is said of the packet that is offered, or that none is.
+/// What is said of the open packet with the greatest number, or that none is open.
 fn packet_said(packet: Option<u32>) -> Said<'static>
     ensures { said_line result ≡ packet_line packet }
 {
@@ -135,6 +139,8 @@ impl Refusal {
             Refusal::Setup { line, rule } => Said::Rule(b"setup ", *line, setup_word(*rule)),
             Refusal::Slots(count) => Said::Number(b"slots ", *count),
             Refusal::Size(bytes) => Said::Number(b"size ", *bytes),
+            Refusal::ForeignShort => Said::Words(b"foreign short"),
+            Refusal::ForeignSignature => Said::Words(b"foreign signature"),
         }
     }
 

@@ -75,3 +75,21 @@ composed 1, 2 in ANN.MSG
 fn a_stopped_upload_leaves_the_board_before_or_after(rt: HostRuntime) -> Result<(), Miss> {
     expect_line_stops(rt.alloc(), PACKED, r#"upload "Ann Lee" ANN.MSG"#)
 }
+
+/// A base of two messages, whose headers have no subfields and share a text.
+const FOREIGN: &str = r#"
+* board B
+* put header JAM\0\x01\0\0\0
+* add header 56 \0
+* add header 1 \x03\0\0\0\0\0\0\0\0\0\0\0
+* put old.JHR JAM\0
+* add old.JHR 1020 \0
+* join old.JHR 2 header
+* put old.JDT Hi\r
+* put old.JDX \0\0\0\0\0\x04\0\0\0\0\0\0L\x04\0\0
+"#;
+
+#[test]
+fn a_stopped_adopt_leaves_the_board_before_or_after(rt: HostRuntime) -> Result<(), Miss> {
+    expect_line_stops(rt.alloc(), FOREIGN, "adopt 7 old")
+}

@@ -249,3 +249,62 @@ fn a_changed_sheet_or_reply_packet_is_taken_or_refused(rt: HostRuntime) -> Resul
     }
     Ok(())
 }
+
+/// What may be said of a base that is adopted.
+const ADOPTED: Answers<'static> = Answers {
+    before: "\
+# posted 0 #
+# refused header
+# refused subfields
+# refused text
+# refused length",
+    last: "\
+posted # refused #
+refused foreign short
+refused foreign signature",
+};
+
+const ADOPT_HEADERS: Reading<'static> = Reading {
+    name: "old.JHR",
+    line: "adopt 0 old",
+    answers: ADOPTED,
+};
+
+const ADOPT_TEXTS: Reading<'static> = Reading {
+    name: "old.JDT",
+    line: "adopt 0 old",
+    answers: ADOPTED,
+};
+
+const ADOPT_INDEX: Reading<'static> = Reading {
+    name: "old.JDX",
+    line: "adopt 0 old",
+    answers: ADOPTED,
+};
+
+/// A base of a message with a name and a msgid, whose text has a line feed. Its header stands inside of the base header.
+const FOREIGN: &str = r#"
+* board B
+* put old.JHR JAM\0
+* add old.JHR 96 \0
+* add old.JHR 1 JAM\0\x01\0\0\0\x15\0\0\0
+* add old.JHR 52 \0
+* add old.JHR 1 \x04\0\0\0\0\0\0\0\0\0\0\0
+* add old.JHR 1 \x02\0\0\0\x03\0\0\0Joe\x04\0\0\0\x02\0\0\0m1
+* add old.JHR 827 \0
+* put old.JDT Hi\r\n
+* put old.JDX \0\0\0\0d\0\0\0\xFF\xFF\xFF\xFF\xFF\xFF\xFF\xFF
+> adopt 7 old
+1 posted 7 1
+posted 1 refused 0
+"#;
+
+#[test]
+fn a_changed_base_is_adopted_or_refused(rt: HostRuntime) -> Result<(), Miss> {
+    let alloc = rt.alloc();
+    let mut stage = played(alloc, FOREIGN)?;
+    for reading in [ADOPT_HEADERS, ADOPT_TEXTS, ADOPT_INDEX] {
+        reading.expect_answers(alloc, &mut stage)?;
+    }
+    Ok(())
+}

@@ -55,6 +55,15 @@ returns-in-Sample-clause-causes g c = causes_answered c.of_sampled.result (rw c.
 pub returns-in-Sample-clause-damaged : goal.returns-in-Sample-clause-damaged
 returns-in-Sample-clause-damaged g c = rw c.in-Sample.is (may_be_damaged c.of_sampled.result)
 
+pub returns-in-Adopt-clause-works : goal.returns-in-Adopt-clause-works
+returns-in-Adopt-clause-works g c tells shelf_tells world at = rw (c.in-Adopt.is, c.of_report-in-Adopt.ensures, ← c.as_slice-prefix.ensures.same) (c.adopt.ensures.works tells shelf_tells world at)
+
+pub returns-in-Adopt-clause-causes : goal.returns-in-Adopt-clause-causes
+returns-in-Adopt-clause-causes g c = causes_answered c.of_report-in-Adopt.result (rw c.of_report-in-Adopt.ensures c.adopt.ensures.causes)
+
+pub returns-in-Adopt-clause-damaged : goal.returns-in-Adopt-clause-damaged
+returns-in-Adopt-clause-damaged g c = rw c.in-Adopt.is (may_be_damaged c.of_report-in-Adopt.result)
+
 pub returns-in-Check-clause-wrote : goal.returns-in-Check-clause-wrote
 returns-in-Check-clause-wrote g c tells shelf_tells = rw c.in-Check.is (λ posts closed. absurd posts)
 
@@ -72,3 +81,6 @@ returns-in-Import-clause-wrote g c tells shelf_tells = rw c.in-Import.is (λ pos
 
 pub returns-in-Sample-clause-wrote : goal.returns-in-Sample-clause-wrote
 returns-in-Sample-clause-wrote g c tells shelf_tells = rw c.in-Sample.is (λ posts closed. c.sample.ensures.wrote tells closed _)
+
+pub returns-in-Adopt-clause-wrote : goal.returns-in-Adopt-clause-wrote
+returns-in-Adopt-clause-wrote g c tells shelf_tells = rw (c.in-Adopt.is, ← c.as_slice-prefix.ensures.same) (λ posts closed. c.adopt.ensures.wrote tells shelf_tells closed)

@@ -1,0 +1,6 @@
+pub mod AdoptActs
+pub mod AdoptBounds
+pub mod AdoptExits
+pub mod FoundLaws
+pub mod NameLaws
+pub mod StepLaws

@@ -1,0 +1,40 @@
+-- What is known between two records of another tool's base, and what is found before its messages are posted.
+use Rattle.std.specs.Prelude.{◌≡◌, ℕ, List, Some, Result, Ok, Err, All, IsTrue}
+use Rattle.board_commands.specs.declared.halt.BoardHalt.{BoardHalt}
+use Rattle.board_commands.specs.declared.halt.BoardHalt.TheVariants.{Refused, Damaged, DiskFault, ShelfFault, OutOfMemory}
+use Rattle.board_layout.specs.Board.{Board}
+use Rattle.jam_adopt.specs.declared.found.Found.{Found}
+use Rattle.jam_adopt.specs.declared.found.FoundVerdict.{FoundVerdict}
+use Rattle.jam_adopt.specs.declared.found.FoundVerdict.TheVariants as verdict
+use Rattle.mail_board.specs.Changes.{changed, Fits}
+use Rattle.mail_board.specs.Written.{IsPosting}
+use Rattle.mail_intake.specs.Tallies.{IsTally}
+use Rattle.adopt_commands.specs.Adopt.{adopting}
+use Rattle.adopt_commands.specs.Adopted.{adopted}
+use Rattle.adopt_commands.specs.declared.adopted.Adopted.{Adopted}
+use Rattle.adopt_commands.specs.declared.adopting.Adopting.{Adopting}
+use Rattle.shelf_files.specs.Halts.{done}
+use Rattle.slot_changes.specs.Values.{has_right_texts, is_right_body}
+
+-- the texts of the record's message are such as a conference may hold; its msgid may be missing
+abbrev pub IsRight : FoundVerdict → Type 0
+IsRight (verdict.Taken m) = IsTrue (has_right_texts m) × IsTrue (is_right_body m.body)
+IsRight (verdict.Refused rule) = Unit {0}
+
+abbrev pub AreRight : List Found → Type 0
+AreRight records = All (λ found. IsRight found.verdict) records
+
+-- the lines and the posts are those of the records so far, and there is room for the posts
+pub record AreAdopted (conference place : ℕ) (b : Board) (records : List Found) (a : Adopted) : Type 0 where
+  pub so_far : (a.lines, a.tally.posts) ≡ adopted conference place b records
+  pub tally : IsTally b a.tally
+
+-- a change that fits, posts messages and takes the turn, or memory ran out
+abbrev pub MayAdopt : ℕ → ℕ → List Found → Board → Result Adopting BoardHalt → Type 0
+MayAdopt conference place records b (Ok a) =
+    Fits a.change b × (adopting conference place b records ≡ record { board = Some (changed a.change b); reply = done a.reply }) × IsPosting a.change
+MayAdopt conference place records b (Err OutOfMemory) = Unit {0}
+MayAdopt conference place records b (Err (Refused why)) = ⊥
+MayAdopt conference place records b (Err (Damaged d)) = ⊥
+MayAdopt conference place records b (Err DiskFault) = ⊥
+MayAdopt conference place records b (Err ShelfFault) = ⊥

@@ -1,0 +1,4 @@
+pub mod Adopt
+pub mod Adopted
+pub mod Adopting
+pub mod BaseFiles

@@ -1,0 +1,105 @@
+//! The command `adopt`.
+ghost use Rattle.std.specs.Prelude.{◌≡◌, ◌<◌, ◌++◌, ℕ, List, codes, length, Ok, IfOk, IsTrue};
+ghost use Rattle.board_commands.specs.Halts.{told};
+ghost use Rattle.board_commands.specs.Kept.{AreSure, IsKept, unread};
+ghost use Rattle.board_commands.specs.State.{State, Stores};
+ghost use Rattle.board_commands.specs.WriteBound.{KeepsWriteBound};
+ghost use Rattle.board_layout.specs.Board as Boards;
+ghost use Rattle.board_layout.specs.Valid.{IsBoard};
+ghost use Rattle.door_outside.specs.Name.{IsShelfName};
+ghost use Rattle.entry_runs.specs.Door.{World};
+ghost use Rattle.entry_runs.specs.Entry.{IsAt, Works};
+ghost use Rattle.entry_runs.specs.Promise.{counts, ended, HasCauses};
+ghost use Rattle.intent_journal.specs.Journal.{IsClosed};
+ghost use Rattle.jam_adopt.specs.declared.found.Found as Founds;
+ghost use Rattle.adopt_commands.specs.Adopt.{adopts};
+ghost use Rattle.adopt_commands.specs.Adopting.{AreAdopted, AreRight, MayAdopt};
+
+use crate::adopted::{Adopted, Target, adopted_of};
+use crate::base_files::base_in;
+use board_commands::{BoardHalt, board_in, find, make_change};
+use byte_lists::Bytes;
+use door_outside::{Host, Shelf};
+use jam_adopt::Foreign;
+use mail_board::{Board, Change, Loaded};
+use mail_intake::add_counts;
+use message_commands::place_in;
+use std::alloc::{AllocError, Global};
+
+/// The change that takes a base over, and what is to be said of it.
+#[derive(Debug, Drop)]
+pub(crate) struct Adopting {
+    pub(crate) change: Change,
+    pub(crate) reply: Bytes,
+}
+
+/// The change that posts what was taken of so many records of a base, and the lines with their counts.
+fn ended_with(adopted: Adopted, count: usize) -> Result<Adopting, AllocError>
+    ensures { (conference place : ℕ) (b : Boards.Board) (records : List Founds.Found) → AreAdopted conference place b records adopted → length records ≡ count → IfOk result (λ adopting. MayAdopt conference place records b (Ok adopting)) }
+{
+    let Adopted { tally, mut lines } = adopted;
+    let posted = tally.posts.len();
+    add_counts(
+        &mut lines,
+        posted as u64,
+        count.saturating_sub(posted) as u64,
+    )?;
+    Ok(Adopting {
+        change: Change::Spread { posts: tally.posts },
+        reply: lines,
+    })
+}
+
+/// The change by which the records of a base come into the conference of a number in a place.
+fn prepared(
+    alloc: Global,
+    board: &Board,
+    conference: u32,
+    place: u8,
+    records: Foreign,
+) -> Result<Adopting, BoardHalt>
+    requires board { IsBoard board.now.board }
+    requires place { place < length board.now.board.conferences }
+    requires right { AreRight records }
+    ensures { MayAdopt conference place records board.now.board result }
+{
+    let count = records.len();
+    let target = Target { conference, place };
+    let adopted = adopted_of(alloc, board.stored(), target, records)?;
+    Ok(ended_with(adopted, count)?)
+}
+
+/// Appends the messages of another tool's base to the conference of a number in one change, in the order of its .JDX,
+/// and answers a line for each record that isn't passed over, and one with the counts. The base is the files of the
+/// shelf with this prefix and the endings .JHR, .JDX and .JDT, each of at most 16,777,216 bytes (JAM message base
+/// proposal, revision 1); .JLR isn't read. A message without a MSGID that can be kept gets the one that is generated
+/// for its number, and in a net conference all are private. One for which the conference or the board has no room
+/// behind those before it is refused as `full`.
+///
+/// It is refused where there is no board, then as the first of these applies: no conference has the number; .JHR, .JDX,
+/// .JDT, in this order, isn't there or is too long; .JHR has fewer than 1,024 bytes, or another signature.
+pub fn adopt<H: Host, S: Shelf>(
+    alloc: Global,
+    host: &mut H,
+    shelf: &mut S,
+    kept: &mut Option<Loaded>,
+    conference: u32,
+    prefix: &[u8],
+) -> Result<Bytes, BoardHalt>
+    requires sure { AreSure kept.old }
+    requires kept { IsTrue H.tells → IsKept kept.old (H.disk host.old) }
+    requires prefix { IsShelfName (prefix.now ++ codes ".JHR") }
+    ensures works { IsTrue H.tells → IsTrue S.tells → (world : World State) → IsAt Stores unread world (H.disk host.old) (S.files shelf.old) → Works Stores (adopts conference prefix.now) unread world (H.disk host.old) (H.disk host.new) (S.files shelf.new) (told (λ text. text) result) }
+    ensures kept { IsTrue H.tells → IsKept kept.new (H.disk host.new) }
+    ensures sure { AreSure kept.new }
+    ensures wrote { IsTrue H.tells → IsTrue S.tells → IsClosed ((H.disk host.old).files 1) → KeepsWriteBound (adopts conference prefix.now) (H.disk host.old) (H.disk host.new) (S.files shelf.old) }
+    ensures causes { HasCauses (counts (H.disk_faults host.old) (H.voice_faults host.old) (S.faults shelf.old)) (counts (H.disk_faults host.new) (H.voice_faults host.new) (S.faults shelf.new)) (ended (told (λ text. text) result)) }
+{
+    find(alloc, host, kept)?;
+    let board = board_in(kept)?;
+    let place = place_in(board, conference)?;
+    let records = base_in(alloc, shelf, prefix)?;
+    let adopting = prepared(alloc, board, conference, place, records)?;
+    make_change(alloc, host, kept, &adopting.change)?;
+    Ok(adopting.reply)
+}
