@@ -7,11 +7,11 @@ use Rattle.door_outside.specs.Shelf.{Files}
 use Rattle.jam_adopt.specs.declared.found.Found.{Found}
 use Rattle.jam_records.specs.declared.message.Message.{Message}
 use Rattle.mail_board.specs.Readers.{place_of}
-use Rattle.mail_intake.specs.Lines.{counts_line}
+use Rattle.mail_intake.specs.Lines.{counts_line, intake_text}
 use Rattle.post_changes.specs.Posted.{spread}
 use Rattle.shelf_files.specs.declared.refusal.Refusal.{Refusal}
 use Rattle.shelf_files.specs.declared.refusal.Refusal.TheVariants.{NotMade, NoConference}
-use Rattle.adopt_commands.specs.Adopt.{adopt_at, adopt_turn, adopted_text, base_turn}
+use Rattle.adopt_commands.specs.Adopt.{adopt_at, adopt_turn, base_turn}
 use Rattle.adopt_commands.specs.Adopted.{adopted}
 use Rattle.adopt_commands.specs.BaseFiles.{base_of}
 
@@ -27,7 +27,7 @@ module _ (conference : ℕ) where
   base_is place b (Err why) = refuses_is why (Some b)
   base_is place b (Ok records) =
       let all : List ℕ × List (ℕ × Message) = adopted conference place b records in
-      done_is (Some b) (Some (spread all.1 b)) (adopted_text (length records) all) (text_some all.0 (counts_line (length all.1) (length records - length all.1)) (counts_some (length all.1) (length records - length all.1)))
+      done_is (Some b) (Some (spread all.1 b)) (intake_text (length records) all) (text_some all.0 (counts_line (length all.1) (length records - length all.1)) (counts_some (length all.1) (length records - length all.1)))
 
   module _ (prefix : List ℕ) (shelf : Files) where
     at_is : (b : Board) (place : Option ℕ) → IsTurn (Some b) (adopt_at conference prefix shelf b place)

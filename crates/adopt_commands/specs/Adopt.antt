@@ -1,14 +1,13 @@
 -- The command `adopt`.
-use Rattle.std.specs.Prelude.{◌≡◌, ℕ, ◌-◌, List, ◌++◌, length, Option, Some, None, Result, Ok, Err}
+use Rattle.std.specs.Prelude.{◌≡◌, ℕ, List, length, Option, Some, None, Result, Ok, Err}
 use Rattle.board_commands.specs.State.{State}
 use Rattle.board_commands.specs.Turns.{Turn, refuses, on_board}
 use Rattle.board_layout.specs.Board.{Board}
 use Rattle.door_outside.specs.Shelf.{Files}
 use Rattle.entry_runs.specs.Door.{Act}
 use Rattle.jam_adopt.specs.declared.found.Found.{Found}
-use Rattle.jam_records.specs.declared.message.Message.{Message}
 use Rattle.mail_board.specs.Readers.{place_of}
-use Rattle.mail_intake.specs.Lines.{counts_line}
+use Rattle.mail_intake.specs.Lines.{intake_text}
 use Rattle.post_changes.specs.Posted.{spread}
 use Rattle.shelf_files.specs.Halts.{done}
 use Rattle.shelf_files.specs.declared.refusal.Refusal.{Refusal}
@@ -16,15 +15,11 @@ use Rattle.shelf_files.specs.declared.refusal.Refusal.TheVariants.{NotMade, NoCo
 use Rattle.adopt_commands.specs.Adopted.{adopted}
 use Rattle.adopt_commands.specs.BaseFiles.{base_of}
 
--- the lines of so many records, and the counts behind them
-abbrev pub adopted_text : ℕ → List ℕ × List (ℕ × Message) → List ℕ
-adopted_text count all = all.0 ++ counts_line (length all.1) (count - length all.1)
-
 -- the messages of the records are posted in one change, as far as there is room
 abbrev pub adopting : ℕ → ℕ → Board → List Found → Turn
 adopting conference place b records = record {
   board = Some (spread (adopted conference place b records).1 b);
-  reply = done (adopted_text (length records) (adopted conference place b records));
+  reply = done (intake_text (length records) (adopted conference place b records));
 }
 
 -- what was read of the base, or why nothing was

@@ -5,3 +5,4 @@ pub mod NextLaws
 pub mod WriteBounds
 pub mod PostedSlots
 pub mod MigrationLaws
+pub mod MsgidTests

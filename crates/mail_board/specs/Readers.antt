@@ -1,6 +1,7 @@
 -- What is asked of a board.
 use Rattle.std.specs.Prelude.{ℕ, ◌+◌, ◌-◌, List, length, slice_get, position, Bool, false, Option, Some, None, option_map, option_and_then, ◌&&◌, ◌==◌}
 use Rattle.std.specs.List.{find, list_any}
+use Rattle.std.specs.Option.{option_map_or}
 use Rattle.std.specs.Str.{bytes_eq, str_eq_ignore_ascii_case}
 use Rattle.open_offers.specs.declared.offer.OpenOffer.{OpenOffer}
 use Rattle.board_ledger.specs.declared.upload.Counts.{Counts}
@@ -10,6 +11,7 @@ use Rattle.board_layout.specs.Lookups.{user_of, held_in}
 use Rattle.board_layout.specs.Renewed.{contents_of}
 use Rattle.jam_base.specs.Slots.{numbered}
 use Rattle.jam_records.specs.declared.message.Message.{Message}
+use Rattle.jam_threads.specs.Children.{has_msgid}
 
 -- the place of the conference of a number
 abbrev pub place_of : ℕ → Board → Option ℕ
@@ -18,6 +20,10 @@ place_of number b = position (λ c. c.number == number) b.ledger.setup.conferenc
 -- the message of a number in a place
 abbrev pub message_at : ℕ → ℕ → Board → Option Message
 message_at place number b = option_and_then (λ base. held_in (numbered base.conference.slots number)) (slice_get (contents_of b) place)
+
+-- a slot of a place holds a message with this msgid
+abbrev pub has_msgid_in : ℕ → List ℕ → Board → Bool
+has_msgid_in place msgid b = option_map_or (λ c. list_any (has_msgid msgid) c.slots) (slice_get b.conferences place) false
 
 -- the id of the user of a name, ignoring ASCII case
 abbrev pub user_id : List ℕ → Board → Option ℕ

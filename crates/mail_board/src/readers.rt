@@ -5,16 +5,18 @@ ghost use Rattle.std.specs.Option.{option_copied, option_map};
 ghost use Rattle.std.specs.Str.{str_eq_ignore_ascii_case};
 ghost use Rattle.board_layout.specs.Layout.{board_size};
 ghost use Rattle.board_layout.specs.Valid.{IsBoard};
+ghost use Rattle.jam_base.specs.Slots.{numbered};
 ghost use Rattle.jam_layout.specs.Conference.{live_count as live_in};
-ghost use Rattle.jam_threads.specs.Children.{original};
+ghost use Rattle.jam_threads.specs.Children.{has_msgid, original};
 ghost use Rattle.offered_packets.specs.Sees.{sees as is_seen};
 ghost use Rattle.board_layout.specs.Lookups.{user_of, pointer_at};
-ghost use Rattle.mail_board.specs.Readers.{place_of, user_id as id_of, offer_of, is_offered, upload_of as counts_of};
+ghost use Rattle.mail_board.specs.Readers.{place_of, user_id as id_of, offer_of, is_offered, upload_of as counts_of, has_msgid_in};
 
 use crate::board::Board;
 use board_layout::StoredBoard;
 use board_ledger::{Conference, Counts, OpenOffer, Setup, User};
 use jam_base::Base;
+use jam_records::Slot;
 use offered_packets::sees;
 
 /// The place of the conference of a number, or None where none has it.
@@ -40,6 +42,17 @@ fn is_open(packet: u32, offers: &[OpenOffer]) -> bool
     ensures { result ≡ list_any (λ o. o.number == packet) offers.now }
 {
     offers.iter().any(|offer| offer.number == packet)
+}
+
+/// Whether a slot of this number, from 1, holds a message with this msgid.
+fn holds_msgid(base: &Base, number: u32, msgid: &[u8]) -> bool
+    ensures { result ≡ has_msgid msgid.now (numbered base.now.conference.slots number) }
+{
+    match base.slot(number) {
+        Some(Slot::Held(message)) => message.msgid.as_slice() == msgid,
+        Some(Slot::Gone) => false,
+        None => false,
+    }
 }
 
 impl Board {
@@ -113,6 +126,21 @@ impl Board {
         ensures { Some result ≡ option_map (λ c. original c.slots number) (slice_get self.now.board.conferences place) }
     {
         self.base(place).reply_to(number)
+    }
+
+    /// Whether a message that the conference in a place holds, deleted or not, has this msgid. It takes no memory, and goes
+    /// over the slots.
+    pub fn has_msgid(&self, place: u8, msgid: &[u8]) -> bool
+        requires { place < length self.now.board.conferences }
+        ensures { result ≡ has_msgid_in place msgid.now self.now.board }
+    {
+        let base = self.base(place);
+        for before in 0..base.slot_count() {
+            if holds_msgid(base, before + 1, msgid) {
+                return true;
+            }
+        }
+        false
     }
 
     /// The last-read pointer of a user in the conference in a place: a message number, or 0 before the first. None

@@ -1,3 +1,4 @@
 pub mod Lines
+pub mod Msgids
 pub mod Room
 pub mod Tallies

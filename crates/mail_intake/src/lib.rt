@@ -3,7 +3,9 @@
 #![tactic(auto)]
 
 mod lines;
+mod msgids;
 mod tally;
 
 pub use lines::{add_counts, add_posted, add_refused};
+pub use msgids::MsgidSet;
 pub use tally::Tally;
