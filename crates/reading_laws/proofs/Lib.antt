@@ -2,3 +2,4 @@ pub mod Fields
 pub mod Packets
 pub mod Controls
 pub mod Sheets
+pub mod Type2Packets

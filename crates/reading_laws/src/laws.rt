@@ -1,5 +1,9 @@
 //! Any bytes read as a value, or have a first fault. That they have no two of these is said by the laws of each format.
 ghost use Rattle.std.specs.Prelude.{◌⊎◌, ℕ, List};
+ghost use Rattle.fts_packet.specs.Fault.{FtsFault};
+ghost use Rattle.fts_packet.specs.Packet.{FtsReads};
+ghost use Rattle.fts_packet.specs.declared.fault.FtsRule.{FtsRule};
+ghost use Rattle.fts_packet.specs.declared.packet.FtsMessage.{FtsMessage};
 ghost use Rattle.import_sheet.specs.Fault.{SheetFault};
 ghost use Rattle.import_sheet.specs.Sheet.{SheetReads};
 ghost use Rattle.import_sheet.specs.declared.fault.SheetRule.{SheetRule};
@@ -33,4 +37,9 @@ pub fn control_or_fault()
 /// Any bytes are a sheet, or have a first line that breaks a rule.
 pub fn sheet_or_fault()
     ensures { (bytes : List ℕ) → ((sheets : List Sheet) × SheetReads bytes sheets) ⊎ ((line : ℕ) × (rule : SheetRule) × SheetFault bytes line rule) }
+{}
+
+/// Any bytes are the messages of a type 2 packet (FTS-0001), or have a first fault.
+pub fn type2_or_fault()
+    ensures { (bytes : List ℕ) → ((messages : List FtsMessage) × FtsReads bytes messages) ⊎ ((rule : FtsRule) × (at : ℕ) × FtsFault bytes rule at) }
 {}
