@@ -28,6 +28,7 @@ pub use damages::{Damage, damaged, host_with};
 pub use data_files::{expect_part, put_data};
 pub use days::{DAY, put_day};
 pub use files::{copies, expect_file, file_of, put};
+pub use mail_cli::Status;
 pub use miss::Miss;
 pub use old_boards::{OLD_BOARD, OLD_LEDGER};
 pub use outside::{empty_host, empty_shelf, failing_shelf, fails_at, no_faults, stops_at};

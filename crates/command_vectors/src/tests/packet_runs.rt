@@ -1,9 +1,8 @@
 //! Runs of the commands over packets.
 use example_runs::{
-    Miss, empty_host, expect_transcript, failing_shelf, fails_at, no_faults, put_packets,
+    Miss, Status, empty_host, expect_transcript, failing_shelf, fails_at, no_faults, put_packets,
     run_to_fault,
 };
-use mail_cli::Status;
 
 /// What `list` and `scan` say of each packet.
 const PACKETS: &str = "

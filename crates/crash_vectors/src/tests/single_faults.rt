@@ -1,7 +1,6 @@
 //! Calls that fail alone.
 use super::boards::{Boards, boards_of};
-use example_runs::{Miss, fails_at, run_twice};
-use mail_cli::Status;
+use example_runs::{Miss, Status, fails_at, run_twice};
 use memory_outside::{ImageChoice, MemoryHost};
 use std::alloc::Global;
 

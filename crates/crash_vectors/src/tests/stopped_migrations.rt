@@ -1,8 +1,7 @@
 //! Runs on a board of version 1 that are stopped, and recoveries behind them that are stopped too.
 use super::boards::{Boards, boards_of};
 use super::stopped_recoveries::expect_recoveries;
-use example_runs::{Miss, OLD_BOARD, OLD_LEDGER, Stage, played, run_next, stops_at};
-use mail_cli::Status;
+use example_runs::{Miss, OLD_BOARD, OLD_LEDGER, Stage, Status, played, run_next, stops_at};
 use memory_outside::{ImageChoice, MemoryHost};
 use std::alloc::Global;
 

@@ -1,7 +1,6 @@
 //! Recoveries that are stopped too.
 use super::boards::{Boards, boards_of};
-use example_runs::{Miss, played, run_after_crash, run_next, stops_at};
-use mail_cli::Status;
+use example_runs::{Miss, Status, played, run_after_crash, run_next, stops_at};
 use memory_outside::{ImageChoice, MemoryHost};
 use std::alloc::Global;
 

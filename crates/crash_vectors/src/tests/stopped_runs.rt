@@ -1,7 +1,6 @@
 //! Commands that are stopped at a call of the host, and with it all later ones.
 use super::boards::expect_stops;
-use example_runs::{Miss, empty_host, empty_shelf, run_to_fault, stops_at};
-use mail_cli::Status;
+use example_runs::{Miss, Status, empty_host, empty_shelf, run_to_fault, stops_at};
 use std::alloc::Global;
 
 /// Stops a line at each call of the host in turn, on the board that a transcript leaves.

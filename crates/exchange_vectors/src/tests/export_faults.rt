@@ -1,6 +1,5 @@
 //! Exports whose shelf fails.
-use example_runs::{Miss, Stage, failing_shelf, no_faults, played, run_to_fault};
-use mail_cli::Status;
+use example_runs::{Miss, Stage, Status, failing_shelf, no_faults, played, run_to_fault};
 use memory_outside::MemoryHost;
 use std::alloc::Global;
 

@@ -1,7 +1,6 @@
 //! Uploads whose shelf fails.
 use super::four::{FOUR, UPLOADED};
-use example_runs::{Miss, Stage, Steps, failing_shelf, no_faults, played, run_to_fault};
-use mail_cli::Status;
+use example_runs::{Miss, Stage, Status, Steps, failing_shelf, no_faults, played, run_to_fault};
 use memory_outside::{ImageChoice, MemoryHost};
 use std::alloc::Global;
 

@@ -3,8 +3,7 @@ use super::boards::ROOM;
 use super::numbered::played_numbered;
 use byte_lists::Bytes;
 use door_outside::FileId;
-use example_runs::{Miss, Steps, empty_host, put_data, run_to_fault, stops_at};
-use mail_cli::Status;
+use example_runs::{Miss, Status, Steps, empty_host, put_data, run_to_fault, stops_at};
 use memory_outside::{ImageChoice, MemoryHost, MemoryShelf};
 use std::alloc::Global;
 

@@ -2,8 +2,9 @@
 use super::answers::Answers;
 use super::changes::damages_at;
 use door_outside::FileId;
-use example_runs::{Damage, Miss, host_with, no_faults, played, reply_of, run_next, stops_at};
-use mail_cli::Status;
+use example_runs::{
+    Damage, Miss, Status, host_with, no_faults, played, reply_of, run_next, stops_at,
+};
 use memory_outside::{ImageChoice, MemoryHost, MemoryShelf};
 use std::alloc::Global;
 
