@@ -29,6 +29,7 @@ use Rattle.entry_runs.specs.declared.class.Class.TheVariants.{Done}
 use Rattle.exchange_commands.specs.Ack.{turn_of as ack_turn_of}
 use Rattle.exchange_commands.specs.Export.{handing_of}
 use Rattle.exchange_commands.specs.Handing.{Handing}
+use Rattle.fts_packet.specs.declared.packet.FtsMessage.{FtsMessage}
 use Rattle.import_sheet.specs.declared.sheet.Sheet.{Sheet}
 use Rattle.jam_adopt.specs.declared.found.Found.{Found}
 use Rattle.jam_records.specs.declared.message.Message.{Message}
@@ -51,6 +52,8 @@ use Rattle.shelf_files.specs.declared.refusal.Refusal.TheVariants.{NoMessage}
 use Rattle.sha2.specs.Sha256.{sha256}
 use Rattle.slot_changes.specs.Changed.{deleted}
 use Rattle.exchange_commands.specs.Upload.{UploadsFile, UploadsRead, rep_limit}
+use Rattle.toss_commands.specs.Toss.{packet_turn}
+use Rattle.toss_commands.specs.Tossed.{tossed}
 
 -- ---- from no board
 -- there is still none, or one that was made of a setup
@@ -67,6 +70,7 @@ from_none now (command.Enroll name flags conferences) shelf stepped (same, (turn
 from_none now command.Check shelf stepped (same, (turn, is, next, reply)) = inl (next ∙ ap (λ (t : Turn). state_of t.board) is)
 from_none now (command.Import conference file) shelf stepped (same, (turn, is, next, reply)) = inl (next ∙ ap (λ (t : Turn). state_of t.board) is)
 from_none now (command.Adopt conference prefix) shelf stepped (same, (turn, is, next, reply)) = inl (next ∙ ap (λ (t : Turn). state_of t.board) is)
+from_none now (command.Toss file) shelf stepped (same, (turn, is, next, reply)) = inl (next ∙ ap (λ (t : Turn). state_of t.board) is)
 from_none now (command.Kill conference number) shelf stepped (same, (turn, is, next, reply)) = inl (next ∙ ap (λ (t : Turn). state_of t.board) is)
 from_none now (command.Export name limit folder) shelf stepped (handing, is, next, new, reply) = inl (next ∙ ap (λ (h : Handing). state_of h.board) is)
 from_none now (command.Ack name packet) shelf stepped (same, (turn, is, next, reply)) = inl (next ∙ ap (λ (t : Turn). state_of t.board) is)
@@ -143,6 +147,10 @@ module _ (now : ℕ) (b : Board) (c : BoardCommand) (next : State) (class : Clas
   by_adopt : (conference : ℕ) (prefix : List ℕ) (shelf : Files) (o : Option ℕ) (turn : Turn) → turn ≡ adopt_at conference prefix shelf b o → next ≡ state_of turn.board → Turns now b c next class
   by_adopt conference prefix shelf None turn is then = inl (then ∙ ap (λ (t : Turn). state_of t.board) is)
   by_adopt conference prefix shelf (Some place) turn is then = by_base conference place (base_of shelf prefix) turn is then
+
+  by_packet : (read : Result (List FtsMessage) Refusal) (turn : Turn) → turn ≡ packet_turn now b read → next ≡ state_of turn.board → Turns now b c next class
+  by_packet (Err why) turn is then = inl (then ∙ ap (λ (t : Turn). state_of t.board) is)
+  by_packet (Ok messages) turn is then = inr (Spread (tossed b now messages).1, then ∙ ap (λ (t : Turn). state_of t.board) is, tt)
 
   by_kill : (conference number place : ℕ) (has : Bool) (turn : Turn) → has_message place number b ≡ has → turn ≡ killing conference number place b → next ≡ state_of turn.board → Turns now b c next class
   by_kill conference number place true turn has is then =
@@ -244,6 +252,7 @@ turn_on now b command.Check shelf stepped (same, (turn, is, next, reply)) = inl 
 turn_on now b (command.Import conference file) shelf stepped (same, (turn, is, next, reply)) = by_place now b (command.Import conference file) stepped.world.state stepped.class conference file shelf (place_of conference b) turn is next
 turn_on now b (command.Adopt conference prefix) shelf stepped (same, (turn, is, next, reply)) =
     by_adopt now b (command.Adopt conference prefix) stepped.world.state stepped.class conference prefix shelf (place_of conference b) turn is next
+turn_on now b (command.Toss file) shelf stepped (same, (turn, (read, reads, is), next, reply)) = by_packet now b (command.Toss file) stepped.world.state stepped.class read turn is next
 turn_on now b (command.Kill conference number) shelf stepped (same, (turn, is, next, reply)) = by_kill_at now b (command.Kill conference number) stepped.world.state stepped.class conference number (place_of conference b) turn is next
 turn_on now b (command.Export name limit folder) shelf stepped (handing, is, next, new, reply) =
     by_export now b (command.Export name limit folder) stepped.world.state stepped.class name limit folder shelf handing refl is next (ap (λ (r : Reply). r.class) reply)

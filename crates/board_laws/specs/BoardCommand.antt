@@ -12,6 +12,7 @@ use Rattle.exchange_commands.specs.Export.{exports}
 use Rattle.message_commands.specs.Import.{imports}
 use Rattle.message_commands.specs.Kill.{kills}
 use Rattle.message_commands.specs.Sample.{samples}
+use Rattle.toss_commands.specs.Toss.{tosses}
 use Rattle.exchange_commands.specs.Upload.{uploads}
 
 pub data BoardCommand : Type 0 where
@@ -24,6 +25,8 @@ pub data BoardCommand : Type 0 where
   Import : ℕ → List ℕ → BoardCommand
   -- the number of the conference, and the prefix of the base
   Adopt : ℕ → List ℕ → BoardCommand
+  -- the packet's file
+  Toss : List ℕ → BoardCommand
   -- the number of the conference, and that of the message
   Kill : ℕ → ℕ → BoardCommand
   -- the name of the user, the limit, and the folder
@@ -44,6 +47,7 @@ does now (Enroll name flags conferences) world stepped = (enrolls name flags con
 does now Check world stepped = checks.Step world stepped
 does now (Import conference file) world stepped = (imports conference file now).Step world stepped
 does now (Adopt conference prefix) world stepped = (adopts conference prefix).Step world stepped
+does now (Toss file) world stepped = (tosses file now).Step world stepped
 does now (Kill conference number) world stepped = (kills conference number).Step world stepped
 does now (Export name limit folder) world stepped = (exports name limit folder now).Step world stepped
 does now (Ack name packet) world stepped = (acknowledges name packet now).Step world stepped

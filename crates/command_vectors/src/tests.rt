@@ -7,3 +7,4 @@ mod old_runs;
 mod packet_runs;
 mod reply_runs;
 mod sample_runs;
+mod toss_runs;

@@ -13,7 +13,7 @@ use Rattle.door_commands.specs.Words.{CommandReads, IsFlags, IsNoCommand, NamesC
 use Rattle.door_commands.specs.declared.command.Command.{Command}
 use Rattle.door_commands.specs.declared.command.Command.TheVariants as command
 use Rattle.door_commands.specs.declared.verb.Verb.{Verb}
-use Rattle.door_commands.specs.declared.verb.Verb.TheVariants.{AckPacket, AdoptBase, BatchFile, CheckBoard, ComposeSheet, EnrollUser, ExportPacket, ImportSheet, InitBoard, KillMessage, ListFile, ReadFolder, ReplyTo, SampleMessages, ScanFile, UploadPacket}
+use Rattle.door_commands.specs.declared.verb.Verb.TheVariants.{AckPacket, AdoptBase, BatchFile, CheckBoard, ComposeSheet, EnrollUser, ExportPacket, ImportSheet, InitBoard, KillMessage, ListFile, ReadFolder, ReplyTo, SampleMessages, ScanFile, TossFile, UploadPacket}
 use Rattle.door_outside.specs.Name.{HasParts, IsNameByte, IsPart, IsShelfName, parts}
 use Rattle.line_words.proofs.LineLaws.{SoFar, bare_line, bare_word, badly_ended, begun, breaks_off, ends, goes_on, open_quote, well_ended}
 use Rattle.line_words.specs.Line.{Begins, BeginsBare, BeginsQuoted, EndsWord, LineReads, SkipsSpaces}
@@ -378,6 +378,7 @@ behind_or_not SampleMessages words = elim (two_numbers words) [
   | inr none ↦ inr (λ c x. none x.0 x.1 x.2 x.3 x.4 x.5 x.6)
 ]
 behind_or_not ScanFile words = elim (file_alone words) [ inl f ↦ inl (command.Scan f.0, (f.0, f.1, f.2, refl)) | inr none ↦ inr (λ c x. none x.0 x.1 x.2) ]
+behind_or_not TossFile words = elim (file_alone words) [ inl f ↦ inl (command.Toss f.0, (f.0, f.1, f.2, refl)) | inr none ↦ inr (λ c x. none x.0 x.1 x.2) ]
 behind_or_not UploadPacket words = elim (text_and_file words) [ inl w ↦ inl (command.Upload w.0 w.1, (w.0, w.1, w.2, w.3, refl)) | inr none ↦ inr (λ c x. none x.0 x.1 x.2 x.3) ]
 
 verb_among : (word : List ℕ) (some : List Verb) → ((verb : Verb) × (word ≡ first_word verb)) ⊎ All (λ verb. word ≡ first_word verb → ⊥) some

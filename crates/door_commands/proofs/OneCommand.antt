@@ -7,12 +7,12 @@ use Rattle.command_words.specs.NumberWord.{NumberWord}
 use Rattle.door_commands.specs.declared.command.Command.{Command}
 use Rattle.door_commands.specs.declared.command.Command.TheVariants as command
 use Rattle.door_commands.specs.declared.verb.Verb.{Verb}
-use Rattle.door_commands.specs.declared.verb.Verb.TheVariants.{AckPacket, AdoptBase, BatchFile, CheckBoard, ComposeSheet, EnrollUser, ExportPacket, ImportSheet, InitBoard, KillMessage, ListFile, ReadFolder, ReplyTo, SampleMessages, ScanFile, UploadPacket}
+use Rattle.door_commands.specs.declared.verb.Verb.TheVariants.{AckPacket, AdoptBase, BatchFile, CheckBoard, ComposeSheet, EnrollUser, ExportPacket, ImportSheet, InitBoard, KillMessage, ListFile, ReadFolder, ReplyTo, SampleMessages, ScanFile, TossFile, UploadPacket}
 use Rattle.door_commands.specs.Words.{first_word, ReadsBehind, CommandReads, WritingReads}
 
 -- all verbs in order
 abbrev pub verbs : List Verb
-verbs = AckPacket ∷ AdoptBase ∷ BatchFile ∷ CheckBoard ∷ ComposeSheet ∷ EnrollUser ∷ ExportPacket ∷ ImportSheet ∷ InitBoard ∷ KillMessage ∷ ListFile ∷ ReadFolder ∷ ReplyTo ∷ SampleMessages ∷ ScanFile ∷ UploadPacket ∷ []
+verbs = AckPacket ∷ AdoptBase ∷ BatchFile ∷ CheckBoard ∷ ComposeSheet ∷ EnrollUser ∷ ExportPacket ∷ ImportSheet ∷ InitBoard ∷ KillMessage ∷ ListFile ∷ ReadFolder ∷ ReplyTo ∷ SampleMessages ∷ ScanFile ∷ TossFile ∷ UploadPacket ∷ []
 
 -- the verb of a first word
 verb_of : List ℕ → Option Verb
@@ -36,6 +36,7 @@ verb_back ReadFolder = refl
 verb_back ReplyTo = refl
 verb_back SampleMessages = refl
 verb_back ScanFile = refl
+verb_back TossFile = refl
 verb_back UploadPacket = refl
 
 -- a word that none of them begins with is that of no verb
@@ -55,7 +56,8 @@ no_verb word none ReadFolder = none 11 AckPacket (omega arith)
 no_verb word none ReplyTo = none 12 AckPacket (omega arith)
 no_verb word none SampleMessages = none 13 AckPacket (omega arith)
 no_verb word none ScanFile = none 14 AckPacket (omega arith)
-no_verb word none UploadPacket = none 15 AckPacket (omega arith)
+no_verb word none TossFile = none 15 AckPacket (omega arith)
+no_verb word none UploadPacket = none 16 AckPacket (omega arith)
 
 one_verb : (a b : Verb) → first_word a ≡ first_word b → a ≡ b
 one_verb a b same = let e : Some a ≡ Some b = sym (verb_back a) ∙ ap verb_of same ∙ verb_back b in cc
@@ -142,6 +144,7 @@ behind_unique SampleMessages words a b x y =
     let count : x.3 ≡ y.3 = one_number x.1 y.1 x.3 y.3 other x.6 y.6 in
     x.7 ∙ (λ i. command.Sample (seed i) (count i)) ∙ sym y.7
 behind_unique ScanFile words a b x y = let e = sym x.1 ∙ y.1 in let file : x.0 ≡ y.0 = cc in x.3 ∙ ap command.Scan file ∙ sym y.3
+behind_unique TossFile words a b x y = let e = sym x.1 ∙ y.1 in let file : x.0 ≡ y.0 = cc in x.3 ∙ ap command.Toss file ∙ sym y.3
 behind_unique UploadPacket words a b x y =
     let e = sym x.2 ∙ y.2 in
     let user : x.0 ≡ y.0 = cc in

@@ -56,6 +56,7 @@ CanRun (command.Reply folder place text rep) = HasParts 3 folder
 CanRun (command.Sample seed count) = Unit {0}
 CanRun (command.Show folder place) = HasParts 3 folder
 CanRun (command.Scan file) = Unit {0}
+CanRun (command.Toss file) = Unit {0}
 CanRun (command.Upload user file) = Unit {0}
 
 abbrev pub EntryCanRun : Entry → Type 0

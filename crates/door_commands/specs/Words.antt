@@ -8,7 +8,7 @@ use Rattle.door_commands.specs.declared.command.Command.{Command}
 use Rattle.door_commands.specs.declared.command.Command.TheVariants as command
 use Rattle.door_commands.specs.declared.verb.Verb.{Verb}
 use Rattle.door_commands.specs.declared.verb.Verb.TheVariants.{AckPacket, AdoptBase, BatchFile, CheckBoard, ComposeSheet, EnrollUser, ExportPacket, ImportSheet, InitBoard}
-use Rattle.door_commands.specs.declared.verb.Verb.TheVariants.{KillMessage, ListFile, ReadFolder, ReplyTo, SampleMessages, ScanFile, UploadPacket}
+use Rattle.door_commands.specs.declared.verb.Verb.TheVariants.{KillMessage, ListFile, ReadFolder, ReplyTo, SampleMessages, ScanFile, TossFile, UploadPacket}
 
 -- `-`, or `n`: the user may send net mail
 abbrev pub IsFlags : List ℕ → Type 0
@@ -35,6 +35,7 @@ first_word ReadFolder = codes "read"
 first_word ReplyTo = codes "reply"
 first_word SampleMessages = codes "sample"
 first_word ScanFile = codes "scan"
+first_word TossFile = codes "toss"
 first_word UploadPacket = codes "upload"
 
 -- a folder, a number, a file and a reply packet
@@ -76,6 +77,7 @@ ReadsBehind ReplyTo words c =
 ReadsBehind SampleMessages words c =
     (word other : List ℕ) × (seed count : ℕ) × (words ≡ word ∷ other ∷ []) × NumberWord word seed × NumberWord other count × (c ≡ command.Sample seed count)
 ReadsBehind ScanFile words c = (file : List ℕ) × (words ≡ file ∷ []) × IsShelfName file × (c ≡ command.Scan file)
+ReadsBehind TossFile words c = (file : List ℕ) × (words ≡ file ∷ []) × IsShelfName file × (c ≡ command.Toss file)
 ReadsBehind UploadPacket words c = (user file : List ℕ) × (words ≡ user ∷ file ∷ []) × IsShelfName file × (c ≡ command.Upload user file)
 
 -- the words are this command

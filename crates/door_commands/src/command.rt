@@ -1,6 +1,6 @@
 ghost use Rattle.std.specs.Prelude.{◌↔◌, ◌∷◌, [], IfOk, IsTrue};
 ghost use Rattle.door_commands.specs.Words.{BehindOf, IsFlags, NamesConferences};
-ghost use Rattle.door_commands.specs.declared.verb.Verb.TheVariants.{AckPacket, AdoptBase, BatchFile, CheckBoard, ComposeSheet, EnrollUser, ExportPacket, ImportSheet, InitBoard, KillMessage, ListFile, ReadFolder, ReplyTo, SampleMessages, ScanFile, UploadPacket};
+ghost use Rattle.door_commands.specs.declared.verb.Verb.TheVariants.{AckPacket, AdoptBase, BatchFile, CheckBoard, ComposeSheet, EnrollUser, ExportPacket, ImportSheet, InitBoard, KillMessage, ListFile, ReadFolder, ReplyTo, SampleMessages, ScanFile, TossFile, UploadPacket};
 
 use crate::names::{folder_of, names_base};
 use crate::verb::Verb;
@@ -95,6 +95,11 @@ pub enum Command {
     },
     /// `scan FILE`: counts the messages of a packet's file, without memory for them.
     Scan {
+        file: ShelfName,
+    },
+    /// `toss FILE`: posts the messages of a type 2 packet (FTS-0001) in the conferences that their areas name, net mail in
+    /// the first net conference.
+    Toss {
         file: ShelfName,
     },
     /// `upload USER FILE`: takes in a reply packet for the user of a name, and posts what is accepted of it.
@@ -300,6 +305,19 @@ fn parse_scan(alloc: Global, rest: &[Bytes]) -> Result<Option<Command>, AllocErr
     }
 }
 
+/// The command of `toss` with the words behind it.
+fn parse_toss(alloc: Global, rest: &[Bytes]) -> Result<Option<Command>, AllocError>
+    ensures { IfOk result (BehindOf TossFile rest.now) }
+{
+    let [file] = rest else {
+        return Ok(None);
+    };
+    match ShelfName::parse(alloc, file.as_slice())? {
+        Some(file) => Ok(Some(Command::Toss { file })),
+        None => Ok(None),
+    }
+}
+
 /// The command of `upload` with the words behind it.
 fn parse_upload(alloc: Global, rest: &[Bytes]) -> Result<Option<Command>, AllocError>
     ensures { IfOk result (BehindOf UploadPacket rest.now) }
@@ -400,6 +418,7 @@ fn parse_behind(alloc: Global, verb: Verb, rest: &[Bytes]) -> Result<Option<Comm
         Verb::ReplyTo => parse_reply(alloc, rest),
         Verb::SampleMessages => Ok(parse_sample(rest)),
         Verb::ScanFile => parse_scan(alloc, rest),
+        Verb::TossFile => parse_toss(alloc, rest),
         Verb::UploadPacket => parse_upload(alloc, rest),
     }
 }

@@ -31,11 +31,13 @@ pub enum Verb {
     SampleMessages,
     /// `scan`
     ScanFile,
+    /// `toss`
+    TossFile,
     /// `upload`
     UploadPacket,
 }
 
-const VERBS: [Verb; 16] = [
+const VERBS: [Verb; 17] = [
     Verb::AckPacket,
     Verb::AdoptBase,
     Verb::BatchFile,
@@ -51,6 +53,7 @@ const VERBS: [Verb; 16] = [
     Verb::ReplyTo,
     Verb::SampleMessages,
     Verb::ScanFile,
+    Verb::TossFile,
     Verb::UploadPacket,
 ];
 
@@ -79,6 +82,7 @@ impl Verb {
             Verb::ReplyTo => b"reply",
             Verb::SampleMessages => b"sample",
             Verb::ScanFile => b"scan",
+            Verb::TossFile => b"toss",
             Verb::UploadPacket => b"upload",
         }
     }

@@ -21,6 +21,7 @@ are_commands now (Run (command.Reply folder place text rep)) world stepped step 
 are_commands now (Run (command.Sample seed count)) world stepped step = step
 are_commands now (Run (command.Show folder place)) world stepped step = step.1
 are_commands now (Run (command.Scan file)) world stepped step = step.1
+are_commands now (Run (command.Toss file)) world stepped step = step
 are_commands now (Run (command.Upload user file)) world stepped step = step
 are_commands now (Wrong which) world stepped step = step.1
 are_commands now (Refuse why) world stepped step = step.1

@@ -21,6 +21,7 @@ use Rattle.message_commands.proofs.SampleActs.{sample_turns}
 use Rattle.shelf_files.proofs.Replies.{some_refusal}
 use Rattle.shelf_files.specs.Halts.{refused}
 use Rattle.exchange_commands.proofs.UploadActs.{upload_turns}
+use Rattle.toss_commands.proofs.TossActs.{toss_turns}
 use Rattle.door_commands.specs.Answers.{usage, usage_line}
 use Rattle.board_commands.proofs.BoardActs.{KeepsState, check_turns, enroll_turns, init_turns, keeps_state, lawful_on_board}
 use Rattle.board_commands.specs.State.{State, IsSpoiled, migrated}
@@ -63,6 +64,7 @@ lawful now (Run (command.Reply folder place text rep)) = lawful_on_shelf (replie
 lawful now (Run (command.Sample seed count)) = lawful_on_board _ (sample_turns seed count now)
 lawful now (Run (command.Show folder place)) = lawful_on_shelf (shows folder place) (lawful_shows folder place)
 lawful now (Run (command.Scan file)) = lawful_on_shelf (scans file) (lawful_scans file)
+lawful now (Run (command.Toss file)) = lawful_on_board _ (toss_turns file now)
 lawful now (Run (command.Upload user file)) = lawful_on_board _ (upload_turns user file now)
 lawful now (Wrong which) = lawful_on_shelf (says (usage which)) (lawful_saying (usage which) (some_usage which) (λ is. absurd (cc is)))
 lawful now (Refuse why) = lawful_on_shelf (says (refused why)) (lawful_saying (refused why) (some_refusal why) (λ is. absurd (cc is)))
@@ -85,6 +87,7 @@ keeps now (Run (command.Reply folder place text rep)) = keeps_on_shelf (replies 
 keeps now (Run (command.Sample seed count)) = keeps_state _ (sample_turns seed count now)
 keeps now (Run (command.Show folder place)) = keeps_on_shelf (shows folder place) (lawful_shows folder place)
 keeps now (Run (command.Scan file)) = keeps_on_shelf (scans file) (lawful_scans file)
+keeps now (Run (command.Toss file)) = keeps_state _ (toss_turns file now)
 keeps now (Run (command.Upload user file)) = keeps_state _ (upload_turns user file now)
 keeps now (Wrong which) = keeps_on_shelf (says (usage which)) (lawful_saying (usage which) (some_usage which) (λ is. absurd (cc is)))
 keeps now (Refuse why) = keeps_on_shelf (says (refused why)) (lawful_saying (refused why) (some_refusal why) (λ is. absurd (cc is)))
@@ -113,6 +116,7 @@ one_migration now (Run (command.Reply folder place text rep)) state on = absurd 
 one_migration now (Run (command.Sample seed count)) state on = refl
 one_migration now (Run (command.Show folder place)) state on = absurd (true≢false (sym on))
 one_migration now (Run (command.Scan file)) state on = absurd (true≢false (sym on))
+one_migration now (Run (command.Toss file)) state on = refl
 one_migration now (Run (command.Upload user file)) state on = refl
 one_migration now (Wrong which) state on = absurd (true≢false (sym on))
 one_migration now (Refuse why) state on = absurd (true≢false (sym on))

@@ -177,6 +177,7 @@ moved now (Run (command.Reply folder place text rep)) world stepped state off st
 moved now (Run (command.Sample seed count)) world stepped state off step = absurd (true≢false off)
 moved now (Run (command.Show folder place)) world stepped state off step = (step.0, refl)
 moved now (Run (command.Scan file)) world stepped state off step = (step.0, refl)
+moved now (Run (command.Toss file)) world stepped state off step = absurd (true≢false off)
 moved now (Run (command.Upload user file)) world stepped state off step = absurd (true≢false off)
 moved now (Wrong which) world stepped state off step = (step.0, refl)
 moved now (Refuse why) world stepped state off step = (step.0, refl)

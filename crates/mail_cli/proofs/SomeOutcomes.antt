@@ -37,6 +37,10 @@ use Rattle.exchange_commands.specs.Export.{export_handing}
 use Rattle.exchange_commands.specs.Handing.{Handing, on_board_then_shelf}
 use Rattle.exchange_commands.specs.Upload as upload
 use Rattle.exchange_commands.specs.Upload.{Uploads, UploadsFile, UploadsRead}
+use Rattle.fts_packet.specs.Packet.{FtsReads}
+use Rattle.fts_packet.specs.declared.fault.FtsError.{FtsError}
+use Rattle.fts_packet.specs.declared.fault.FtsError.TheVariants as fts
+use Rattle.fts_packet.specs.declared.packet.FtsMessage.{FtsMessage}
 use Rattle.import_sheet.specs.Sheet.{SheetReads}
 use Rattle.import_sheet.specs.declared.fault.SheetError.{SheetError}
 use Rattle.import_sheet.specs.declared.fault.SheetError.TheVariants.{Line}
@@ -71,6 +75,7 @@ use Rattle.reading_laws.proofs.Controls.{control_or_fault}
 use Rattle.reading_laws.proofs.Fields.{all_or_not}
 use Rattle.reading_laws.proofs.Packets.{packet_or_fault, rep_or_fault}
 use Rattle.reading_laws.proofs.Sheets.{sheet_or_fault}
+use Rattle.reading_laws.proofs.Type2Packets.{type2_or_fault}
 use Rattle.rep_packet.specs.Rep.{RepFault, RepReads}
 use Rattle.rep_packet.specs.declared.fault.RepError.{RepError}
 use Rattle.rep_packet.specs.declared.fault.RepError.TheVariants as rep
@@ -92,6 +97,8 @@ use Rattle.shelf_files.specs.Sheets.{SheetBreaks, SheetOf, sheet_refusal}
 use Rattle.shelf_files.specs.declared.refusal.Refusal.{Refusal}
 use Rattle.shelf_files.specs.declared.refusal.Refusal.TheVariants as refusal
 use Rattle.text_fields.specs.Split.{Lacks}
+use Rattle.toss_commands.specs.PacketFiles.{FtsBreaks, FtsPacketOf, fts_refusal}
+use Rattle.toss_commands.specs.Toss.{Tosses}
 
 -- ---- what the shelf's files are read as
 module _ {Value Fault : Type 0} (Reads : List ℕ → Value → Type 0) (Breaks : List ℕ → Fault → Type 0) (refuses : Fault → Refusal)
@@ -111,6 +118,12 @@ some_control shelf name = some_read ControlReads ControlFault control_refusal co
 
 sheet_breaks : (bytes : List ℕ) → ((sheets : List Sheet) × SheetReads bytes sheets) ⊎ ((fault : SheetError) × SheetBreaks bytes fault)
 sheet_breaks bytes = elim (sheet_or_fault bytes) [ inl sheets ↦ inl sheets | inr fault ↦ inr (Line fault.0 fault.1, fault.2) ]
+
+type2_breaks : (bytes : List ℕ) → ((messages : List FtsMessage) × FtsReads bytes messages) ⊎ ((error : FtsError) × FtsBreaks bytes error)
+type2_breaks bytes = elim (type2_or_fault bytes) [ inl messages ↦ inl messages | inr fault ↦ inr (fts.Fault fault.0 fault.1, fault.2) ]
+
+some_type2 : (shelf : Shelf.Files) (name : List ℕ) → (read : Result (List FtsMessage) Refusal) × FtsPacketOf shelf name read
+some_type2 shelf name = some_read FtsReads FtsBreaks fts_refusal type2_breaks (file_of shelf name file_limit)
 
 some_sheet : (shelf : Shelf.Files) (name : List ℕ) → (read : Result (List Sheet) Refusal) × SheetOf shelf name read
 some_sheet shelf name = some_read SheetReads SheetBreaks sheet_refusal sheet_breaks (file_of shelf name file_limit)
@@ -303,6 +316,10 @@ some_import conference file now shelf (Some b) = at (place_of conference b)
     at None = (_, refl)
     at (Some place) = let s : (read : Result (List Sheet) Refusal) × SheetOf shelf file read = some_sheet shelf file in (_, (s.0, s.1, refl))
 
+some_toss : (file : List ℕ) (now : ℕ) (shelf : Shelf.Files) (board : Option Board) → (turn : Turn) × Tosses file now shelf board turn
+some_toss file now shelf None = (_, refl)
+some_toss file now shelf (Some b) = let s : (read : Result (List FtsMessage) Refusal) × FtsPacketOf shelf file read = some_type2 shelf file in (_, (s.0, s.1, refl))
+
 some_upload_of : (id : ℕ) (bytes : List ℕ) (now : ℕ) (b : Board) → (result : Result Upload UploadRefusal) × UploadsFor id bytes now b result
 some_upload_of id bytes now b = elim (rep_or_fault bytes) [
   | inl packet ↦ (_, inl (packet.0, packet.1, refl))
@@ -352,6 +369,7 @@ outcome_of now (Run (command.Show folder place)) can state shelf has =
     some_look (ShowAnswers folder place) (λ shelf. (shown_in place (some_folder shelf folder).0, ((some_folder shelf folder).0, (some_folder shelf folder).1, refl))) (here state shelf)
 outcome_of now (Run (command.Scan file)) can state shelf has = some_look (ScanAnswers file)
     (λ shelf. (replied (λ messages. count_line (length messages)) (some_packet shelf file).0, ((some_packet shelf file).0, (some_packet shelf file).1, refl))) (here state shelf)
+outcome_of now (Run (command.Toss file)) can state shelf has = some_turn (Tosses file now) (some_toss file now) state shelf has
 outcome_of now (Run (command.Upload user file)) can state shelf has = some_turn (Uploads user file now) (some_upload user file now) state shelf has
 outcome_of now (Wrong which) can state shelf has = some_look (λ shelf answer. answer ≡ usage which) (λ shelf. (usage which, refl)) (here state shelf)
 outcome_of now (Refuse why) can state shelf has = some_look (λ shelf answer. answer ≡ refused why) (λ shelf. (refused why, refl)) (here state shelf)

@@ -24,6 +24,7 @@ board_command (Run (command.Reply folder place text rep)) = board.Other
 board_command (Run (command.Sample seed count)) = board.Sample seed count
 board_command (Run (command.Show folder place)) = board.Other
 board_command (Run (command.Scan file)) = board.Other
+board_command (Run (command.Toss file)) = board.Toss file
 board_command (Run (command.Upload user file)) = board.Upload user file
 board_command (Wrong which) = board.Other
 board_command (Refuse why) = board.Other

@@ -29,6 +29,7 @@ PostsMessages (command.Reply folder place text rep) = ⊥
 PostsMessages (command.Sample seed count) = Unit {0}
 PostsMessages (command.Show folder place) = ⊥
 PostsMessages (command.Scan file) = ⊥
+PostsMessages (command.Toss file) = Unit {0}
 PostsMessages (command.Upload user file) = Unit {0}
 
 module _ (now : ℕ) where

@@ -39,6 +39,7 @@ IsForCaller (command.Reply folder place text rep) = ⊥
 IsForCaller (command.Sample seed count) = ⊥
 IsForCaller (command.Show folder place) = ⊥
 IsForCaller (command.Scan file) = ⊥
+IsForCaller (command.Toss file) = ⊥
 IsForCaller (command.Upload user file) = Unit {0}
 
 -- words that are no command were answered so, unless the saying failed or memory ran out

@@ -19,6 +19,7 @@ use Rattle.reply_commands.specs.Compose.{composes}
 use Rattle.reply_commands.specs.Reply.{replies}
 use Rattle.message_commands.specs.Sample.{samples}
 use Rattle.shelf_files.specs.Halts.{refused}
+use Rattle.toss_commands.specs.Toss.{tosses}
 use Rattle.exchange_commands.specs.Upload.{uploads}
 use Rattle.door_commands.specs.Answers.{usage}
 use Rattle.door_commands.specs.declared.command.Command.{Command}
@@ -48,6 +49,7 @@ does now (command.Reply folder place text rep) = on_shelf (replies folder place 
 does now (command.Sample seed count) = samples seed count now
 does now (command.Show folder place) = on_shelf (shows folder place)
 does now (command.Scan file) = on_shelf (scans file)
+does now (command.Toss file) = tosses file now
 does now (command.Upload user file) = uploads user file now
 
 -- something is said, and nothing changes
@@ -80,6 +82,7 @@ uses_shelf (command.Reply folder place text rep) = true
 uses_shelf (command.Sample seed count) = false
 uses_shelf (command.Show folder place) = true
 uses_shelf (command.Scan file) = true
+uses_shelf (command.Toss file) = true
 uses_shelf (command.Upload user file) = true
 
 abbrev pub entry_uses_shelf : Entry → Bool

@@ -26,6 +26,7 @@ use message_commands::{import, kill, sample};
 use packet_commands::{list, read, scan, show};
 use reply_commands::{compose, reply};
 use std::alloc::Global;
+use toss_commands::toss;
 
 /// Adds a reply to a reply packet. The name is copied first, since no memory is taken once the packet is written.
 fn carry_out_reply<S: Shelf>(
@@ -184,6 +185,7 @@ fn carry_out_on_board<H: Host, S: Shelf>(
             let prefix = prefix.as_slice();
             Answer::of_report(adopt(alloc, host, shelf, kept, *conference, prefix))
         }
+        Command::Toss { file } => Answer::of_report(toss(alloc, host, shelf, kept, file, now)),
         _ => unreachable!(),
     }
 }
@@ -235,6 +237,7 @@ fn carry_out<H: Host, S: Shelf>(
         | Command::Init { .. }
         | Command::Kill { .. }
         | Command::Sample { .. }
+        | Command::Toss { .. }
         | Command::Upload { .. } => { carry_out_on_board(alloc, host, shelf, kept, command, now) }
         Command::Batch { .. } => unreachable!(),
     }

@@ -12,7 +12,7 @@ use Rattle.shelf_files.specs.ShelfFile.{ReadAs}
 use Rattle.shelf_files.specs.declared.halt.Halt.{Halt}
 use Rattle.shelf_files.specs.declared.halt.Halt.TheVariants.{Refused, ShelfFault, OutOfMemory}
 use Rattle.shelf_files.specs.declared.refusal.Refusal.{Refusal}
-use Rattle.shelf_files.specs.declared.refusal.Refusal.TheVariants.{NoFile, TooLarge, Broken, ControlShort, ControlNumber, ControlId, NoMessage, NoBoardId, OtherBoard, NoConference, Sheet, Text, NotMade, Exists, Name, DupUser, Users, NoUser, Limit, Packets, NoPacket, Uploads, Count, Setup, Slots, Size, ForeignShort, ForeignSignature}
+use Rattle.shelf_files.specs.declared.refusal.Refusal.TheVariants.{NoFile, TooLarge, Broken, ControlShort, ControlNumber, ControlId, NoMessage, NoBoardId, OtherBoard, NoConference, Sheet, Text, NotMade, Exists, Name, DupUser, Users, NoUser, Limit, Packets, NoPacket, Uploads, Count, Setup, Slots, Size, Packet, ForeignShort, ForeignSignature}
 
 pub some_refusal : (refusal : Refusal) → refusal_line refusal ≢ []
 some_refusal (NoFile name) is = absurd (cc is)
@@ -43,6 +43,7 @@ some_refusal Count is = absurd (cc is)
 some_refusal (Setup line rule) is = absurd (cc is)
 some_refusal (Slots count) is = absurd (cc is)
 some_refusal (Size bytes) is = absurd (cc is)
+some_refusal (Packet rule at) is = absurd (cc is)
 some_refusal ForeignShort is = absurd (cc is)
 some_refusal ForeignSignature is = absurd (cc is)
 

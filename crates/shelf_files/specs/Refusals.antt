@@ -1,12 +1,13 @@
 -- What is said of a refused command.
 use Rattle.std.specs.Prelude.{ℕ, List, [], ◌++◌, codes, decimal, Option, Some, None}
+use Rattle.fts_packet.specs.RuleWord.{packet_word}
 use Rattle.import_sheet.specs.RuleWord.{rule_word}
 use Rattle.qwk_blocks.specs.declared.fault.QwkFault.TheVariants.{Truncated, BadBlocks}
 use Rattle.setup_file.specs.declared.error.SetupRule.{SetupRule}
 use Rattle.setup_file.specs.declared.error.SetupRule.TheVariants as setup
 use Rattle.shelf_files.specs.declared.refusal.Refusal.{Refusal}
 use Rattle.shelf_files.specs.declared.refusal.Refusal.TheVariants.{NoFile, TooLarge, Broken, ControlShort, ControlNumber, ControlId, NoMessage, NoBoardId, OtherBoard, NoConference}
-use Rattle.shelf_files.specs.declared.refusal.Refusal.TheVariants.{Sheet, Text, NotMade, Exists, Name, DupUser, Users, NoUser, Limit, Packets, NoPacket, Uploads, Count, Setup, Slots, Size, ForeignShort, ForeignSignature}
+use Rattle.shelf_files.specs.declared.refusal.Refusal.TheVariants.{Sheet, Text, NotMade, Exists, Name, DupUser, Users, NoUser, Limit, Packets, NoPacket, Uploads, Count, Setup, Slots, Size, Packet, ForeignShort, ForeignSignature}
 use Rattle.shelf_files.specs.declared.said.Said.{Said}
 use Rattle.shelf_files.specs.declared.said.Said.TheVariants as said
 
@@ -18,12 +19,17 @@ line_of words behind = codes "refused " ++ (words ++ (behind ++ codes "\n"))
 abbrev pub ruled_line : List ℕ → ℕ → List ℕ → List ℕ
 ruled_line words line rule = codes "refused " ++ (words ++ (decimal line ++ (codes " " ++ (rule ++ codes "\n"))))
 
+-- the same with the word of a rule, and the byte at which it is broken
+abbrev pub fault_line : List ℕ → List ℕ → ℕ → List ℕ
+fault_line words rule at = codes "refused " ++ (words ++ (rule ++ (codes " " ++ (decimal at ++ codes "\n"))))
+
 -- the line of what is said
 abbrev pub said_line : Said → List ℕ
 said_line (said.Words words) = line_of words.now []
 said_line (said.Name words name) = line_of words.now name.now
 said_line (said.Number words number) = line_of words.now (decimal number)
 said_line (said.Rule words line rule) = ruled_line words.now line rule.now
+said_line (said.Fault words rule at) = fault_line words.now rule.now at
 
 -- the words of the rules of setup files
 abbrev pub setup_word : SetupRule → List ℕ
@@ -73,5 +79,6 @@ refusal_line Count = line_of (codes "count") []
 refusal_line (Setup line rule) = ruled_line (codes "setup ") line (setup_word rule)
 refusal_line (Slots count) = line_of (codes "slots ") (decimal count)
 refusal_line (Size bytes) = line_of (codes "size ") (decimal bytes)
+refusal_line (Packet rule at) = fault_line (codes "packet ") (packet_word rule) at
 refusal_line ForeignShort = line_of (codes "foreign short") []
 refusal_line ForeignSignature = line_of (codes "foreign signature") []

@@ -3,6 +3,7 @@ ghost use Rattle.shelf_files.specs.Refusals.{packet_line, said_line, setup_word 
 
 use crate::said::Said;
 use door_outside::{Host, ShelfName, VoiceFault};
+use fts_packet::FtsRule;
 use import_sheet::SheetRule;
 use qwk_blocks::QwkFault;
 use setup_file::SetupRule;
@@ -62,6 +63,8 @@ pub enum Refusal {
     Slots(u64),
     /// The data files would have so many bytes, more than they may.
     Size(u64),
+    /// The type 2 packet breaks this rule first, at this byte.
+    Packet { rule: FtsRule, at: u32 },
     /// The .JHR of another tool's base has fewer bytes than its base header.
     ForeignShort,
     /// The .JHR of another tool's base doesn't begin with the signature of JAM.
@@ -139,6 +142,7 @@ impl Refusal {
             Refusal::Setup { line, rule } => Said::Rule(b"setup ", *line, setup_word(*rule)),
             Refusal::Slots(count) => Said::Number(b"slots ", *count),
             Refusal::Size(bytes) => Said::Number(b"size ", *bytes),
+            Refusal::Packet { rule, at } => Said::Fault(b"packet ", rule.word(), *at),
             Refusal::ForeignShort => Said::Words(b"foreign short"),
             Refusal::ForeignSignature => Said::Words(b"foreign signature"),
         }

@@ -2,7 +2,7 @@
 ghost use Rattle.std.specs.Prelude.{◌≡◌, IsTrue, decimal};
 ghost use Rattle.door_outside.specs.Cause.{HasCause};
 ghost use Rattle.entry_runs.specs.Saying.{Voiced};
-ghost use Rattle.shelf_files.specs.Refusals.{line_of, ruled_line};
+ghost use Rattle.shelf_files.specs.Refusals.{fault_line, line_of, ruled_line};
 
 use door_outside::{Host, VoiceFault};
 use entry_runs::say_all;
@@ -19,6 +19,8 @@ pub(crate) enum Said<'a> {
     Number(&'a [u8], u64),
     /// The number of a line, and the word of the rule that it breaks.
     Rule(&'a [u8], u32, &'a [u8]),
+    /// The word of a rule, and the byte at which it is broken.
+    Fault(&'a [u8], &'a [u8], u32),
 }
 
 /// Says the line of a refusal: its words, and what stands behind them.
@@ -51,6 +53,17 @@ fn say_rule<H: Host>(host: &mut H, words: &[u8], line: u32, rule: &[u8]) -> Resu
     say_all(host, &[b"refused ", words, digits, b" ", rule, b"\n"])
 }
 
+/// Says the line of a refusal that ends with the word of a rule and a byte.
+fn say_fault<H: Host>(host: &mut H, words: &[u8], rule: &[u8], at: u32) -> Result<(), VoiceFault>
+    ensures voiced { IsTrue H.tells → Voiced (fault_line words.now rule.now at) (H.disk host.old) (H.disk host.new) result }
+    ensures cause { HasCause (H.voice_faults host.old) (H.voice_faults host.new) result }
+    ensures disk { H.disk_faults host.new ≡ H.disk_faults host.old }
+{
+    let mut buffer = Buffer::new();
+    let digits = buffer.format(at).as_bytes();
+    say_all(host, &[b"refused ", words, rule, b" ", digits, b"\n"])
+}
+
 impl Said<'_> {
     ghost use Rattle.std.specs.Prelude.{◌≡◌, IsTrue};
     ghost use Rattle.door_outside.specs.Cause.{HasCause};
@@ -68,6 +81,7 @@ impl Said<'_> {
             Said::Name(words, name) => say_line(host, words, name),
             Said::Number(words, number) => say_number(host, words, *number),
             Said::Rule(words, line, rule) => say_rule(host, words, *line, rule),
+            Said::Fault(words, rule, at) => say_fault(host, words, rule, *at),
         }
     }
 }

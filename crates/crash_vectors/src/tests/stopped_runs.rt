@@ -92,3 +92,25 @@ const FOREIGN: &str = r#"
 fn a_stopped_adopt_leaves_the_board_before_or_after(rt: HostRuntime) -> Result<(), Miss> {
     expect_line_stops(rt.alloc(), FOREIGN, "adopt 7 old")
 }
+
+/// A packet of a message of an area, and of a net mail.
+const NEIGHBOUR: &str = r#"
+* setups
+* add setup.txt 1 conference: 9 echo - FIDO\n
+> init setup.txt
+made 4 conferences
+* add few.pkt 18 \0
+* add few.pkt 1 \x02
+* add few.pkt 39 \0
+* put front \x02
+* add front 33 \0
+* join few.pkt 1 front
+* add few.pkt 1 Ann Lee\0Joe\0Hi\0AREA:FIDO\rHello\r\0
+* join few.pkt 1 front
+* add few.pkt 1 Ann Lee\0Joe\0Hi\0Hello\r\0
+"#;
+
+#[test]
+fn a_stopped_toss_leaves_the_board_before_or_after(rt: HostRuntime) -> Result<(), Miss> {
+    expect_line_stops(rt.alloc(), NEIGHBOUR, "toss few.pkt")
+}

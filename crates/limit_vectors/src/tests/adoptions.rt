@@ -1,25 +1,10 @@
 //! A base that is adopted by a board that it fills to its last byte.
-use super::numbered::expect_numbered;
+use super::filled::expect_on_filled;
 use example_runs::Miss;
 
-/// A board of eight conferences on which 2,906 bytes are free, and a base of five messages, each of which takes 128 bytes
-/// and its text there. The texts have 2,779, 1,000, 1,651, 1,650 and no bytes, and end where .JDT does.
-const FILLED: &str = r#"
-* put setup board: Full\ncity: Springfield\nphone: 555-0100\nsysop: Sam Sysop\nbbsid: FULL\nserial: 1\nzones:\n[[0 7 conference: # local - C#\n]]
-* put longest From: Bob Ray\nTo: All\n\n
-* add longest 16383 x
-* add longest 1 \n.\n
-* join long 255 longest
-* join rest 55 longest
-* put lines init setup\n[[0 7 import # long\n]]import 7 rest\ncheck\n
-> batch lines
-made 8 conferences
-[[0 7 imported 255 into #
-]]imported 55 into 7
-board FULL
-[[0 6 # C#: 255 slots, 255 live
-]]7 C7: 310 slots, 310 live
-0 users, 0 uploads, 34600102 bytes
+/// A base of five messages, each of which takes 128 bytes and its text, where 2,906 bytes are free. The texts have 2,779,
+/// 1,000, 1,651, 1,650 and no bytes, and end where .JDT does.
+const ADOPTED: &str = r#"
 * put front JAM\0\x01\0\0\0\x1A\0\0\0
 * add front 48 \0
 * put back \0\0\0\0\0\0\0\0\x02\0\0\0\x07\0\0\0Bob Ray\x03\0\0\0\x03\0\0\0All
@@ -65,5 +50,5 @@ board FULL
 
 #[test]
 fn a_base_fills_a_board_to_its_last_byte(rt: HostRuntime) -> Result<(), Miss> {
-    expect_numbered(rt.alloc(), FILLED)
+    expect_on_filled(rt.alloc(), ADOPTED)
 }

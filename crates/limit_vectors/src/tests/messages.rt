@@ -4,7 +4,6 @@ ghost use Rattle.intent_journal.specs.Hosts.{IsSettled};
 ghost use Rattle.mail_board.specs.Held.{Rests};
 ghost use Rattle.memory_outside.specs.MemoryHost.{disk_of};
 
-use byte_lists::Bytes;
 use door_outside::Host;
 use example_runs::{Miss, no_faults, played};
 use jam_records::Message;
@@ -38,12 +37,16 @@ fn described(alloc: Global, message: &Message) -> Result<String, AllocError> {
     )
 }
 
-/// The msgid that a board generates for a number in a place, or nothing where there is no such place.
-fn generated(alloc: Global, board: &Board, place: u8, number: u32) -> Result<Bytes, AllocError> {
+/// The msgid that a board generates for a number in a place, and whether a message there has it; or that there is no such
+/// place.
+fn generated(alloc: Global, board: &Board, place: u8, number: u32) -> Result<String, AllocError> {
     if usize::from(place) >= board.setup().conferences.len() {
-        return Ok(Bytes::new(alloc));
+        return String::from_str(alloc, "nowhere");
     }
-    board.msgid_of(alloc, place, number)
+    let msgid = board.msgid_of(alloc, place, number)?;
+    let held = board.has_msgid(place, msgid.as_slice());
+    let state = if held { "held" } else { "free" };
+    format!(in alloc; "{} {state}", msgid.as_slice().escape_ascii())
 }
 
 /// The message that was found, or that there is none.
@@ -71,7 +74,7 @@ fn message_text<H: Host>(
     }
 }
 
-/// What a board says of a number in a place: the msgid that it generates, and the message.
+/// What a board says of a number in a place: the msgid that it generates, whether that is held, and the message.
 fn told<H: Host>(
     alloc: Global,
     board: &Board,
@@ -84,7 +87,6 @@ fn told<H: Host>(
 {
     let message = message_text(alloc, board, host, place, number)?;
     let msgid = generated(alloc, board, place, number)?;
-    let msgid = msgid.as_slice().escape_ascii();
     format!(in alloc; "{place} {number} {msgid} = {message}")
 }
 
@@ -167,20 +169,20 @@ board TESTBBS
 4 users, 0 uploads, 4271 bytes
 "#;
 
-const ROWS: &str = r#"0 0 0.0.TESTBBS = none
-0 1 0.1.TESTBBS = [true, false, false, false] Bob Ray > All: Hello (0.1.TESTBBS) First line\r
-0 2 0.2.TESTBBS = [true, false, false, true] Bob Ray > All: Hello (0.2.TESTBBS) First line\r
-0 3 0.3.TESTBBS = [true, false, false, false] Bob Ray > All: Own (mine) A\r\rB\r
-0 4 0.4.TESTBBS = none
-0 5 0.5.TESTBBS = none
-0 4294967295 0.4294967295.TESTBBS = none
-1 0 1.0.TESTBBS = none
-1 1 1.1.TESTBBS = [true, true, true, false] Bob Ray > Ann Lee:  (1.1.TESTBBS) Hi\r
-1 9999 1.9999.TESTBBS = none
-2 1 7.1.TESTBBS = none
-2 4294967295 7.4294967295.TESTBBS = none
-3 1  = none
-255 1  = none
+const ROWS: &str = r#"0 0 0.0.TESTBBS free = none
+0 1 0.1.TESTBBS held = [true, false, false, false] Bob Ray > All: Hello (0.1.TESTBBS) First line\r
+0 2 0.2.TESTBBS held = [true, false, false, true] Bob Ray > All: Hello (0.2.TESTBBS) First line\r
+0 3 0.3.TESTBBS free = [true, false, false, false] Bob Ray > All: Own (mine) A\r\rB\r
+0 4 0.4.TESTBBS free = none
+0 5 0.5.TESTBBS free = none
+0 4294967295 0.4294967295.TESTBBS free = none
+1 0 1.0.TESTBBS free = none
+1 1 1.1.TESTBBS held = [true, true, true, false] Bob Ray > Ann Lee:  (1.1.TESTBBS) Hi\r
+1 9999 1.9999.TESTBBS free = none
+2 1 7.1.TESTBBS free = none
+2 4294967295 7.4294967295.TESTBBS free = none
+3 1 nowhere = none
+255 1 nowhere = none
 "#;
 
 #[test]
@@ -199,9 +201,9 @@ killed 7 9998
 "#;
 
 const LAST_ROWS: &str =
-    r#"2 9998 7.9998.TESTBBS = [true, false, false, true] Bob Ray > All: Hello (7.9998.TESTBBS) First line\r
-2 9999 7.9999.TESTBBS = [true, false, false, false] Bob Ray > All: Hello (7.9999.TESTBBS) First line\r
-2 10000 7.10000.TESTBBS = none
+    r#"2 9998 7.9998.TESTBBS held = [true, false, false, true] Bob Ray > All: Hello (7.9998.TESTBBS) First line\r
+2 9999 7.9999.TESTBBS held = [true, false, false, false] Bob Ray > All: Hello (7.9999.TESTBBS) First line\r
+2 10000 7.10000.TESTBBS free = none
 "#;
 
 #[test]

@@ -308,3 +308,57 @@ fn a_changed_base_is_adopted_or_refused(rt: HostRuntime) -> Result<(), Miss> {
     }
     Ok(())
 }
+
+const TOSS: Reading<'static> = Reading {
+    name: "few.pkt",
+    line: "toss few.pkt",
+    answers: Answers {
+        before: "\
+# posted # #
+# refused area
+# refused to
+# refused from
+# refused subject
+# refused dupe",
+        last: "\
+posted # refused #
+refused packet short #
+refused packet type 18
+refused packet kind #
+refused packet cut #
+refused packet field #",
+    },
+};
+
+/// A packet of a message of an area, and of a net mail.
+const NEIGHBOUR: &str = r#"
+* setups
+* add setup.txt 1 conference: 9 echo - FIDO\n
+> init setup.txt
+made 4 conferences
+* add few.pkt 18 \0
+* add few.pkt 1 \x02
+* add few.pkt 39 \0
+* put front \x02
+* add front 13 \0
+* add front 1 08 Sep 01  01:46:40\0
+* join few.pkt 1 front
+* add few.pkt 1 Ann\0Joe\0Hi\0AREA:FIDO\r\x01MSGID: a\rHello\r\0
+* join few.pkt 1 front
+* add few.pkt 1 Ann\0Joe\0Hi\0\x01MSGID: a\rHello\r\0\0\0
+> toss few.pkt
+1 posted 9 1
+2 posted 1 1
+posted 2 refused 0
+> toss few.pkt
+1 refused dupe
+2 refused dupe
+posted 0 refused 2
+"#;
+
+#[test]
+fn a_changed_type_2_packet_is_tossed_or_refused(rt: HostRuntime) -> Result<(), Miss> {
+    let alloc = rt.alloc();
+    let mut stage = played(alloc, NEIGHBOUR)?;
+    TOSS.expect_answers(alloc, &mut stage)
+}

@@ -64,6 +64,15 @@ returns-in-Adopt-clause-causes g c = causes_answered c.of_report-in-Adopt.result
 pub returns-in-Adopt-clause-damaged : goal.returns-in-Adopt-clause-damaged
 returns-in-Adopt-clause-damaged g c = rw c.in-Adopt.is (may_be_damaged c.of_report-in-Adopt.result)
 
+pub returns-in-Toss-clause-works : goal.returns-in-Toss-clause-works
+returns-in-Toss-clause-works g c tells shelf_tells world at = rw (c.in-Toss.is, c.of_report-in-Toss.ensures) (c.toss.ensures.works tells shelf_tells world at)
+
+pub returns-in-Toss-clause-causes : goal.returns-in-Toss-clause-causes
+returns-in-Toss-clause-causes g c = causes_answered c.of_report-in-Toss.result (rw c.of_report-in-Toss.ensures c.toss.ensures.causes)
+
+pub returns-in-Toss-clause-damaged : goal.returns-in-Toss-clause-damaged
+returns-in-Toss-clause-damaged g c = rw c.in-Toss.is (may_be_damaged c.of_report-in-Toss.result)
+
 pub returns-in-Check-clause-wrote : goal.returns-in-Check-clause-wrote
 returns-in-Check-clause-wrote g c tells shelf_tells = rw c.in-Check.is (λ posts closed. absurd posts)
 
@@ -84,3 +93,6 @@ returns-in-Sample-clause-wrote g c tells shelf_tells = rw c.in-Sample.is (λ pos
 
 pub returns-in-Adopt-clause-wrote : goal.returns-in-Adopt-clause-wrote
 returns-in-Adopt-clause-wrote g c tells shelf_tells = rw (c.in-Adopt.is, ← c.as_slice-prefix.ensures.same) (λ posts closed. c.adopt.ensures.wrote tells shelf_tells closed)
+
+pub returns-in-Toss-clause-wrote : goal.returns-in-Toss-clause-wrote
+returns-in-Toss-clause-wrote g c tells shelf_tells = rw c.in-Toss.is (λ posts closed. c.toss.ensures.wrote tells shelf_tells closed)

@@ -6,3 +6,8 @@ pub msgid_of-requires : goal.msgid_of-requires
 msgid_of-requires c =
     let here : c.args.place < length c.args.board.now.board.ledger.setup.conferences = search rules in
     place_within c.args.board.now.board c.args.place c.setup.ensures.valid here
+
+pub has_msgid-held-requires : goal.has_msgid-held-requires
+has_msgid-held-requires c =
+    let here : c.args.place < length c.args.board.now.board.ledger.setup.conferences = search rules in
+    place_within c.args.board.now.board c.args.place c.setup.ensures.valid here

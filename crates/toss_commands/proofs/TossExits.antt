@@ -1,0 +1,69 @@
+-- The exits of `toss` once the board is found.
+use Rattle.std.proofs.Common.{◌≡◌, ℕ, List, Option, Some, Ok, Err, refl, sym}
+use Rattle.board_commands.proofs.Exits.{shelf_fails, starved}
+use Rattle.board_commands.specs.Halts.{told, of_journal, of_shelf}
+use Rattle.board_commands.specs.Kept.{unread}
+use Rattle.board_commands.specs.State.{State, Made, Stores, migrated, state_of}
+use Rattle.board_commands.specs.declared.halt.BoardHalt.{BoardHalt}
+use Rattle.board_commands.specs.declared.halt.BoardHalt.TheVariants as board_halt
+use Rattle.board_layout.specs.Board.{Board}
+use Rattle.door_outside.specs.Disk.{Disk, Unchanged}
+use Rattle.door_outside.specs.Shelf as Shelf
+use Rattle.entry_runs.proofs.Commands.{works_same}
+use Rattle.entry_runs.specs.Door.{World}
+use Rattle.entry_runs.specs.Entry.{Changes, Finds, IsAt, Works}
+use Rattle.entry_runs.specs.Promise.{Counts, HasCauses, ended}
+use Rattle.entry_runs.specs.declared.status.Status.TheVariants as status
+use Rattle.fts_packet.specs.declared.packet.FtsMessage.{FtsMessage}
+use Rattle.intent_journal.specs.declared.recovery.JournalError.{JournalError}
+use Rattle.intent_journal.specs.declared.recovery.JournalError.TheVariants.{OutOfMemory as Starved}
+use Rattle.mail_board.specs.Changes.{changed}
+use Rattle.message_commands.proofs.Exits.{carried, changed_by, refused_by, unchanged_by}
+use Rattle.shelf_files.specs.Halts.{Comes, done}
+use Rattle.shelf_files.specs.declared.halt.Halt.{Halt}
+use Rattle.shelf_files.specs.declared.halt.Halt.TheVariants.{Refused, ShelfFault, OutOfMemory}
+use Rattle.toss_commands.specs.PacketFiles.{FtsPacketOf}
+use Rattle.toss_commands.specs.Toss.{Tosses, tosses}
+use Rattle.toss_commands.specs.Tossing.{MayToss}
+use Rattle.toss_commands.specs.declared.tossing.Tossing.{Tossing}
+
+-- what is said is the text that is answered
+abbrev pub said : List ℕ → List ℕ
+said text = text
+
+module _ (file : List ℕ) (now : ℕ) {world : World State} {old mid : Disk} {shelf later : Shelf.Files} (at : IsAt Stores unread world old shelf) (board : Option Board)
+    (finds : Finds Stores unread world.state (migrated world.state) old mid (Ok (tt {0}))) (is : migrated world.state ≡ state_of board) (b : Board) (board_is : board ≡ Some b) (same : later ≡ shelf) where
+  -- the packet is refused, or couldn't be read
+  pub no_packet : (halt : Halt) → Comes {Value = List FtsMessage} (Err halt) (FtsPacketOf shelf file) → Works Stores (tosses file now) unread world old mid later (told said (Err (of_shelf halt)))
+  no_packet (Refused why) comes = works_same Stores (tosses file now) same
+      (refused_by (Tosses file now) at board finds is said (Some b) why (board_halt.Refused why) board_is refl (Err why, comes, refl))
+  no_packet ShelfFault comes = works_same Stores (tosses file now) same (shelf_fails (Tosses file now) at finds)
+  no_packet OutOfMemory comes = works_same Stores (tosses file now) same (starved (Tosses file now) at finds)
+
+  module _ (messages : List FtsMessage) (reads : FtsPacketOf shelf file (Ok messages)) where
+    -- there is no memory for what becomes of the messages
+    pub unprepared : (e : BoardHalt) → MayToss now messages b (Err e) → Works Stores (tosses file now) unread world old mid later (told said (Err e))
+    unprepared board_halt.OutOfMemory may = works_same Stores (tosses file now) same (starved (Tosses file now) at finds)
+    unprepared (board_halt.Refused why) may = absurd may
+    unprepared (board_halt.Damaged d) may = absurd may
+    unprepared board_halt.DiskFault may = absurd may
+    unprepared board_halt.ShelfFault may = absurd may
+
+    module _ (t : Tossing) (may : MayToss now messages b (Ok t)) where
+      takes : Tosses file now shelf (Some b) (carried t.change b t.reply)
+      takes = (Ok messages, reads, sym may.1)
+
+      pub tosses_all : {new : Disk} {T E : Type 0} {value : T} → Changes Stores {E = E} unread (Made b) (Made (changed t.change b)) mid new (Ok value) → Works Stores (tosses file now) unread world old new later (Ok (done t.reply))
+      tosses_all changes = works_same Stores (tosses file now) same (changed_by (Tosses file now) at board finds is b board_is t.change t.reply takes changes)
+
+      pub untossed : {new : Disk} {T : Type 0} (error : JournalError) → Changes Stores {T = T} unread (Made b) (Made (changed t.change b)) mid new (Err error) → (error ≡ Starved → Unchanged mid new)
+          → Works Stores (tosses file now) unread world old new later (told said (Err (of_journal error)))
+      untossed error changes still = works_same Stores (tosses file now) same (unchanged_by (Tosses file now) at board finds is b board_is t.change t.reply takes said error changes still)
+
+-- a packet for which there is no memory is no fault
+pub no_fault : (now : ℕ) (messages : List FtsMessage) (b : Board) {old new : Counts} (e : BoardHalt) → MayToss now messages b (Err e) → HasCauses old new status.OutOfMemory → HasCauses old new (ended (told said (Err e)))
+no_fault now messages b board_halt.OutOfMemory may halted = halted
+no_fault now messages b (board_halt.Refused why) may halted = absurd may
+no_fault now messages b (board_halt.Damaged d) may halted = absurd may
+no_fault now messages b board_halt.DiskFault may halted = absurd may
+no_fault now messages b board_halt.ShelfFault may halted = absurd may

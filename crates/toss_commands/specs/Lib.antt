@@ -1,0 +1,4 @@
+pub mod PacketFiles
+pub mod Toss
+pub mod Tossed
+pub mod Tossing

@@ -1,0 +1,100 @@
+//! The command `toss`.
+ghost use Rattle.std.specs.Prelude.{◌≡◌, ℕ, List, Ok, length, IfOk, IsTrue};
+ghost use Rattle.board_commands.specs.Halts.{told};
+ghost use Rattle.board_commands.specs.Kept.{AreSure, IsKept, unread};
+ghost use Rattle.board_commands.specs.State.{State, Stores};
+ghost use Rattle.board_commands.specs.WriteBound.{KeepsWriteBound};
+ghost use Rattle.board_layout.specs.Board as Boards;
+ghost use Rattle.board_layout.specs.Valid.{IsBoard};
+ghost use Rattle.entry_runs.specs.Door.{World};
+ghost use Rattle.entry_runs.specs.Entry.{IsAt, Works};
+ghost use Rattle.entry_runs.specs.Promise.{counts, ended, HasCauses};
+ghost use Rattle.fts_packet.specs.declared.packet.FtsMessage as Fts;
+ghost use Rattle.intent_journal.specs.Journal.{IsClosed};
+ghost use Rattle.toss_commands.specs.Toss.{tosses};
+ghost use Rattle.toss_commands.specs.Tossing.{AreRead, AreTossed, MayToss};
+
+use crate::packet_file::packet_in;
+use crate::tossed::{Tossed, tossed_of};
+use board_commands::{BoardHalt, board_in, find, make_change};
+use byte_lists::Bytes;
+use door_outside::{Host, Shelf, ShelfName};
+use fts_packet::FtsPacket;
+use mail_board::{Board, Change, Loaded};
+use mail_intake::add_counts;
+use std::alloc::{AllocError, Global};
+
+/// The change that posts what was taken of a packet, and what is to be said of it.
+#[derive(Debug, Drop)]
+pub(crate) struct Tossing {
+    pub(crate) change: Change,
+    pub(crate) reply: Bytes,
+}
+
+/// The change that posts what was taken of so many messages, and the lines with their counts.
+fn ended_with(tossed: Tossed, count: usize) -> Result<Tossing, AllocError>
+    ensures { (now : ℕ) (b : Boards.Board) (messages : List Fts.FtsMessage) → AreTossed now b messages tossed → length messages ≡ count → IfOk result (λ tossing. MayToss now messages b (Ok tossing)) }
+{
+    let Tossed {
+        tally,
+        mut lines,
+        ..
+    } = tossed;
+    let posted = tally.posts.len();
+    add_counts(
+        &mut lines,
+        posted as u64,
+        count.saturating_sub(posted) as u64,
+    )?;
+    Ok(Tossing {
+        change: Change::Spread { posts: tally.posts },
+        reply: lines,
+    })
+}
+
+/// The change by which the messages of a packet come into the conferences at a moment.
+fn prepared(
+    alloc: Global,
+    board: &Board,
+    messages: &FtsPacket,
+    now: u32,
+) -> Result<Tossing, BoardHalt>
+    requires board { IsBoard board.now.board }
+    requires read { AreRead messages.now }
+    ensures { MayToss now messages.now board.now.board result }
+{
+    let tossed = tossed_of(alloc, board.stored(), messages.as_slice(), now)?;
+    Ok(ended_with(tossed, messages.len())?)
+}
+
+/// Puts the messages of a type 2 packet (FTS-0001) into the conferences in one change, and answers a line for each, and
+/// one with the counts. `now` is the moment in Unix seconds at which they come into the base, and at which those were
+/// written whose date doesn't read. Echomail goes to the first conference of kind echo whose name is its tag, ignoring
+/// ASCII case, net mail to the first net conference. Each is judged behind the ones accepted before it; one without a
+/// msgid gets the one that is generated for its number, and is posted again when its packet is tossed again.
+///
+/// It is refused where there is no board, then where the file isn't there or has more than 4,194,304 bytes, then for
+/// the packet's first fault.
+pub fn toss<H: Host, S: Shelf>(
+    alloc: Global,
+    host: &mut H,
+    shelf: &mut S,
+    kept: &mut Option<Loaded>,
+    file: &ShelfName,
+    now: u32,
+) -> Result<Bytes, BoardHalt>
+    requires sure { AreSure kept.old }
+    requires kept { IsTrue H.tells → IsKept kept.old (H.disk host.old) }
+    ensures works { IsTrue H.tells → IsTrue S.tells → (world : World State) → IsAt Stores unread world (H.disk host.old) (S.files shelf.old) → Works Stores (tosses file.now now) unread world (H.disk host.old) (H.disk host.new) (S.files shelf.new) (told (λ text. text) result) }
+    ensures kept { IsTrue H.tells → IsKept kept.new (H.disk host.new) }
+    ensures sure { AreSure kept.new }
+    ensures wrote { IsTrue H.tells → IsTrue S.tells → IsClosed ((H.disk host.old).files 1) → KeepsWriteBound (tosses file.now now) (H.disk host.old) (H.disk host.new) (S.files shelf.old) }
+    ensures causes { HasCauses (counts (H.disk_faults host.old) (H.voice_faults host.old) (S.faults shelf.old)) (counts (H.disk_faults host.new) (H.voice_faults host.new) (S.faults shelf.new)) (ended (told (λ text. text) result)) }
+{
+    find(alloc, host, kept)?;
+    let board = board_in(kept)?;
+    let messages = packet_in(alloc, shelf, file)?;
+    let tossing = prepared(alloc, board, &messages, now)?;
+    make_change(alloc, host, kept, &tossing.change)?;
+    Ok(tossing.reply)
+}
