@@ -1,3 +1,4 @@
 mod fields;
 mod lines;
 mod lists;
+mod shown;

@@ -1,104 +1,159 @@
 //! Fields and texts from worked examples.
+use super::shown::{between_bars, only, parts};
 use byte_lists::Bytes;
-use std::process::Abort;
-use std::test::Fail;
+use case_texts::{Miss, expect_cases, quoted};
+use std::alloc::Global;
 use text_fields::{
     Blank, add_decimal, add_line, digits_of, lines_of, next_line, number_of, split_at_byte,
     trimmed, trimmed_end,
 };
 
-#[test]
-fn trims_blanks(rt: HostRuntime) -> Result<(), Fail> {
-    let field = b"  Ann Lee \0 ".as_slice();
-    assert_eq!(rt;
-        trimmed_end(field, Blank::SpacesAndNuls),
-        b"  Ann Lee".as_slice()
-    );
-    assert_eq!(rt;
-        trimmed_end(field, Blank::Spaces),
-        b"  Ann Lee \0".as_slice()
-    );
-    assert_eq!(rt; trimmed(field, Blank::SpacesAndNuls), b"Ann Lee".as_slice());
-    assert_eq!(rt; trimmed(b"   ", Blank::Spaces).len(), 0);
-    Ok(())
+fn trim(alloc: Global, words: &[Bytes]) -> Result<String, Miss> {
+    let [how, field] = words else {
+        return Err(Miss::Words);
+    };
+    let field = field.as_slice();
+    let left = match how.as_slice() {
+        b"end" => trimmed_end(field, Blank::SpacesAndNuls),
+        b"end-spaces" => trimmed_end(field, Blank::Spaces),
+        b"both" => trimmed(field, Blank::SpacesAndNuls),
+        _ => trimmed(field, Blank::Spaces),
+    };
+    Ok(quoted(alloc, left)?)
 }
 
+/// Fields that are trimmed at the end or at both, of spaces and NULs or of spaces alone.
+const TRIMMED: &str = r#"
+end "  Ann Lee \0 " => "  Ann Lee"
+end-spaces "  Ann Lee \0 " => "  Ann Lee \x00"
+both "  Ann Lee \0 " => "Ann Lee"
+both-spaces "   " => ""
+"#;
+
 #[test]
-fn reads_numbers(rt: HostRuntime) -> Result<(), Fail> {
-    for (digits, value) in [
-        (b"0000000001".as_slice(), Some(1)),
-        (b"4294967295", Some(4_294_967_295)),
-        (b"", None),
-        (b"+1", None),
-        (b"1 ", None),
-    ] {
-        assert!(rt; digits.len() <= 19);
-        assert_eq!(rt; digits_of(digits), value);
+fn trims_blanks(rt: HostRuntime) -> Result<(), Miss> {
+    expect_cases(rt.alloc(), TRIMMED, trim)
+}
+
+fn read_digits(alloc: Global, words: &[Bytes]) -> Result<String, Miss> {
+    let digits = only(words)?;
+    if digits.len() > 19 {
+        return Err(Miss::Words);
     }
-    for (field, value) in [
-        (b" 65535 ".as_slice(), Some(65_535)),
-        (b"\x0012\0", Some(12)),
-        (b"1 2", None),
-        (b"1234567890", None),
-        (b" ", None),
-    ] {
-        assert_eq!(rt; number_of(field, Blank::SpacesAndNuls, 9), value);
+    Ok(format!(in alloc; "{:?}", digits_of(digits))?)
+}
+
+const DIGITS: &str = r#"
+0000000001 => Some(1)
+4294967295 => Some(4294967295)
+"" => None
++1 => None
+"1 " => None
+"#;
+
+#[test]
+fn reads_digits(rt: HostRuntime) -> Result<(), Miss> {
+    expect_cases(rt.alloc(), DIGITS, read_digits)
+}
+
+/// Reads a number of 9 digits at most between spaces and NULs.
+fn read_number(alloc: Global, words: &[Bytes]) -> Result<String, Miss> {
+    let number = number_of(only(words)?, Blank::SpacesAndNuls, 9);
+    Ok(format!(in alloc; "{number:?}")?)
+}
+
+const NUMBERS: &str = r#"
+" 65535 " => Some(65535)
+\012\0 => Some(12)
+"1 2" => None
+1234567890 => None
+" " => None
+"#;
+
+#[test]
+fn reads_numbers(rt: HostRuntime) -> Result<(), Miss> {
+    expect_cases(rt.alloc(), NUMBERS, read_number)
+}
+
+fn split(alloc: Global, words: &[Bytes]) -> Result<String, Miss> {
+    Ok(parts(alloc, split_at_byte(only(words)?, b','))?)
+}
+
+/// Texts, and what stands in front of their first comma and behind it.
+const SPLIT: &str = r#"
+12345,TEST,BBS => "12345" "TEST,BBS"
+12345 => none
+"#;
+
+#[test]
+fn splits_at_the_first_byte(rt: HostRuntime) -> Result<(), Miss> {
+    expect_cases(rt.alloc(), SPLIT, split)
+}
+
+fn take_line(alloc: Global, words: &[Bytes]) -> Result<String, Miss> {
+    Ok(parts(alloc, next_line(only(words)?))?)
+}
+
+/// Texts, and their first line and the rest.
+const FIRST_LINES: &str = r#"
+one\r\ntwo\r => "one" "two\r"
+two\r => "two\r" ""
+"" => none
+"#;
+
+#[test]
+fn takes_the_first_line(rt: HostRuntime) -> Result<(), Miss> {
+    expect_cases(rt.alloc(), FIRST_LINES, take_line)
+}
+
+fn read_lines(alloc: Global, words: &[Bytes]) -> Result<String, Miss> {
+    let lines = lines_of(alloc, only(words)?)?;
+    Ok(between_bars(alloc, &lines)?)
+}
+
+const LINES: &str = r#"
+one\r\n\ntwo\r\r\nthree\r => "|one||two\r|three\r|"
+"" => "|"
+one\n => "|one|"
+one\r\n\r\n => "|one||"
+"#;
+
+#[test]
+fn reads_lines(rt: HostRuntime) -> Result<(), Miss> {
+    expect_cases(rt.alloc(), LINES, read_lines)
+}
+
+/// Writes each word as a line.
+fn write_lines(alloc: Global, words: &[Bytes]) -> Result<String, Miss> {
+    let mut text = Bytes::new(alloc);
+    for word in words {
+        add_line(&mut text, word.as_slice())?;
     }
-    Ok(())
+    Ok(quoted(alloc, text.as_slice())?)
 }
 
-#[test]
-fn splits_at_the_first_byte(rt: HostRuntime) -> Result<(), Fail> {
-    let (front, rest) = split_at_byte(b"12345,TEST,BBS", b',').ok_or("no comma")?;
-    assert_eq!(rt; front, b"12345".as_slice());
-    assert_eq!(rt; rest, b"TEST,BBS".as_slice());
-    assert!(rt; split_at_byte(b"12345", b',').is_none());
-    Ok(())
-}
+const WRITTEN_LINES: &str = r#"
+one "" => "one\r\n\r\n"
+"#;
 
 #[test]
-fn takes_the_first_line(rt: HostRuntime) -> Result<(), Fail> {
-    let (line, rest) = next_line(b"one\r\ntwo\r").ok_or("no line")?;
-    assert_eq!(rt; line, b"one".as_slice());
-    assert_eq!(rt; rest, b"two\r".as_slice());
-    let (line, rest) = next_line(rest).ok_or("no last line")?;
-    assert_eq!(rt; line, b"two\r".as_slice());
-    assert!(rt; next_line(rest).is_none());
-    Ok(())
+fn writes_lines(rt: HostRuntime) -> Result<(), Miss> {
+    expect_cases(rt.alloc(), WRITTEN_LINES, write_lines)
 }
 
-#[test]
-fn reads_lines(rt: HostRuntime) -> Result<(), Fail> {
-    let lines = lines_of(rt.alloc(), b"one\r\n\ntwo\r\r\nthree\r")?;
-    assert_eq!(rt; lines.len(), 4);
-    for (place, text) in [
-        (0, b"one".as_slice()),
-        (1, b""),
-        (2, b"two\r"),
-        (3, b"three\r"),
-    ] {
-        let line = lines.get(place).ok_or("no line")?;
-        assert_eq!(rt; line.as_slice(), text);
-    }
-    assert_eq!(rt; lines_of(rt.alloc(), b"")?.len(), 0);
-    assert_eq!(rt; lines_of(rt.alloc(), b"one\n")?.len(), 1);
-    Ok(())
+/// Writes a number behind another text.
+fn write_number(alloc: Global, words: &[Bytes]) -> Result<String, Miss> {
+    let number = case_texts::number_of(only(words)?)?;
+    let mut text = Bytes::from_slice(alloc, b"at ")?;
+    add_decimal(&mut text, u64::from(number))?;
+    Ok(quoted(alloc, text.as_slice())?)
 }
 
-#[test]
-fn writes_lines(rt: HostRuntime) -> Result<(), Fail> {
-    let mut text = Bytes::new(rt.alloc());
-    add_line(&mut text, b"one")?;
-    add_line(&mut text, b"")?;
-    assert_eq!(rt; text.as_slice(), b"one\r\n\r\n".as_slice());
-    assert_eq!(rt; lines_of(rt.alloc(), text.as_slice())?.len(), 2);
-    Ok(())
-}
+const WRITTEN_NUMBERS: &str = r#"
+4294967295 => "at 4294967295"
+"#;
 
 #[test]
-fn writes_numbers(rt: HostRuntime) -> Result<(), Fail> {
-    let mut text = Bytes::from_slice(rt.alloc(), b"at ")?;
-    add_decimal(&mut text, 4_294_967_295)?;
-    assert_eq!(rt; text.as_slice(), b"at 4294967295".as_slice());
-    Ok(())
+fn writes_numbers(rt: HostRuntime) -> Result<(), Miss> {
+    expect_cases(rt.alloc(), WRITTEN_NUMBERS, write_number)
 }

@@ -1,45 +1,37 @@
 //! Lines of a batch, and the words that they are.
+use super::shown::{between_bars, only};
 use byte_lists::Bytes;
+use case_texts::{Miss, expect_cases};
 use line_words::words_of;
-use std::alloc::{AllocError, Global};
-use std::process::Abort;
-use std::test::Fail;
+use std::alloc::Global;
 
 /// The words of a line, each between bars, or a dash where it isn't words.
-fn spelled(alloc: Global, line: &[u8]) -> Result<Bytes, AllocError> {
-    let Some(words) = words_of(alloc, line)? else {
-        return Bytes::from_slice(alloc, b"-");
-    };
-    let mut text = Bytes::from_slice(alloc, b"|")?;
-    for word in words.as_slice() {
-        text.add(word.as_slice())?;
-        text.add(b"|")?;
+fn spell(alloc: Global, words: &[Bytes]) -> Result<String, Miss> {
+    match words_of(alloc, only(words)?)? {
+        Some(words) => Ok(between_bars(alloc, &words)?),
+        None => Ok(String::from_str(alloc, "-")?),
     }
-    Ok(text)
 }
 
-const LINES: [(&[u8], &[u8]); 14] = [
-    (b"", b"|"),
-    (b"   ", b"|"),
-    (b"check", b"|check|"),
-    (b"  kill  0 3 ", b"|kill|0|3|"),
-    (b"enroll \"Ann Lee\" n all", b"|enroll|Ann Lee|n|all|"),
-    (b"\"\" a", b"||a|"),
-    (b"a\"b c\"d", b"|a\"b|c\"d|"),
-    (b"\"a b\"", b"|a b|"),
-    (b"a\tb", b"|a\tb|"),
-    (b"\"a", b"-"),
-    (b"\"", b"-"),
-    (b"\"a\"b", b"-"),
-    (b"\"a\"\"b\"", b"-"),
-    (b"a \"b c", b"-"),
-];
+/// A case is a line, in which `\x22` is a double quote.
+const LINES: &str = r#"
+"" => "|"
+"   " => "|"
+check => "|check|"
+"  kill  0 3 " => "|kill|0|3|"
+"enroll \x22Ann Lee\x22 n all" => "|enroll|Ann Lee|n|all|"
+"\x22\x22 a" => "||a|"
+"a\x22b c\x22d" => "|a\"b|c\"d|"
+"\x22a b\x22" => "|a b|"
+a\tb => "|a\tb|"
+\x22a => -
+\x22 => -
+\x22a\x22b => -
+\x22a\x22\x22b\x22 => -
+"a \x22b c" => -
+"#;
 
 #[test]
-fn lines_are_words(rt: HostRuntime) -> Result<(), Fail> {
-    for (line, wanted) in LINES {
-        let words = spelled(rt.alloc(), line)?;
-        assert_eq!(rt; words.as_slice(), wanted);
-    }
-    Ok(())
+fn lines_are_words(rt: HostRuntime) -> Result<(), Miss> {
+    expect_cases(rt.alloc(), LINES, spell)
 }
