@@ -30,7 +30,7 @@ impl MsgidSet {
         self.ids.contains(id)
     }
 
-    /// Adds a msgid. Where there is no memory, they are as they were.
+    /// Adds a msgid. Where there is no memory for it, nothing is said of which they are then.
     pub fn add(&mut self, alloc: Global, id: &[u8]) -> Result<(), AllocError>
         ensures { OnOk result ((other : List ℕ) → has_id self.new other ≡ (bytes_eq id.now other || has_id self.old other)) }
     {
