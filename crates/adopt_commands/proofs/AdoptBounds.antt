@@ -1,7 +1,8 @@
 -- An adoption writes no more than the messages that it posts may.
-use Rattle.std.proofs.Common.{◌≡◌, ℕ, List, Option, Some, Ok, refl, sym}
+use Rattle.std.proofs.Common.{◌≡◌, ℕ, List, Option, Some, Ok, refl, sym, ◌∙◌}
 use Rattle.board_commands.proofs.WriteLaws.{turned_within, WritesFound}
-use Rattle.board_commands.specs.State.{State, Stores, migrated, state_of}
+use Rattle.board_commands.specs.Kept.{IsOutlined}
+use Rattle.board_commands.specs.State.{State, Stores, migrated}
 use Rattle.board_commands.specs.WriteBound.{KeepsWriteBound}
 use Rattle.board_layout.specs.Board.{Board}
 use Rattle.board_layout.specs.Valid.{IsBoard}
@@ -10,23 +11,29 @@ use Rattle.door_outside.specs.Shelf as Shelf
 use Rattle.intent_journal.specs.Journal.{IsClosed}
 use Rattle.intent_journal.specs.Recovered.{recovered}
 use Rattle.jam_adopt.specs.declared.found.Found.{Found}
+use Rattle.mail_board.proofs.EachNext.{changed_alike}
 use Rattle.mail_board.proofs.PostedSlots.{posting_keeps}
 use Rattle.mail_board.specs.Changes.{changed}
 use Rattle.mail_board.specs.Readers.{place_of}
 use Rattle.mail_board.specs.Written.{WritesFew}
 use Rattle.message_commands.proofs.Exits.{carried}
+use Rattle.message_commands.proofs.PlaceAlike.{place_alike}
 use Rattle.adopt_commands.proofs.AdoptActs.{adopt_turns}
+use Rattle.adopt_commands.proofs.AdoptAlike.{adopting_alike}
 use Rattle.adopt_commands.proofs.AdoptExits.{Turns, placed}
 use Rattle.adopt_commands.specs.Adopt.{adopts}
-use Rattle.adopt_commands.specs.Adopting.{MayAdopt}
+use Rattle.adopt_commands.specs.Adopting.{MayAdopt, TakesOver}
 use Rattle.adopt_commands.specs.BaseFiles.{base_of}
 use Rattle.adopt_commands.specs.declared.adopting.Adopting.{Adopting}
 
-module _ (old mid new : Disk) (shelf : Shelf.Files) (closed : IsClosed (old.files 1)) (found : WritesFound old mid.wrote) (board : Option Board)
-    (stands : (state : State) → Stores state (recovered old.files) → migrated state ≡ state_of board) (b : Board) (board_is : board ≡ Some b) (ok : IsBoard b) where
-  pub adopt_within : (conference : ℕ) (prefix : List ℕ) (place : ℕ) → place_of conference b ≡ Some place → (records : List Found) → Ok records ≡ base_of shelf prefix → (a : Adopting) → MayAdopt conference place records b (Ok a)
+module _ (old mid new : Disk) (shelf : Shelf.Files) (closed : IsClosed (old.files 1)) (found : WritesFound old mid.wrote) (kept : Option Board)
+    (stands : (state : State) → Stores state (recovered old.files) → IsOutlined (migrated state) kept) (b : Board) (kept_is : kept ≡ Some b) (ok : IsBoard b) where
+  pub adopt_within : (conference : ℕ) (prefix : List ℕ) (place : ℕ) → place_of conference b ≡ Some place → (records : List Found) → Ok records ≡ base_of shelf prefix → (a : Adopting) → MayAdopt conference place records b (Ok a) → TakesOver conference place records b a
       → WritesFew a.change b mid.wrote new.wrote → KeepsWriteBound (adopts conference prefix) old new shelf
-  adopt_within conference prefix place place_is records read a may few =
-      turned_within (Turns conference prefix) (adopt_turns conference prefix) old mid new shelf closed found board stands b (changed a.change b) board_is (carried a.change b a.reply)
-      (placed conference prefix shelf b place place_is (Ok records) read (carried a.change b a.reply) (sym may.1)) refl
+  adopt_within conference prefix place place_is records read a may change few =
+      turned_within (Turns conference prefix) (adopt_turns conference prefix) old mid new shelf closed found kept stands b kept_is (changed a.change) (λ real alike. changed_alike real b alike a.change) (λ real. carried a.change real a.reply)
+      (λ real valid alike. (
+        placed conference prefix shelf real place (place_alike real b alike conference ∙ place_is) (Ok records) read (carried a.change real a.reply) (sym (adopting_alike real b alike conference place records a.change a.reply change may.1)),
+        refl,
+      ))
       (posting_keeps a.change b mid.wrote new.wrote may.2 ok may.0 few)

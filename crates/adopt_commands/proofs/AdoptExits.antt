@@ -2,12 +2,13 @@
 use Rattle.std.proofs.Common.{◌≡◌, ℕ, List, Option, Some, None, Result, Ok, Err, refl, sym, ◌∙◌, ap}
 use Rattle.board_commands.proofs.Exits.{shelf_fails, starved}
 use Rattle.board_commands.specs.Halts.{told, of_journal, of_shelf}
-use Rattle.board_commands.specs.Kept.{unread}
-use Rattle.board_commands.specs.State.{State, Made, Stores, migrated, state_of}
+use Rattle.board_commands.specs.Kept.{IsOutlined, unread}
+use Rattle.board_commands.specs.State.{State, Made, Stores, migrated}
 use Rattle.board_commands.specs.Turns.{Turn, refuses}
 use Rattle.board_commands.specs.declared.halt.BoardHalt.{BoardHalt}
 use Rattle.board_commands.specs.declared.halt.BoardHalt.TheVariants as board_halt
 use Rattle.board_layout.specs.Board.{Board}
+use Rattle.board_layout.specs.Valid.{IsBoard}
 use Rattle.door_outside.specs.Disk.{Disk, Unchanged}
 use Rattle.door_outside.specs.Shelf as Shelf
 use Rattle.entry_runs.proofs.Commands.{works_same}
@@ -15,19 +16,23 @@ use Rattle.entry_runs.specs.Door.{World}
 use Rattle.entry_runs.specs.Entry.{Changes, Finds, IsAt, Works}
 use Rattle.entry_runs.specs.Promise.{Counts, HasCauses, ended}
 use Rattle.entry_runs.specs.declared.status.Status.TheVariants as status
+use Rattle.intent_journal.specs.Recovered.{recovered}
 use Rattle.intent_journal.specs.declared.recovery.JournalError.{JournalError}
 use Rattle.intent_journal.specs.declared.recovery.JournalError.TheVariants.{OutOfMemory as Starved}
 use Rattle.jam_adopt.specs.declared.found.Found.{Found}
 use Rattle.mail_board.specs.Changes.{changed}
+use Rattle.mail_board.specs.Held.{AreAlike}
 use Rattle.mail_board.specs.Readers.{place_of}
-use Rattle.message_commands.proofs.Exits.{carried, changed_by, refused_by, unchanged_by}
+use Rattle.message_commands.proofs.Exits.{carried, changed_by, refused_on, unchanged_by}
+use Rattle.message_commands.proofs.PlaceAlike.{place_alike}
 use Rattle.shelf_files.specs.Halts.{Comes, done}
 use Rattle.shelf_files.specs.declared.halt.Halt.{Halt}
 use Rattle.shelf_files.specs.declared.halt.Halt.TheVariants.{Refused, ShelfFault, OutOfMemory}
 use Rattle.shelf_files.specs.declared.refusal.Refusal.{Refusal}
 use Rattle.shelf_files.specs.declared.refusal.Refusal.TheVariants.{NoConference}
+use Rattle.adopt_commands.proofs.AdoptAlike.{adopting_alike}
 use Rattle.adopt_commands.specs.Adopt.{adopt_at, adopt_turn, adopts, base_turn}
-use Rattle.adopt_commands.specs.Adopting.{MayAdopt}
+use Rattle.adopt_commands.specs.Adopting.{MayAdopt, TakesOver}
 use Rattle.adopt_commands.specs.BaseFiles.{base_of}
 use Rattle.adopt_commands.specs.declared.adopting.Adopting.{Adopting}
 
@@ -46,13 +51,13 @@ module _ (conference : ℕ) (prefix : List ℕ) (shelf : Shelf.Files) (b : Board
   pub placed : (place : ℕ) → place_of conference b ≡ Some place → (read : Result (List Found) Refusal) → read ≡ base_of shelf prefix → (turn : Turn) → turn ≡ base_turn conference place b read → Turns conference prefix shelf (Some b) turn
   placed place is read read_is turn turn_is = turn_is ∙ (ap (base_turn conference place b) read_is ∙ sym (ap (adopt_at conference prefix shelf b) is))
 
-module _ (conference : ℕ) (prefix : List ℕ) {world : World State} {old mid : Disk} {shelf later : Shelf.Files} (at : IsAt Stores unread world old shelf) (board : Option Board)
-    (finds : Finds Stores unread world.state (migrated world.state) old mid (Ok (tt {0}))) (is : migrated world.state ≡ state_of board) (b : Board) (board_is : board ≡ Some b) (place : ℕ) (place_is : place_of conference b ≡ Some place) (same : later ≡ shelf) where
+module _ (conference : ℕ) (prefix : List ℕ) {world : World State} {old mid : Disk} {shelf later : Shelf.Files} (at : IsAt Stores unread world old shelf) (kept : Option Board)
+    (finds : Finds Stores unread world.state (migrated world.state) old mid (Ok (tt {0}))) (found : IsOutlined (migrated world.state) kept) (b : Board) (kept_is : kept ≡ Some b) (place : ℕ) (place_is : place_of conference b ≡ Some place) (same : later ≡ shelf) where
   -- a file of the base is refused, or couldn't be read
   pub no_base : (halt : Halt) → Comes {Value = List Found} (Err halt) (λ read. read ≡ base_of shelf prefix) → Works Stores (adopts conference prefix) unread world old mid later (told said (Err (of_shelf halt)))
   no_base (Refused why) comes = works_same Stores (adopts conference prefix) same
-      (refused_by (Turns conference prefix) at board finds is said (Some b) why (board_halt.Refused why) board_is refl
-      (placed conference prefix shelf b place place_is (Err why) comes (refuses why (Some b)) refl))
+      (refused_on (Turns conference prefix) at kept finds found said b why (board_halt.Refused why) kept_is refl
+      (λ real valid alike. placed conference prefix shelf real place (place_alike real b alike conference ∙ place_is) (Err why) comes (refuses why (Some real)) refl))
   no_base ShelfFault comes = works_same Stores (adopts conference prefix) same (shelf_fails (Turns conference prefix) at finds)
   no_base OutOfMemory comes = works_same Stores (adopts conference prefix) same (starved (Turns conference prefix) at finds)
 
@@ -65,16 +70,17 @@ module _ (conference : ℕ) (prefix : List ℕ) {world : World State} {old mid :
     unprepared board_halt.DiskFault may = absurd may
     unprepared board_halt.ShelfFault may = absurd may
 
-    module _ (a : Adopting) (may : MayAdopt conference place records b (Ok a)) where
-      takes : Turns conference prefix shelf (Some b) (carried a.change b a.reply)
-      takes = placed conference prefix shelf b place place_is (Ok records) read (carried a.change b a.reply) (sym may.1)
+    module _ (a : Adopting) (may : MayAdopt conference place records b (Ok a)) (change : TakesOver conference place records b a) where
+      takes : (real : Board) → IsBoard real → AreAlike real b → Turns conference prefix shelf (Some real) (carried a.change real a.reply)
+      takes real valid alike =
+          placed conference prefix shelf real place (place_alike real b alike conference ∙ place_is) (Ok records) read (carried a.change real a.reply) (sym (adopting_alike real b alike conference place records a.change a.reply change may.1))
 
-      pub adopted : {new : Disk} {T E : Type 0} {value : T} → Changes Stores {E = E} unread (Made b) (Made (changed a.change b)) mid new (Ok value) → Works Stores (adopts conference prefix) unread world old new later (Ok (done a.reply))
-      adopted changes = works_same Stores (adopts conference prefix) same (changed_by (Turns conference prefix) at board finds is b board_is a.change a.reply takes changes)
+      pub adopted : {new : Disk} {T E : Type 0} {value : T} → ((r : Board) → Stores (Made r) (recovered mid.files) → Changes Stores {E = E} unread (Made r) (Made (changed a.change r)) mid new (Ok value)) → Works Stores (adopts conference prefix) unread world old new later (Ok (done a.reply))
+      adopted changes = works_same Stores (adopts conference prefix) same (changed_by (Turns conference prefix) at kept finds found b kept_is a.change a.reply takes changes)
 
-      pub unadopted : {new : Disk} {T : Type 0} (error : JournalError) → Changes Stores {T = T} unread (Made b) (Made (changed a.change b)) mid new (Err error) → (error ≡ Starved → Unchanged mid new)
+      pub unadopted : {new : Disk} {T : Type 0} (error : JournalError) → ((r : Board) → Stores (Made r) (recovered mid.files) → Changes Stores {T = T} unread (Made r) (Made (changed a.change r)) mid new (Err error)) → (error ≡ Starved → Unchanged mid new)
           → Works Stores (adopts conference prefix) unread world old new later (told said (Err (of_journal error)))
-      unadopted error changes still = works_same Stores (adopts conference prefix) same (unchanged_by (Turns conference prefix) at board finds is b board_is a.change a.reply takes said error changes still)
+      unadopted error changes still = works_same Stores (adopts conference prefix) same (unchanged_by (Turns conference prefix) at kept finds found b kept_is a.change a.reply takes said error changes still)
 
 -- an adoption that finds no memory is no fault
 pub no_fault : (conference place : ℕ) (records : List Found) (b : Board) {old new : Counts} (e : BoardHalt) → MayAdopt conference place records b (Err e) → HasCauses old new status.OutOfMemory → HasCauses old new (ended (told said (Err e)))

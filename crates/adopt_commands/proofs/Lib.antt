@@ -4,3 +4,4 @@ pub mod AdoptExits
 pub mod FoundLaws
 pub mod NameLaws
 pub mod StepLaws
+pub mod AdoptAlike

@@ -8,6 +8,7 @@ use Rattle.jam_adopt.specs.declared.found.FoundVerdict.{FoundVerdict}
 use Rattle.jam_adopt.specs.declared.found.FoundVerdict.TheVariants as verdict
 use Rattle.mail_board.specs.Changes.{changed, Fits}
 use Rattle.mail_board.specs.Written.{IsPosting}
+use Rattle.mail_board.specs.declared.change.Change.TheVariants.{Spread}
 use Rattle.mail_intake.specs.Tallies.{IsTally}
 use Rattle.adopt_commands.specs.Adopt.{adopting}
 use Rattle.adopt_commands.specs.Adopted.{adopted}
@@ -28,6 +29,10 @@ AreRight records = All (λ found. IsRight found.verdict) records
 pub record AreAdopted (conference place : ℕ) (b : Board) (records : List Found) (a : Adopted) : Type 0 where
   pub so_far : (a.lines, a.tally.posts) ≡ adopted conference place b records
   pub tally : IsTally b a.tally
+
+-- it is the change that posts what was taken
+abbrev pub TakesOver : ℕ → ℕ → List Found → Board → Adopting → Type 0
+TakesOver conference place records b a = a.change ≡ Spread (adopted conference place b records).1
 
 -- a change that fits, posts messages and takes the turn, or memory ran out
 abbrev pub MayAdopt : ℕ → ℕ → List Found → Board → Result Adopting BoardHalt → Type 0

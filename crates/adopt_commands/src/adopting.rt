@@ -13,7 +13,7 @@ ghost use Rattle.entry_runs.specs.Promise.{counts, ended, HasCauses};
 ghost use Rattle.intent_journal.specs.Journal.{IsClosed};
 ghost use Rattle.jam_adopt.specs.declared.found.Found as Founds;
 ghost use Rattle.adopt_commands.specs.Adopt.{adopts};
-ghost use Rattle.adopt_commands.specs.Adopting.{AreAdopted, AreRight, MayAdopt};
+ghost use Rattle.adopt_commands.specs.Adopting.{AreAdopted, AreRight, MayAdopt, TakesOver};
 
 use crate::adopted::{Adopted, Target, adopted_of};
 use crate::base_files::base_in;
@@ -34,8 +34,10 @@ pub(crate) struct Adopting {
 }
 
 /// The change that posts what was taken of so many records of a base, and the lines with their counts.
+#[tactic(auto, using(crate::proofs::AdoptAlike::posts_change))]
 fn ended_with(adopted: Adopted, count: usize) -> Result<Adopting, AllocError>
-    ensures { (conference place : ℕ) (b : Boards.Board) (records : List Founds.Found) → AreAdopted conference place b records adopted → length records ≡ count → IfOk result (λ adopting. MayAdopt conference place records b (Ok adopting)) }
+    ensures may { (conference place : ℕ) (b : Boards.Board) (records : List Founds.Found) → AreAdopted conference place b records adopted → length records ≡ count → IfOk result (λ adopting. MayAdopt conference place records b (Ok adopting)) }
+    ensures change { (conference place : ℕ) (b : Boards.Board) (records : List Founds.Found) → AreAdopted conference place b records adopted → IfOk result (TakesOver conference place records b) }
 {
     let Adopted { tally, mut lines } = adopted;
     let posted = tally.posts.len();
@@ -61,7 +63,8 @@ fn prepared(
     requires board { IsBoard board.now.board }
     requires place { place < length board.now.board.conferences }
     requires right { AreRight records }
-    ensures { MayAdopt conference place records board.now.board result }
+    ensures may { MayAdopt conference place records board.now.board result }
+    ensures change { IfOk result (TakesOver conference place records board.now.board) }
 {
     let count = records.len();
     let target = Target { conference, place };

@@ -43,7 +43,7 @@ joined_outline : (members place : ℕ) (conferences : List Conference) → map o
 joined_outline members place [] = refl
 joined_outline members place (c ∷ conferences) = λ i. joined_one members place c i ∷ joined_outline members (place + 1) conferences i
 
-member_outline : (u : User) (b : Board) → board_outline (with_member u b) ≡ with_member u (board_outline b)
+pub member_outline : (u : User) (b : Board) → board_outline (with_member u b) ≡ with_member u (board_outline b)
 member_outline u b = ap (λ (conferences : List Conference). record { ledger = with_user u b.ledger; conferences = conferences }) (joined_outline u.members 0 b.conferences)
 
 pub member_keeps : (b : Board) (u : User) → IsBoard (with_member u b) → KeepsEach b (with_member u)

@@ -5,16 +5,18 @@ use Rattle.door_outside.specs.Disk.{Disk, Image, AllNow, Between, as_read}
 use Rattle.door_outside.proofs.Moments.{reads_have, weaker}
 use Rattle.entry_runs.specs.Entry.{Changes, HasBoard, Recovers}
 use Rattle.intent_journal.proofs.Hosts.{calm_is_firm, calm_is_settled, calm_recovers}
-use Rattle.intent_journal.specs.Hosts.{IsFirm, IsSettled}
+use Rattle.intent_journal.specs.Hosts.{IsCalm, IsFirm, IsSettled}
 use Rattle.intent_journal.specs.Patches.{Files, data_files}
 use Rattle.intent_journal.specs.Recovered.{recovered}
 use Rattle.board_layout.specs.Board.{Board}
 use Rattle.board_layout.specs.Layout.{IsLayout}
 use Rattle.board_layout.specs.Valid.{IsBoard}
 use Rattle.mail_board.proofs.DataLaws.{data_twice, layout_moves}
+use Rattle.mail_board.proofs.EachNext.{fits_alike}
+use Rattle.mail_board.proofs.LoadLaws.{own_stands}
 use Rattle.mail_board.proofs.NextLaws.{fits_board}
 use Rattle.mail_board.specs.Changes.{changed, Fits}
-use Rattle.mail_board.specs.Held.{BeforeOrNext, HeldBoard, Rests}
+use Rattle.mail_board.specs.Held.{AreAlike, BeforeOrNext, HeldBoard, Holds, Rests, RestsOn}
 use Rattle.mail_board.specs.declared.change.Change.{Change}
 use Rattle.mail_board.specs.declared.loading.Loaded.{Loaded}
 use Rattle.mail_board.specs.declared.loading.Loaded.TheVariants.{Ready}
@@ -52,8 +54,21 @@ module _ (state : State) (P : Files → Type 0) (holds : (files : Files) → P f
 pub kept_same : (kept : Option Loaded) (held : HeldBoard) (b : Board) → Some (Ready held) ≡ kept → kept_board kept ≡ Some b → held.board ≡ b
 kept_same kept held b is board = let e : Some held.board ≡ Some b = ap kept_board is ∙ board in cc
 
-pub change_changes : (change : Change) (board b : Board) → board ≡ b → IsBoard board → Fits change board → {old new : Disk} {T E : Type 0} (result : Result T E) → Between old new (BeforeOrNext (IsLayout board) (changed change board) old)
-    → AllNow new (BeforeOrNext (IsLayout board) (changed change board) old) → IsSettled new → OnOk result (Rests (changed change board) new) → Changes Stores unread (Made b) (Made (changed change b)) old new result
-change_changes change board b same ok fits {old} {new} result moments now settled rests =
-    subst (λ (c : Board). Changes Stores unread (Made c) (Made (changed change c)) old new result) same
-    (changes_to (Made board) (IsLayout board) (λ files laid. (ok, laid)) (changed change board) (fits_board change board fits) result moments now settled rests)
+-- the board that the host's files are, where it is calm
+pub stores_holds : (b : Board) (disk : Disk) → IsCalm disk → Stores (Made b) (recovered disk.files) → Holds b disk
+stores_holds b disk calm stores = (
+  stores.0,
+  record {
+    calm = calm;
+    files = layout_moves b (recovered disk.files) disk.files (ap data_files (calm_recovers disk calm) ∙ data_twice disk.files) stores.1;
+  },
+)
+
+pub change_changes : (change : Change) (held b : Board) → AreAlike b held → IsBoard b → IsBoard held → Fits change held → {old new : Disk} {T E : Type 0} (result : Result T E) → Between old new (BeforeOrNext (IsLayout b) (changed change b) old)
+    → AllNow new (BeforeOrNext (IsLayout b) (changed change b) old) → IsSettled new → OnOk result (Rests (changed change b) new) → Changes Stores unread (Made b) (Made (changed change b)) old new result
+change_changes change held b alike ok was fits result moments now settled rests =
+    changes_to (Made b) (IsLayout b) (λ files laid. (ok, laid)) (changed change b) (fits_board change b (fits_alike b held alike ok was change fits)) result moments now settled rests
+
+-- a board that the host's files are rests on them as its own outline
+pub own_rests : (b : Board) (disk : Disk) → IsBoard b → Rests b disk → RestsOn b disk
+own_rests b disk ok rests = record { calm = rests.calm; stands = own_stands b disk.files ok rests.files }

@@ -4,6 +4,9 @@ use Rattle.door_outside.specs.Disk.{Disk, Unchanged}
 use Rattle.door_outside.specs.Shelf as Shelf
 use Rattle.entry_runs.specs.Door.{World}
 use Rattle.entry_runs.specs.Entry.{Changes, Finds, IsAt, Works}
+use Rattle.entry_runs.specs.Promise.{Counts, HasCauses, ended}
+use Rattle.entry_runs.specs.declared.status.Status.TheVariants as status
+use Rattle.intent_journal.specs.Recovered.{recovered}
 use Rattle.intent_journal.specs.declared.recovery.JournalError.{JournalError}
 use Rattle.intent_journal.specs.declared.recovery.JournalError.TheVariants.{OutOfMemory as Starved}
 use Rattle.board_layout.specs.Board.{Board}
@@ -19,6 +22,7 @@ use Rattle.board_commands.specs.declared.enrollment.Enrolling.{Enrolling}
 use Rattle.board_commands.specs.declared.halt.BoardHalt.{BoardHalt}
 use Rattle.board_commands.specs.declared.halt.BoardHalt.TheVariants.{Refused, Damaged, DiskFault, ShelfFault, OutOfMemory}
 use Rattle.board_commands.proofs.Exits.{answered, starved, turned, unturned}
+use Rattle.board_commands.proofs.LikeLaws.{real_stored}
 
 module _ (name flags conferences : List ℕ) {world : World State} {old mid : Disk} {shelf : Shelf.Files} (at : IsAt Stores unread world old shelf) (board : Option Board)
     (finds : Finds Stores unread world.state (migrated world.state) old mid (Ok (tt {0}))) (is : migrated world.state ≡ state_of board) where
@@ -33,16 +37,27 @@ module _ (name flags conferences : List ℕ) {world : World State} {old mid : Di
     state_is : migrated world.state ≡ Made may.0
     state_is = is ∙ ap state_of may.1
 
+    stored : Stores (Made may.0) (recovered mid.files)
+    stored = real_stored finds may.0 state_is
+
     turn : Turn
     turn = record { board = Some (changed e.change may.0); reply = done (enrolled_line e.user) }
 
-    pub enrolled : {new : Disk} {T E : Type 0} {value : T} → Changes Stores {E = E} unread (Made may.0) (Made (changed e.change may.0)) mid new (Ok value) → Works Stores (enrolls name flags conferences) unread world old new shelf (Ok (done (enrolled_line e.user)))
+    pub enrolled : {new : Disk} {T E : Type 0} {value : T} → ((b : Board) → Stores (Made b) (recovered mid.files) → Changes Stores {E = E} unread (Made b) (Made (changed e.change b)) mid new (Ok value)) → Works Stores (enrolls name flags conferences) unread world old new shelf (Ok (done (enrolled_line e.user)))
     unfolding turn
     enrolled {new} {T} {E} {value} changes = turned (λ files. Enrolls name flags conferences) at {board = Some may.0} finds state_is turn may.3
-        (subst (λ (s : State). Changes Stores {T = T} {E = E} unread s (Made (changed e.change may.0)) mid new (Ok value)) (sym state_is) changes)
+        (subst (λ (s : State). Changes Stores {T = T} {E = E} unread s (Made (changed e.change may.0)) mid new (Ok value)) (sym state_is) (changes may.0 stored))
 
-    pub unenrolled : {new : Disk} {T : Type 0} (error : JournalError) → Changes Stores {T = T} unread (Made may.0) (Made (changed e.change may.0)) mid new (Err error) → (error ≡ Starved → Unchanged mid new)
+    pub unenrolled : {new : Disk} {T : Type 0} (error : JournalError) → ((b : Board) → Stores (Made b) (recovered mid.files) → Changes Stores {T = T} unread (Made b) (Made (changed e.change b)) mid new (Err error)) → (error ≡ Starved → Unchanged mid new)
         → Works Stores (enrolls name flags conferences) unread world old new shelf (told enrolled_line (Err (of_journal error)))
     unfolding turn
     unenrolled {new} {T} error changes same = unturned (λ files. Enrolls name flags conferences) at {board = Some may.0} finds state_is turn may.3 enrolled_line error
-        (subst (λ (s : State). Changes Stores {T = T} unread s (Made (changed e.change may.0)) mid new (Err error)) (sym state_is) changes) same
+        (subst (λ (s : State). Changes Stores {T = T} unread s (Made (changed e.change may.0)) mid new (Err error)) (sym state_is) (changes may.0 stored)) same
+
+-- an enrolling that is refused, or finds no memory, is no fault
+pub no_fault : (name flags conferences : List ℕ) (board : Option Board) {old new : Counts} (e : BoardHalt) → MayEnroll name flags conferences board (Err e) → HasCauses old new status.Done → HasCauses old new status.OutOfMemory → HasCauses old new (ended (told enrolled_line (Err e)))
+no_fault name flags conferences board (Refused why) may over halted = over
+no_fault name flags conferences board OutOfMemory may over halted = halted
+no_fault name flags conferences board (Damaged d) may over halted = absurd may
+no_fault name flags conferences board DiskFault may over halted = absurd may
+no_fault name flags conferences board ShelfFault may over halted = absurd may

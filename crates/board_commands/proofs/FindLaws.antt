@@ -23,22 +23,33 @@ use Rattle.board_layout.specs.Layout.{AreEmpty, data_size}
 use Rattle.board_layout.specs.declared.error.ReadError.{ReadError}
 use Rattle.board_layout.specs.declared.error.ReadError.TheVariants.{Damaged, DiskFault, OutOfMemory}
 use Rattle.mail_board.proofs.DataLaws.{data_twice, empty_moves, layout_moves}
-use Rattle.mail_board.specs.Loading.{AreOpened, IsMigration, IsTold, IsValid, Opens, StandsIn}
+use Rattle.mail_board.specs.Loading.{AreOpened, IsMigration, IsTold, Opens, StandsIn}
 use Rattle.mail_board.specs.declared.loading.Loaded.{Loaded}
 use Rattle.mail_board.specs.declared.loading.Loaded.TheVariants.{NotMade, Ready}
-use Rattle.board_commands.specs.Kept.{AreSure, IsFound, IsKept, found, kept_board, unread}
+use Rattle.board_commands.specs.Kept.{AreLike, IsFound, IsKept, IsOutlined, found, kept_board, unread}
 use Rattle.board_commands.specs.State.{AreSpoiled, State, Made, Old, Spoiled, Stores, migrated, state_of}
 use Rattle.board_commands.specs.State as state
 use Rattle.board_commands.proofs.StateLaws.{one_state}
 
 -- ---- a board, or none
-loaded_stores : (loaded : Loaded) (files : Files) → IsValid loaded → StandsIn files loaded → Stores (state_of (kept_board (Some loaded))) files
-loaded_stores NotMade files valid stands = stands
-loaded_stores (Ready held) files valid stands = (valid, stands)
+-- the board that the files are, of which the outline was loaded
+real_of : (loaded : Loaded) (files : Files) → StandsIn files loaded → Option Board
+real_of NotMade files stands = None
+real_of (Ready held) files stands = Some stands.board
+
+real_stores : (loaded : Loaded) (files : Files) (stands : StandsIn files loaded) → Stores (state_of (real_of loaded files stands)) files
+unfolding real_of
+real_stores NotMade files stands = stands
+real_stores (Ready held) files stands = (stands.valid, stands.layout)
+
+real_like : (loaded : Loaded) (files : Files) (stands : StandsIn files loaded) → AreLike (real_of loaded files stands) (kept_board (Some loaded))
+unfolding real_of
+real_like NotMade files stands = tt
+real_like (Ready held) files stands = (stands.valid, stands.alike)
 
 stands_moves : (loaded : Loaded) (f g : Files) → data_files f ≡ data_files g → StandsIn f loaded → StandsIn g loaded
 stands_moves NotMade f g same stands = empty_moves f g same stands
-stands_moves (Ready held) f g same stands = layout_moves held.board f g same stands
+stands_moves (Ready held) f g same stands = record { board = stands.board; valid = stands.valid; alike = stands.alike; layout = layout_moves stands.board f g same stands.layout }
 
 -- it stands in the data files too
 stands_in_data : (loaded : Loaded) (files : Files) → StandsIn files loaded → StandsIn (data_files files) loaded
@@ -53,15 +64,26 @@ migrated_to None s is = ap migrated is
 migrated_to (Some b) s is = ap migrated is
 
 -- what stands in files that a load left is the migrated state of those that it found
-opened_is : (loaded : Loaded) (s : State) (files new : Files) → IsValid loaded → StandsIn new loaded → AreOpened files new → Stores s files → migrated s ≡ state_of (kept_board (Some loaded))
-opened_is loaded s files new valid stands (inl same) stores =
-    migrated_to (kept_board (Some loaded)) s (one_state files s (state_of (kept_board (Some loaded))) stores (subst (Stores (state_of (kept_board (Some loaded)))) same (loaded_stores loaded new valid stands)))
-opened_is loaded s files new valid stands (inr it) stores =
-    ap migrated (one_state files s (Old it.board) stores (it.valid, it.before)) ∙ one_state new (Made it.board) (state_of (kept_board (Some loaded))) (it.valid, it.after) (loaded_stores loaded new valid stands)
+opened_is : (board : Option Board) (s : State) (files new : Files) → Stores (state_of board) new → AreOpened files new → Stores s files → migrated s ≡ state_of board
+opened_is board s files new here (inl same) stores = migrated_to board s (one_state files s (state_of board) stores (subst (Stores (state_of board)) same here))
+opened_is board s files new here (inr it) stores =
+    ap migrated (one_state files s (Old it.board) stores (it.valid, it.before)) ∙ one_state new (Made it.board) (state_of board) (it.valid, it.after) here
 
-pub loaded_is : (loaded : Loaded) (old new : Disk) (s : State) → IsValid loaded → StandsIn new.files loaded → AreOpened (recovered old.files) (data_files new.files) → Stores s (recovered old.files)
-    → migrated s ≡ state_of (kept_board (Some loaded))
-loaded_is loaded old new s valid stands opened stores = opened_is loaded s (recovered old.files) (data_files new.files) valid (stands_in_data loaded new.files stands) opened stores
+pub loaded_is : (loaded : Loaded) (old new : Disk) (s : State) → StandsIn new.files loaded → AreOpened (recovered old.files) (data_files new.files) → Stores s (recovered old.files) → IsOutlined (migrated s) (kept_board (Some loaded))
+loaded_is loaded old new s stands opened stores =
+    let there = stands_in_data loaded new.files stands in (
+      real_of loaded (data_files new.files) there,
+      opened_is (real_of loaded (data_files new.files) there) s (recovered old.files) (data_files new.files) (real_stores loaded (data_files new.files) there) opened stores,
+      real_like loaded (data_files new.files) there,
+    )
+
+-- it is stored in the files that the load left
+loaded_stores : (loaded : Loaded) (old new : Disk) (s : State) (stands : StandsIn new.files loaded) (opened : AreOpened (recovered old.files) (data_files new.files)) (stores : Stores s (recovered old.files)) → Stores (migrated s) (data_files new.files)
+loaded_stores loaded old new s stands opened stores =
+    let there = stands_in_data loaded new.files stands in
+    let real : Option Board = real_of loaded (data_files new.files) there in
+    let here = real_stores loaded (data_files new.files) there in
+    subst (λ (m : State). Stores m (data_files new.files)) (sym (opened_is real s (recovered old.files) (data_files new.files) here opened stores)) here
 
 -- what is kept
 kept_calm : (loaded : Loaded) (disk : Disk) → IsKept (Some loaded) disk → IsCalm disk
@@ -70,10 +92,10 @@ kept_calm (Ready held) disk kept = kept.calm
 
 kept_stands : (loaded : Loaded) (disk : Disk) → IsKept (Some loaded) disk → StandsIn disk.files loaded
 kept_stands NotMade disk kept = kept.1
-kept_stands (Ready held) disk kept = kept.files
+kept_stands (Ready held) disk kept = kept.stands
 
-pub kept_is : (loaded : Loaded) (disk : Disk) (s : State) → IsValid loaded → IsKept (Some loaded) disk → Stores s (recovered disk.files) → migrated s ≡ state_of (kept_board (Some loaded))
-kept_is loaded disk s valid kept stores = loaded_is loaded disk disk s valid (kept_stands loaded disk kept) (inl (sym (calm_recovers disk (kept_calm loaded disk kept)))) stores
+pub kept_is : (loaded : Loaded) (disk : Disk) (s : State) → IsKept (Some loaded) disk → Stores s (recovered disk.files) → IsOutlined (migrated s) (kept_board (Some loaded))
+kept_is loaded disk s kept stores = loaded_is loaded disk disk s (kept_stands loaded disk kept) (inl (sym (calm_recovers disk (kept_calm loaded disk kept)))) stores
 
 pub kept_settled : (kept : Option Loaded) (disk : Disk) → IsKept kept disk → IsSettled disk
 kept_settled None disk kept = kept
@@ -81,7 +103,7 @@ kept_settled (Some loaded) disk kept = calm_is_settled disk (kept_calm loaded di
 
 pub keeps_loaded : (loaded : Loaded) (disk : Disk) → IsCalm disk → StandsIn disk.files loaded → IsKept (Some loaded) disk
 keeps_loaded NotMade disk calm stands = (calm, stands)
-keeps_loaded (Ready held) disk calm stands = record { calm = calm; files = stands }
+keeps_loaded (Ready held) disk calm stands = record { calm = calm; stands = stands }
 
 -- ---- damage
 damage_in : (none : Bool) (read : Result Board Damage) (d : Damage) → cond none (Ok None) (some_board read) ≡ Err d → damage_of read ≡ Some d
@@ -137,9 +159,8 @@ module _ {old new : Disk} {s : State} (before : IsSettled old) (moments : Betwee
   ends : IsCalm new → Stores (migrated s) (data_files new.files) → Finds Stores unread s (migrated s) old new (Ok (tt {0}))
   ends calm left = opened_finds Stores (has_board before stores) (Opens old) (opens old s stores) moments same calm left tt
 
-  pub told_finds : (loaded : Loaded) → IsValid loaded → StandsIn new.files loaded → IsCalm new → AreOpened (recovered old.files) (data_files new.files) → Finds Stores unread s (migrated s) old new (Ok (tt {0}))
-  told_finds loaded valid stands calm opened =
-      ends calm (subst (λ (m : State). Stores m (data_files new.files)) (sym (loaded_is loaded old new s valid stands opened stores)) (loaded_stores loaded (data_files new.files) valid (stands_in_data loaded new.files stands)))
+  pub told_finds : (loaded : Loaded) → StandsIn new.files loaded → IsCalm new → AreOpened (recovered old.files) (data_files new.files) → Finds Stores unread s (migrated s) old new (Ok (tt {0}))
+  told_finds loaded stands calm opened = ends calm (loaded_stores loaded old new s stands opened stores)
 
   stops : (e : Stop) → e ≢ stop.VoiceFault → (e ≢ stop.DiskFault → IsFirm old → IsFirm new) → Finds Stores {T = Unit {0}} unread s (migrated s) old new (Err e)
   stops e silent firm = opening_stops Stores (has_board before stores) (Opens old) (opens old s stores) moments same e silent settled firm
@@ -153,10 +174,10 @@ module _ {old new : Disk} {s : State} (before : IsSettled old) (moments : Betwee
   load_finds OutOfMemory read firm calm opened = stops stop.OutOfMemory (λ is. absurd (cc is)) (λ other was. firm refl)
 
 -- it was kept
-kept_finds : (loaded : Loaded) (disk : Disk) (s : State) → IsValid loaded → IsKept (Some loaded) disk → Stores s (recovered disk.files) → Finds Stores unread s (migrated s) disk disk (Ok (tt {0}))
-kept_finds loaded disk s valid kept stores =
+kept_finds : (loaded : Loaded) (disk : Disk) (s : State) → IsKept (Some loaded) disk → Stores s (recovered disk.files) → Finds Stores unread s (migrated s) disk disk (Ok (tt {0}))
+kept_finds loaded disk s kept stores =
     let calm = kept_calm loaded disk kept in
-    told_finds (calm_is_settled disk calm) (still disk (Opens disk)) (record { said = refl; files = inl refl }) (calm_is_settled disk calm) stores loaded valid (kept_stands loaded disk kept) calm
+    told_finds (calm_is_settled disk calm) (still disk (Opens disk)) (record { said = refl; files = inl refl }) (calm_is_settled disk calm) stores loaded (kept_stands loaded disk kept) calm
     (inl (sym (calm_recovers disk calm)))
 
 pub load_is_found : (e : ReadError) (old : Disk) (s : State) (kept : Option Loaded) → ((d : Damage) → e ≡ Damaged d → board_in (recovered old.files) ≡ Err d) → Stores s (recovered old.files) → IsFound s kept (Err e)
@@ -164,10 +185,10 @@ load_is_found (Damaged d) old s kept read stores = damage_is (recovered old.file
 load_is_found DiskFault old s kept read stores = tt
 load_is_found OutOfMemory old s kept read stores = tt
 
-pub still_is : (kept : Option Loaded) (disk : Disk) (s : State) → is_some kept ≡ true → AreSure kept → IsKept kept disk → Stores s (recovered disk.files) → migrated s ≡ state_of (kept_board kept)
-still_is None disk s some sure kept stores = absurd (cc some)
-still_is (Some loaded) disk s some sure kept stores = kept_is loaded disk s sure.0 kept stores
+pub still_is : (kept : Option Loaded) (disk : Disk) (s : State) → is_some kept ≡ true → IsKept kept disk → Stores s (recovered disk.files) → IsOutlined (migrated s) (kept_board kept)
+still_is None disk s some kept stores = absurd (cc some)
+still_is (Some loaded) disk s some kept stores = kept_is loaded disk s kept stores
 
-pub still_finds : (kept : Option Loaded) (disk : Disk) (s : State) → is_some kept ≡ true → AreSure kept → IsKept kept disk → Stores s (recovered disk.files) → Finds Stores unread s (migrated s) disk disk (Ok (tt {0}))
-still_finds None disk s some sure kept stores = absurd (cc some)
-still_finds (Some loaded) disk s some sure kept stores = kept_finds loaded disk s sure.0 kept stores
+pub still_finds : (kept : Option Loaded) (disk : Disk) (s : State) → is_some kept ≡ true → IsKept kept disk → Stores s (recovered disk.files) → Finds Stores unread s (migrated s) disk disk (Ok (tt {0}))
+still_finds None disk s some kept stores = absurd (cc some)
+still_finds (Some loaded) disk s some kept stores = kept_finds loaded disk s kept stores

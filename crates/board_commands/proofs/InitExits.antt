@@ -1,5 +1,5 @@
 -- The exits of `init`.
-use Rattle.std.proofs.Common.{◌≡◌, List, ℕ, length, None, Result, Ok, Err, refl, sym, subst}
+use Rattle.std.proofs.Common.{◌≡◌, List, ℕ, length, Option, Some, None, Result, Ok, Err, refl, sym, subst}
 use Rattle.door_outside.specs.Disk.{Disk, Unchanged}
 use Rattle.door_outside.specs.Shelf as Shelf
 use Rattle.entry_runs.proofs.Commands.{works_same}
@@ -8,16 +8,27 @@ use Rattle.entry_runs.specs.Entry.{Changes, Finds, IsAt, Works}
 use Rattle.intent_journal.specs.declared.recovery.JournalError.{JournalError}
 use Rattle.intent_journal.specs.declared.recovery.JournalError.TheVariants.{OutOfMemory as Starved}
 use Rattle.board_changes.specs.Changed.{made}
+use Rattle.board_layout.specs.Board.{Board}
 use Rattle.setup_file.specs.declared.setup.Setup.{Setup}
-use Rattle.shelf_files.specs.Halts.{Comes, done}
+use Rattle.shelf_files.specs.Halts.{Comes, done, refused as says_refusal}
 use Rattle.shelf_files.specs.declared.halt.Halt.{Halt}
 use Rattle.shelf_files.specs.declared.halt.Halt.TheVariants.{Refused, ShelfFault, OutOfMemory}
 use Rattle.shelf_files.specs.declared.refusal.Refusal.{Refusal}
+use Rattle.shelf_files.specs.declared.refusal.Refusal.TheVariants.{Exists}
 use Rattle.board_commands.specs.Halts.{told, of_journal, of_shelf}
 use Rattle.board_commands.specs.Init.{Inits, SetupOf, inits, made_line, made_of}
-use Rattle.board_commands.specs.Kept.{unread}
+use Rattle.board_commands.specs.Kept.{IsOutlined, unread}
 use Rattle.board_commands.specs.State.{State, NotMade, Made, Stores, migrated}
+use Rattle.board_commands.specs.Turns.{refuses}
 use Rattle.board_commands.proofs.Exits.{answered, shelf_fails, starved, turned, unturned}
+use Rattle.board_commands.proofs.LikeLaws.{some_outlined}
+
+-- there is a board already
+pub exists_already : (file : List ℕ) (now : ℕ) {world : World State} {old mid : Disk} {shelf : Shelf.Files} → IsAt Stores unread world old shelf → (kept : Option Board)
+    → Finds Stores unread world.state (migrated world.state) old mid (Ok (tt {0})) → IsOutlined (migrated world.state) kept → (b : Board) → kept ≡ Some b → Works Stores (inits file now) unread world old mid shelf (Ok (says_refusal Exists))
+exists_already file now at kept finds found b some =
+    let real = some_outlined _ kept b some found in
+    answered (Inits file now) at {board = Some real.board} finds real.is (refuses Exists (Some real.board)) refl refl
 
 module _ (file : List ℕ) (now : ℕ) {world : World State} {old mid : Disk} {shelf : Shelf.Files} (at : IsAt Stores unread world old shelf)
     (finds : Finds Stores unread world.state (migrated world.state) old mid (Ok (tt {0}))) (is : migrated world.state ≡ NotMade) where

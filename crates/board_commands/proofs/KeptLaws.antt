@@ -5,7 +5,7 @@ use Rattle.board_layout.specs.Board.{Board}
 use Rattle.board_layout.specs.Valid.{IsBoard}
 use Rattle.door_outside.specs.Disk.{Disk}
 use Rattle.intent_journal.specs.Hosts.{IsSettled}
-use Rattle.mail_board.specs.Held.{HeldBoard, Rests, sure}
+use Rattle.mail_board.specs.Held.{Follows, HeldBoard, RestsOn}
 use Rattle.mail_board.specs.declared.loading.Loaded.{Loaded}
 use Rattle.mail_board.specs.declared.loading.Loaded.TheVariants.{Ready}
 use Rattle.board_commands.specs.Kept.{AreSure, IsKept, unless_doubtful}
@@ -17,7 +17,7 @@ module _ (after : HeldBoard) where
   lost_is : after.doubtful ≡ true → unless_doubtful after ≡ None
   lost_is doubt = ap (λ doubtful. cond doubtful None (Some (Ready after))) doubt
 
-  pub kept_on : (disk : Disk) → after.doubtful ≡ false → Rests after.board disk → IsKept (unless_doubtful after) disk
+  pub kept_on : (disk : Disk) → after.doubtful ≡ false → RestsOn after.board disk → IsKept (unless_doubtful after) disk
   kept_on disk certain rests = subst (λ (kept : Option Loaded). IsKept kept disk) (sym (kept_is certain)) rests
 
   pub sure_on : after.doubtful ≡ false → IsBoard after.board → AreSure (unless_doubtful after)
@@ -41,17 +41,17 @@ doubted before = record { board = before.board; doubtful = true }
 -- the board before a call, which was in no doubt, and what the call made of it
 module _ (before after : HeldBoard) (certain : before.doubtful ≡ false) where
   -- the next board is kept, and so is the same one
-  pub next_kept : (next : Board) (disk : Disk) → after ≡ sure next → Rests next disk → IsKept (unless_doubtful after) disk
-  next_kept next disk is rests = kept_on after disk (ap (λ (h : HeldBoard). h.doubtful) is) (subst (λ (b : Board). Rests b disk) (sym (ap (λ (h : HeldBoard). h.board) is)) rests)
+  pub next_kept : (next : Board) (disk : Disk) → Follows next after → RestsOn after.board disk → IsKept (unless_doubtful after) disk
+  next_kept next disk follows rests = kept_on after disk follows.sure rests
 
-  pub same_kept : (disk : Disk) → after ≡ before → Rests before.board disk → IsKept (unless_doubtful after) disk
-  same_kept disk is rests = kept_on after disk (ap (λ (h : HeldBoard). h.doubtful) is ∙ certain) (subst (λ (b : Board). Rests b disk) (sym (ap (λ (h : HeldBoard). h.board) is)) rests)
+  pub same_kept : (disk : Disk) → after ≡ before → RestsOn before.board disk → IsKept (unless_doubtful after) disk
+  same_kept disk is rests = kept_on after disk (ap (λ (h : HeldBoard). h.doubtful) is ∙ certain) (subst (λ (b : Board). RestsOn b disk) (sym (ap (λ (h : HeldBoard). h.board) is)) rests)
 
   pub none_kept : (disk : Disk) → after ≡ doubted before → IsSettled disk → IsKept (unless_doubtful after) disk
   none_kept disk is settled = lost_on after disk (ap (λ (h : HeldBoard). h.doubtful) is) settled
 
-  pub next_sure : (next : Board) → after ≡ sure next → IsBoard next → AreSure (unless_doubtful after)
-  next_sure next is ok = sure_on after (ap (λ (h : HeldBoard). h.doubtful) is) (subst IsBoard (sym (ap (λ (h : HeldBoard). h.board) is)) ok)
+  pub next_sure : (next : Board) → Follows next after → AreSure (unless_doubtful after)
+  next_sure next follows = sure_on after follows.sure follows.valid
 
   pub same_sure : after ≡ before → IsBoard before.board → AreSure (unless_doubtful after)
   same_sure is ok = sure_on after (ap (λ (h : HeldBoard). h.doubtful) is ∙ certain) (subst IsBoard (sym (ap (λ (h : HeldBoard). h.board) is)) ok)

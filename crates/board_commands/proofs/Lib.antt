@@ -9,5 +9,9 @@ pub mod ReportLaws
 pub mod StateLaws
 pub mod TurnLaws
 pub mod KeptLaws
+pub mod LikeLaws
+pub mod LikeTurns
+pub mod CheckLaws
+pub mod EnrollAlike
 pub mod CauseLaws
 pub mod WriteLaws

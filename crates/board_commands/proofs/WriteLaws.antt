@@ -11,10 +11,15 @@ use Rattle.intent_journal.specs.Journal.{IsClosed, intent_of, open_patches}
 use Rattle.intent_journal.specs.Patches.{Files, are_within, byte_count}
 use Rattle.intent_journal.specs.Recovered.{recovered}
 use Rattle.board_layout.specs.Board.{Board}
+use Rattle.board_layout.specs.Valid.{IsBoard}
+use Rattle.mail_board.proofs.EachBound.{bound_alike}
+use Rattle.mail_board.specs.Held.{AreAlike}
 use Rattle.mail_board.specs.Loading.{AreOld}
 use Rattle.mail_board.specs.Written.{KeepsBoundOf}
 use Rattle.board_commands.proofs.BoardActs.{AreTurns}
+use Rattle.board_commands.proofs.LikeLaws.{some_outlined}
 use Rattle.board_commands.proofs.StateLaws.{one_state}
+use Rattle.board_commands.specs.Kept.{IsOutlined}
 use Rattle.board_commands.specs.State.{State, NotMade, Made, Old, Spoiled, Stores, migrated, state_of}
 use Rattle.board_commands.specs.Turns.{Turn, on_board}
 use Rattle.board_commands.specs.WriteBound.{KeepsWriteBound, WritesWithin}
@@ -58,9 +63,12 @@ module _ (turns : Shelf.Files → Option Board → Turn → Type 0) (laws : AreT
   of_made b next turn takes is kept today stepped step =
       subst (λ (end : State). WritesWithin (Made b) end old.wrote new.wrote) (sym (next_is b next turn takes is stepped step)) (omega (arith, kept, closed_found old mid.wrote closed (found today)))
 
-  pub turned_within : (board : Option Board) → ((state : State) → Stores state (recovered old.files) → migrated state ≡ state_of board) → (b next : Board) → board ≡ Some b → (turn : Turn) → turns shelf (Some b) turn → turn.board ≡ Some next
-      → KeepsBoundOf b next mid.wrote new.wrote → KeepsWriteBound (on_board turns) old new shelf
-  turned_within board stands b next board_is turn takes is kept state stores today =
-      let made : state ≡ Made b = sym today ∙ stands state stores ∙ ap state_of board_is in
+  -- whichever board has the outline of the one that is kept, the turn is taken on it
+  pub turned_within : (kept : Option Board) → ((state : State) → Stores state (recovered old.files) → IsOutlined (migrated state) kept) → (b : Board) → kept ≡ Some b → (next : Board → Board) → ((real : Board) → AreAlike real b → AreAlike (next real) (next b))
+      → (turn : Board → Turn) → ((real : Board) → IsBoard real → AreAlike real b → turns shelf (Some real) (turn real) × ((turn real).board ≡ Some (next real))) → KeepsBoundOf b (next b) mid.wrote new.wrote → KeepsWriteBound (on_board turns) old new shelf
+  turned_within kept stands b some next each turn takes bound state stores today =
+      let real = some_outlined (migrated state) kept b some (stands state stores) in
+      let made : state ≡ Made real.board = sym today ∙ real.is in
+      let one = takes real.board real.valid real.alike in
       subst (λ (s : State). (stepped : Stepped (World State)) → (on_board turns).Step (here s shelf) stepped → WritesWithin s stepped.world.state old.wrote new.wrote) (sym made)
-      (of_made b next turn takes is kept (not_old state (recovered old.files) stores today))
+      (of_made real.board (next real.board) (turn real.board) one.0 one.1 (bound_alike real.board b (next real.board) (next b) mid.wrote new.wrote real.alike (each real.board real.alike) bound) (not_old state (recovered old.files) stores today))

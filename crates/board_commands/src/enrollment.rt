@@ -1,5 +1,6 @@
 //! The command `enroll`.
-ghost use Rattle.std.specs.Prelude.{◌≡◌, ◌<◌, IfOk, IsTrue};
+ghost use Rattle.std.specs.Prelude.{◌≡◌, ◌<◌, IfOk, IsTrue, Option};
+ghost use Rattle.board_layout.specs.Board as Boards;
 ghost use Rattle.command_words.specs.Choice.{ChoiceReads, places_from};
 ghost use Rattle.command_words.specs.declared.choice.Choice as Choices;
 ghost use Rattle.door_outside.specs.Shelf.{Files};
@@ -10,7 +11,7 @@ ghost use Rattle.mail_board.specs.declared.change.Change.TheVariants.{Enroll};
 ghost use Rattle.board_commands.specs.Enrolling.{MayEnroll};
 ghost use Rattle.board_commands.specs.Enroll.{enroll_refusals, enrolled_line, enrolls, first_refusal, is_net as is_net_of};
 ghost use Rattle.board_commands.specs.Halts.{told};
-ghost use Rattle.board_commands.specs.Kept.{AreSure, IsKept, IsRead, kept_board, unread};
+ghost use Rattle.board_commands.specs.Kept.{AreLike, AreSure, IsKept, IsRead, kept_board, unread};
 ghost use Rattle.board_commands.specs.State.{State, Stores};
 
 use crate::finding::find;
@@ -96,7 +97,7 @@ struct Enrolling {
     user: Enrolled,
 }
 
-/// The enrolling of a user on the board that is kept, or why it is refused.
+/// The enrolling of a user on each board with the outline that is kept, or why it is refused.
 fn prepared(
     alloc: Global,
     kept: &Option<Loaded>,
@@ -107,7 +108,7 @@ fn prepared(
     requires choice { (choice : Choices.Choice) × ChoiceReads conferences.now choice }
     requires read { IsRead kept.now }
     requires sure { AreSure kept.now }
-    ensures { MayEnroll name.now flags.now conferences.now (kept_board kept.now) result }
+    ensures { (board : Option Boards.Board) → AreLike board (kept_board kept.now) → MayEnroll name.now flags.now conferences.now board result }
 {
     let Some(Loaded::Ready(board)) = kept else {
         return Err(BoardHalt::Refused(Refusal::NotMade));

@@ -3,6 +3,7 @@ ghost use Rattle.std.specs.Prelude.{◌≡◌, ◌≢◌, Some, None, IsErrOf, I
 ghost use Rattle.board_changes.specs.Changed.{made};
 ghost use Rattle.board_layout.specs.Board as Boards;
 ghost use Rattle.entry_runs.specs.Entry.{Changes};
+ghost use Rattle.intent_journal.specs.Recovered.{recovered};
 ghost use Rattle.mail_board.specs.Causes.{HasFault};
 ghost use Rattle.mail_board.specs.Changes.{changed, Fits};
 ghost use Rattle.mail_board.specs.Written.{WritesFew};
@@ -29,7 +30,8 @@ pub fn make_change<H: Host>(
     requires fits { (b : Boards.Board) → kept_board kept.old ≡ Some b → Fits change.now b }
     requires sure { AreSure kept.old }
     requires kept { IsTrue H.tells → IsKept kept.old (H.disk host.old) }
-    ensures changes { IsTrue H.tells → (b : Boards.Board) → kept_board kept.old ≡ Some b → Changes Stores unread (Made b) (Made (changed change.now b)) (H.disk host.old) (H.disk host.new) result }
+    // Whichever board the host's files are, with the outline of the one that is kept.
+    ensures changes { IsTrue H.tells → (b : Boards.Board) → Stores (Made b) (recovered (H.disk host.old).files) → Changes Stores unread (Made b) (Made (changed change.now b)) (H.disk host.old) (H.disk host.new) result }
     ensures kept { IsTrue H.tells → IsKept kept.new (H.disk host.new) }
     ensures sure { AreSure kept.new }
     ensures unchanged { IsErrOf result JournalError.OutOfMemory → host.new ≡ host.old }

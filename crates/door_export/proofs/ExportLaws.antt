@@ -6,6 +6,7 @@ use Rattle.board_layout.specs.Lookups.{user_of}
 use Rattle.board_layout.specs.Valid.{IsBoard}
 use Rattle.board_ledger.specs.declared.user.User.{User}
 use Rattle.mail_board.specs.Changes.{Fits}
+use Rattle.mail_board.specs.Held.{HeldBoard}
 use Rattle.mail_board.specs.Readers.{user_id}
 use Rattle.mail_board.specs.declared.change.Change.TheVariants.{Offer}
 use Rattle.mail_board.specs.declared.change.ChangeError.{ChangeError}
@@ -16,7 +17,7 @@ use Rattle.offer_changes.proofs.UserLaws.{Alike, user_there}
 use Rattle.offered_packets.specs.Offered.{highs, offered}
 use Rattle.door_export.proofs.HighsFit.{offer_may}
 use Rattle.door_export.specs.Export.{ExportRefusal, NoUser, Limit, Packets, board_after, export_as, export_of, export_to, packet_to, unless_refused, user_refusal}
-use Rattle.door_export.specs.Exporting.{LeavesAll, error_of, of_change, refusal_of}
+use Rattle.door_export.specs.Exporting.{KeepsOffer, LeavesAll, error_of, of_change, refusal_of}
 use Rattle.door_export.specs.declared.exporting.ExportError.{ExportError}
 
 -- ---- a user who isn't refused
@@ -91,3 +92,15 @@ pub undone : {T : Type 0} (e : ChangeError) (result : Result T ExportError) → 
 undone change.DiskFault result is early = absurd (subst LeavesAll is early)
 undone change.Doubt result is early = inl refl
 undone change.OutOfMemory result is early = inr refl
+
+-- none of them keeps the offer
+pub kept_never : {T : Type 0} (e : ChangeError) (result : Result T ExportError) → result ≡ Err (of_change e) → KeepsOffer result → ⊥
+kept_never change.DiskFault result is kept = subst KeepsOffer is kept
+kept_never change.Doubt result is kept = subst KeepsOffer is kept
+kept_never change.OutOfMemory result is kept = subst KeepsOffer is kept
+
+-- one behind which the board is in no doubt leaves all as it was
+pub undone_sure : (e : ChangeError) (old new : HeldBoard) → (e ≡ change.DiskFault → new ≡ record { board = old.board; doubtful = true }) → new.doubtful ≡ false → (e ≡ change.Doubt) ⊎ (e ≡ change.OutOfMemory)
+undone_sure change.DiskFault old new fault certain = absurd (cc (ap (λ (held : HeldBoard). held.doubtful) (fault refl), certain))
+undone_sure change.Doubt old new fault certain = inl refl
+undone_sure change.OutOfMemory old new fault certain = inr refl

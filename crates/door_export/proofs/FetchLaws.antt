@@ -1,5 +1,5 @@
 -- What a packet shows of the messages that the host gives, and what fetching them leaves of the board's files.
-use Rattle.std.proofs.Common.{◌≡◌, ℕ, ◌+◌, ◌≤◌, Bool, true, false, cond, List, [], ◌∷◌, ◌++◌, length, take, Option, Some, None, refl, sym, ap, ◌∙◌, arith, length-append}
+use Rattle.std.proofs.Common.{◌≡◌, ℕ, ◌+◌, ◌≤◌, inl, inr, ⊎_elim, Bool, true, false, cond, List, [], ◌∷◌, ◌++◌, length, take, Option, Some, None, refl, sym, ap, ◌∙◌, arith, length-append}
 use Rattle.std.specs.Prelude.{All, IfSome, option_and_then, option_map, slice_get, ◌==◌}
 use Rattle.std.specs.List.{cons_option}
 use Rattle.std.proofs.lemmas.List.{append-nil}
@@ -11,7 +11,7 @@ use Rattle.board_layout.specs.Lookups.{held_in}
 use Rattle.board_layout.specs.Outlines.{board_outline}
 use Rattle.board_layout.specs.Renewed.{contents_of}
 use Rattle.board_layout.specs.Valid.{IsBoard}
-use Rattle.door_outside.specs.Disk.{Disk, AllNow, Unchanged}
+use Rattle.door_outside.specs.Disk.{Disk, Image, AllNow, Between, Unchanged}
 use Rattle.door_outside.proofs.Moments.{now_unchanged}
 use Rattle.jam_base.specs.Contents.{Contents}
 use Rattle.jam_base.specs.Slots.{numbered}
@@ -21,10 +21,10 @@ use Rattle.jam_records.specs.declared.message.Slot.{Slot}
 use Rattle.jam_records.specs.declared.message.Slot.TheVariants.{Gone}
 use Rattle.mail_board.proofs.CommitLaws.{calm_now}
 use Rattle.mail_board.proofs.DataLaws.{layout_moves}
-use Rattle.mail_board.specs.Held.{BeforeOrNext, Rests}
+use Rattle.mail_board.specs.Held.{AreAlike, BeforeOrNext, Holds}
 use Rattle.mail_board.specs.Readers as read
 use Rattle.offered_packets.proofs.BoardLookups.{base_slots, no_slots}
-use Rattle.offered_packets.proofs.OutlineLaws.{outline_message}
+use Rattle.offered_packets.proofs.OutlineLaws.{outline_message, outline_shown}
 use Rattle.offered_packets.specs.Sees.{message_at}
 use Rattle.offered_packets.specs.Shown.{IsShort, shown, shown_all, shown_message}
 use Rattle.offered_packets.specs.declared.offered_message.OfferedMessage.{OfferedMessage}
@@ -54,8 +54,8 @@ message_is b place number ok = by (slice_get (contents_of b) place) refl
     by (Some base) e = ap (λ (o : Option Contents). option_and_then (λ base. held_in (numbered base.conference.slots number)) o) e ∙ ap in_slots (base_slots b (contents_of b) place base back e)
 
 module _ (b : Board) (place number : ℕ) (ok : IsBoard b) where
-  pub outline_there : (m : Message) → Some m ≡ read.message_at place number b → message_at (board_outline b) place number ≡ Some (message_outline m)
-  outline_there m found = outline_message b place number ∙ ap (option_map message_outline) (sym (found ∙ message_is b place number ok))
+  pub outline_there : (m : Message) → option_map message_outline (Some m) ≡ option_map message_outline (read.message_at place number b) → message_at (board_outline b) place number ≡ Some (message_outline m)
+  outline_there m found = outline_message b place number ∙ sym (found ∙ ap (option_map message_outline) (message_is b place number ok))
 
   pub shown_there : (logical : ℕ) (m : Message) (q : QwkMessage) → Some m ≡ read.message_at place number b → q ≡ shown_message b place number logical m → Some q ≡ shown b place number logical
   unfolding shown
@@ -64,6 +64,11 @@ module _ (b : Board) (place number : ℕ) (ok : IsBoard b) where
   pub shown_nowhere : (logical : ℕ) → None ≡ read.message_at place number b → None ≡ shown b place number logical
   unfolding shown
   shown_nowhere logical found = ap (option_map (shown_message b place number logical)) (found ∙ message_is b place number ok)
+
+-- boards with one outline show a message at hand alike
+pub shown_alike : (a b : Board) → AreAlike a b → (place number logical : ℕ) (m : Message) → shown_message a place number logical m ≡ shown_message b place number logical m
+shown_alike a b alike place number logical m =
+    sym (outline_shown a place number logical m) ∙ (ap (λ (o : Board). shown_message o place number logical m) alike ∙ outline_shown b place number logical m)
 
 -- ---- a packet so far, and one message more
 pub none_shown : (b : Board) (messages : List OfferedMessage) → [] ≡ shown_all b (take 0 messages)
@@ -83,6 +88,20 @@ more_few packet (Some q) i few = omega (arith, length-append packet (q ∷ []), 
 pub unchanged_never : (disk : Disk) → Unchanged disk disk
 unchanged_never disk = record { files = refl; said = refl; clock = refl; wrote = refl; leaves = λ t image left. left; left = λ t image left. left }
 
-module _ (b next : Board) (old mid : Disk) (rests : Rests b old) (same : Unchanged old mid) where
+module _ (b next : Board) (old mid : Disk) (holds : Holds b old) (same : Unchanged old mid) where
   pub fetched_now : AllNow mid (BeforeOrNext (IsLayout b) next old)
-  fetched_now = now_unchanged same (calm_now (IsLayout b) (layout_moves b) next old rests.calm rests.files)
+  fetched_now = now_unchanged same (calm_now (IsLayout b) (layout_moves b) next old holds.1.calm holds.1.files)
+
+-- ---- a change behind it
+module _ (b next : Board) (old mid new : Disk) (same : Unchanged old mid) where
+  moved : (image : Image) → BeforeOrNext (IsLayout b) next mid image → BeforeOrNext (IsLayout b) next old image
+  moved image it = record { said = it.said ∙ same.said; files = it.files }
+
+  pub behind_moments : Between mid new (BeforeOrNext (IsLayout b) next mid) → Between old new (BeforeOrNext (IsLayout b) next old)
+  behind_moments moments = record {
+    later = omega (arith, moments.later, same.clock);
+    each = λ t image early left. ⊎_elim (λ then. inl (same.leaves t image then)) (λ it. inr (moved image it)) (moments.each t image (omega (arith, early, same.clock)) left);
+  }
+
+  pub behind_now : AllNow new (BeforeOrNext (IsLayout b) next mid) → AllNow new (BeforeOrNext (IsLayout b) next old)
+  behind_now now = λ image left. moved image (now image left)

@@ -4,3 +4,4 @@ pub mod ExportLaws
 pub mod FetchLaws
 pub mod AckLaws
 pub mod ExportedReads
+pub mod ExportAlike

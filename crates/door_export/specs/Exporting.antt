@@ -1,14 +1,20 @@
 -- What an export answers, and what it has prepared before it changes the board.
-use Rattle.std.specs.Prelude.{◌≡◌, Bool, IsTrue, Option, Some, None, Result, Ok, Err}
+use Rattle.std.specs.Prelude.{◌≡◌, ℕ, ◌+◌, List, length, Bool, IsTrue, Option, Some, None, Result, Ok, Err}
 use Rattle.board_layout.specs.Board.{Board}
 use Rattle.board_layout.specs.declared.error.ReadError.{ReadError}
 use Rattle.board_layout.specs.declared.error.ReadError.TheVariants as read
+use Rattle.board_ledger.specs.declared.user.User.{User}
 use Rattle.door_outside.specs.Disk.{Disk, Unchanged}
 use Rattle.mail_board.specs.Changes.{changed}
 use Rattle.mail_board.specs.Held.{HeldBoard}
+use Rattle.mail_board.specs.declared.change.Change.TheVariants.{Offer}
 use Rattle.mail_board.specs.declared.change.ChangeError.{ChangeError}
 use Rattle.mail_board.specs.declared.change.ChangeError.TheVariants as change
-use Rattle.door_export.specs.Export.{ExportRefusal, Handout}
+use Rattle.offered_packets.specs.Offered.{highs, offered}
+use Rattle.offered_packets.specs.Shown.{notice}
+use Rattle.qwk_blocks.specs.Written.{spelling}
+use Rattle.qwk_blocks.specs.declared.message.QwkMessage.{QwkMessage}
+use Rattle.door_export.specs.Export.{ExportRefusal, Handout, control_file}
 use Rattle.door_export.specs.Export as refusal
 use Rattle.door_export.specs.declared.exporting.ExportError.{ExportError}
 use Rattle.door_export.specs.declared.exporting.ExportError.TheVariants.{NoUser, Limit, Packets, DiskFault, Doubt, Damaged, ShelfFault, OutOfMemory}
@@ -29,6 +35,16 @@ of_read read.OutOfMemory = OutOfMemory
 -- the packet that is prepared for a board
 abbrev pub packet_of : Exporting → Board → Handout
 packet_of e b = record { board = changed e.change b; controls = e.controls; messages = e.messages; answer = e.exported }
+
+-- the change, the control and the answer are those of the packet to a user; an outline tells them
+pub record IsPreparedFor (limit now : ℕ) (b : Board) (id : ℕ) (u : User) (e : Exporting) : Type 0 where
+  pub change : e.change ≡ Offer id (highs b (offered b id limit))
+  pub controls : e.controls ≡ control_file b id u limit now
+  pub exported : e.exported ≡ record { packet = u.last + 1; count = length (offered b id limit) }
+
+-- and the messages are these, behind the notice of his next packet
+abbrev pub HasMessages : List QwkMessage → User → Exporting → Type 0
+HasMessages messages u e = e.messages ≡ spelling (notice (u.last + 1)) messages
 
 -- the error as which a refusal is answered
 abbrev pub error_of : ExportRefusal → ExportError

@@ -1,12 +1,13 @@
 //! An acknowledgement: what was offered to a user is read up to it.
 ghost use Rattle.std.specs.Prelude.{◌≡◌, ◌↔◌, true, Ok, Err, IfOk, IfErr, IsErrOf, IsOk, IsTrue, IsFalse, OnOk};
 ghost use Rattle.std.specs.Result.{result_err};
+ghost use Rattle.board_layout.specs.Board as Boards;
 ghost use Rattle.board_layout.specs.Layout.{IsLayout};
 ghost use Rattle.door_outside.specs.Disk.{AllNow, Between};
 ghost use Rattle.intent_journal.specs.Hosts.{IsSettled};
 ghost use Rattle.mail_board.specs.Causes.{HasFault};
 ghost use Rattle.mail_board.specs.Changes.{changed, Fits};
-ghost use Rattle.mail_board.specs.Held.{BeforeOrNext, Rests, sure};
+ghost use Rattle.mail_board.specs.Held.{AreAlike, BeforeOrNext, Follows, Holds, Rests, RestsOn};
 ghost use Rattle.door_export.specs.Ack.{ack_of, board_after};
 ghost use Rattle.door_export.specs.Acknowledging.{IsEarly, LeavesAll, refusal_in};
 
@@ -58,7 +59,7 @@ fn prepared(board: &Board, name: &[u8], packet: u32, now: u32) -> Result<Change,
     ensures doubt { (result ≡ Err AckError.Doubt) ↔ (IsOk (ack_of name.now packet now board.now.board) × IsTrue board.now.doubtful) }
     ensures sure { OnOk result (IsFalse board.now.doubtful) }
     ensures fits { IfOk result (λ change. Fits change board.now.board) }
-    ensures board { IfOk result (λ change. Ok (changed change board.now.board) ≡ ack_of name.now packet now board.now.board) }
+    ensures board { IfOk result (λ change. (b : Boards.Board) → AreAlike b board.now.board → Ok (changed change b) ≡ ack_of name.now packet now b) }
 {
     let Some(reader) = reader_of(board, name) else {
         return Err(AckError::NoUser);
@@ -78,8 +79,8 @@ fn prepared(board: &Board, name: &[u8], packet: u32, now: u32) -> Result<Change,
 
 /// Acknowledges an open packet for the user of a name, ignoring ASCII case: in each conference with a high above his
 /// last-read pointer the messages to him up to that high are marked read at a moment in Unix seconds, and then the
-/// pointer is the high. That offer goes, and the others stay. Where the board isn't doubtful, the host's files are those
-/// of this board, and the host rests. It says nothing.
+/// pointer is the high. That offer goes, and the others stay. Where the board isn't doubtful, the host rests, and its
+/// files are those of a board with this outline. It says nothing.
 ///
 /// `NoUser` comes where no user has the name, else `NoPacket` where no open packet of his has the number, with the
 /// greatest number of one that is open, else `Doubt` where the board is doubtful, and `OutOfMemory` before the first
@@ -93,23 +94,24 @@ pub fn acknowledge<H: Host>(
     packet: u32,
     now: u32,
 ) -> Result<(), AckError>
-    requires rests { IsTrue H.tells → IsFalse board.old.doubtful → Rests board.old.board (H.disk host.old) }
+    requires rests { IsTrue H.tells → IsFalse board.old.doubtful → RestsOn board.old.board (H.disk host.old) }
 
-    // A crash at any moment leaves the board before the acknowledgement or the one after it.
-    ensures moments { IsTrue H.tells → IsFalse board.old.doubtful → Between (H.disk host.old) (H.disk host.new) (BeforeOrNext (IsLayout board.old.board) (board_after board.old.board (ack_of user.now packet now board.old.board)) (H.disk host.old)) }
-    ensures now { IsTrue H.tells → IsFalse board.old.doubtful → AllNow (H.disk host.new) (BeforeOrNext (IsLayout board.old.board) (board_after board.old.board (ack_of user.now packet now board.old.board)) (H.disk host.old)) }
+    // Whichever board the host holds, a crash at any moment leaves that board or the one after the acknowledgement.
+    ensures moments { IsTrue H.tells → IsFalse board.old.doubtful → (b : Boards.Board) → Holds b (H.disk host.old) → Between (H.disk host.old) (H.disk host.new) (BeforeOrNext (IsLayout b) (board_after b (ack_of user.now packet now b)) (H.disk host.old)) }
+    ensures now { IsTrue H.tells → IsFalse board.old.doubtful → (b : Boards.Board) → Holds b (H.disk host.old) → AllNow (H.disk host.new) (BeforeOrNext (IsLayout b) (board_after b (ack_of user.now packet now b)) (H.disk host.old)) }
     ensures settled { IsTrue H.tells → IsFalse board.old.doubtful → IsSettled (H.disk host.new) }
 
     ensures refused { refusal_in result ≡ result_err (ack_of user.now packet now board.old.board) }
     ensures doubt { (result ≡ Err AckError.Doubt) ↔ (IsOk (ack_of user.now packet now board.old.board) × IsTrue board.old.doubtful) }
     ensures unchanged { LeavesAll result → (board.new ≡ board.old) × (host.new ≡ host.old) }
-    ensures board { OnOk result (board.new ≡ sure (board_after board.old.board (ack_of user.now packet now board.old.board))) }
-    ensures rests { OnOk result (IsTrue H.tells → Rests (board_after board.old.board (ack_of user.now packet now board.old.board)) (H.disk host.new)) }
+    ensures board { OnOk result (Follows (board_after board.old.board (ack_of user.now packet now board.old.board)) board.new) }
+    ensures next { OnOk result (IsTrue H.tells → (b : Boards.Board) → Holds b (H.disk host.old) → Rests (board_after b (ack_of user.now packet now b)) (H.disk host.new)) }
+    ensures rests { OnOk result (IsTrue H.tells → RestsOn board.new.board (H.disk host.new)) }
     ensures fault { IsErrOf result AckError.DiskFault → board.new ≡ record { board = board.old.board; doubtful = true } }
     ensures disk_cause { HasFault AckError.DiskFault (H.disk_faults host.old) (H.disk_faults host.new) result }
     ensures voice { H.voice_faults host.new ≡ H.voice_faults host.old }
 {
-    let change = prepared(board, user, packet, now)?;
-    board.change(alloc, host, &change)?;
+    let acknowledged = prepared(board, user, packet, now)?;
+    board.change(alloc, host, &acknowledged)?;
     Ok(())
 }

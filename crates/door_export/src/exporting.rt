@@ -1,6 +1,7 @@
 //! An export: a packet is made of what a user is offered, offered to him, and written.
 ghost use Rattle.std.specs.Prelude.{◌≡◌, ◌⊎◌, true, ◌↔◌, Ok, Err, Some, None, IfOk, IfErr, IsErrOf, IsOk, IsTrue, IsFalse, OnOk, option_map};
 ghost use Rattle.std.specs.Result.{result_err, result_ok};
+ghost use Rattle.board_layout.specs.Board as Boards;
 ghost use Rattle.board_layout.specs.Layout.{IsLayout};
 ghost use Rattle.board_layout.specs.Lookups.{user_of};
 ghost use Rattle.board_layout.specs.Rules.{HasReadCause};
@@ -10,10 +11,12 @@ ghost use Rattle.entry_runs.specs.Door.{SameBut};
 ghost use Rattle.intent_journal.specs.Hosts.{IsSettled};
 ghost use Rattle.jam_records.specs.declared.damage.Damage.{Damage};
 ghost use Rattle.mail_board.specs.Causes.{HasFault};
-ghost use Rattle.mail_board.specs.Changes.{Fits};
-ghost use Rattle.mail_board.specs.Held.{BeforeOrNext, Rests, sure};
-ghost use Rattle.door_export.specs.Export.{board_after, export_of, packet_to, user_refusal};
-ghost use Rattle.door_export.specs.Exporting.{error_of, AreLeft, AsksNothing, IsBefore, KeepsOffer, LeavesAll, packet_of as packet_made, refusal_in};
+ghost use Rattle.mail_board.specs.Changes.{changed, Fits};
+ghost use Rattle.mail_board.specs.Held.{BeforeOrNext, Follows, Holds, Rests, RestsOn};
+ghost use Rattle.offered_packets.specs.Offered.{offered as offered_of};
+ghost use Rattle.offered_packets.specs.Shown.{shown_all};
+ghost use Rattle.door_export.specs.Export.{board_after, export_of, user_refusal};
+ghost use Rattle.door_export.specs.Exporting.{error_of, AreLeft, AsksNothing, HasMessages, IsBefore, IsPreparedFor, KeepsOffer, LeavesAll, packet_of as packet_made, refusal_in};
 ghost use Rattle.door_export.specs.Folder.{folder_names, with_packet};
 ghost use Rattle.door_export.specs.declared.exporting.ExportError.TheVariants.{OutOfMemory};
 
@@ -134,8 +137,8 @@ fn refusal_of(limit: u32, user: &User) -> Option<ExportError>
 }
 
 /// The packet of what is offered to a user, made at a moment. The board isn't doubtful, and the host's files are those
-/// of this board. Its messages are fetched from the host, of which nothing changes. All memory of an export but that of
-/// the names is taken here.
+/// of a board with this outline. Its messages are fetched from the host, of which nothing changes. All memory of an
+/// export but that of the names is taken here.
 fn packet_for<H: Host>(
     alloc: Global,
     board: &Board,
@@ -148,9 +151,10 @@ fn packet_for<H: Host>(
     requires user { user_of id board.now.board ≡ Some user.now }
     requires may { user_refusal limit user.now ≡ None }
     requires sure { IsFalse board.now.doubtful }
-    requires rests { IsTrue H.tells → Rests board.now.board (H.disk host.old) }
+    requires rests { IsTrue H.tells → RestsOn board.now.board (H.disk host.old) }
     ensures fits { IfOk result (λ e. Fits e.change board.now.board) }
-    ensures packet { IfOk result (λ e. packet_made e board.now.board ≡ packet_to limit now board.now.board id user.now) }
+    ensures prepared { IfOk result (IsPreparedFor limit now board.now.board id user.now) }
+    ensures messages { IsTrue H.tells → (b : Boards.Board) → Holds b (H.disk host.old) → IfOk result (HasMessages (shown_all b (offered_of board.now.board id limit)) user.now) }
     ensures unchanged { IsTrue H.tells → Unchanged (H.disk host.old) (H.disk host.new) }
     ensures undamaged { IsTrue H.tells → (damage : Damage) → ¬ (result ≡ Err (ReadError.Damaged damage)) }
     ensures cause { HasReadCause (H.disk_faults host.old) (H.disk_faults host.new) result }
@@ -181,13 +185,15 @@ fn prepared<H: Host>(
     limit: u32,
     now: u32,
 ) -> Result<Exporting, ExportError>
-    requires rests { IsTrue H.tells → IsFalse board.now.doubtful → Rests board.now.board (H.disk host.old) }
+    requires rests { IsTrue H.tells → IsFalse board.now.doubtful → RestsOn board.now.board (H.disk host.old) }
     ensures refused { refusal_in result ≡ result_err (export_of name.now limit now board.now.board) }
     ensures early { IfErr result IsBefore }
     ensures doubt { (result ≡ Err ExportError.Doubt) ↔ (IsOk (export_of name.now limit now board.now.board) × IsTrue board.now.doubtful) }
     ensures sure { OnOk result (IsFalse board.now.doubtful) }
     ensures fits { IfOk result (λ e. Fits e.change board.now.board) }
-    ensures packet { IfOk result (λ e. Ok (packet_made e board.now.board) ≡ export_of name.now limit now board.now.board) }
+    ensures answer { IfOk result (λ e. option_map (λ p. p.answer) (result_ok (export_of name.now limit now board.now.board)) ≡ Some e.exported) }
+    ensures board { IfOk result (λ e. board_after board.now.board (export_of name.now limit now board.now.board) ≡ changed e.change board.now.board) }
+    ensures packet { IsTrue H.tells → (b : Boards.Board) → Holds b (H.disk host.old) → IfOk result (λ e. Ok (packet_made e b) ≡ export_of name.now limit now b) }
     ensures asked { AsksNothing result → host.new ≡ host.old }
     ensures unchanged { IsTrue H.tells → Unchanged (H.disk host.old) (H.disk host.new) }
     ensures undamaged { IsTrue H.tells → (damage : Damage) → ¬ (result ≡ Err (ExportError.Damaged damage)) }
@@ -208,8 +214,8 @@ fn prepared<H: Host>(
 
 /// Hands out to the user of a name, ignoring ASCII case, the messages that are offered to him, at most as many as the
 /// limit: it fetches them from the host, keeps the offer, and then writes CONTROL.DAT and MESSAGES.DAT of the folder. No
-/// last-read pointer moves. `now` is in Unix seconds. Where the board isn't doubtful, the host's files are those of this
-/// board, and the host rests; and so it is afterwards, unless the board is doubtful then. It says nothing.
+/// last-read pointer moves. `now` is in Unix seconds. Where the board isn't doubtful, the host rests, and its files are
+/// those of a board with this outline; and so it is afterwards, unless the board is doubtful then. It says nothing.
 ///
 /// `NoUser` comes where no user has the name, else `Limit` where the limit isn't 1 to 2,000, else `Packets` where his
 /// last packet has the number 4,294,967,295, else `Doubt` where the board is doubtful: all of them before any call of
@@ -229,11 +235,11 @@ pub fn export<H: Host, S: Shelf>(
     now: u32,
 ) -> Result<Exported, ExportError>
     requires folder { HasParts 3 folder.now }
-    requires rests { IsTrue H.tells → IsFalse board.old.doubtful → Rests board.old.board (H.disk host.old) }
+    requires rests { IsTrue H.tells → IsFalse board.old.doubtful → RestsOn board.old.board (H.disk host.old) }
 
-    // A crash at any moment leaves the board before the offer or the one after it.
-    ensures moments { IsTrue H.tells → IsFalse board.old.doubtful → Between (H.disk host.old) (H.disk host.new) (BeforeOrNext (IsLayout board.old.board) (board_after board.old.board (export_of user.now limit now board.old.board)) (H.disk host.old)) }
-    ensures now { IsTrue H.tells → IsFalse board.old.doubtful → AllNow (H.disk host.new) (BeforeOrNext (IsLayout board.old.board) (board_after board.old.board (export_of user.now limit now board.old.board)) (H.disk host.old)) }
+    // Whichever board the host holds, a crash at any moment leaves that board or the one after the offer.
+    ensures moments { IsTrue H.tells → IsFalse board.old.doubtful → (b : Boards.Board) → Holds b (H.disk host.old) → Between (H.disk host.old) (H.disk host.new) (BeforeOrNext (IsLayout b) (board_after b (export_of user.now limit now b)) (H.disk host.old)) }
+    ensures now { IsTrue H.tells → IsFalse board.old.doubtful → (b : Boards.Board) → Holds b (H.disk host.old) → AllNow (H.disk host.new) (BeforeOrNext (IsLayout b) (board_after b (export_of user.now limit now b)) (H.disk host.old)) }
     ensures settled { IsTrue H.tells → IsFalse board.old.doubtful → IsSettled (H.disk host.new) }
 
     // What is refused, and what leaves all as it was.
@@ -244,14 +250,15 @@ pub fn export<H: Host, S: Shelf>(
     ensures unchanged { LeavesAll result → AreLeft H.tells board.old board.new (H.disk host.old) (H.disk host.new) × (shelf.new ≡ shelf.old) }
     ensures fault { IsErrOf result ExportError.DiskFault → (AreLeft H.tells board.old board.new (H.disk host.old) (H.disk host.new) ⊎ (board.new ≡ record { board = board.old.board; doubtful = true })) × (shelf.new ≡ shelf.old) }
 
-    // The packet, and its files.
+    // The packet, and its files, which show the board that the host holds.
     ensures answer { IfOk result (λ exported. option_map (λ p. p.answer) (result_ok (export_of user.now limit now board.old.board)) ≡ Some exported) }
-    ensures files { IsTrue S.tells → OnOk result (Some (S.files shelf.new) ≡ option_map (λ p. with_packet folder.now p.controls p.messages (S.files shelf.old)) (result_ok (export_of user.now limit now board.old.board))) }
+    ensures files { IsTrue S.tells → IsTrue H.tells → (b : Boards.Board) → Holds b (H.disk host.old) → OnOk result (Some (S.files shelf.new) ≡ option_map (λ p. with_packet folder.now p.controls p.messages (S.files shelf.old)) (result_ok (export_of user.now limit now b))) }
     ensures others { IsTrue S.tells → IsErrOf result ExportError.ShelfFault → SameBut (folder_names folder.now) (S.files shelf.old) (S.files shelf.new) }
 
     // The offer, which a shelf fault leaves kept; and the host is the board's, unless that is doubtful.
-    ensures board { KeepsOffer result → board.new ≡ sure (board_after board.old.board (export_of user.now limit now board.old.board)) }
-    ensures rests { IsTrue H.tells → IsFalse board.old.doubtful → IsFalse board.new.doubtful → Rests board.new.board (H.disk host.new) }
+    ensures board { KeepsOffer result → Follows (board_after board.old.board (export_of user.now limit now board.old.board)) board.new }
+    ensures next { KeepsOffer result → IsTrue H.tells → (b : Boards.Board) → Holds b (H.disk host.old) → Rests (board_after b (export_of user.now limit now b)) (H.disk host.new) }
+    ensures rests { IsTrue H.tells → IsFalse board.old.doubtful → IsFalse board.new.doubtful → RestsOn board.new.board (H.disk host.new) }
 
     ensures disk_cause { HasFault ExportError.DiskFault (H.disk_faults host.old) (H.disk_faults host.new) result }
     ensures shelf_cause { HasFault ExportError.ShelfFault (S.faults shelf.old) (S.faults shelf.new) result }

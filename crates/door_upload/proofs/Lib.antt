@@ -5,3 +5,5 @@ pub mod UploadFits
 pub mod OneUpload
 pub mod AnswerLaws
 pub mod PacketReading
+pub mod UploadAlike
+pub mod FoundAlike

@@ -1,11 +1,15 @@
 -- What an upload answers.
 use Rattle.std.specs.Prelude.{◌≡◌, ◌⊎◌, ℕ, List, Bool, true, false, Result, Ok, Err}
+use Rattle.board_layout.specs.Board.{Board}
 use Rattle.board_layout.specs.Valid.{IsBoard}
 use Rattle.mail_board.specs.Changes.{changed, Fits}
-use Rattle.mail_board.specs.Held.{HeldBoard}
+use Rattle.mail_board.specs.Held.{AreAlike, HeldBoard}
 use Rattle.mail_board.specs.Written.{IsPosting}
+use Rattle.mail_board.specs.declared.change.Change.TheVariants as posting
 use Rattle.mail_board.specs.declared.change.ChangeError.{ChangeError}
 use Rattle.mail_board.specs.declared.change.ChangeError.TheVariants as change
+use Rattle.packet_verdicts.specs.Judged.{judged, refused_count}
+use Rattle.qwk_blocks.specs.declared.message.QwkMessage.{QwkMessage}
 use Rattle.rep_packet.specs.declared.fault.RepError.{RepError}
 use Rattle.rep_packet.specs.declared.fault.RepError.TheVariants as rep
 use Rattle.door_upload.specs.Upload.{Upload, UploadRefusal, UploadGives}
@@ -45,6 +49,17 @@ abbrev pub IsFound : HeldBoard → Uploading → Upload → Type 0
 IsFound h (found.Again counts) u = u ≡ upload.Again counts
 IsFound h (found.Judged change outcomes) u =
     Fits change h.board × (u ≡ upload.Judged (changed change h.board) outcomes) × (h.doubtful ≡ false) × IsPosting change × IsBoard h.board
+
+-- the change posts what was judged on this board, and these are the outcomes
+abbrev pub IsJudged : ℕ → List ℕ → ℕ → Board → List QwkMessage → Uploading → Type 0
+IsJudged id digest now b messages (found.Again counts) = Unit {0}
+IsJudged id digest now b messages (found.Judged change outcomes) =
+    let all = judged b id now messages in
+    (change ≡ posting.Upload id digest (refused_count all.0) all.1) × (outcomes ≡ all.0)
+
+-- P says it of each valid board with the outline of the one that is held
+abbrev pub OfEach : HeldBoard → (HeldBoard → Type 0) → Type 0
+OfEach h P = (b : Board) → IsBoard b → AreAlike b h.board → P (record { board = b; doubtful = h.doubtful })
 
 -- the packet is a new one
 abbrev pub IsNew : Result Upload UploadRefusal → Type 0

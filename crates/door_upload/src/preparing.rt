@@ -5,7 +5,7 @@ ghost use Rattle.mail_board.specs.Readers.{upload_of, user_id};
 ghost use Rattle.qwk_blocks.specs.Written.{Writable};
 ghost use Rattle.rep_packet.specs.Written.{IsRep};
 ghost use Rattle.door_upload.specs.Upload.{judged_upload, record_refusal, upload_read};
-ghost use Rattle.door_upload.specs.Uploading.{error_of, FindsFor, FindsIn, IsFound};
+ghost use Rattle.door_upload.specs.Uploading.{error_of, FindsFor, FindsIn, IsFound, IsJudged, OfEach};
 
 use crate::answer::UploadError;
 use board_layout::BOARD_LIMIT;
@@ -62,7 +62,8 @@ fn judged(
     requires record { record_refusal board.now.board ≡ None }
     requires few { length messages.now ≤ 8191 }
     requires writable { All Writable messages.now }
-    ensures { IfOk result (λ found. IsFound board.now found (judged_upload user digest.now now board.now.board messages.now)) }
+    ensures found { IfOk result (λ found. IsFound board.now found (judged_upload user digest.now now board.now.board messages.now)) }
+    ensures judged { IfOk result (IsJudged user digest.now now board.now.board messages.now) }
 {
     let Judged {
         outcomes,
@@ -92,7 +93,8 @@ fn prepared_for(
     requires user { IsSome (user_of user board.now.board) }
     requires few { length packet.now.messages ≤ 8191 }
     requires packet { IsRep packet.now }
-    ensures { FindsFor board.now (upload_read user digest.now now board.now.board packet.now) result }
+    ensures finds { FindsFor board.now (upload_read user digest.now now board.now.board packet.now) result }
+    ensures judged { IfOk result (IsJudged user digest.now now board.now.board packet.now.messages) }
 {
     let bbsid = board.setup().bbsid.as_slice();
     if !packet.bbsid.as_slice().eq_ignore_ascii_case(bbsid) {
@@ -110,8 +112,8 @@ fn prepared_for(
     Ok(judged(alloc, board, user, digest, &packet.messages, now)?)
 }
 
-/// What the bytes come to that the user of a name uploads at a moment. All memory of an upload but that of the change
-/// is taken here.
+/// What the bytes come to that the user of a name uploads at a moment, on whichever board with this outline. All memory
+/// of an upload but that of the change is taken here.
 pub(crate) fn prepared(
     alloc: Global,
     board: &Board,
@@ -121,6 +123,7 @@ pub(crate) fn prepared(
 ) -> Result<Uploading, UploadError>
     requires { length bytes.now ≤ 1048576 }
     ensures finds { FindsIn name.now bytes.now now board.now result }
+    ensures each { OfEach board.now (λ h. FindsIn name.now bytes.now now h result) }
     ensures no_user { user_id name.now board.now.board ≡ None → result ≡ Err UploadError.NoUser }
 {
     let Some(user) = board.user_id(name) else {

@@ -1,16 +1,17 @@
 //! An upload: the messages of a reply packet are judged, and posted with its record, once per user and digest.
 ghost use Rattle.std.specs.Prelude.{◌≡◌, ◌≤◌, ◌⊎◌, true, Err, None, length, IsErrOf, IsTrue, IsFalse, OnOk};
+ghost use Rattle.board_layout.specs.Board as Boards;
 ghost use Rattle.board_layout.specs.Layout.{IsLayout};
 ghost use Rattle.board_layout.specs.Valid.{IsBoard};
 ghost use Rattle.door_outside.specs.Disk.{AllNow, Between};
 ghost use Rattle.intent_journal.specs.Hosts.{IsSettled};
 ghost use Rattle.jam_records.specs.declared.damage.Damage.{Damage};
 ghost use Rattle.mail_board.specs.Causes.{HasFault};
-ghost use Rattle.mail_board.specs.Held.{BeforeOrNext, Rests};
+ghost use Rattle.mail_board.specs.Held.{BeforeOrNext, Follows, Holds, Rests, RestsOn};
 ghost use Rattle.mail_board.specs.Readers.{user_id};
 ghost use Rattle.mail_board.specs.Written.{KeepsBoundOf};
 ghost use Rattle.door_upload.specs.Upload.{UploadGives, board_after};
-ghost use Rattle.door_upload.specs.Uploading.{Answers, IsNew, LeavesAll};
+ghost use Rattle.door_upload.specs.Uploading.{Answers, IsNew, LeavesAll, OfEach};
 
 use crate::answer::{UploadError, Uploaded};
 use crate::preparing::{Uploading, prepared};
@@ -21,8 +22,8 @@ use std::alloc::Global;
 /// Takes in a reply packet of at most 1,048,576 bytes for the user of a name, ignoring ASCII case, at a moment in Unix
 /// seconds: its messages are judged in order, each on the board with the ones accepted before it, and the accepted
 /// ones and a record of the packet are one change. Where the user has a record of the packet's SHA-256, the counts of
-/// that are answered, and nothing changes. Where the board isn't doubtful, the host's files are those of this board,
-/// and the host rests. It says nothing.
+/// that are answered, and nothing changes. Where the board isn't doubtful, the host rests, and its files are those of a
+/// board with this outline. It says nothing.
 ///
 /// `NoUser` comes where no user has the name, else the first fault of the packet (`Broken` at 0 where it is shorter
 /// than a block, `NoBoardId`, any other `Broken`), else `OtherBoard`; where he didn't send it before, `Uploads` where
@@ -38,22 +39,23 @@ pub fn upload<H: Host>(
     now: u32,
 ) -> Result<Uploaded, UploadError>
     requires short { length bytes.now ≤ 1048576 }
-    requires rests { IsTrue H.tells → IsFalse board.old.doubtful → Rests board.old.board (H.disk host.old) }
+    requires rests { IsTrue H.tells → IsFalse board.old.doubtful → RestsOn board.old.board (H.disk host.old) }
 
-    // A crash at any moment leaves the board before the upload or the one after it.
-    ensures moments { IsTrue H.tells → IsFalse board.old.doubtful → (r : _) → UploadGives user.now bytes.now now board.old.board r → Between (H.disk host.old) (H.disk host.new) (BeforeOrNext (IsLayout board.old.board) (board_after board.old.board r) (H.disk host.old)) }
-    ensures now { IsTrue H.tells → IsFalse board.old.doubtful → (r : _) → UploadGives user.now bytes.now now board.old.board r → AllNow (H.disk host.new) (BeforeOrNext (IsLayout board.old.board) (board_after board.old.board r) (H.disk host.old)) }
+    // Whichever board the host holds, a crash at any moment leaves that board or the one after the upload.
+    ensures moments { IsTrue H.tells → IsFalse board.old.doubtful → (b : Boards.Board) → Holds b (H.disk host.old) → (r : _) → UploadGives user.now bytes.now now b r → Between (H.disk host.old) (H.disk host.new) (BeforeOrNext (IsLayout b) (board_after b r) (H.disk host.old)) }
+    ensures now { IsTrue H.tells → IsFalse board.old.doubtful → (b : Boards.Board) → Holds b (H.disk host.old) → (r : _) → UploadGives user.now bytes.now now b r → AllNow (H.disk host.new) (BeforeOrNext (IsLayout b) (board_after b r) (H.disk host.old)) }
     ensures settled { IsTrue H.tells → IsFalse board.old.doubtful → IsSettled (H.disk host.new) }
 
     // What the bytes come to, and the answer to that.
     ensures gives { IsErrOf result UploadError.OutOfMemory ⊎ ((r : _) × UploadGives user.now bytes.now now board.old.board r) }
     ensures no_user { user_id user.now board.old.board ≡ None → result ≡ Err UploadError.NoUser }
-    ensures answer { (r : _) → UploadGives user.now bytes.now now board.old.board r → Answers board.old.doubtful r result }
+    ensures answer { OfEach board.old (λ h. (r : _) → UploadGives user.now bytes.now now h.board r → Answers h.doubtful r result) }
     ensures undamaged { (damage : Damage) → ¬ (result ≡ Err (UploadError.Damaged damage)) }
     ensures unchanged { LeavesAll result → (board.new ≡ board.old) × (host.new ≡ host.old) }
-    ensures board { OnOk result ((r : _) → UploadGives user.now bytes.now now board.old.board r → board.new ≡ record board.old { board = board_after board.old.board r }) }
-    ensures rests { OnOk result (IsTrue H.tells → IsFalse board.old.doubtful → (r : _) → UploadGives user.now bytes.now now board.old.board r → Rests (board_after board.old.board r) (H.disk host.new)) }
-    ensures valid { IsFalse board.old.doubtful → (r : _) → UploadGives user.now bytes.now now board.old.board r → IsNew r → IsErrOf result UploadError.OutOfMemory ⊎ IsBoard (board_after board.old.board r) }
+    ensures board { OnOk result (IsFalse board.old.doubtful → IsBoard board.old.board → (r : _) → UploadGives user.now bytes.now now board.old.board r → Follows (board_after board.old.board r) board.new) }
+    ensures next { OnOk result (IsTrue H.tells → IsFalse board.old.doubtful → (b : Boards.Board) → Holds b (H.disk host.old) → (r : _) → UploadGives user.now bytes.now now b r → Rests (board_after b r) (H.disk host.new)) }
+    ensures rests { OnOk result (IsTrue H.tells → IsFalse board.old.doubtful → RestsOn board.new.board (H.disk host.new)) }
+    ensures valid { IsFalse board.old.doubtful → OfEach board.old (λ h. (r : _) → UploadGives user.now bytes.now now h.board r → IsNew r → IsErrOf result UploadError.OutOfMemory ⊎ IsBoard (board_after h.board r)) }
     ensures fault { IsErrOf result UploadError.DiskFault → board.new ≡ record { board = board.old.board; doubtful = true } }
 
     // Whatever it answers, it writes fewer bytes than twice those by which it enlarges the data files, and 400 for each

@@ -1,6 +1,6 @@
 -- What is kept of the board after an export, and after an acknowledgement.
-use Rattle.std.proofs.Common.{◌≡◌, ◌⊎◌, inl, inr, Bool, true, false, cond, Some, None, Ok, Err, refl, ap, subst}
-use Rattle.std.specs.Prelude.{Result, IsErrOf, OnOk}
+use Rattle.std.proofs.Common.{◌≡◌, ◌⊎◌, inl, inr, Bool, true, false, cond, Some, None, Ok, Err, refl, ◌∙◌}
+use Rattle.std.specs.Prelude.{Result, IfOk, IsErrOf, OnOk}
 use Rattle.board_commands.proofs.KeptLaws.{doubted, next_kept, next_sure, none_kept, none_sure, same_kept, same_sure}
 use Rattle.board_commands.specs.Kept.{AreSure, IsKept, unless_doubtful}
 use Rattle.board_layout.specs.Board.{Board}
@@ -14,36 +14,37 @@ use Rattle.door_export.specs.declared.exporting.ExportError.TheVariants as error
 use Rattle.door_export.specs.declared.exporting.Exported.{Exported}
 use Rattle.door_outside.specs.Disk.{Disk}
 use Rattle.intent_journal.specs.Hosts.{IsSettled}
-use Rattle.mail_board.specs.Held.{HeldBoard, Rests, sure}
+use Rattle.mail_board.specs.Held.{Follows, HeldBoard, RestsOn}
 use Rattle.mail_board.specs.declared.loading.Loaded.TheVariants.{Ready}
 
 -- a board that is in no doubt after an export is the host's
-pub export_kept : (after : HeldBoard) (disk : Disk) → (after.doubtful ≡ false → Rests after.board disk) → IsSettled disk → IsKept (unless_doubtful after) disk
+pub export_kept : (after : HeldBoard) (disk : Disk) → (after.doubtful ≡ false → RestsOn after.board disk) → IsSettled disk → IsKept (unless_doubtful after) disk
 export_kept after disk rests settled = by after.doubtful refl
   where
     by : (doubtful : Bool) → after.doubtful ≡ doubtful → IsKept (cond doubtful None (Some (Ready after))) disk
     by true is = settled
     by false is = rests is
 
--- so it is of the next board, where the offer was kept
-pub next_rests : (after : HeldBoard) (next : Board) (disk : Disk) → after ≡ sure next → (after.doubtful ≡ false → Rests after.board disk) → Rests next disk
-next_rests after next disk is rests = subst (λ (held : HeldBoard). Rests held.board disk) is (rests (ap (λ (held : HeldBoard). held.doubtful) is))
+-- what is answered of a board is answered of each with its outline
+pub answered_alike : {A B E : Type 0} (x y : A) (of : B → A) (result : Result B E) → y ≡ x → IfOk result (λ e. x ≡ of e) → IfOk result (λ e. y ≡ of e)
+answered_alike x y of (Ok e) same is = same ∙ is
+answered_alike x y of (Err e) same is = tt
 
 -- the board before, the one that a call makes of it, and what it left
 module _ (before after : HeldBoard) (next : Board) (certain : before.doubtful ≡ false) where
-  pub export_sure : (result : Result Exported ExportError) → IsBoard before.board → IsBoard next → (export.KeepsOffer result → after ≡ sure next) → (export.LeavesAll result → after ≡ before)
+  pub export_sure : (result : Result Exported ExportError) → IsBoard before.board → (export.KeepsOffer result → Follows next after) → (export.LeavesAll result → after ≡ before)
       → (IsErrOf result error.DiskFault → (after ≡ before) ⊎ (after ≡ doubted before)) → AreSure (unless_doubtful after)
-  export_sure (Ok e) ok later board same fault = next_sure before after certain next (board tt) later
-  export_sure (Err error.NoUser) ok later board same fault = same_sure before after certain (same tt) ok
-  export_sure (Err error.Limit) ok later board same fault = same_sure before after certain (same tt) ok
-  export_sure (Err error.Packets) ok later board same fault = same_sure before after certain (same tt) ok
-  export_sure (Err error.DiskFault) ok later board same fault = elim (fault refl) [ inl is ↦ same_sure before after certain is ok | inr is ↦ none_sure before after certain is ]
-  export_sure (Err error.Doubt) ok later board same fault = same_sure before after certain (same tt) ok
-  export_sure (Err (error.Damaged d)) ok later board same fault = same_sure before after certain (same tt) ok
-  export_sure (Err error.ShelfFault) ok later board same fault = next_sure before after certain next (board tt) later
-  export_sure (Err error.OutOfMemory) ok later board same fault = same_sure before after certain (same tt) ok
+  export_sure (Ok e) ok board same fault = next_sure before after certain next (board tt)
+  export_sure (Err error.NoUser) ok board same fault = same_sure before after certain (same tt) ok
+  export_sure (Err error.Limit) ok board same fault = same_sure before after certain (same tt) ok
+  export_sure (Err error.Packets) ok board same fault = same_sure before after certain (same tt) ok
+  export_sure (Err error.DiskFault) ok board same fault = elim (fault refl) [ inl is ↦ same_sure before after certain is ok | inr is ↦ none_sure before after certain is ]
+  export_sure (Err error.Doubt) ok board same fault = same_sure before after certain (same tt) ok
+  export_sure (Err (error.Damaged d)) ok board same fault = same_sure before after certain (same tt) ok
+  export_sure (Err error.ShelfFault) ok board same fault = next_sure before after certain next (board tt)
+  export_sure (Err error.OutOfMemory) ok board same fault = same_sure before after certain (same tt) ok
 
-  pub ack_kept : (result : Result (Unit {0}) AckError) (disk : Disk) → OnOk result (after ≡ sure next) → OnOk result (Rests next disk) → (ack.LeavesAll result → after ≡ before) → (ack.LeavesAll result → Rests before.board disk)
+  pub ack_kept : (result : Result (Unit {0}) AckError) (disk : Disk) → OnOk result (Follows next after) → OnOk result (RestsOn after.board disk) → (ack.LeavesAll result → after ≡ before) → (ack.LeavesAll result → RestsOn before.board disk)
       → (IsErrOf result ack_error.DiskFault → after ≡ doubted before) → IsSettled disk → IsKept (unless_doubtful after) disk
   ack_kept (Ok x) disk board rests same still fault settled = next_kept before after certain next disk board rests
   ack_kept (Err ack_error.NoUser) disk board rests same still fault settled = same_kept before after certain disk (same tt) (still tt)
@@ -52,10 +53,10 @@ module _ (before after : HeldBoard) (next : Board) (certain : before.doubtful �
   ack_kept (Err ack_error.Doubt) disk board rests same still fault settled = same_kept before after certain disk (same tt) (still tt)
   ack_kept (Err ack_error.OutOfMemory) disk board rests same still fault settled = same_kept before after certain disk (same tt) (still tt)
 
-  pub ack_sure : (result : Result (Unit {0}) AckError) → IsBoard before.board → IsBoard next → OnOk result (after ≡ sure next) → (ack.LeavesAll result → after ≡ before) → (IsErrOf result ack_error.DiskFault → after ≡ doubted before) → AreSure (unless_doubtful after)
-  ack_sure (Ok x) ok later board same fault = next_sure before after certain next board later
-  ack_sure (Err ack_error.NoUser) ok later board same fault = same_sure before after certain (same tt) ok
-  ack_sure (Err (ack_error.NoPacket offer)) ok later board same fault = same_sure before after certain (same tt) ok
-  ack_sure (Err ack_error.DiskFault) ok later board same fault = none_sure before after certain (fault refl)
-  ack_sure (Err ack_error.Doubt) ok later board same fault = same_sure before after certain (same tt) ok
-  ack_sure (Err ack_error.OutOfMemory) ok later board same fault = same_sure before after certain (same tt) ok
+  pub ack_sure : (result : Result (Unit {0}) AckError) → IsBoard before.board → OnOk result (Follows next after) → (ack.LeavesAll result → after ≡ before) → (IsErrOf result ack_error.DiskFault → after ≡ doubted before) → AreSure (unless_doubtful after)
+  ack_sure (Ok x) ok board same fault = next_sure before after certain next board
+  ack_sure (Err ack_error.NoUser) ok board same fault = same_sure before after certain (same tt) ok
+  ack_sure (Err (ack_error.NoPacket offer)) ok board same fault = same_sure before after certain (same tt) ok
+  ack_sure (Err ack_error.DiskFault) ok board same fault = none_sure before after certain (fault refl)
+  ack_sure (Err ack_error.Doubt) ok board same fault = same_sure before after certain (same tt) ok
+  ack_sure (Err ack_error.OutOfMemory) ok board same fault = same_sure before after certain (same tt) ok

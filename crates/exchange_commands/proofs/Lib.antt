@@ -5,6 +5,7 @@ pub mod ExportExits
 pub mod HandingActs
 pub mod HandingExits
 pub mod KeptExports
+pub mod KeptUploads
 pub mod OutcomeLines
 pub mod UploadActs
 pub mod UploadExits

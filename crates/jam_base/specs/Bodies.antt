@@ -1,9 +1,23 @@
--- What a change does to the bodies in .JDT.
-use Rattle.std.specs.Prelude.{◌≡◌, ℕ, List, ◌++◌, length, drop}
+-- Where the bodies of messages stand in .JDT, and what a change does to them.
+use Rattle.std.specs.Prelude.{◌≡◌, ℕ, ◌-◌, List, ◌++◌, length, take, drop, sum_by, Option, Some, None}
 use Rattle.intent_journal.specs.Patches.{Files, patched}
 use Rattle.intent_journal.specs.declared.patch.Patch.{Patch}
 use Rattle.door_outside.specs.File.{jdt_file}
+use Rattle.jam_layout.specs.Bodies.{body_size}
 use Rattle.jam_layout.specs.declared.files.BaseFiles.{BaseFiles}
+use Rattle.jam_records.specs.declared.message.Slot.{Slot}
+use Rattle.jam_records.specs.declared.message.Slot.TheVariants.{Gone, Held}
+use Rattle.jam_base.specs.Slots.{numbered}
+use Rattle.jam_base.specs.declared.span.Span.{Span}
+
+-- where the body of what a slot holds stands, if it begins here
+abbrev pub span_at : ℕ → Slot → Option Span
+span_at begin Gone = None
+span_at begin (Held message) = Some (record { at = begin; len = length message.body })
+
+-- where the body of the message of a number stands, behind those of the slots before it
+abbrev pub body_span : ℕ → List Slot → Option Span
+body_span number slots = span_at (sum_by body_size (take (number - 1) slots)) (numbered slots number)
 
 -- Whatever bytes .JDT holds, where they are as many as the old one's: the patches leave them, and put behind them what
 -- the new one has behind the old one, so that .JDT is lengthened, and nothing else is done to it.

@@ -13,9 +13,11 @@ mod read;
 mod receipt;
 mod refusal;
 mod slots;
+mod span;
 
 pub use base::Base;
 pub use change::BaseChange;
 pub use jam_layout::{BaseError, BaseFiles, Conference, Reader, Readers, Shape};
 pub use read::read_base;
 pub use refusal::{AppendRefusal, KillRefusal};
+pub use span::Span;

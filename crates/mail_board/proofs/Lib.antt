@@ -2,6 +2,14 @@ pub mod DataLaws
 pub mod DataReading
 pub mod CommitLaws
 pub mod NextLaws
+pub mod EachBases
+pub mod EachRead
+pub mod EachNext
+pub mod EachBound
+pub mod OneHost
+pub mod LoadLaws
+pub mod BodyLaws
+pub mod MessageLaws
 pub mod WriteBounds
 pub mod PostedSlots
 pub mod MigrationLaws

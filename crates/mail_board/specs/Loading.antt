@@ -1,23 +1,32 @@
 -- What a load finds.
-use Rattle.std.specs.Prelude.{◌≡◌, ◌⊎◌, false, Option, Some, None, Result, Ok, Err}
+use Rattle.std.specs.Prelude.{◌≡◌, ◌⊎◌, false, Option, Some, None, option_map, Result, Ok, Err}
+use Rattle.std.specs.Result.{result_map_both}
 use Rattle.door_outside.specs.Disk.{Disk, Image}
 use Rattle.intent_journal.specs.Patches.{Files}
 use Rattle.intent_journal.specs.Recovered.{recovered}
 use Rattle.intent_journal.specs.declared.recovery.JournalError.{JournalError}
 use Rattle.intent_journal.specs.declared.recovery.JournalError.TheVariants as recovery
 use Rattle.board_layout.specs.Board.{Board}
+use Rattle.board_layout.specs.Damage.{board_in}
 use Rattle.board_layout.specs.Layout.{AreEmpty, IsLayout}
 use Rattle.board_layout.specs.OldLayout.{IsOldLayout}
+use Rattle.board_layout.specs.Outlines.{board_outline}
 use Rattle.board_layout.specs.Valid.{IsBoard}
 use Rattle.board_layout.specs.declared.error.ReadError.{ReadError}
 use Rattle.board_layout.specs.declared.error.ReadError.TheVariants.{Damaged, DiskFault, OutOfMemory}
+use Rattle.jam_records.specs.declared.damage.Damage.{Damage}
+use Rattle.mail_board.specs.Held.{StandsFor}
 use Rattle.mail_board.specs.declared.loading.Loaded.{Loaded}
 use Rattle.mail_board.specs.declared.loading.Loaded.TheVariants.{NotMade, Ready}
 
--- the board that was loaded, or none where there is none
-abbrev pub loaded_board : Loaded → Option Board
-loaded_board NotMade = None
-loaded_board (Ready held) = Some held.board
+-- the outline of the board that was loaded, or none where there is none
+abbrev pub loaded_outline : Loaded → Option Board
+loaded_outline NotMade = None
+loaded_outline (Ready held) = Some (board_outline held.board)
+
+-- that of the board whose layout the files are, or none where all are empty, or their first damage
+abbrev pub outline_in : Files → Result (Option Board) Damage
+outline_in files = result_map_both (option_map board_outline) (λ damage. damage) (board_in files)
 
 -- it is in no doubt
 abbrev pub IsSure : Loaded → Type 0
@@ -32,7 +41,7 @@ IsValid (Ready held) = IsBoard held.board
 -- what was loaded stands in the files
 abbrev pub StandsIn : Files → Loaded → Type 0
 StandsIn files NotMade = AreEmpty files
-StandsIn files (Ready held) = IsLayout held.board files
+StandsIn files (Ready held) = StandsFor held.board files
 
 -- the old files are the layout of a valid board in version 1
 pub record AreOld (files : Files) : Type 0 where

@@ -1,11 +1,14 @@
 ghost use Rattle.std.specs.Prelude.{◌≡◌, ◌↔◌, true, Err, IfOk, OnOk, IsErrOf, IsTrue, IsFalse};
 ghost use Rattle.board_changes.specs.Change.{Becomes};
+ghost use Rattle.board_changes.specs.Outlined.{LeadsEach};
+ghost use Rattle.board_layout.specs.Board as Boards;
 ghost use Rattle.board_layout.specs.Layout.{IsLayout};
+ghost use Rattle.board_layout.specs.Valid.{IsBoard};
 ghost use Rattle.door_outside.specs.Disk.{Disk, AllNow, Between};
 ghost use Rattle.intent_journal.specs.Hosts.{IsSettled};
 ghost use Rattle.mail_board.specs.Causes.{HasFault};
 ghost use Rattle.mail_board.specs.Changes.{changed, Fits};
-ghost use Rattle.mail_board.specs.Held.{BeforeOrNext, Rests, sure};
+ghost use Rattle.mail_board.specs.Held.{BeforeOrNext, Follows, Holds, Rests, RestsOn};
 ghost use Rattle.mail_board.specs.Written.{PutsFew, WritesFew};
 ghost use Rattle.mail_board.specs.declared.change.ChangeError.TheVariants.{DiskFault as DiskFails, OutOfMemory};
 
@@ -114,12 +117,15 @@ impl From<AllocError> for ChangeError {
     }
 }
 
-/// What a change that fits makes of a board.
+/// What a change that fits makes of a board, which is valid, and so of each board with its outline.
 fn next_of(alloc: Global, stored: &StoredBoard, change: &Change) -> Result<BoardChange, AllocError>
     requires { Fits change.now stored.now }
     ensures becomes { IfOk result (λ next. Becomes stored.now (changed change.now stored.now) next) }
+    ensures each { IfOk result (λ next. LeadsEach stored.now (changed change.now) next.intent) }
+    ensures board { IsBoard stored.now }
     ensures costs { IfOk result (λ next. PutsFew change.now stored.now next.intent) }
 {
+    let _ledger = stored.ledger();
     match change {
         Change::Enroll { name, net, members } => {
             enrolled(alloc, stored, name.as_slice(), *net, *members)
@@ -141,8 +147,8 @@ fn next_of(alloc: Global, stored: &StoredBoard, change: &Change) -> Result<Board
 }
 
 impl Board {
-    /// Makes a change that fits, whole or not at all. Where the board isn't doubtful, the host's files are those of
-    /// this board, and the host rests. It says nothing.
+    /// Makes a change that fits, whole or not at all. Where the board isn't doubtful, the host rests, and its files are
+    /// those of a board with this outline. It says nothing.
     ///
     /// `Doubt` comes where the board is doubtful, and `OutOfMemory` before the first write: both leave all as it
     /// was. `DiskFault` comes only where the host's count of disk faults rose. After it the board is doubtful.
@@ -153,15 +159,16 @@ impl Board {
         change: &Change,
     ) -> Result<(), ChangeError>
         requires fits { Fits change.now self.old.board }
-        requires rests { IsTrue H.tells → IsFalse self.old.doubtful → Rests self.old.board (H.disk host.old) }
+        requires rests { IsTrue H.tells → IsFalse self.old.doubtful → RestsOn self.old.board (H.disk host.old) }
 
-        // A crash at any moment leaves the board before the change or the one after it.
-        ensures moments { IsTrue H.tells → IsFalse self.old.doubtful → Between (H.disk host.old) (H.disk host.new) (BeforeOrNext (IsLayout self.old.board) (changed change.now self.old.board) (H.disk host.old)) }
-        ensures now { IsTrue H.tells → IsFalse self.old.doubtful → AllNow (H.disk host.new) (BeforeOrNext (IsLayout self.old.board) (changed change.now self.old.board) (H.disk host.old)) }
+        // Whichever board the host holds, a crash at any moment leaves that board or the one that the change makes of it.
+        ensures moments { IsTrue H.tells → IsFalse self.old.doubtful → (b : Boards.Board) → Holds b (H.disk host.old) → Between (H.disk host.old) (H.disk host.new) (BeforeOrNext (IsLayout b) (changed change.now b) (H.disk host.old)) }
+        ensures now { IsTrue H.tells → IsFalse self.old.doubtful → (b : Boards.Board) → Holds b (H.disk host.old) → AllNow (H.disk host.new) (BeforeOrNext (IsLayout b) (changed change.now b) (H.disk host.old)) }
         ensures settled { IsTrue H.tells → IsFalse self.old.doubtful → IsSettled (H.disk host.new) }
 
-        ensures board { OnOk result (self.new ≡ sure (changed change.now self.old.board)) }
-        ensures rests { OnOk result (IsTrue H.tells → Rests (changed change.now self.old.board) (H.disk host.new)) }
+        ensures board { OnOk result (Follows (changed change.now self.old.board) self.new) }
+        ensures next { OnOk result (IsTrue H.tells → (b : Boards.Board) → Holds b (H.disk host.old) → Rests (changed change.now b) (H.disk host.new)) }
+        ensures rests { OnOk result (IsTrue H.tells → RestsOn self.new.board (H.disk host.new)) }
         ensures doubt { (result ≡ Err ChangeError.Doubt) ↔ IsTrue self.old.doubtful }
         ensures fault { IsErrOf result ChangeError.DiskFault → self.new ≡ record { board = self.old.board; doubtful = true } }
         ensures unchanged { IsErrOf result ChangeError.Doubt → (self.new ≡ self.old) × (host.new ≡ host.old) }

@@ -2,6 +2,7 @@
 #![tactic(auto)]
 
 mod board;
+mod bodies;
 mod change;
 mod fits;
 mod loading;

@@ -6,7 +6,7 @@ ghost use Rattle.intent_journal.specs.Hosts.{IsCalm, IsFirm, IsSettled};
 ghost use Rattle.intent_journal.specs.Journal.{intent_of};
 ghost use Rattle.intent_journal.specs.Patches.{byte_count, data_files};
 ghost use Rattle.intent_journal.specs.Recovered.{recovered, Back};
-ghost use Rattle.mail_board.specs.Loading.{loaded_board, recovery_error, AreOld, AreOpened, IsSure, IsTold, IsValid, Opens, StandsIn};
+ghost use Rattle.mail_board.specs.Loading.{loaded_outline, outline_in, recovery_error, AreOld, AreOpened, IsSure, IsTold, IsValid, Opens, StandsIn};
 
 use crate::board::Board;
 use crate::migrating::migrate;
@@ -62,6 +62,7 @@ impl Board {
     /// version, with the first rule that they break. `DiskFault` comes only where the host's count of disk faults rose.
     /// `OutOfMemory` comes before the first write of a migration, and hides no fault. Where damage and want of memory
     /// meet, either may be answered.
+    #[tactic(auto, using(crate::proofs::LoadLaws::stops_outlined, crate::proofs::LoadLaws::none_outlined, crate::proofs::LoadLaws::some_outlined, crate::proofs::LoadLaws::own_stands))]
     pub fn load<H: Host>(alloc: Global, host: &mut H) -> Result<Loaded, ReadError>
         requires { IsTrue H.tells → IsSettled (H.disk host.old) }
 
@@ -75,9 +76,10 @@ impl Board {
         ensures calm { IsTold result → IsTrue H.tells → IsCalm (H.disk host.new) }
         ensures done { IsTold result → IsTrue H.tells → AreOpened (recovered (H.disk host.old).files) (data_files (H.disk host.new).files) }
 
-        // The board whose layout the recovered files are, or none where all are empty, or their first damage.
-        ensures gives { IsTrue H.tells → Gives loaded_board result (board_in (recovered (H.disk host.old).files)) }
-        // What it answers stands in the files that it leaves, which are of version 2.
+        // The outline of the board whose layout the recovered files are, or none where all are empty, or their first damage.
+        ensures gives { IsTrue H.tells → Gives loaded_outline result (outline_in (recovered (H.disk host.old).files)) }
+        // What it answers stands in the files that it leaves, which are of version 2: they are the layout of a board with
+        // its outline.
         ensures stands { IsTrue H.tells → IfOk result (StandsIn (H.disk host.new).files) }
         ensures sure { IfOk result IsSure }
         ensures valid { IfOk result IsValid }

@@ -1,18 +1,21 @@
 // The messages of a board, and the msgids that it generates.
-ghost use Rattle.std.specs.Prelude.{◌≡◌, ◌<◌, Err, length, IfOk, IsFalse, IsTrue};
+ghost use Rattle.std.specs.Prelude.{◌≡◌, ◌<◌, Err, length, option_map, IfOk, IsFalse, IsTrue};
 ghost use Rattle.std.specs.Option.{option_copied};
+ghost use Rattle.board_layout.specs.Board as Boards;
 ghost use Rattle.board_layout.specs.Rules.{HasReadCause};
 ghost use Rattle.door_outside.specs.Disk.{Disk, Unchanged};
 ghost use Rattle.jam_base.specs.Slots.{numbered};
+ghost use Rattle.jam_layout.specs.Outlines.{message_outline};
 ghost use Rattle.jam_records.specs.declared.damage.Damage.{Damage};
-ghost use Rattle.mail_board.specs.Held.{Rests};
+ghost use Rattle.mail_board.specs.Held.{Holds, RestsOn};
 ghost use Rattle.board_layout.specs.Lookups.{held_in};
 ghost use Rattle.mail_board.specs.Readers.{message_at};
 ghost use Rattle.slot_changes.specs.Msgids.{msgid_in};
 
 use crate::board::Board;
+use crate::bodies::fetched;
 use board_layout::ReadError;
-use byte_lists::{Bytes, Duplicate};
+use byte_lists::Bytes;
 use door_outside::Host;
 use jam_base::Base;
 use jam_records::{Message, Slot};
@@ -41,11 +44,14 @@ impl Board {
         msgid_of(alloc, &self.stored, place, number)
     }
 
-    /// The message of a number in a place, or None where no slot of that number holds one. The board isn't
-    /// doubtful, and the host's files are those of this board. It says nothing and changes nothing of the host.
+    /// The message of a number in a place, or None where no slot of that number holds one. Its body is read from the host.
+    /// The board isn't doubtful, and the host's files are those of a board with this outline, whose message it is. It says
+    /// nothing and changes nothing of the host.
     ///
-    /// `DiskFault` comes only where the host's count of disk faults rose. `Damaged` never comes from a host that
-    /// tells its files. `OutOfMemory` comes where there is no memory for the message.
+    /// `DiskFault` comes only where the host's count of disk faults rose. `Damaged` comes where fewer bytes come than the
+    /// body has, or no body, and never from a host that tells its files. `OutOfMemory` comes where there is no memory for
+    /// the message.
+    #[tactic(auto, using(crate::proofs::OneHost::rests_still))]
     pub fn message<H: Host>(
         &self,
         alloc: Global,
@@ -54,10 +60,12 @@ impl Board {
         number: u32,
     ) -> Result<Option<Message>, ReadError>
         requires sure { IsFalse self.now.doubtful }
-        requires rests { IsTrue H.tells → Rests self.now.board (H.disk host.old) }
-        ensures message { IfOk result (λ found. found ≡ message_at place number self.now.board) }
+        requires rests { IsTrue H.tells → RestsOn self.now.board (H.disk host.old) }
+        ensures message { IsTrue H.tells → (b : Boards.Board) → Holds b (H.disk host.old) → IfOk result (λ found. found ≡ message_at place number b) }
+        // Whatever the host tells, it is this board's but for the bytes of the body.
+        ensures outline { IfOk result (λ found. option_map message_outline found ≡ option_map message_outline (message_at place number self.now.board)) }
         ensures unchanged { IsTrue H.tells → Unchanged (H.disk host.old) (H.disk host.new) }
-        ensures rests { IsTrue H.tells → Rests self.now.board (H.disk host.new) }
+        ensures rests { IsTrue H.tells → RestsOn self.now.board (H.disk host.new) }
         ensures undamaged { IsTrue H.tells → (damage : Damage) → ¬ (result ≡ Err (ReadError.Damaged damage)) }
         ensures cause { HasReadCause (H.disk_faults host.old) (H.disk_faults host.new) result }
         ensures voice { H.voice_faults host.new ≡ H.voice_faults host.old }
@@ -66,7 +74,10 @@ impl Board {
             return Ok(None);
         };
         match held(base, number) {
-            Some(message) => Ok(Some(message.duplicate(alloc)?)),
+            Some(message) => {
+                let found = fetched(alloc, host, base, place, number, message)?;
+                Ok(Some(found))
+            }
             None => Ok(None),
         }
     }

@@ -2,20 +2,26 @@
 use Rattle.std.proofs.Common.{◌≡◌, ℕ, Bool, true, false, Option, Some, None, refl, sym, ◌∙◌, ap}
 use Rattle.std.proofs.lemmas.Bool.{cond-false, cond-true, true≢false}
 use Rattle.std.specs.Option.{option_map_or}
-use Rattle.std.specs.Prelude.{IsSomeAnd, IsTrue, ◌↔◌}
+use Rattle.std.specs.Prelude.{IsSomeAnd, IsTrue, option_map, unwrap_or, ◌↔◌}
 use Rattle.board_changes.specs.Changed.{base_at}
 use Rattle.board_commands.specs.Turns.{refuses}
+use Rattle.board_layout.proofs.OutlineLaws.{outline_has_live}
 use Rattle.board_layout.specs.Board.{Board}
 use Rattle.board_layout.specs.Valid.{IsBoard}
 use Rattle.jam_base.specs.Contents.{Contents}
+use Rattle.jam_base.specs.Outlined.{outlined}
 use Rattle.jam_base.specs.Slots.{has_live}
+use Rattle.mail_board.proofs.EachBases.{places_alike}
 use Rattle.mail_board.specs.Changes.{Fits}
+use Rattle.mail_board.specs.Held.{AreAlike}
 use Rattle.mail_board.specs.Readers.{place_of}
+use Rattle.mail_board.specs.declared.change.Change.{Change}
 use Rattle.mail_board.specs.declared.change.Change.TheVariants.{Kill}
 use Rattle.shelf_files.specs.declared.refusal.Refusal.TheVariants.{NoConference, NoMessage}
 use Rattle.slot_changes.proofs.DeleteLaws.{deleted_board}
 use Rattle.slot_changes.specs.Changed.{HasMessage, deleted}
 use Rattle.message_commands.proofs.Exits.{carried}
+use Rattle.message_commands.proofs.PlaceAlike.{place_alike}
 use Rattle.message_commands.specs.Kill.{has_message, kill_at, kill_turn, killed_line}
 
 abbrev live_in : ℕ → Contents → Bool
@@ -53,13 +59,29 @@ module _ (b : Board) (place number : ℕ) where
       by true is = absurd (true≢false (sym (told.1 (kill_fits ok is)) ∙ never))
       by false is = refl
 
+-- ---- boards with one outline
+there_alike : (number : ℕ) (o p : Option Contents) → option_map outlined o ≡ option_map outlined p → option_map_or (live_in number) o false ≡ option_map_or (live_in number) p false
+there_alike number None None same = refl
+there_alike number None (Some y) same = absurd (cc)
+there_alike number (Some x) None same = absurd (cc)
+there_alike number (Some x) (Some y) same =
+    let one : outlined x ≡ outlined y = ap (λ (o : Option Contents). unwrap_or o (outlined x)) same in
+    sym (outline_has_live x.conference.slots number) ∙ (ap (λ (c : Contents). has_live number c.conference.slots) one ∙ outline_has_live y.conference.slots number)
+
+pub has_alike : (a b : Board) → AreAlike a b → (place number : ℕ) → has_message place number a ≡ has_message place number b
+has_alike a b alike place number = there_alike number (base_at place a) (base_at place b) (places_alike a b alike place)
+
 -- ---- the turn
 module _ (conference number : ℕ) (b : Board) where
-  pub turn_unplaced : place_of conference b ≡ None → refuses NoConference (Some b) ≡ kill_turn conference number (Some b)
-  turn_unplaced none = sym (ap (kill_at conference number b) none)
+  pub turn_unplaced : place_of conference b ≡ None → (real : Board) → AreAlike real b → refuses NoConference (Some real) ≡ kill_turn conference number (Some real)
+  turn_unplaced none real alike = sym (ap (kill_at conference number real) (place_alike real b alike conference ∙ none))
 
-  pub turn_missing : (place : ℕ) → place_of conference b ≡ Some place → has_message place number b ≡ false → refuses NoMessage (Some b) ≡ kill_turn conference number (Some b)
-  turn_missing place is none = sym (ap (kill_at conference number b) is ∙ cond-false (has_message place number b) _ _ none)
+  module _ (place : ℕ) (place_is : place_of conference b ≡ Some place) where
+    pub turn_missing : has_message place number b ≡ false → (real : Board) → AreAlike real b → refuses NoMessage (Some real) ≡ kill_turn conference number (Some real)
+    turn_missing none real alike =
+        sym (ap (kill_at conference number real) (place_alike real b alike conference ∙ place_is) ∙ cond-false (has_message place number real) _ _ (has_alike real b alike place number ∙ none))
 
-  pub turn_killing : (place : ℕ) → place_of conference b ≡ Some place → has_message place number b ≡ true → carried (Kill place number) b (killed_line conference number) ≡ kill_turn conference number (Some b)
-  turn_killing place is has = sym (ap (kill_at conference number b) is ∙ cond-true (has_message place number b) _ _ has)
+    pub turn_killing : has_message place number b ≡ true → (change : Change) → change ≡ Kill place number → (real : Board) → AreAlike real b → carried change real (killed_line conference number) ≡ kill_turn conference number (Some real)
+    turn_killing has change is real alike =
+        ap (λ (k : Change). carried k real (killed_line conference number)) is
+        ∙ sym (ap (kill_at conference number real) (place_alike real b alike conference ∙ place_is) ∙ cond-true (has_message place number real) _ _ (has_alike real b alike place number ∙ has))

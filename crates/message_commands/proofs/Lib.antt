@@ -16,4 +16,7 @@ pub mod SampleLists
 pub mod SamplingLaws
 pub mod SlotCounts
 pub mod TurnLaws
+pub mod PlaceAlike
+pub mod ImportAlike
+pub mod SampleAlike
 pub mod PostBounds

@@ -2,23 +2,27 @@
 use Rattle.std.proofs.Common.{◌≡◌, ℕ, Option, Some, Ok, Err, refl, sym}
 use Rattle.board_commands.proofs.Exits.{starved}
 use Rattle.board_commands.specs.Halts.{told, of_journal}
-use Rattle.board_commands.specs.Kept.{unread}
-use Rattle.board_commands.specs.State.{State, Made, Stores, migrated, state_of}
+use Rattle.board_commands.specs.Kept.{IsOutlined, unread}
+use Rattle.board_commands.specs.State.{State, Made, Stores, migrated}
 use Rattle.board_commands.specs.Turns.{Turn}
 use Rattle.board_commands.specs.declared.halt.BoardHalt.{BoardHalt}
 use Rattle.board_commands.specs.declared.halt.BoardHalt.TheVariants.{Refused, Damaged, DiskFault, ShelfFault, OutOfMemory}
 use Rattle.board_layout.specs.Board.{Board}
+use Rattle.board_layout.specs.Valid.{IsBoard}
 use Rattle.door_outside.specs.Disk.{Disk, Unchanged}
 use Rattle.door_outside.specs.Shelf as Shelf
 use Rattle.entry_runs.specs.Door.{World}
 use Rattle.entry_runs.specs.Entry.{Changes, Finds, IsAt, Works}
 use Rattle.entry_runs.specs.Promise.{Counts, HasCauses, ended}
 use Rattle.entry_runs.specs.declared.status.Status.TheVariants as status
+use Rattle.intent_journal.specs.Recovered.{recovered}
 use Rattle.intent_journal.specs.declared.recovery.JournalError.{JournalError}
 use Rattle.intent_journal.specs.declared.recovery.JournalError.TheVariants.{OutOfMemory as Starved}
 use Rattle.mail_board.specs.Changes.{changed}
+use Rattle.mail_board.specs.Held.{AreAlike}
 use Rattle.mail_board.specs.declared.change.Change.{Change}
-use Rattle.message_commands.proofs.Exits.{changed_by, refused_by, unchanged_by}
+use Rattle.message_commands.proofs.Exits.{carried, changed_by, refused_on, unchanged_by}
+use Rattle.message_commands.proofs.SampleAlike.{sample_refused, sample_taken}
 use Rattle.message_commands.specs.Sample.{sample_turn, sampled_line, samples}
 use Rattle.message_commands.specs.Sampling.{MaySample}
 use Rattle.shelf_files.specs.Halts.{done}
@@ -27,23 +31,26 @@ use Rattle.shelf_files.specs.Halts.{done}
 abbrev pub Turns : ℕ → ℕ → ℕ → Shelf.Files → Option Board → Turn → Type 0
 Turns seed count now files board turn = turn ≡ sample_turn seed count now board
 
-module _ (seed count now : ℕ) {world : World State} {old mid : Disk} {shelf : Shelf.Files} (at : IsAt Stores unread world old shelf) (board : Option Board) (finds : Finds Stores unread world.state (migrated world.state) old mid (Ok (tt {0})))
-    (is : migrated world.state ≡ state_of board) (b : Board) (board_is : board ≡ Some b) where
+module _ (seed count now : ℕ) {world : World State} {old mid : Disk} {shelf : Shelf.Files} (at : IsAt Stores unread world old shelf) (kept : Option Board) (finds : Finds Stores unread world.state (migrated world.state) old mid (Ok (tt {0})))
+    (found : IsOutlined (migrated world.state) kept) (b : Board) (kept_is : kept ≡ Some b) where
   -- it is refused, or there is no memory for it
   pub unprepared : (e : BoardHalt) → MaySample seed count now b (Err e) → Works Stores (samples seed count now) unread world old mid shelf (told sampled_line (Err e))
-  unprepared (Refused why) may = refused_by (Turns seed count now) at board finds is sampled_line (Some b) why (Refused why) board_is refl (sym may)
+  unprepared (Refused why) may = refused_on (Turns seed count now) at kept finds found sampled_line b why (Refused why) kept_is refl (λ real valid alike. sym (sample_refused seed count now real b alike why may))
   unprepared OutOfMemory may = starved (Turns seed count now) at finds
   unprepared (Damaged d) may = absurd may
   unprepared DiskFault may = absurd may
   unprepared ShelfFault may = absurd may
 
   module _ (change : Change) (may : MaySample seed count now b (Ok change)) where
-    pub appended : {new : Disk} {T E : Type 0} {value : T} → Changes Stores {E = E} unread (Made b) (Made (changed change b)) mid new (Ok value) → Works Stores (samples seed count now) unread world old new shelf (Ok (done (sampled_line count)))
-    appended changes = changed_by (Turns seed count now) at board finds is b board_is change (sampled_line count) (sym may.1) changes
+    takes : (real : Board) → IsBoard real → AreAlike real b → Turns seed count now shelf (Some real) (carried change real (sampled_line count))
+    takes real valid alike = sym (sample_taken seed count now real b alike change (sampled_line count) may.3 may.1)
 
-    pub unappended : {new : Disk} {T : Type 0} (error : JournalError) → Changes Stores {T = T} unread (Made b) (Made (changed change b)) mid new (Err error) → (error ≡ Starved → Unchanged mid new)
+    pub appended : {new : Disk} {T E : Type 0} {value : T} → ((r : Board) → Stores (Made r) (recovered mid.files) → Changes Stores {E = E} unread (Made r) (Made (changed change r)) mid new (Ok value)) → Works Stores (samples seed count now) unread world old new shelf (Ok (done (sampled_line count)))
+    appended changes = changed_by (Turns seed count now) at kept finds found b kept_is change (sampled_line count) takes changes
+
+    pub unappended : {new : Disk} {T : Type 0} (error : JournalError) → ((r : Board) → Stores (Made r) (recovered mid.files) → Changes Stores {T = T} unread (Made r) (Made (changed change r)) mid new (Err error)) → (error ≡ Starved → Unchanged mid new)
         → Works Stores (samples seed count now) unread world old new shelf (told sampled_line (Err (of_journal error)))
-    unappended error changes still = unchanged_by (Turns seed count now) at board finds is b board_is change (sampled_line count) (sym may.1) sampled_line error changes still
+    unappended error changes still = unchanged_by (Turns seed count now) at kept finds found b kept_is change (sampled_line count) takes sampled_line error changes still
 
 -- a sample that is refused, or finds no memory, is no fault
 pub no_fault : (seed count now : ℕ) (b : Board) {old new : Counts} (e : BoardHalt) → MaySample seed count now b (Err e) → HasCauses old new status.Done → HasCauses old new status.OutOfMemory → HasCauses old new (ended (told sampled_line (Err e)))

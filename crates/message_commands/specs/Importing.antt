@@ -7,16 +7,18 @@ use Rattle.board_layout.specs.Board.{Board}
 use Rattle.import_sheet.specs.declared.sheet.Sheet.{Sheet}
 use Rattle.mail_board.specs.Changes.{changed, Fits}
 use Rattle.mail_board.specs.Written.{IsPosting}
+use Rattle.mail_board.specs.declared.change.Change.TheVariants.{Append}
 use Rattle.shelf_files.specs.Halts.{done}
-use Rattle.message_commands.specs.Import.{imported_line, sheet_turn}
+use Rattle.message_commands.specs.Import.{imported_line, imported_messages, sheet_turn}
 use Rattle.message_commands.specs.declared.importing.Importing.{Importing}
 
--- a change that fits, posts messages and takes the turn, or the refusal, or memory ran out
+-- a change that fits, posts messages and takes the turn, the one that appends what the entries become; or the refusal, or memory
+-- ran out
 abbrev pub MayImport : ℕ → ℕ → ℕ → List Sheet → Board → Result Importing BoardHalt → Type 0
 MayImport conference now place entries b (Ok i) =
     Fits i.change b
     × (sheet_turn conference now place b (Ok entries) ≡ record { board = Some (changed i.change b); reply = done (imported_line conference i.count) })
-    × IsPosting i.change
+    × IsPosting i.change × (i.change ≡ Append place (imported_messages now place b entries))
 MayImport conference now place entries b (Err (Refused why)) = sheet_turn conference now place b (Ok entries) ≡ refuses why (Some b)
 MayImport conference now place entries b (Err OutOfMemory) = Unit {0}
 MayImport conference now place entries b (Err (Damaged d)) = ⊥

@@ -8,6 +8,7 @@ use Rattle.jam_records.specs.declared.message.Message.{Message}
 use Rattle.mail_board.specs.Changes.{changed, Fits}
 use Rattle.mail_board.specs.Written.{IsPosting}
 use Rattle.mail_board.specs.declared.change.Change.{Change}
+use Rattle.mail_board.specs.declared.change.Change.TheVariants.{Spread}
 use Rattle.post_changes.specs.Posted.{posts_in}
 use Rattle.message_commands.specs.Draws.{number_of}
 use Rattle.message_commands.specs.Sample.{sample_turn, sampled_line, sampled_posts}
@@ -28,10 +29,11 @@ pub record IsSampling (b : Board) (s : Sampling) : Type 0 where
   pub counts : (place : ℕ) → place < 64 → slice_index s.posted.items place ≡ length (posts_in place s.posts)
   pub typed : All IsTypedPost s.posts
 
--- a change that fits, posts messages and takes the turn, or the refusal, or memory ran out
+-- a change that fits, posts messages and takes the turn, the one that appends the sample; or the refusal, or memory ran out
 abbrev pub MaySample : ℕ → ℕ → ℕ → Board → Result Change BoardHalt → Type 0
 MaySample seed count now b (Ok change) =
-    Fits change b × (sample_turn seed count now (Some b) ≡ record { board = Some (changed change b); reply = done (sampled_line count) }) × IsPosting change
+    Fits change b × (sample_turn seed count now (Some b) ≡ record { board = Some (changed change b); reply = done (sampled_line count) })
+    × IsPosting change × (change ≡ Spread (sampled_posts seed now b count))
 MaySample seed count now b (Err (Refused why)) = sample_turn seed count now (Some b) ≡ refuses why (Some b)
 MaySample seed count now b (Err OutOfMemory) = Unit {0}
 MaySample seed count now b (Err (Damaged d)) = ⊥

@@ -46,13 +46,13 @@ nothing_each base copies none =
     subst (λ (ms : List Message). TurnsEach base (with_messages ms) []) (sym none) (record { turns = λ other alike. nothing_turns base.shape.place (files_in other) })
 
 -- ---- all bases
-head_is : (x y : Contents) (xs ys : List Contents) → x ∷ xs ≡ y ∷ ys → x ≡ y
+pub head_is : (x y : Contents) (xs ys : List Contents) → x ∷ xs ≡ y ∷ ys → x ≡ y
 head_is x y xs ys e = cc
 
-tail_is : (x y : Contents) (xs ys : List Contents) → x ∷ xs ≡ y ∷ ys → xs ≡ ys
+pub tail_is : (x y : Contents) (xs ys : List Contents) → x ∷ xs ≡ y ∷ ys → xs ≡ ys
 tail_is x y xs ys e = cc
 
-conferences_outline : (bases : List Contents) → map outline (conferences_in bases) ≡ conferences_in (map outlined bases)
+pub conferences_outline : (bases : List Contents) → map outline (conferences_in bases) ≡ conferences_in (map outlined bases)
 conferences_outline [] = refl
 conferences_outline (base ∷ bases) = ap (λ (cs : List Conference). outline base.conference ∷ cs) (conferences_outline bases)
 

@@ -7,7 +7,8 @@ use Rattle.setup_file.specs.declared.error.SetupRule.{SetupRule}
 use Rattle.setup_file.specs.declared.error.SetupRule.TheVariants as setup
 use Rattle.shelf_files.specs.declared.refusal.Refusal.{Refusal}
 use Rattle.shelf_files.specs.declared.refusal.Refusal.TheVariants.{NoFile, TooLarge, Broken, ControlShort, ControlNumber, ControlId, NoMessage, NoBoardId, OtherBoard, NoConference}
-use Rattle.shelf_files.specs.declared.refusal.Refusal.TheVariants.{Sheet, Text, NotMade, Exists, Name, DupUser, Users, NoUser, Limit, Packets, NoPacket, Uploads, Count, Setup, Slots, Size, Packet, ForeignShort, ForeignSignature}
+use Rattle.shelf_files.specs.declared.refusal.Refusal.TheVariants.{Sheet, Text, NotMade, Exists, Name, DupUser, Users, NoUser, Limit, Packets, NoPacket, Uploads, Count, Setup}
+use Rattle.shelf_files.specs.declared.refusal.Refusal.TheVariants.{Slots, Size, Packet, ForeignShort, ForeignSignature}
 use Rattle.shelf_files.specs.declared.said.Said.{Said}
 use Rattle.shelf_files.specs.declared.said.Said.TheVariants as said
 

@@ -6,3 +6,4 @@ pub mod SeenLaws
 pub mod DraftLaws
 pub mod StepLaws
 pub mod TossLaws
+pub mod TossAlike

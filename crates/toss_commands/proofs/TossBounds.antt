@@ -1,7 +1,8 @@
 -- A packet that is tossed writes no more than the messages that it posts may.
 use Rattle.std.proofs.Common.{◌≡◌, ℕ, List, Option, Some, Ok, refl, sym}
 use Rattle.board_commands.proofs.WriteLaws.{turned_within, WritesFound}
-use Rattle.board_commands.specs.State.{State, Stores, migrated, state_of}
+use Rattle.board_commands.specs.Kept.{IsOutlined}
+use Rattle.board_commands.specs.State.{State, Stores, migrated}
 use Rattle.board_commands.specs.WriteBound.{KeepsWriteBound}
 use Rattle.board_layout.specs.Board.{Board}
 use Rattle.board_layout.specs.Valid.{IsBoard}
@@ -10,20 +11,23 @@ use Rattle.door_outside.specs.Shelf as Shelf
 use Rattle.fts_packet.specs.declared.packet.FtsMessage.{FtsMessage}
 use Rattle.intent_journal.specs.Journal.{IsClosed}
 use Rattle.intent_journal.specs.Recovered.{recovered}
+use Rattle.mail_board.proofs.EachNext.{changed_alike}
 use Rattle.mail_board.proofs.PostedSlots.{posting_keeps}
 use Rattle.mail_board.specs.Changes.{changed}
 use Rattle.mail_board.specs.Written.{WritesFew}
 use Rattle.message_commands.proofs.Exits.{carried}
 use Rattle.toss_commands.proofs.TossActs.{toss_turns}
+use Rattle.toss_commands.proofs.TossAlike.{tossing_alike}
 use Rattle.toss_commands.specs.PacketFiles.{FtsPacketOf}
 use Rattle.toss_commands.specs.Toss.{Tosses, tosses}
-use Rattle.toss_commands.specs.Tossing.{MayToss}
+use Rattle.toss_commands.specs.Tossing.{MayToss, PostsTossed}
 use Rattle.toss_commands.specs.declared.tossing.Tossing.{Tossing}
 
-module _ (old mid new : Disk) (shelf : Shelf.Files) (closed : IsClosed (old.files 1)) (found : WritesFound old mid.wrote) (board : Option Board)
-    (stands : (state : State) → Stores state (recovered old.files) → migrated state ≡ state_of board) (b : Board) (board_is : board ≡ Some b) (ok : IsBoard b) where
-  pub toss_within : (file : List ℕ) (now : ℕ) (messages : List FtsMessage) → FtsPacketOf shelf file (Ok messages) → (t : Tossing) → MayToss now messages b (Ok t)
+module _ (old mid new : Disk) (shelf : Shelf.Files) (closed : IsClosed (old.files 1)) (found : WritesFound old mid.wrote) (kept : Option Board)
+    (stands : (state : State) → Stores state (recovered old.files) → IsOutlined (migrated state) kept) (b : Board) (kept_is : kept ≡ Some b) (ok : IsBoard b) where
+  pub toss_within : (file : List ℕ) (now : ℕ) (messages : List FtsMessage) → FtsPacketOf shelf file (Ok messages) → (t : Tossing) → MayToss now messages b (Ok t) → PostsTossed now messages b t
       → WritesFew t.change b mid.wrote new.wrote → KeepsWriteBound (tosses file now) old new shelf
-  toss_within file now messages reads t may few =
-      turned_within (Tosses file now) (toss_turns file now) old mid new shelf closed found board stands b (changed t.change b) board_is (carried t.change b t.reply)
-      (Ok messages, reads, sym may.1) refl (posting_keeps t.change b mid.wrote new.wrote may.2 ok may.0 few)
+  toss_within file now messages reads t may change few =
+      turned_within (Tosses file now) (toss_turns file now) old mid new shelf closed found kept stands b kept_is (changed t.change) (λ real alike. changed_alike real b alike t.change) (λ real. carried t.change real t.reply)
+      (λ real valid alike. ((Ok messages, reads, sym (tossing_alike real b alike now messages t.change t.reply change may.1)), refl))
+      (posting_keeps t.change b mid.wrote new.wrote may.2 ok may.0 few)

@@ -2,11 +2,12 @@
 use Rattle.std.proofs.Common.{◌≡◌, ℕ, List, Option, Some, Ok, Err, refl, sym}
 use Rattle.board_commands.proofs.Exits.{shelf_fails, starved}
 use Rattle.board_commands.specs.Halts.{told, of_journal, of_shelf}
-use Rattle.board_commands.specs.Kept.{unread}
-use Rattle.board_commands.specs.State.{State, Made, Stores, migrated, state_of}
+use Rattle.board_commands.specs.Kept.{IsOutlined, unread}
+use Rattle.board_commands.specs.State.{State, Made, Stores, migrated}
 use Rattle.board_commands.specs.declared.halt.BoardHalt.{BoardHalt}
 use Rattle.board_commands.specs.declared.halt.BoardHalt.TheVariants as board_halt
 use Rattle.board_layout.specs.Board.{Board}
+use Rattle.board_layout.specs.Valid.{IsBoard}
 use Rattle.door_outside.specs.Disk.{Disk, Unchanged}
 use Rattle.door_outside.specs.Shelf as Shelf
 use Rattle.entry_runs.proofs.Commands.{works_same}
@@ -15,28 +16,31 @@ use Rattle.entry_runs.specs.Entry.{Changes, Finds, IsAt, Works}
 use Rattle.entry_runs.specs.Promise.{Counts, HasCauses, ended}
 use Rattle.entry_runs.specs.declared.status.Status.TheVariants as status
 use Rattle.fts_packet.specs.declared.packet.FtsMessage.{FtsMessage}
+use Rattle.intent_journal.specs.Recovered.{recovered}
 use Rattle.intent_journal.specs.declared.recovery.JournalError.{JournalError}
 use Rattle.intent_journal.specs.declared.recovery.JournalError.TheVariants.{OutOfMemory as Starved}
 use Rattle.mail_board.specs.Changes.{changed}
-use Rattle.message_commands.proofs.Exits.{carried, changed_by, refused_by, unchanged_by}
+use Rattle.mail_board.specs.Held.{AreAlike}
+use Rattle.message_commands.proofs.Exits.{carried, changed_by, refused_on, unchanged_by}
 use Rattle.shelf_files.specs.Halts.{Comes, done}
 use Rattle.shelf_files.specs.declared.halt.Halt.{Halt}
 use Rattle.shelf_files.specs.declared.halt.Halt.TheVariants.{Refused, ShelfFault, OutOfMemory}
+use Rattle.toss_commands.proofs.TossAlike.{tossing_alike}
 use Rattle.toss_commands.specs.PacketFiles.{FtsPacketOf}
 use Rattle.toss_commands.specs.Toss.{Tosses, tosses}
-use Rattle.toss_commands.specs.Tossing.{MayToss}
+use Rattle.toss_commands.specs.Tossing.{MayToss, PostsTossed}
 use Rattle.toss_commands.specs.declared.tossing.Tossing.{Tossing}
 
 -- what is said is the text that is answered
 abbrev pub said : List ℕ → List ℕ
 said text = text
 
-module _ (file : List ℕ) (now : ℕ) {world : World State} {old mid : Disk} {shelf later : Shelf.Files} (at : IsAt Stores unread world old shelf) (board : Option Board)
-    (finds : Finds Stores unread world.state (migrated world.state) old mid (Ok (tt {0}))) (is : migrated world.state ≡ state_of board) (b : Board) (board_is : board ≡ Some b) (same : later ≡ shelf) where
+module _ (file : List ℕ) (now : ℕ) {world : World State} {old mid : Disk} {shelf later : Shelf.Files} (at : IsAt Stores unread world old shelf) (kept : Option Board)
+    (finds : Finds Stores unread world.state (migrated world.state) old mid (Ok (tt {0}))) (found : IsOutlined (migrated world.state) kept) (b : Board) (kept_is : kept ≡ Some b) (same : later ≡ shelf) where
   -- the packet is refused, or couldn't be read
   pub no_packet : (halt : Halt) → Comes {Value = List FtsMessage} (Err halt) (FtsPacketOf shelf file) → Works Stores (tosses file now) unread world old mid later (told said (Err (of_shelf halt)))
   no_packet (Refused why) comes = works_same Stores (tosses file now) same
-      (refused_by (Tosses file now) at board finds is said (Some b) why (board_halt.Refused why) board_is refl (Err why, comes, refl))
+      (refused_on (Tosses file now) at kept finds found said b why (board_halt.Refused why) kept_is refl (λ real valid alike. (Err why, comes, refl)))
   no_packet ShelfFault comes = works_same Stores (tosses file now) same (shelf_fails (Tosses file now) at finds)
   no_packet OutOfMemory comes = works_same Stores (tosses file now) same (starved (Tosses file now) at finds)
 
@@ -49,16 +53,16 @@ module _ (file : List ℕ) (now : ℕ) {world : World State} {old mid : Disk} {s
     unprepared board_halt.DiskFault may = absurd may
     unprepared board_halt.ShelfFault may = absurd may
 
-    module _ (t : Tossing) (may : MayToss now messages b (Ok t)) where
-      takes : Tosses file now shelf (Some b) (carried t.change b t.reply)
-      takes = (Ok messages, reads, sym may.1)
+    module _ (t : Tossing) (may : MayToss now messages b (Ok t)) (change : PostsTossed now messages b t) where
+      takes : (real : Board) → IsBoard real → AreAlike real b → Tosses file now shelf (Some real) (carried t.change real t.reply)
+      takes real valid alike = (Ok messages, reads, sym (tossing_alike real b alike now messages t.change t.reply change may.1))
 
-      pub tosses_all : {new : Disk} {T E : Type 0} {value : T} → Changes Stores {E = E} unread (Made b) (Made (changed t.change b)) mid new (Ok value) → Works Stores (tosses file now) unread world old new later (Ok (done t.reply))
-      tosses_all changes = works_same Stores (tosses file now) same (changed_by (Tosses file now) at board finds is b board_is t.change t.reply takes changes)
+      pub tosses_all : {new : Disk} {T E : Type 0} {value : T} → ((r : Board) → Stores (Made r) (recovered mid.files) → Changes Stores {E = E} unread (Made r) (Made (changed t.change r)) mid new (Ok value)) → Works Stores (tosses file now) unread world old new later (Ok (done t.reply))
+      tosses_all changes = works_same Stores (tosses file now) same (changed_by (Tosses file now) at kept finds found b kept_is t.change t.reply takes changes)
 
-      pub untossed : {new : Disk} {T : Type 0} (error : JournalError) → Changes Stores {T = T} unread (Made b) (Made (changed t.change b)) mid new (Err error) → (error ≡ Starved → Unchanged mid new)
+      pub untossed : {new : Disk} {T : Type 0} (error : JournalError) → ((r : Board) → Stores (Made r) (recovered mid.files) → Changes Stores {T = T} unread (Made r) (Made (changed t.change r)) mid new (Err error)) → (error ≡ Starved → Unchanged mid new)
           → Works Stores (tosses file now) unread world old new later (told said (Err (of_journal error)))
-      untossed error changes still = works_same Stores (tosses file now) same (unchanged_by (Tosses file now) at board finds is b board_is t.change t.reply takes said error changes still)
+      untossed error changes still = works_same Stores (tosses file now) same (unchanged_by (Tosses file now) at kept finds found b kept_is t.change t.reply takes said error changes still)
 
 -- a packet for which there is no memory is no fault
 pub no_fault : (now : ℕ) (messages : List FtsMessage) (b : Board) {old new : Counts} (e : BoardHalt) → MayToss now messages b (Err e) → HasCauses old new status.OutOfMemory → HasCauses old new (ended (told said (Err e)))

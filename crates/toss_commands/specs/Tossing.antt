@@ -11,6 +11,7 @@ use Rattle.jam_records.specs.declared.message.Slot.{Slot}
 use Rattle.jam_threads.specs.Children.{has_msgid}
 use Rattle.mail_board.specs.Changes.{changed, Fits}
 use Rattle.mail_board.specs.Written.{IsPosting}
+use Rattle.mail_board.specs.declared.change.Change.TheVariants.{Spread}
 use Rattle.mail_intake.specs.Msgids.{has_id}
 use Rattle.mail_intake.specs.Tallies.{IsTally}
 use Rattle.mail_intake.specs.declared.msgids.MsgidSet.{MsgidSet}
@@ -55,6 +56,10 @@ pub record AreTossed (now : ℕ) (b : Board) (messages : List FtsMessage) (t : T
   pub so_far : (t.lines, t.tally.posts) ≡ tossed b now messages
   pub tally : IsTally b t.tally
   pub seen : AreSeen b t.tally.posts t.seen
+
+-- it is the change that posts what was taken
+abbrev pub PostsTossed : ℕ → List FtsMessage → Board → Tossing → Type 0
+PostsTossed now messages b t = t.change ≡ Spread (tossed b now messages).1
 
 -- a change that fits, posts messages and takes the turn, or memory ran out
 abbrev pub MayToss : ℕ → List FtsMessage → Board → Result Tossing BoardHalt → Type 0

@@ -12,7 +12,7 @@ ghost use Rattle.entry_runs.specs.Promise.{counts, ended, HasCauses};
 ghost use Rattle.fts_packet.specs.declared.packet.FtsMessage as Fts;
 ghost use Rattle.intent_journal.specs.Journal.{IsClosed};
 ghost use Rattle.toss_commands.specs.Toss.{tosses};
-ghost use Rattle.toss_commands.specs.Tossing.{AreRead, AreTossed, MayToss};
+ghost use Rattle.toss_commands.specs.Tossing.{AreRead, AreTossed, MayToss, PostsTossed};
 
 use crate::packet_file::packet_in;
 use crate::tossed::{Tossed, tossed_of};
@@ -32,8 +32,10 @@ pub(crate) struct Tossing {
 }
 
 /// The change that posts what was taken of so many messages, and the lines with their counts.
+#[tactic(auto, using(crate::proofs::TossAlike::posts_change))]
 fn ended_with(tossed: Tossed, count: usize) -> Result<Tossing, AllocError>
-    ensures { (now : ℕ) (b : Boards.Board) (messages : List Fts.FtsMessage) → AreTossed now b messages tossed → length messages ≡ count → IfOk result (λ tossing. MayToss now messages b (Ok tossing)) }
+    ensures may { (now : ℕ) (b : Boards.Board) (messages : List Fts.FtsMessage) → AreTossed now b messages tossed → length messages ≡ count → IfOk result (λ tossing. MayToss now messages b (Ok tossing)) }
+    ensures change { (now : ℕ) (b : Boards.Board) (messages : List Fts.FtsMessage) → AreTossed now b messages tossed → IfOk result (PostsTossed now messages b) }
 {
     let Tossed {
         tally,
@@ -61,7 +63,8 @@ fn prepared(
 ) -> Result<Tossing, BoardHalt>
     requires board { IsBoard board.now.board }
     requires read { AreRead messages.now }
-    ensures { MayToss now messages.now board.now.board result }
+    ensures may { MayToss now messages.now board.now.board result }
+    ensures change { IfOk result (PostsTossed now messages.now board.now.board) }
 {
     let tossed = tossed_of(alloc, board.stored(), messages.as_slice(), now)?;
     Ok(ended_with(tossed, messages.len())?)

@@ -1,7 +1,7 @@
 //! Each message of a board, held, deleted and gone, and the msgids that the board generates.
 ghost use Rattle.std.specs.Prelude.{IfOk, IsFalse, IsTrue};
 ghost use Rattle.intent_journal.specs.Hosts.{IsSettled};
-ghost use Rattle.mail_board.specs.Held.{Rests};
+ghost use Rattle.mail_board.specs.Held.{RestsOn};
 ghost use Rattle.memory_outside.specs.MemoryHost.{disk_of};
 
 use door_outside::Host;
@@ -66,7 +66,7 @@ fn message_text<H: Host>(
     number: u32,
 ) -> Result<String, AllocError>
     requires sure { IsFalse board.now.doubtful }
-    requires rests { IsTrue H.tells → Rests board.now.board (H.disk host.old) }
+    requires rests { IsTrue H.tells → RestsOn board.now.board (H.disk host.old) }
 {
     match board.message(alloc, host, place, number) {
         Ok(found) => text_of(alloc, &found),
@@ -83,7 +83,7 @@ fn told<H: Host>(
     number: u32,
 ) -> Result<String, AllocError>
     requires sure { IsFalse board.now.doubtful }
-    requires rests { IsTrue H.tells → Rests board.now.board (H.disk host.old) }
+    requires rests { IsTrue H.tells → RestsOn board.now.board (H.disk host.old) }
 {
     let message = message_text(alloc, board, host, place, number)?;
     let msgid = generated(alloc, board, place, number)?;

@@ -13,8 +13,9 @@ use Rattle.entry_runs.specs.Entry.{Works}
 use Rattle.entry_runs.specs.Promise.{Counts, HasCauses, counts, ended}
 use Rattle.entry_runs.specs.declared.status.Status.TheVariants as status
 use Rattle.mail_board.specs.Changes.{Fits}
-use Rattle.shelf_files.specs.declared.refusal.Refusal.TheVariants.{NotMade, NoConference}
-use Rattle.message_commands.proofs.Exits.{refused_by}
+use Rattle.shelf_files.specs.declared.refusal.Refusal.TheVariants.{NoConference}
+use Rattle.message_commands.proofs.Exits.{refused_on, unmade_by}
+use Rattle.message_commands.proofs.PlaceAlike.{place_alike}
 use Rattle.adopt_commands.proofs.AdoptExits.{Turns, adopted, no_base, no_fault, said, unadopted, unplaced, unprepared}
 use Rattle.adopt_commands.proofs.AdoptBounds.{adopt_within}
 use Rattle.adopt_commands.specs.Adopt.{adopts}
@@ -32,8 +33,8 @@ returns-in_err-board-clause-works g c tells shelf_tells world at =
     let e : BoardHalt = c.in_err-board.field-0.0 in
     let is : c.from_residual-in_err-board.result ≡ Err e = search rules in
     subst (λ (r : Result (List ℕ) BoardHalt). Works Stores (adopts c.args.conference c.args.prefix.now) unread world (g.H.Host.disk c.args.host.now) (g.H.Host.disk c.find.new.host) (g.S.Shelf.files c.args.shelf.now) (told said r)) (sym is)
-    (refused_by (Turns c.args.conference c.args.prefix.now) at (kept_board c.find.new.kept) (c.in_ok-find.ensures.finds tells world.state at.board.stores) (c.in_ok-find.ensures.state tells world.state at.board.stores)
-    said None NotMade e c.in_err-board.ensures.board.1 c.in_err-board.ensures.board.0 refl)
+    (unmade_by (Turns c.args.conference c.args.prefix.now) at (kept_board c.find.new.kept) (c.in_ok-find.ensures.finds tells world.state at.board.stores) (c.in_ok-find.ensures.state tells world.state at.board.stores)
+    said e c.in_err-board.ensures.board.1 c.in_err-board.ensures.board.0 refl)
 
 pub returns-in_err-place-clause-works : goal.returns-in_err-place-clause-works
 returns-in_err-place-clause-works g c tells shelf_tells world at =
@@ -41,9 +42,9 @@ returns-in_err-place-clause-works g c tells shelf_tells world at =
     let b : Board = c.in_ok-board.board.now.board in
     let is : c.from_residual-in_err-place.result ≡ Err e = search rules in
     subst (λ (r : Result (List ℕ) BoardHalt). Works Stores (adopts c.args.conference c.args.prefix.now) unread world (g.H.Host.disk c.args.host.now) (g.H.Host.disk c.find.new.host) (g.S.Shelf.files c.args.shelf.now) (told said r)) (sym is)
-    (refused_by (Turns c.args.conference c.args.prefix.now) at (kept_board c.find.new.kept) (c.in_ok-find.ensures.finds tells world.state at.board.stores) (c.in_ok-find.ensures.state tells world.state at.board.stores)
-    said (Some b) NoConference e c.in_ok-board.ensures.board c.in_err-place.ensures.place.0
-    (unplaced c.args.conference c.args.prefix.now (g.S.Shelf.files c.args.shelf.now) b c.in_err-place.ensures.place.1))
+    (refused_on (Turns c.args.conference c.args.prefix.now) at (kept_board c.find.new.kept) (c.in_ok-find.ensures.finds tells world.state at.board.stores) (c.in_ok-find.ensures.state tells world.state at.board.stores)
+    said b NoConference e c.in_ok-board.ensures.board c.in_err-place.ensures.place.0
+    (λ real valid alike. unplaced c.args.conference c.args.prefix.now (g.S.Shelf.files c.args.shelf.now) real (place_alike real b alike c.args.conference ∙ c.in_err-place.ensures.place.1)))
 
 pub returns-in_err-records-clause-works : goal.returns-in_err-records-clause-works
 returns-in_err-records-clause-works g c tells shelf_tells world at =
@@ -61,7 +62,7 @@ returns-in_err-adopting-clause-works g c tells shelf_tells world at =
     let is : c.from_residual-in_err-adopting.result ≡ Err e = search rules in
     subst (λ (r : Result (List ℕ) BoardHalt). Works Stores (adopts c.args.conference c.args.prefix.now) unread world (g.H.Host.disk c.args.host.now) (g.H.Host.disk c.find.new.host) (g.S.Shelf.files c.base_in.new.shelf) (told said r)) (sym is)
     (unprepared c.args.conference c.args.prefix.now at (kept_board c.find.new.kept) (c.in_ok-find.ensures.finds tells world.state at.board.stores) (c.in_ok-find.ensures.state tells world.state at.board.stores)
-    b c.in_ok-board.ensures.board c.in_ok-place.place c.in_ok-place.ensures.place (c.in_ok-records.ensures.unchanged shelf_tells) c.in_ok-records.records (c.in_ok-records.ensures.base shelf_tells) e c.in_err-adopting.ensures)
+    b c.in_ok-board.ensures.board c.in_ok-place.place c.in_ok-place.ensures.place (c.in_ok-records.ensures.unchanged shelf_tells) c.in_ok-records.records (c.in_ok-records.ensures.base shelf_tells) e c.in_err-adopting.ensures.may)
 
 pub returns-in_err-make_change-clause-works : goal.returns-in_err-make_change-clause-works
 returns-in_err-make_change-clause-works g c tells shelf_tells world at =
@@ -71,7 +72,7 @@ returns-in_err-make_change-clause-works g c tells shelf_tells world at =
     subst (λ (r : Result (List ℕ) BoardHalt). Works Stores (adopts c.args.conference c.args.prefix.now) unread world (g.H.Host.disk c.args.host.now) (g.H.Host.disk c.make_change.new.host) (g.S.Shelf.files c.base_in.new.shelf) (told said r)) (sym is)
     (unadopted c.args.conference c.args.prefix.now at (kept_board c.find.new.kept) (c.in_ok-find.ensures.finds tells world.state at.board.stores) (c.in_ok-find.ensures.state tells world.state at.board.stores)
     b c.in_ok-board.ensures.board c.in_ok-place.place c.in_ok-place.ensures.place (c.in_ok-records.ensures.unchanged shelf_tells) c.in_ok-records.records (c.in_ok-records.ensures.base shelf_tells)
-    c.in_ok-adopting.adopting c.in_ok-adopting.ensures error (c.in_err-make_change.ensures.changes tells b c.in_ok-board.ensures.board)
+    c.in_ok-adopting.adopting c.in_ok-adopting.ensures.may c.in_ok-adopting.ensures.change error (c.in_err-make_change.ensures.changes tells)
     (λ starved. subst (λ host. Unchanged (g.H.Host.disk c.find.new.host) (g.H.Host.disk host)) (sym (c.in_err-make_change.ensures.unchanged (ap Err starved))) (same_host (g.H.Host.disk c.find.new.host))))
 
 pub returns-clause-works : goal.returns-clause-works
@@ -79,13 +80,13 @@ returns-clause-works g c tells shelf_tells world at =
     let b : Board = c.in_ok-board.board.now.board in
     adopted c.args.conference c.args.prefix.now at (kept_board c.find.new.kept) (c.in_ok-find.ensures.finds tells world.state at.board.stores) (c.in_ok-find.ensures.state tells world.state at.board.stores)
     b c.in_ok-board.ensures.board c.in_ok-place.place c.in_ok-place.ensures.place (c.in_ok-records.ensures.unchanged shelf_tells) c.in_ok-records.records (c.in_ok-records.ensures.base shelf_tells)
-    c.in_ok-adopting.adopting c.in_ok-adopting.ensures (c.in_ok-make_change.ensures.changes tells b c.in_ok-board.ensures.board)
+    c.in_ok-adopting.adopting c.in_ok-adopting.ensures.may c.in_ok-adopting.ensures.change (c.in_ok-make_change.ensures.changes tells)
 
 pub make_change-requires-clause-fits : goal.make_change-requires-clause-fits
 make_change-requires-clause-fits g c b is =
     let here : Some c.in_ok-board.board.now.board ≡ Some b = sym c.in_ok-board.ensures.board ∙ is in
     let same : c.in_ok-board.board.now.board ≡ b = cc in
-    subst (Fits c.in_ok-adopting.adopting.change) same c.in_ok-adopting.ensures.0
+    subst (Fits c.in_ok-adopting.adopting.change) same c.in_ok-adopting.ensures.may.0
 
 pub returns-in_err-adopting-clause-causes : goal.returns-in_err-adopting-clause-causes
 returns-in_err-adopting-clause-causes g c =
@@ -95,7 +96,7 @@ returns-in_err-adopting-clause-causes g c =
     let new : Counts = counts (g.H.Host.disk_faults c.find.new.host) (g.H.Host.voice_faults c.find.new.host) (g.S.Shelf.faults c.base_in.new.shelf) in
     let starved : HasCauses old new status.OutOfMemory = search rules in
     subst (λ (r : Result (List ℕ) BoardHalt). HasCauses old new (ended (told said r))) (sym is)
-    (no_fault c.args.conference c.in_ok-place.place c.in_ok-records.records c.in_ok-board.board.now.board e c.in_err-adopting.ensures starved)
+    (no_fault c.args.conference c.in_ok-place.place c.in_ok-records.records c.in_ok-board.board.now.board e c.in_err-adopting.ensures.may starved)
 
 pub returns-in_err-find-clause-wrote : goal.returns-in_err-find-clause-wrote
 returns-in_err-find-clause-wrote g c tells shelf_tells closed = found_within (adopts c.args.conference c.args.prefix.now) (g.H.Host.disk c.args.host.now) (g.H.Host.disk c.find.new.host) (g.S.Shelf.files c.args.shelf.now) closed (c.find.ensures.wrote tells)
@@ -116,12 +117,12 @@ pub returns-in_err-make_change-clause-wrote : goal.returns-in_err-make_change-cl
 returns-in_err-make_change-clause-wrote g c tells shelf_tells closed =
     let b : Board = c.in_ok-board.board.now.board in
     adopt_within (g.H.Host.disk c.args.host.now) (g.H.Host.disk c.find.new.host) (g.H.Host.disk c.make_change.new.host) (g.S.Shelf.files c.args.shelf.now) closed (c.find.ensures.wrote tells) (kept_board c.find.new.kept) (c.in_ok-find.ensures.state tells) b c.in_ok-board.ensures.board c.in_ok-board.ensures.valid c.args.conference c.args.prefix.now
-    c.in_ok-place.place c.in_ok-place.ensures.place c.in_ok-records.records (c.in_ok-records.ensures.base shelf_tells) c.in_ok-adopting.adopting c.in_ok-adopting.ensures
+    c.in_ok-place.place c.in_ok-place.ensures.place c.in_ok-records.records (c.in_ok-records.ensures.base shelf_tells) c.in_ok-adopting.adopting c.in_ok-adopting.ensures.may c.in_ok-adopting.ensures.change
     (c.make_change.ensures.wrote tells b c.in_ok-board.ensures.board)
 
 pub returns-clause-wrote : goal.returns-clause-wrote
 returns-clause-wrote g c tells shelf_tells closed =
     let b : Board = c.in_ok-board.board.now.board in
     adopt_within (g.H.Host.disk c.args.host.now) (g.H.Host.disk c.find.new.host) (g.H.Host.disk c.make_change.new.host) (g.S.Shelf.files c.args.shelf.now) closed (c.find.ensures.wrote tells) (kept_board c.find.new.kept) (c.in_ok-find.ensures.state tells) b c.in_ok-board.ensures.board c.in_ok-board.ensures.valid c.args.conference c.args.prefix.now
-    c.in_ok-place.place c.in_ok-place.ensures.place c.in_ok-records.records (c.in_ok-records.ensures.base shelf_tells) c.in_ok-adopting.adopting c.in_ok-adopting.ensures
+    c.in_ok-place.place c.in_ok-place.ensures.place c.in_ok-records.records (c.in_ok-records.ensures.base shelf_tells) c.in_ok-adopting.adopting c.in_ok-adopting.ensures.may c.in_ok-adopting.ensures.change
     (c.make_change.ensures.wrote tells b c.in_ok-board.ensures.board)

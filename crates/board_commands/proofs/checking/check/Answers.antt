@@ -1,4 +1,4 @@
-use Rattle.std.proofs.Common.{rules, ◌≡◌, List, ℕ, Some, None, Ok, Err, refl, sym, ◌∙◌, ap, subst}
+use Rattle.std.proofs.Common.{rules, ◌≡◌, List, ℕ, Some, None, Ok, Err, sym, subst}
 use Rattle.std.specs.Prelude.{Result}
 use Rattle.entry_runs.specs.Entry.{Works}
 use Rattle.board_layout.specs.Board.{Board}
@@ -6,9 +6,10 @@ use Rattle.shelf_files.specs.Halts.{done}
 use Rattle.board_commands.specs.Check.{checks, checked}
 use Rattle.board_commands.specs.Halts.{told, of_read}
 use Rattle.board_commands.specs.Kept.{kept_board, unread}
-use Rattle.board_commands.specs.State.{Stores, state_of}
+use Rattle.board_commands.specs.State.{Stores}
 use Rattle.board_commands.specs.declared.halt.BoardHalt.{BoardHalt}
-use Rattle.board_commands.proofs.Exits.{unfound, answered}
+use Rattle.board_commands.proofs.CheckLaws.{reported, unmade}
+use Rattle.board_commands.proofs.Exits.{unfound}
 use Rattle.board_commands.proofs.checking.check.Goals as goal
 
 pub returns-in_err-find-clause-works : goal.returns-in_err-find-clause-works
@@ -23,11 +24,9 @@ returns-in_ok-report-in-Some-Ready-clause-works g c tells world shelf at =
     let b : Board = c.in-Some-Ready.board.board in
     let kept : kept_board c.find.new.kept ≡ Some b = search rules in
     subst (λ (text : List ℕ). Works Stores checks unread world (g.H.Host.disk c.args.host.now) (g.H.Host.disk c.find.new.host) shelf (Ok (done text))) (sym c.in_ok-report-in-Some-Ready.ensures)
-    (answered (λ shelf board turn. turn ≡ checked board) at {board = Some b} (c.in_ok-find.ensures.finds tells world.state at.board.stores)
-    (c.in_ok-find.ensures.state tells world.state at.board.stores ∙ ap state_of kept) (checked (Some b)) refl refl)
+    (reported at (kept_board c.find.new.kept) (c.in_ok-find.ensures.finds tells world.state at.board.stores) (c.in_ok-find.ensures.state tells world.state at.board.stores) b kept)
 
 pub returns-in_default-clause-works : goal.returns-in_default-clause-works
 returns-in_default-clause-works g c tells world shelf at =
     let kept : kept_board c.find.new.kept ≡ None = search rules in
-    answered (λ shelf board turn. turn ≡ checked board) at {board = None} (c.in_ok-find.ensures.finds tells world.state at.board.stores)
-    (c.in_ok-find.ensures.state tells world.state at.board.stores ∙ ap state_of kept) (checked None) refl refl
+    unmade at (kept_board c.find.new.kept) (c.in_ok-find.ensures.finds tells world.state at.board.stores) (c.in_ok-find.ensures.state tells world.state at.board.stores) kept

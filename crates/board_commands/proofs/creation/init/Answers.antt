@@ -1,18 +1,17 @@
-use Rattle.std.proofs.Common.{rules, ◌≡◌, ℕ, length, Some, None, Err, refl, sym, ◌∙◌, ap, subst, arith}
+use Rattle.std.proofs.Common.{rules, ◌≡◌, ℕ, length, Some, None, Err, sym, ap, subst, arith}
 use Rattle.std.specs.Prelude.{Result}
 use Rattle.door_outside.specs.Disk.{Unchanged}
 use Rattle.entry_runs.specs.Entry.{Works}
 use Rattle.board_layout.specs.Board.{Board}
-use Rattle.shelf_files.specs.declared.refusal.Refusal.TheVariants.{Exists}
 use Rattle.board_commands.specs.Halts.{told, of_read, of_shelf, of_journal}
 use Rattle.board_commands.specs.Init.{Inits, inits, made_line}
 use Rattle.board_commands.specs.Kept.{kept_board, unread}
-use Rattle.board_commands.specs.State.{Stores, state_of}
-use Rattle.board_commands.specs.Turns.{refuses}
+use Rattle.board_commands.specs.State.{Stores}
 use Rattle.board_commands.specs.declared.halt.BoardHalt.{BoardHalt}
-use Rattle.board_commands.proofs.Exits.{unfound, answered}
+use Rattle.board_commands.proofs.Exits.{unfound}
 use Rattle.board_commands.proofs.FindLaws.{same_host}
-use Rattle.board_commands.proofs.InitExits.{unset, begun, unbegun}
+use Rattle.board_commands.proofs.InitExits.{exists_already, unset, begun, unbegun}
+use Rattle.board_commands.proofs.LikeLaws.{none_outlined}
 use Rattle.board_commands.proofs.creation.init.Goals as goal
 
 pub returns-in_err-find-clause-works : goal.returns-in_err-find-clause-works
@@ -26,8 +25,7 @@ pub returns-in-Some-Ready-clause-works : goal.returns-in-Some-Ready-clause-works
 returns-in-Some-Ready-clause-works g c tells shelf_tells world at =
     let b : Board = c.in-Some-Ready.field-0-0.board in
     let kept : kept_board c.find.new.kept ≡ Some b = search rules in
-    answered (Inits c.args.file.now c.args.now) at {board = Some b} (c.in_ok-find.ensures.finds tells world.state at.board.stores)
-    (c.in_ok-find.ensures.state tells world.state at.board.stores ∙ ap state_of kept) (refuses Exists (Some b)) refl refl
+    exists_already c.args.file.now c.args.now at (kept_board c.find.new.kept) (c.in_ok-find.ensures.finds tells world.state at.board.stores) (c.in_ok-find.ensures.state tells world.state at.board.stores) b kept
 
 pub returns-in_err-setup-clause-works : goal.returns-in_err-setup-clause-works
 returns-in_err-setup-clause-works g c tells shelf_tells world at =
@@ -35,7 +33,7 @@ returns-in_err-setup-clause-works g c tells shelf_tells world at =
     let is : c.from_residual-in_err-setup.result ≡ Err (of_shelf halt) = search rules in
     let none : kept_board c.find.new.kept ≡ None = search rules in
     subst (λ (r : Result ℕ BoardHalt). Works Stores (inits c.args.file.now c.args.now) unread world (g.H.Host.disk c.args.host.now) (g.H.Host.disk c.find.new.host) (g.S.Shelf.files c.setup_in.new.shelf) (told made_line r)) (sym is)
-    (unset c.args.file.now c.args.now at (c.in_ok-find.ensures.finds tells world.state at.board.stores) (c.in_ok-find.ensures.state tells world.state at.board.stores ∙ ap state_of none)
+    (unset c.args.file.now c.args.now at (c.in_ok-find.ensures.finds tells world.state at.board.stores) (none_outlined _ (kept_board c.find.new.kept) none (c.in_ok-find.ensures.state tells world.state at.board.stores))
     halt (c.in_err-setup.ensures.setup shelf_tells) (c.in_err-setup.ensures.unchanged shelf_tells))
 
 pub returns-in_err-make_board-clause-works : goal.returns-in_err-make_board-clause-works
@@ -44,7 +42,7 @@ returns-in_err-make_board-clause-works g c tells shelf_tells world at =
     let is : c.from_residual-in_err-make_board.result ≡ Err (of_journal error) = search rules in
     let none : kept_board c.find.new.kept ≡ None = search rules in
     subst (λ (r : Result ℕ BoardHalt). Works Stores (inits c.args.file.now c.args.now) unread world (g.H.Host.disk c.args.host.now) (g.H.Host.disk c.make_board.new.host) (g.S.Shelf.files c.setup_in.new.shelf) (told made_line r)) (sym is)
-    (unbegun c.args.file.now c.args.now at (c.in_ok-find.ensures.finds tells world.state at.board.stores) (c.in_ok-find.ensures.state tells world.state at.board.stores ∙ ap state_of none)
+    (unbegun c.args.file.now c.args.now at (c.in_ok-find.ensures.finds tells world.state at.board.stores) (none_outlined _ (kept_board c.find.new.kept) none (c.in_ok-find.ensures.state tells world.state at.board.stores))
     c.in_ok-setup.setup (c.in_ok-setup.ensures.setup shelf_tells) error (c.in_err-make_board.ensures.changes tells)
     (λ starved. subst (λ host. Unchanged (g.H.Host.disk c.find.new.host) (g.H.Host.disk host)) (sym (c.in_err-make_board.ensures.unchanged (ap Err starved))) (same_host (g.H.Host.disk c.find.new.host)))
     (c.in_ok-setup.ensures.unchanged shelf_tells))
@@ -54,5 +52,5 @@ returns-clause-works g c tells shelf_tells world at =
     let none : kept_board c.find.new.kept ≡ None = search rules in
     let many = c.in_ok-setup.ensures.valid.conferences.many in
     let counted : c.conference_count-count.result ≡ length c.in_ok-setup.setup.conferences = omega (arith, many, c.conference_count-count.ensures) in
-    begun c.args.file.now c.args.now at (c.in_ok-find.ensures.finds tells world.state at.board.stores) (c.in_ok-find.ensures.state tells world.state at.board.stores ∙ ap state_of none)
+    begun c.args.file.now c.args.now at (c.in_ok-find.ensures.finds tells world.state at.board.stores) (none_outlined _ (kept_board c.find.new.kept) none (c.in_ok-find.ensures.state tells world.state at.board.stores))
     c.in_ok-setup.setup (c.in_ok-setup.ensures.setup shelf_tells) c.conference_count-count.result counted (c.in_ok-make_board.ensures.changes tells) (c.in_ok-setup.ensures.unchanged shelf_tells)

@@ -1,45 +1,50 @@
-use Rattle.std.proofs.Common.{◌≡◌, false, Some, Ok, Err, refl, sym, ◌∙◌, ap, subst}
+use Rattle.std.proofs.Common.{◌≡◌, Option, Some, Ok, Err, sym, ◌∙◌, ap, subst}
 use Rattle.board_layout.specs.Board.{Board}
-use Rattle.board_layout.specs.Valid.{IsBoard}
 use Rattle.intent_journal.specs.declared.recovery.JournalError.TheVariants.{DiskFault, OutOfMemory}
-use Rattle.mail_board.proofs.NextLaws.{fits_board}
-use Rattle.mail_board.specs.Held.{HeldBoard}
+use Rattle.mail_board.proofs.OneHost.{alike_held}
+use Rattle.mail_board.specs.Held.{RestsOn}
 use Rattle.mail_board.specs.Written.{WritesFew}
+use Rattle.mail_board.specs.declared.loading.Loaded.{Loaded}
 use Rattle.mail_board.specs.declared.loading.Loaded.TheVariants.{Ready}
-use Rattle.board_commands.specs.Kept.{AreSure, kept_board}
-use Rattle.board_commands.proofs.ChangeLaws.{change_changes, kept_same}
+use Rattle.board_commands.specs.Kept.{AreSure, IsKept, kept_board}
+use Rattle.board_commands.proofs.ChangeLaws.{change_changes, kept_same, stores_holds}
 use Rattle.board_commands.proofs.making.make_change.Goals as goal
 
 pub returns-in-Ok-clause-changes : goal.returns-in-Ok-clause-changes
-returns-in-Ok-clause-changes g c tells b is =
+returns-in-Ok-clause-changes g c tells b stores =
+    let disk = g.H.Host.disk c.args.host.now in
     let here : Some (Ready c.in-Some-Ready.board) ≡ c.args.kept.now = ap Some (sym c.in-Some-Ready.field-0-is) ∙ c.in-Some-Ready.ensures.value in
     let sure = subst AreSure (sym here) c.requires.sure in
     let board = c.in-Some-Ready.board.board in
-    change_changes c.args.change.now board b (kept_same c.args.kept.now c.in-Some-Ready.board b here is) sure.0 (c.requires.fits board (ap kept_board (sym here))) (Ok (tt {0}))
-    (c.change.ensures.moments tells sure.1) (c.change.ensures.now tells sure.1) (c.change.ensures.settled tells sure.1) (c.in-Ok.ensures.rests tells)
+    let rests : RestsOn board disk = subst (λ (kept : Option Loaded). IsKept kept disk) (sym here) (c.requires.kept tells) in
+    let holds = stores_holds b disk rests.calm stores in
+    change_changes c.args.change.now board b (alike_held board disk rests b holds) stores.0 sure.0 (c.requires.fits board (ap kept_board (sym here))) (Ok (tt {0}))
+    (c.change.ensures.moments tells sure.1 b holds) (c.change.ensures.now tells sure.1 b holds) (c.change.ensures.settled tells sure.1) (c.in-Ok.ensures.next tells b holds)
 
 pub returns-in-Err-DiskFault-clause-changes : goal.returns-in-Err-DiskFault-clause-changes
-returns-in-Err-DiskFault-clause-changes g c tells b is =
+returns-in-Err-DiskFault-clause-changes g c tells b stores =
+    let disk = g.H.Host.disk c.args.host.now in
     let here : Some (Ready c.in-Some-Ready.board) ≡ c.args.kept.now = ap Some (sym c.in-Some-Ready.field-0-is) ∙ c.in-Some-Ready.ensures.value in
     let sure = subst AreSure (sym here) c.requires.sure in
     let board = c.in-Some-Ready.board.board in
-    change_changes c.args.change.now board b (kept_same c.args.kept.now c.in-Some-Ready.board b here is) sure.0 (c.requires.fits board (ap kept_board (sym here))) (Err DiskFault)
-    (c.change.ensures.moments tells sure.1) (c.change.ensures.now tells sure.1) (c.change.ensures.settled tells sure.1) tt
+    let rests : RestsOn board disk = subst (λ (kept : Option Loaded). IsKept kept disk) (sym here) (c.requires.kept tells) in
+    let holds = stores_holds b disk rests.calm stores in
+    change_changes c.args.change.now board b (alike_held board disk rests b holds) stores.0 sure.0 (c.requires.fits board (ap kept_board (sym here))) (Err DiskFault)
+    (c.change.ensures.moments tells sure.1 b holds) (c.change.ensures.now tells sure.1 b holds) (c.change.ensures.settled tells sure.1) tt
 
 pub returns-in-Err-OutOfMemory-clause-changes : goal.returns-in-Err-OutOfMemory-clause-changes
-returns-in-Err-OutOfMemory-clause-changes g c tells b is =
+returns-in-Err-OutOfMemory-clause-changes g c tells b stores =
+    let disk = g.H.Host.disk c.args.host.now in
     let here : Some (Ready c.in-Some-Ready.board) ≡ c.args.kept.now = ap Some (sym c.in-Some-Ready.field-0-is) ∙ c.in-Some-Ready.ensures.value in
     let sure = subst AreSure (sym here) c.requires.sure in
     let board = c.in-Some-Ready.board.board in
-    change_changes c.args.change.now board b (kept_same c.args.kept.now c.in-Some-Ready.board b here is) sure.0 (c.requires.fits board (ap kept_board (sym here))) (Err OutOfMemory)
-    (c.change.ensures.moments tells sure.1) (c.change.ensures.now tells sure.1) (c.change.ensures.settled tells sure.1) tt
+    let rests : RestsOn board disk = subst (λ (kept : Option Loaded). IsKept kept disk) (sym here) (c.requires.kept tells) in
+    let holds = stores_holds b disk rests.calm stores in
+    change_changes c.args.change.now board b (alike_held board disk rests b holds) stores.0 sure.0 (c.requires.fits board (ap kept_board (sym here))) (Err OutOfMemory)
+    (c.change.ensures.moments tells sure.1 b holds) (c.change.ensures.now tells sure.1 b holds) (c.change.ensures.settled tells sure.1) tt
 
 pub returns-in-Ok-clause-sure : goal.returns-in-Ok-clause-sure
-returns-in-Ok-clause-sure g c =
-    let here : Some (Ready c.in-Some-Ready.board) ≡ c.args.kept.now = ap Some (sym c.in-Some-Ready.field-0-is) ∙ c.in-Some-Ready.ensures.value in
-    let board = c.in-Some-Ready.board.board in
-    subst (λ (held : HeldBoard). IsBoard held.board × (held.doubtful ≡ false)) (sym c.in-Ok.ensures.board)
-    (fits_board c.args.change.now board (c.requires.fits board (ap kept_board (sym here))), refl)
+returns-in-Ok-clause-sure g c = (c.in-Ok.ensures.board.valid, c.in-Ok.ensures.board.sure)
 
 pub returns-in-Ok-clause-wrote : goal.returns-in-Ok-clause-wrote
 returns-in-Ok-clause-wrote g c tells b is =

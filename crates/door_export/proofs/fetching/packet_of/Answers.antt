@@ -4,6 +4,7 @@ use Rattle.std.proofs.lemmas.List.Elements.{All-nil}
 use Rattle.std.specs.List.{cons_option}
 use Rattle.std.specs.Prelude.{All}
 use Rattle.board_layout.proofs.ReadingClauses.{kept_at_ok, unchanged_twice}
+use Rattle.mail_board.proofs.OneHost.{holds_still}
 use Rattle.offered_packets.proofs.PacketSizes.{are_writable, spelling_short}
 use Rattle.offered_packets.proofs.Packets.{shown_next}
 use Rattle.offered_packets.specs.Shown.{IsShort}
@@ -15,7 +16,7 @@ pub loop-i-init : goal.loop-i-init
 loop-i-init g c =
     let none = c.new-packet.ensures in
     record {
-      shown = none ∙ none_shown c.args.board.now.board c.args.offered.now;
+      shown = λ tells b holds. none ∙ none_shown b c.args.offered.now;
       short = subst (All IsShort) (sym none) (All-nil IsShort);
       few = omega (arith, ap length none);
       within = omega arith;
@@ -28,14 +29,14 @@ loop-i-init g c =
 pub loop-i-preserved : goal.loop-i-preserved
 loop-i-preserved g c =
     let one = c.in_ok-shown.field-0 in
-    let next = shown_next c.args.board.now.board c.args.offered.now c.as_slice-message-items.result.now _ c.loop-i.i (c.loop-i.i + 1) c.loop-i.packet one
-    c.as_slice-message-items.ensures c.loop-i-test.true (omega arith) c.in_ok-shown.ensures.shown c.loop-i.invariant.shown in
     let then : c.match-branch-2.packet ≡ c.loop-i.packet ++ cons_option one [] = elim c.match-branch-2.branch [
       | in-Some+in_ok-add w ↦ w.packet-is ∙ (w.in_ok-add.ensures.ok ∙ ap (λ o. c.loop-i.packet ++ cons_option o []) (sym w.in-Some.is))
       | in_default w ↦ w.packet-is ∙ (sym (append-nil c.loop-i.packet) ∙ ap (λ o. c.loop-i.packet ++ cons_option o []) (sym w.in_default.is))
     ] in
     record {
-      shown = then ∙ next;
+      shown = λ tells b holds.
+          then ∙ shown_next b c.args.offered.now c.as_slice-message-items.result.now _ c.loop-i.i (c.loop-i.i + 1) c.loop-i.packet one c.as_slice-message-items.ensures c.loop-i-test.true (omega arith)
+          (c.in_ok-shown.ensures.shown tells b (holds_still b (g.H.Host.disk c.args.host.now) (g.H.Host.disk c.loop-i.host) (c.loop-i.invariant.unchanged tells) holds)) (c.loop-i.invariant.shown tells b holds);
       short = subst (All IsShort) (sym then) (more_short c.loop-i.packet one c.loop-i.invariant.short c.in_ok-shown.ensures.short);
       few = omega (arith, ap length then, more_few c.loop-i.packet one c.loop-i.i c.loop-i.invariant.few);
       within = omega (arith, c.loop-i-test.true, ap length c.as_slice-message-items.ensures);

@@ -1,20 +1,24 @@
 use Rattle.std.proofs.Common.{rules, ◌≡◌, ℕ, true≢false, Option, None, Err, refl, sym, ◌∙◌, ap, subst}
 use Rattle.std.specs.Prelude.{Result}
+use Rattle.std.proofs.lemmas.Result.{on_ok_weaker}
+use Rattle.board_commands.proofs.ChangeLaws.{stores_holds}
+use Rattle.board_commands.proofs.LikeLaws.{none_outlined, real_stored, some_outlined}
 use Rattle.board_commands.proofs.FindLaws.{same_host}
 use Rattle.board_commands.specs.Halts.{told, of_read}
 use Rattle.board_commands.specs.Kept.{AreSure, IsKept, kept_board, unread}
-use Rattle.board_commands.specs.State.{Made, Stores, state_of, migrated}
+use Rattle.board_commands.specs.State.{Stores, migrated}
 use Rattle.board_commands.specs.declared.halt.BoardHalt.{BoardHalt}
+use Rattle.board_layout.specs.Board.{Board}
 use Rattle.door_outside.specs.Disk.{Unchanged}
 use Rattle.entry_runs.specs.Entry.{Works}
 use Rattle.entry_runs.specs.Promise.{HasCauses, counts, ended}
 use Rattle.mail_board.specs.Causes.{HasFault}
-use Rattle.mail_board.specs.Held.{Rests}
+use Rattle.mail_board.specs.Held.{RestsOn}
 use Rattle.mail_board.specs.declared.loading.Loaded.{Loaded}
 use Rattle.shelf_files.specs.declared.refusal.Refusal.TheVariants.{NotMade}
 use Rattle.board_commands.proofs.Exits.{answered, unfound}
 use Rattle.board_commands.specs.Turns.{refuses}
-use Rattle.door_export.proofs.AckLaws.{ack_board}
+use Rattle.door_export.proofs.ExportAlike.{ack_alike}
 use Rattle.door_export.specs.Ack.{ack_of, board_after}
 use Rattle.door_export.specs.declared.acknowledging.AckError.TheVariants.{DiskFault}
 use Rattle.exchange_commands.proofs.AckExits.{works}
@@ -35,7 +39,7 @@ pub returns-in_err-board-clause-works : goal.returns-in_err-board-clause-works
 returns-in_err-board-clause-works g c tells world shelf at =
     let e : BoardHalt = c.in_err-board.field-0.0 in
     let is : c.from_residual-in_err-board.result ≡ Err e = search rules in
-    let none : migrated world.state ≡ state_of None = c.in_ok-find.ensures.state tells world.state at.board.stores ∙ ap state_of c.in_err-board.ensures.none.1 in
+    let none = none_outlined (migrated world.state) (kept_board c.find.new.kept) c.in_err-board.ensures.none.1 (c.in_ok-find.ensures.state tells world.state at.board.stores) in
     subst (λ (r : Result (Unit {0}) BoardHalt). Works Stores (acknowledges c.args.user.now c.args.packet c.args.now) unread world (g.H.Host.disk c.args.host.now) (g.H.Host.disk c.find.new.host) shelf (told (λ done. acknowledged_line c.args.packet) r)) (sym is)
     (subst (λ (halt : BoardHalt). Works Stores (acknowledges c.args.user.now c.args.packet c.args.now) unread world (g.H.Host.disk c.args.host.now) (g.H.Host.disk c.find.new.host) shelf (told (λ (done : Unit {0}). acknowledged_line c.args.packet) (Err halt))) (sym c.in_err-board.ensures.none.0)
     (answered (λ files board turn. turn ≡ ack_turn c.args.user.now c.args.packet c.args.now board) at {board = None} (c.in_ok-find.ensures.finds tells world.state at.board.stores) none (refuses NotMade None) refl refl))
@@ -45,19 +49,24 @@ returns-clause-works g c tells world shelf at =
     let held = c.in_ok-board.board in
     let here : c.find.new.kept ≡ _ = c.in_ok-board.ensures.board in
     let certain = subst AreSure here c.in_ok-find.ensures.sure in
-    let is : migrated world.state ≡ Made held.board = c.in_ok-find.ensures.state tells world.state at.board.stores ∙ ap (λ (kept : Option Loaded). state_of (kept_board kept)) here in
+    let disk = g.H.Host.disk c.find.new.host in
+    let rests : RestsOn held.board disk = subst (λ (kept : Option Loaded). IsKept kept disk) here (c.in_ok-find.ensures.kept tells) in
+    let finds = c.in_ok-find.ensures.finds tells world.state at.board.stores in
+    let real = some_outlined (migrated world.state) (kept_board c.find.new.kept) held.board (ap kept_board here) (c.in_ok-find.ensures.state tells world.state at.board.stores) in
+    let b : Board = real.board in
+    let holds = stores_holds b disk rests.calm (real_stored finds b real.is) in
     let gives = c.acknowledge-acknowledged.ensures in
     subst (λ (r : Result (Unit {0}) BoardHalt). Works Stores (acknowledges c.args.user.now c.args.packet c.args.now) unread world (g.H.Host.disk c.args.host.now) (g.H.Host.disk c.acknowledge-acknowledged.new.host) shelf (told (λ done. acknowledged_line c.args.packet) r))
     (sym c.answered.ensures)
-    (works c.args.user.now c.args.packet c.args.now c.ranges.now.fits held.board certain.0 at (c.in_ok-find.ensures.finds tells world.state at.board.stores) is
-    (ack_of c.args.user.now c.args.packet c.args.now held.board) refl c.acknowledge-acknowledged.result (record {
-      moments = gives.moments tells certain.1;
-      now_is = gives.now tells certain.1;
+    (works c.args.user.now c.args.packet c.args.now c.ranges.now.fits b real.valid at finds real.is
+    (ack_of c.args.user.now c.args.packet c.args.now b) refl c.acknowledge-acknowledged.result (record {
+      moments = gives.moments tells certain.1 b holds;
+      now_is = gives.now tells certain.1 b holds;
       settled = gives.settled tells certain.1;
-      refused_is = gives.refused;
+      refused_is = gives.refused ∙ sym (ack_alike b held.board real.alike c.args.user.now c.args.packet c.args.now);
       certain = λ doubt. true≢false (sym (gives.doubt.0 doubt).1 ∙ certain.1);
       same = λ early. subst (λ host. Unchanged (g.H.Host.disk c.find.new.host) (g.H.Host.disk host)) (sym (gives.unchanged early).1) (same_host (g.H.Host.disk c.find.new.host));
-      rests = once_told _ c.acknowledge-acknowledged.result gives.rests tells;
+      rests = once_told _ c.acknowledge-acknowledged.result (on_ok_weaker c.acknowledge-acknowledged.result (λ next told. next told b holds) gives.next) tells;
     }))
 
 pub returns-clause-kept : goal.returns-clause-kept
@@ -70,7 +79,7 @@ returns-clause-kept g c tells =
     subst (λ (kept : Option Loaded). IsKept kept (g.H.Host.disk c.acknowledge-acknowledged.new.host)) (sym c.keep_board.ensures)
     (ack_kept held c.acknowledge-acknowledged.new.board (board_after held.board (ack_of c.args.user.now c.args.packet c.args.now held.board)) certain.1 c.acknowledge-acknowledged.result
     (g.H.Host.disk c.acknowledge-acknowledged.new.host) gives.board (once_told _ c.acknowledge-acknowledged.result gives.rests tells) (λ early. (gives.unchanged early).0)
-    (λ early. subst (λ host. Rests held.board (g.H.Host.disk host)) (sym (gives.unchanged early).1) rests) gives.fault (gives.settled tells certain.1))
+    (λ early. subst (λ host. RestsOn held.board (g.H.Host.disk host)) (sym (gives.unchanged early).1) rests) gives.fault (gives.settled tells certain.1))
 
 pub returns-clause-sure : goal.returns-clause-sure
 returns-clause-sure g c =
@@ -80,7 +89,7 @@ returns-clause-sure g c =
     let gives = c.acknowledge-acknowledged.ensures in
     subst AreSure (sym c.keep_board.ensures)
     (ack_sure held c.acknowledge-acknowledged.new.board (board_after held.board (ack_of c.args.user.now c.args.packet c.args.now held.board)) certain.1 c.acknowledge-acknowledged.result certain.0
-    (ack_board c.args.user.now c.args.packet c.args.now held.board c.ranges.now.fits certain.0) gives.board (λ early. (gives.unchanged early).0) gives.fault)
+    gives.board (λ early. (gives.unchanged early).0) gives.fault)
 
 pub returns-clause-causes : goal.returns-clause-causes
 returns-clause-causes g c shelf =

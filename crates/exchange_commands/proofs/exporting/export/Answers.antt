@@ -1,15 +1,19 @@
-use Rattle.std.proofs.Common.{rules, ◌≡◌, ℕ, inl, inr, true≢false, Option, None, Err, refl, sym, ◌∙◌, ap, subst}
+use Rattle.std.proofs.Common.{rules, ◌≡◌, ℕ, inl, inr, true≢false, Option, Some, None, Err, refl, sym, ◌∙◌, ap, subst}
 use Rattle.std.specs.Prelude.{Result}
+use Rattle.board_commands.proofs.ChangeLaws.{stores_holds}
+use Rattle.board_commands.proofs.LikeLaws.{none_outlined, real_stored, some_outlined}
 use Rattle.board_commands.specs.Halts.{told, of_read}
 use Rattle.board_commands.specs.Kept.{AreSure, IsKept, kept_board, unread}
-use Rattle.board_commands.specs.State.{Made, Stores, state_of, migrated}
+use Rattle.board_commands.specs.State.{Stores, migrated}
 use Rattle.board_commands.specs.declared.halt.BoardHalt.{BoardHalt}
+use Rattle.board_layout.specs.Board.{Board}
 use Rattle.entry_runs.specs.Entry.{Works}
 use Rattle.entry_runs.specs.Promise.{HasCauses, counts, ended}
 use Rattle.mail_board.specs.Causes.{HasFault}
+use Rattle.mail_board.specs.Held.{RestsOn}
 use Rattle.mail_board.specs.declared.loading.Loaded.{Loaded}
 use Rattle.shelf_files.specs.declared.refusal.Refusal.TheVariants.{NotMade}
-use Rattle.door_export.proofs.ExportLaws.{export_board}
+use Rattle.door_export.proofs.ExportAlike.{answer_alike, refused_alike}
 use Rattle.door_export.specs.Export.{board_after, export_of}
 use Rattle.door_export.specs.Folder.{folder_names}
 use Rattle.door_export.specs.declared.exporting.ExportError.TheVariants.{DiskFault}
@@ -17,7 +21,7 @@ use Rattle.door_export.specs.declared.exporting.Exported.{Exported}
 use Rattle.exchange_commands.proofs.Causes.{export_causes}
 use Rattle.exchange_commands.proofs.ExportExits.{works}
 use Rattle.exchange_commands.proofs.HandingExits.{answered, unfound}
-use Rattle.exchange_commands.proofs.KeptExports.{export_kept, export_sure, next_rests}
+use Rattle.exchange_commands.proofs.KeptExports.{answered_alike, export_kept, export_sure}
 use Rattle.exchange_commands.specs.Export.{export_handing, exports, packet_line}
 use Rattle.exchange_commands.specs.Handing.{refuses}
 use Rattle.exchange_commands.proofs.exporting.export.Goals as goal
@@ -33,7 +37,7 @@ pub returns-in_err-board-clause-works : goal.returns-in_err-board-clause-works
 returns-in_err-board-clause-works g c tells shelf_tells world at =
     let e : BoardHalt = c.in_err-board.field-0.0 in
     let is : c.from_residual-in_err-board.result ≡ Err e = search rules in
-    let none : migrated world.state ≡ state_of None = c.in_ok-find.ensures.state tells world.state at.board.stores ∙ ap state_of c.in_err-board.ensures.none.1 in
+    let none = none_outlined (migrated world.state) (kept_board c.find.new.kept) c.in_err-board.ensures.none.1 (c.in_ok-find.ensures.state tells world.state at.board.stores) in
     subst (λ (r : Result Exported BoardHalt). Works Stores (exports c.args.user.now c.args.limit c.args.folder.now c.args.now) unread world (g.H.Host.disk c.args.host.now) (g.H.Host.disk c.find.new.host) (g.S.Shelf.files c.args.shelf.now) (told packet_line r)) (sym is)
     (subst (λ (halt : BoardHalt). Works Stores (exports c.args.user.now c.args.limit c.args.folder.now c.args.now) unread world (g.H.Host.disk c.args.host.now) (g.H.Host.disk c.find.new.host) (g.S.Shelf.files c.args.shelf.now) (told packet_line (Err halt))) (sym c.in_err-board.ensures.none.0)
     (answered (folder_names c.args.folder.now) (λ files board h. h ≡ export_handing c.args.user.now c.args.limit c.args.folder.now c.args.now files board) at {board = None} (c.in_ok-find.ensures.finds tells world.state at.board.stores) none (refuses NotMade world.shelf None) refl refl refl))
@@ -43,24 +47,29 @@ returns-clause-works g c tells shelf_tells world at =
     let held = c.in_ok-board.board in
     let here : c.find.new.kept ≡ _ = c.in_ok-board.ensures.board in
     let certain = subst AreSure here c.in_ok-find.ensures.sure in
-    let is : migrated world.state ≡ Made held.board = c.in_ok-find.ensures.state tells world.state at.board.stores ∙ ap (λ (kept : Option Loaded). state_of (kept_board kept)) here in
+    let disk = g.H.Host.disk c.find.new.host in
+    let rests : RestsOn held.board disk = subst (λ (kept : Option Loaded). IsKept kept disk) here (c.in_ok-find.ensures.kept tells) in
+    let finds = c.in_ok-find.ensures.finds tells world.state at.board.stores in
+    let real = some_outlined (migrated world.state) (kept_board c.find.new.kept) held.board (ap kept_board here) (c.in_ok-find.ensures.state tells world.state at.board.stores) in
+    let b : Board = real.board in
+    let holds = stores_holds b disk rests.calm (real_stored finds b real.is) in
     let gives = c.export-exported.ensures in
     subst (λ (r : Result Exported BoardHalt). Works Stores (exports c.args.user.now c.args.limit c.args.folder.now c.args.now) unread world (g.H.Host.disk c.args.host.now) (g.H.Host.disk c.export-exported.new.host) (g.S.Shelf.files c.export-exported.new.shelf) (told packet_line r))
     (sym c.answered.ensures)
-    (works c.args.user.now c.args.limit c.args.folder.now c.args.now held.board certain.0 at (c.in_ok-find.ensures.finds tells world.state at.board.stores) is
-    (export_of c.args.user.now c.args.limit c.args.now held.board) refl c.export-exported.result (record {
-      moments = gives.moments tells certain.1;
-      now_is = gives.now tells certain.1;
+    (works c.args.user.now c.args.limit c.args.folder.now c.args.now b real.valid at finds real.is
+    (export_of c.args.user.now c.args.limit c.args.now b) refl c.export-exported.result (record {
+      moments = gives.moments tells certain.1 b holds;
+      now_is = gives.now tells certain.1 b holds;
       settled = gives.settled tells certain.1;
-      refused_is = gives.refused;
+      refused_is = gives.refused ∙ sym (refused_alike b held.board real.alike c.args.limit c.args.now c.args.user.now);
       certain = λ doubt. true≢false (sym (gives.doubt.0 doubt).1 ∙ certain.1);
       undamaged = gives.undamaged tells;
       same = λ early. let left = gives.unchanged early in (left.0.disk tells, ap (λ shelf. g.S.Shelf.files shelf) left.1);
-      answer = gives.answer;
-      files = gives.files shelf_tells;
+      answer = answered_alike _ _ Some c.export-exported.result (answer_alike b held.board real.alike c.args.limit c.args.now c.args.user.now) gives.answer;
+      files = gives.files shelf_tells tells b holds;
       others = gives.others shelf_tells;
       fault = λ is. ap (λ shelf. g.S.Shelf.files shelf) (gives.fault is).1;
-      rests = λ kept. next_rests c.export-exported.new.board (board_after held.board (export_of c.args.user.now c.args.limit c.args.now held.board)) (g.H.Host.disk c.export-exported.new.host) (gives.board kept) (gives.rests tells certain.1);
+      rests = λ kept. gives.next kept tells b holds;
     }))
 
 pub returns-clause-kept : goal.returns-clause-kept
@@ -79,7 +88,7 @@ returns-clause-sure g c =
     let gives = c.export-exported.ensures in
     subst AreSure (sym c.keep_board.ensures)
     (export_sure held c.export-exported.new.board (board_after held.board (export_of c.args.user.now c.args.limit c.args.now held.board)) certain.1 c.export-exported.result certain.0
-    (export_board c.args.user.now c.args.limit c.args.now held.board certain.0) gives.board (λ early. (gives.unchanged early).0.board) (λ is. elim (gives.fault is).0 [ inl left ↦ inl left.board | inr doubted ↦ inr doubted ]))
+    gives.board (λ early. (gives.unchanged early).0.board) (λ is. elim (gives.fault is).0 [ inl left ↦ inl left.board | inr doubted ↦ inr doubted ]))
 
 pub returns-clause-causes : goal.returns-clause-causes
 returns-clause-causes g c =

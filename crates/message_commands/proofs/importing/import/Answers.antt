@@ -13,9 +13,10 @@ use Rattle.entry_runs.specs.Entry.{Works}
 use Rattle.entry_runs.specs.Promise.{Counts, HasCauses, counts, ended}
 use Rattle.entry_runs.specs.declared.status.Status.TheVariants as status
 use Rattle.mail_board.specs.Changes.{Fits}
-use Rattle.shelf_files.specs.declared.refusal.Refusal.TheVariants.{NotMade, NoConference}
-use Rattle.message_commands.proofs.Exits.{refused_by}
+use Rattle.shelf_files.specs.declared.refusal.Refusal.TheVariants.{NoConference}
+use Rattle.message_commands.proofs.Exits.{refused_on, unmade_by}
 use Rattle.message_commands.proofs.ImportExits.{imported, no_fault, no_sheet, unimported, unplaced, unprepared}
+use Rattle.message_commands.proofs.PlaceAlike.{place_alike}
 use Rattle.message_commands.proofs.PostBounds.{import_within}
 use Rattle.message_commands.specs.Import.{Imports, imported_line, imports}
 use Rattle.message_commands.proofs.importing.import.Goals as goal
@@ -32,8 +33,8 @@ returns-in_err-board-clause-works g c tells shelf_tells world at =
     let e : BoardHalt = c.in_err-board.field-0.0 in
     let is : c.from_residual-in_err-board.result ≡ Err e = search rules in
     subst (λ (r : Result ℕ BoardHalt). Works Stores (imports c.args.conference c.args.file.now c.args.now) unread world (g.H.Host.disk c.args.host.now) (g.H.Host.disk c.find.new.host) (g.S.Shelf.files c.args.shelf.now) (told (imported_line c.args.conference) r)) (sym is)
-    (refused_by (Imports c.args.conference c.args.file.now c.args.now) at (kept_board c.find.new.kept) (c.in_ok-find.ensures.finds tells world.state at.board.stores) (c.in_ok-find.ensures.state tells world.state at.board.stores)
-    (imported_line c.args.conference) None NotMade e c.in_err-board.ensures.board.1 c.in_err-board.ensures.board.0 refl)
+    (unmade_by (Imports c.args.conference c.args.file.now c.args.now) at (kept_board c.find.new.kept) (c.in_ok-find.ensures.finds tells world.state at.board.stores) (c.in_ok-find.ensures.state tells world.state at.board.stores)
+    (imported_line c.args.conference) e c.in_err-board.ensures.board.1 c.in_err-board.ensures.board.0 refl)
 
 pub returns-in_err-place-clause-works : goal.returns-in_err-place-clause-works
 returns-in_err-place-clause-works g c tells shelf_tells world at =
@@ -41,9 +42,9 @@ returns-in_err-place-clause-works g c tells shelf_tells world at =
     let b : Board = c.in_ok-board.board.now.board in
     let is : c.from_residual-in_err-place.result ≡ Err e = search rules in
     subst (λ (r : Result ℕ BoardHalt). Works Stores (imports c.args.conference c.args.file.now c.args.now) unread world (g.H.Host.disk c.args.host.now) (g.H.Host.disk c.find.new.host) (g.S.Shelf.files c.args.shelf.now) (told (imported_line c.args.conference) r)) (sym is)
-    (refused_by (Imports c.args.conference c.args.file.now c.args.now) at (kept_board c.find.new.kept) (c.in_ok-find.ensures.finds tells world.state at.board.stores) (c.in_ok-find.ensures.state tells world.state at.board.stores)
-    (imported_line c.args.conference) (Some b) NoConference e c.in_ok-board.ensures.board c.in_err-place.ensures.place.0
-    (unplaced c.args.conference c.args.file.now c.args.now (g.S.Shelf.files c.args.shelf.now) b c.in_err-place.ensures.place.1))
+    (refused_on (Imports c.args.conference c.args.file.now c.args.now) at (kept_board c.find.new.kept) (c.in_ok-find.ensures.finds tells world.state at.board.stores) (c.in_ok-find.ensures.state tells world.state at.board.stores)
+    (imported_line c.args.conference) b NoConference e c.in_ok-board.ensures.board c.in_err-place.ensures.place.0
+    (λ real valid alike. unplaced c.args.conference c.args.file.now c.args.now (g.S.Shelf.files c.args.shelf.now) real (place_alike real b alike c.args.conference ∙ c.in_err-place.ensures.place.1)))
 
 pub returns-in_err-entries-clause-works : goal.returns-in_err-entries-clause-works
 returns-in_err-entries-clause-works g c tells shelf_tells world at =
@@ -71,7 +72,7 @@ returns-in_err-make_change-clause-works g c tells shelf_tells world at =
     subst (λ (r : Result ℕ BoardHalt). Works Stores (imports c.args.conference c.args.file.now c.args.now) unread world (g.H.Host.disk c.args.host.now) (g.H.Host.disk c.make_change.new.host) (g.S.Shelf.files c.sheet_in.new.shelf) (told (imported_line c.args.conference) r)) (sym is)
     (unimported c.args.conference c.args.file.now c.args.now at (kept_board c.find.new.kept) (c.in_ok-find.ensures.finds tells world.state at.board.stores) (c.in_ok-find.ensures.state tells world.state at.board.stores)
     b c.in_ok-board.ensures.board c.in_ok-place.place c.in_ok-place.ensures.place (c.in_ok-entries.ensures.unchanged shelf_tells) c.in_ok-entries.entries (c.in_ok-entries.ensures.sheet shelf_tells)
-    c.in_ok-importing.importing (c.in_ok-importing.ensures c.args.conference) error (c.in_err-make_change.ensures.changes tells b c.in_ok-board.ensures.board)
+    c.in_ok-importing.importing (c.in_ok-importing.ensures c.args.conference) error (c.in_err-make_change.ensures.changes tells)
     (λ starved. subst (λ host. Unchanged (g.H.Host.disk c.find.new.host) (g.H.Host.disk host)) (sym (c.in_err-make_change.ensures.unchanged (ap Err starved))) (same_host (g.H.Host.disk c.find.new.host))))
 
 pub returns-clause-works : goal.returns-clause-works
@@ -79,7 +80,7 @@ returns-clause-works g c tells shelf_tells world at =
     let b : Board = c.in_ok-board.board.now.board in
     imported c.args.conference c.args.file.now c.args.now at (kept_board c.find.new.kept) (c.in_ok-find.ensures.finds tells world.state at.board.stores) (c.in_ok-find.ensures.state tells world.state at.board.stores)
     b c.in_ok-board.ensures.board c.in_ok-place.place c.in_ok-place.ensures.place (c.in_ok-entries.ensures.unchanged shelf_tells) c.in_ok-entries.entries (c.in_ok-entries.ensures.sheet shelf_tells)
-    c.in_ok-importing.importing (c.in_ok-importing.ensures c.args.conference) (c.in_ok-make_change.ensures.changes tells b c.in_ok-board.ensures.board)
+    c.in_ok-importing.importing (c.in_ok-importing.ensures c.args.conference) (c.in_ok-make_change.ensures.changes tells)
 
 pub make_change-requires-clause-fits : goal.make_change-requires-clause-fits
 make_change-requires-clause-fits g c b is =

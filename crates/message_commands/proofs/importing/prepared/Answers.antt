@@ -2,6 +2,7 @@ use Rattle.std.proofs.Common.{◌≡◌, List, map, sym, ap, ◌∙◌}
 use Rattle.board_layout.specs.Board.{Board}
 use Rattle.jam_records.specs.declared.message.Kind.{Kind}
 use Rattle.jam_records.specs.declared.message.Message.{Message}
+use Rattle.mail_board.specs.declared.change.Change.TheVariants.{Append}
 use Rattle.message_commands.proofs.ImportLaws.{appends, import_fits, import_short}
 use Rattle.message_commands.specs.Import.{imported_message, imported_messages}
 use Rattle.message_commands.proofs.importing.prepared.Goals as goal
@@ -23,4 +24,5 @@ returns c conference =
       import_fits c.args.now c.args.place b c.args.entries messages made c.requires.board c.requires.place c.requires.read c.in_ok-messages.ensures.typed few short,
       appends c.args.now c.args.place b c.args.entries messages made conference c.len-count.result c.len-count.ensures few short,
       tt,
+      ap (Append c.args.place) made,
     )

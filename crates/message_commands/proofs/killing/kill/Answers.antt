@@ -10,8 +10,8 @@ use Rattle.board_layout.specs.Board.{Board}
 use Rattle.door_outside.specs.Disk.{Unchanged}
 use Rattle.entry_runs.specs.Entry.{Works}
 use Rattle.mail_board.specs.declared.change.Change.{Change}
-use Rattle.shelf_files.specs.declared.refusal.Refusal.TheVariants.{NotMade, NoConference, NoMessage}
-use Rattle.message_commands.proofs.Exits.{carried, changed_by, refused_by, unchanged_by}
+use Rattle.shelf_files.specs.declared.refusal.Refusal.TheVariants.{NoConference, NoMessage}
+use Rattle.message_commands.proofs.Exits.{changed_by, refused_on, unchanged_by, unmade_by}
 use Rattle.message_commands.proofs.KillLaws.{turn_killing, turn_missing, turn_unplaced}
 use Rattle.message_commands.specs.Kill.{kill_turn, killed_line, kills}
 use Rattle.message_commands.proofs.killing.kill.Goals as goal
@@ -28,8 +28,8 @@ returns-in_err-board-clause-works g c tells world shelf at =
     let e : BoardHalt = c.in_err-board.field-0.0 in
     let is : c.from_residual-in_err-board.result ≡ Err e = search rules in
     subst (λ (r : Result (Unit {0}) BoardHalt). Works Stores (kills c.args.conference c.args.number) unread world (g.H.Host.disk c.args.host.now) (g.H.Host.disk c.find.new.host) shelf (told (λ done. killed_line c.args.conference c.args.number) r)) (sym is)
-    (refused_by (λ files board turn. turn ≡ kill_turn c.args.conference c.args.number board) at (kept_board c.find.new.kept) (c.in_ok-find.ensures.finds tells world.state at.board.stores) (c.in_ok-find.ensures.state tells world.state at.board.stores)
-    (λ (done : Unit {0}). killed_line c.args.conference c.args.number) None NotMade e c.in_err-board.ensures.board.1 c.in_err-board.ensures.board.0 refl)
+    (unmade_by (λ files board turn. turn ≡ kill_turn c.args.conference c.args.number board) at (kept_board c.find.new.kept) (c.in_ok-find.ensures.finds tells world.state at.board.stores) (c.in_ok-find.ensures.state tells world.state at.board.stores)
+    (λ (done : Unit {0}). killed_line c.args.conference c.args.number) e c.in_err-board.ensures.board.1 c.in_err-board.ensures.board.0 refl)
 
 pub returns-in_err-place-clause-works : goal.returns-in_err-place-clause-works
 returns-in_err-place-clause-works g c tells world shelf at =
@@ -37,8 +37,8 @@ returns-in_err-place-clause-works g c tells world shelf at =
     let b : Board = c.in_ok-board.board.now.board in
     let is : c.from_residual-in_err-place.result ≡ Err e = search rules in
     subst (λ (r : Result (Unit {0}) BoardHalt). Works Stores (kills c.args.conference c.args.number) unread world (g.H.Host.disk c.args.host.now) (g.H.Host.disk c.find.new.host) shelf (told (λ done. killed_line c.args.conference c.args.number) r)) (sym is)
-    (refused_by (λ files board turn. turn ≡ kill_turn c.args.conference c.args.number board) at (kept_board c.find.new.kept) (c.in_ok-find.ensures.finds tells world.state at.board.stores) (c.in_ok-find.ensures.state tells world.state at.board.stores)
-    (λ (done : Unit {0}). killed_line c.args.conference c.args.number) (Some b) NoConference e c.in_ok-board.ensures.board c.in_err-place.ensures.place.0 (turn_unplaced c.args.conference c.args.number b c.in_err-place.ensures.place.1))
+    (refused_on (λ files board turn. turn ≡ kill_turn c.args.conference c.args.number board) at (kept_board c.find.new.kept) (c.in_ok-find.ensures.finds tells world.state at.board.stores) (c.in_ok-find.ensures.state tells world.state at.board.stores)
+    (λ (done : Unit {0}). killed_line c.args.conference c.args.number) b NoConference e c.in_ok-board.ensures.board c.in_err-place.ensures.place.0 (λ real valid alike. turn_unplaced c.args.conference c.args.number b c.in_err-place.ensures.place.1 real alike))
 
 pub returns-in_err-change-clause-works : goal.returns-in_err-change-clause-works
 returns-in_err-change-clause-works g c tells world shelf at =
@@ -47,9 +47,9 @@ returns-in_err-change-clause-works g c tells world shelf at =
     let place : ℕ = c.in_ok-place.place in
     let is : c.from_residual-in_err-change.result ≡ Err e = search rules in
     subst (λ (r : Result (Unit {0}) BoardHalt). Works Stores (kills c.args.conference c.args.number) unread world (g.H.Host.disk c.args.host.now) (g.H.Host.disk c.find.new.host) shelf (told (λ done. killed_line c.args.conference c.args.number) r)) (sym is)
-    (refused_by (λ files board turn. turn ≡ kill_turn c.args.conference c.args.number board) at (kept_board c.find.new.kept) (c.in_ok-find.ensures.finds tells world.state at.board.stores) (c.in_ok-find.ensures.state tells world.state at.board.stores)
-    (λ (done : Unit {0}). killed_line c.args.conference c.args.number) (Some b) NoMessage e c.in_ok-board.ensures.board c.in_err-change.ensures.change.0
-    (turn_missing c.args.conference c.args.number b place c.in_ok-place.ensures.place c.in_err-change.ensures.change.1))
+    (refused_on (λ files board turn. turn ≡ kill_turn c.args.conference c.args.number board) at (kept_board c.find.new.kept) (c.in_ok-find.ensures.finds tells world.state at.board.stores) (c.in_ok-find.ensures.state tells world.state at.board.stores)
+    (λ (done : Unit {0}). killed_line c.args.conference c.args.number) b NoMessage e c.in_ok-board.ensures.board c.in_err-change.ensures.change.0
+    (λ real valid alike. turn_missing c.args.conference c.args.number b place c.in_ok-place.ensures.place c.in_err-change.ensures.change.1 real alike))
 
 pub returns-in_err-make_change-clause-works : goal.returns-in_err-make_change-clause-works
 returns-in_err-make_change-clause-works g c tells world shelf at =
@@ -57,12 +57,11 @@ returns-in_err-make_change-clause-works g c tells world shelf at =
     let b : Board = c.in_ok-board.board.now.board in
     let change : Change = c.in_ok-change.change in
     let line : List ℕ = killed_line c.args.conference c.args.number in
-    let takes : carried change b line ≡ kill_turn c.args.conference c.args.number (Some b) =
-    ap (λ (k : Change). carried k b line) c.in_ok-change.ensures.change.0 ∙ turn_killing c.args.conference c.args.number b c.in_ok-place.place c.in_ok-place.ensures.place c.in_ok-change.ensures.change.1 in
+    let takes = turn_killing c.args.conference c.args.number b c.in_ok-place.place c.in_ok-place.ensures.place c.in_ok-change.ensures.change.1 change c.in_ok-change.ensures.change.0 in
     let is : c.from_residual-in_err-make_change.result ≡ Err (of_journal error) = search rules in
     subst (λ (r : Result (Unit {0}) BoardHalt). Works Stores (kills c.args.conference c.args.number) unread world (g.H.Host.disk c.args.host.now) (g.H.Host.disk c.make_change.new.host) shelf (told (λ done. killed_line c.args.conference c.args.number) r)) (sym is)
     (unchanged_by (λ files board turn. turn ≡ kill_turn c.args.conference c.args.number board) at (kept_board c.find.new.kept) (c.in_ok-find.ensures.finds tells world.state at.board.stores) (c.in_ok-find.ensures.state tells world.state at.board.stores)
-    b c.in_ok-board.ensures.board change line takes (λ (done : Unit {0}). line) error (c.in_err-make_change.ensures.changes tells b c.in_ok-board.ensures.board)
+    b c.in_ok-board.ensures.board change line (λ real valid alike. takes real alike) (λ (done : Unit {0}). line) error (c.in_err-make_change.ensures.changes tells)
     (λ starved. subst (λ host. Unchanged (g.H.Host.disk c.find.new.host) (g.H.Host.disk host)) (sym (c.in_err-make_change.ensures.unchanged (ap Err starved))) (same_host (g.H.Host.disk c.find.new.host))))
 
 pub returns-clause-works : goal.returns-clause-works
@@ -70,7 +69,6 @@ returns-clause-works g c tells world shelf at =
     let b : Board = c.in_ok-board.board.now.board in
     let change : Change = c.in_ok-change.change in
     let line : List ℕ = killed_line c.args.conference c.args.number in
-    let takes : carried change b line ≡ kill_turn c.args.conference c.args.number (Some b) =
-    ap (λ (k : Change). carried k b line) c.in_ok-change.ensures.change.0 ∙ turn_killing c.args.conference c.args.number b c.in_ok-place.place c.in_ok-place.ensures.place c.in_ok-change.ensures.change.1 in
+    let takes = turn_killing c.args.conference c.args.number b c.in_ok-place.place c.in_ok-place.ensures.place c.in_ok-change.ensures.change.1 change c.in_ok-change.ensures.change.0 in
     changed_by (λ files board turn. turn ≡ kill_turn c.args.conference c.args.number board) at (kept_board c.find.new.kept) (c.in_ok-find.ensures.finds tells world.state at.board.stores) (c.in_ok-find.ensures.state tells world.state at.board.stores)
-    b c.in_ok-board.ensures.board change line takes (c.in_ok-make_change.ensures.changes tells b c.in_ok-board.ensures.board)
+    b c.in_ok-board.ensures.board change line (λ real valid alike. takes real alike) (c.in_ok-make_change.ensures.changes tells)

@@ -2,6 +2,7 @@ use Rattle.std.proofs.Common.{◌≡◌, ◌^◌, ◌<◌, ℕ, length, map, Lis
 use Rattle.board_commands.specs.Enroll.{first_refusal}
 use Rattle.board_layout.specs.Board.{Board}
 use Rattle.jam_records.specs.declared.message.Message.{Message}
+use Rattle.mail_board.specs.declared.change.Change.TheVariants.{Spread}
 use Rattle.post_changes.specs.Posted.{ArePlaced, spread}
 use Rattle.message_commands.proofs.SampleFitLaws.{sample_fits, sample_short}
 use Rattle.message_commands.proofs.SampleLists.{are_placed, posts_count}
@@ -61,4 +62,5 @@ returns c =
       sample_fits c.args.seed c.args.now b c.requires small c.args.count c.if-count-gt-COUNT_LIMIT.false posts made c.in_ok-sampling.ensures.sampling.typed (slots_small b posts c.requires few) (size_small (spread posts b) short),
       appends c.args.seed c.args.count c.args.now b right posts made few short,
       tt,
+      ap Spread made,
     )

@@ -13,11 +13,10 @@ use Rattle.entry_runs.specs.Entry.{Works}
 use Rattle.entry_runs.specs.Promise.{Counts, HasCauses, counts, ended}
 use Rattle.entry_runs.specs.declared.status.Status.TheVariants as status
 use Rattle.mail_board.specs.Changes.{Fits}
-use Rattle.message_commands.proofs.Exits.{refused_by}
+use Rattle.message_commands.proofs.Exits.{unmade_by}
 use Rattle.message_commands.proofs.PostBounds.{sample_within}
 use Rattle.message_commands.proofs.SampleExits.{Turns, appended, no_fault, unappended, unprepared}
 use Rattle.message_commands.specs.Sample.{sampled_line, samples}
-use Rattle.shelf_files.specs.declared.refusal.Refusal.TheVariants.{NotMade}
 use Rattle.message_commands.proofs.sampling.sample.Goals as goal
 
 pub returns-in_err-find-clause-works : goal.returns-in_err-find-clause-works
@@ -31,8 +30,8 @@ returns-in_err-board-clause-works g c tells world shelf at =
     let e : BoardHalt = c.in_err-board.field-0.0 in
     let is : c.from_residual-in_err-board.result ≡ Err e = search rules in
     subst (λ (r : Result ℕ BoardHalt). Works Stores (samples c.args.seed c.args.count c.args.now) unread world (g.H.Host.disk c.args.host.now) (g.H.Host.disk c.find.new.host) shelf (told sampled_line r)) (sym is)
-    (refused_by (Turns c.args.seed c.args.count c.args.now) at (kept_board c.find.new.kept) (c.in_ok-find.ensures.finds tells world.state at.board.stores) (c.in_ok-find.ensures.state tells world.state at.board.stores)
-    sampled_line None NotMade e c.in_err-board.ensures.board.1 c.in_err-board.ensures.board.0 refl)
+    (unmade_by (Turns c.args.seed c.args.count c.args.now) at (kept_board c.find.new.kept) (c.in_ok-find.ensures.finds tells world.state at.board.stores) (c.in_ok-find.ensures.state tells world.state at.board.stores)
+    sampled_line e c.in_err-board.ensures.board.1 c.in_err-board.ensures.board.0 refl)
 
 pub returns-in_err-change-clause-works : goal.returns-in_err-change-clause-works
 returns-in_err-change-clause-works g c tells world shelf at =
@@ -50,14 +49,14 @@ returns-in_err-make_change-clause-works g c tells world shelf at =
     let is : c.from_residual-in_err-make_change.result ≡ Err (of_journal error) = search rules in
     subst (λ (r : Result ℕ BoardHalt). Works Stores (samples c.args.seed c.args.count c.args.now) unread world (g.H.Host.disk c.args.host.now) (g.H.Host.disk c.make_change.new.host) shelf (told sampled_line r)) (sym is)
     (unappended c.args.seed c.args.count c.args.now at (kept_board c.find.new.kept) (c.in_ok-find.ensures.finds tells world.state at.board.stores) (c.in_ok-find.ensures.state tells world.state at.board.stores)
-    b c.in_ok-board.ensures.board c.in_ok-change.change c.in_ok-change.ensures error (c.in_err-make_change.ensures.changes tells b c.in_ok-board.ensures.board)
+    b c.in_ok-board.ensures.board c.in_ok-change.change c.in_ok-change.ensures error (c.in_err-make_change.ensures.changes tells)
     (λ starved. subst (λ host. Unchanged (g.H.Host.disk c.find.new.host) (g.H.Host.disk host)) (sym (c.in_err-make_change.ensures.unchanged (ap Err starved))) (same_host (g.H.Host.disk c.find.new.host))))
 
 pub returns-clause-works : goal.returns-clause-works
 returns-clause-works g c tells world shelf at =
     let b : Board = c.in_ok-board.board.now.board in
     appended c.args.seed c.args.count c.args.now at (kept_board c.find.new.kept) (c.in_ok-find.ensures.finds tells world.state at.board.stores) (c.in_ok-find.ensures.state tells world.state at.board.stores)
-    b c.in_ok-board.ensures.board c.in_ok-change.change c.in_ok-change.ensures (c.in_ok-make_change.ensures.changes tells b c.in_ok-board.ensures.board)
+    b c.in_ok-board.ensures.board c.in_ok-change.change c.in_ok-change.ensures (c.in_ok-make_change.ensures.changes tells)
 
 pub make_change-requires-clause-fits : goal.make_change-requires-clause-fits
 make_change-requires-clause-fits g c b is =

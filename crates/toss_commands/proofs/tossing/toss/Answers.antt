@@ -13,8 +13,7 @@ use Rattle.entry_runs.specs.Entry.{Works}
 use Rattle.entry_runs.specs.Promise.{Counts, HasCauses, counts, ended}
 use Rattle.entry_runs.specs.declared.status.Status.TheVariants as status
 use Rattle.mail_board.specs.Changes.{Fits}
-use Rattle.shelf_files.specs.declared.refusal.Refusal.TheVariants.{NotMade}
-use Rattle.message_commands.proofs.Exits.{refused_by}
+use Rattle.message_commands.proofs.Exits.{unmade_by}
 use Rattle.toss_commands.proofs.TossBounds.{toss_within}
 use Rattle.toss_commands.proofs.TossExits.{no_fault, no_packet, said, tosses_all, unprepared, untossed}
 use Rattle.toss_commands.specs.Toss.{Tosses, tosses}
@@ -32,8 +31,8 @@ returns-in_err-board-clause-works g c tells shelf_tells world at =
     let e : BoardHalt = c.in_err-board.field-0.0 in
     let is : c.from_residual-in_err-board.result ≡ Err e = search rules in
     subst (λ (r : Result (List ℕ) BoardHalt). Works Stores (tosses c.args.file.now c.args.now) unread world (g.H.Host.disk c.args.host.now) (g.H.Host.disk c.find.new.host) (g.S.Shelf.files c.args.shelf.now) (told said r)) (sym is)
-    (refused_by (Tosses c.args.file.now c.args.now) at (kept_board c.find.new.kept) (c.in_ok-find.ensures.finds tells world.state at.board.stores) (c.in_ok-find.ensures.state tells world.state at.board.stores)
-    said None NotMade e c.in_err-board.ensures.board.1 c.in_err-board.ensures.board.0 refl)
+    (unmade_by (Tosses c.args.file.now c.args.now) at (kept_board c.find.new.kept) (c.in_ok-find.ensures.finds tells world.state at.board.stores) (c.in_ok-find.ensures.state tells world.state at.board.stores)
+    said e c.in_err-board.ensures.board.1 c.in_err-board.ensures.board.0 refl)
 
 pub returns-in_err-messages-clause-works : goal.returns-in_err-messages-clause-works
 returns-in_err-messages-clause-works g c tells shelf_tells world at =
@@ -51,7 +50,7 @@ returns-in_err-tossing-clause-works g c tells shelf_tells world at =
     let is : c.from_residual-in_err-tossing.result ≡ Err e = search rules in
     subst (λ (r : Result (List ℕ) BoardHalt). Works Stores (tosses c.args.file.now c.args.now) unread world (g.H.Host.disk c.args.host.now) (g.H.Host.disk c.find.new.host) (g.S.Shelf.files c.packet_in.new.shelf) (told said r)) (sym is)
     (unprepared c.args.file.now c.args.now at (kept_board c.find.new.kept) (c.in_ok-find.ensures.finds tells world.state at.board.stores) (c.in_ok-find.ensures.state tells world.state at.board.stores)
-    b c.in_ok-board.ensures.board (c.in_ok-messages.ensures.unchanged shelf_tells) c.in_ok-messages.messages (c.in_ok-messages.ensures.packet shelf_tells) e c.in_err-tossing.ensures)
+    b c.in_ok-board.ensures.board (c.in_ok-messages.ensures.unchanged shelf_tells) c.in_ok-messages.messages (c.in_ok-messages.ensures.packet shelf_tells) e c.in_err-tossing.ensures.may)
 
 pub returns-in_err-make_change-clause-works : goal.returns-in_err-make_change-clause-works
 returns-in_err-make_change-clause-works g c tells shelf_tells world at =
@@ -61,7 +60,7 @@ returns-in_err-make_change-clause-works g c tells shelf_tells world at =
     subst (λ (r : Result (List ℕ) BoardHalt). Works Stores (tosses c.args.file.now c.args.now) unread world (g.H.Host.disk c.args.host.now) (g.H.Host.disk c.make_change.new.host) (g.S.Shelf.files c.packet_in.new.shelf) (told said r)) (sym is)
     (untossed c.args.file.now c.args.now at (kept_board c.find.new.kept) (c.in_ok-find.ensures.finds tells world.state at.board.stores) (c.in_ok-find.ensures.state tells world.state at.board.stores)
     b c.in_ok-board.ensures.board (c.in_ok-messages.ensures.unchanged shelf_tells) c.in_ok-messages.messages (c.in_ok-messages.ensures.packet shelf_tells)
-    c.in_ok-tossing.tossing c.in_ok-tossing.ensures error (c.in_err-make_change.ensures.changes tells b c.in_ok-board.ensures.board)
+    c.in_ok-tossing.tossing c.in_ok-tossing.ensures.may c.in_ok-tossing.ensures.change error (c.in_err-make_change.ensures.changes tells)
     (λ starved. subst (λ host. Unchanged (g.H.Host.disk c.find.new.host) (g.H.Host.disk host)) (sym (c.in_err-make_change.ensures.unchanged (ap Err starved))) (same_host (g.H.Host.disk c.find.new.host))))
 
 pub returns-clause-works : goal.returns-clause-works
@@ -69,13 +68,13 @@ returns-clause-works g c tells shelf_tells world at =
     let b : Board = c.in_ok-board.board.now.board in
     tosses_all c.args.file.now c.args.now at (kept_board c.find.new.kept) (c.in_ok-find.ensures.finds tells world.state at.board.stores) (c.in_ok-find.ensures.state tells world.state at.board.stores)
     b c.in_ok-board.ensures.board (c.in_ok-messages.ensures.unchanged shelf_tells) c.in_ok-messages.messages (c.in_ok-messages.ensures.packet shelf_tells)
-    c.in_ok-tossing.tossing c.in_ok-tossing.ensures (c.in_ok-make_change.ensures.changes tells b c.in_ok-board.ensures.board)
+    c.in_ok-tossing.tossing c.in_ok-tossing.ensures.may c.in_ok-tossing.ensures.change (c.in_ok-make_change.ensures.changes tells)
 
 pub make_change-requires-clause-fits : goal.make_change-requires-clause-fits
 make_change-requires-clause-fits g c b is =
     let here : Some c.in_ok-board.board.now.board ≡ Some b = sym c.in_ok-board.ensures.board ∙ is in
     let same : c.in_ok-board.board.now.board ≡ b = cc in
-    subst (Fits c.in_ok-tossing.tossing.change) same c.in_ok-tossing.ensures.0
+    subst (Fits c.in_ok-tossing.tossing.change) same c.in_ok-tossing.ensures.may.0
 
 pub returns-in_err-tossing-clause-causes : goal.returns-in_err-tossing-clause-causes
 returns-in_err-tossing-clause-causes g c =
@@ -85,7 +84,7 @@ returns-in_err-tossing-clause-causes g c =
     let new : Counts = counts (g.H.Host.disk_faults c.find.new.host) (g.H.Host.voice_faults c.find.new.host) (g.S.Shelf.faults c.packet_in.new.shelf) in
     let starved : HasCauses old new status.OutOfMemory = search rules in
     subst (λ (r : Result (List ℕ) BoardHalt). HasCauses old new (ended (told said r))) (sym is)
-    (no_fault c.args.now c.in_ok-messages.messages c.in_ok-board.board.now.board e c.in_err-tossing.ensures starved)
+    (no_fault c.args.now c.in_ok-messages.messages c.in_ok-board.board.now.board e c.in_err-tossing.ensures.may starved)
 
 pub returns-in_err-find-clause-wrote : goal.returns-in_err-find-clause-wrote
 returns-in_err-find-clause-wrote g c tells shelf_tells closed = found_within (tosses c.args.file.now c.args.now) (g.H.Host.disk c.args.host.now) (g.H.Host.disk c.find.new.host) (g.S.Shelf.files c.args.shelf.now) closed (c.find.ensures.wrote tells)
@@ -103,12 +102,12 @@ pub returns-in_err-make_change-clause-wrote : goal.returns-in_err-make_change-cl
 returns-in_err-make_change-clause-wrote g c tells shelf_tells closed =
     let b : Board = c.in_ok-board.board.now.board in
     toss_within (g.H.Host.disk c.args.host.now) (g.H.Host.disk c.find.new.host) (g.H.Host.disk c.make_change.new.host) (g.S.Shelf.files c.args.shelf.now) closed (c.find.ensures.wrote tells) (kept_board c.find.new.kept) (c.in_ok-find.ensures.state tells) b c.in_ok-board.ensures.board c.in_ok-board.ensures.valid c.args.file.now c.args.now
-    c.in_ok-messages.messages (c.in_ok-messages.ensures.packet shelf_tells) c.in_ok-tossing.tossing c.in_ok-tossing.ensures
+    c.in_ok-messages.messages (c.in_ok-messages.ensures.packet shelf_tells) c.in_ok-tossing.tossing c.in_ok-tossing.ensures.may c.in_ok-tossing.ensures.change
     (c.make_change.ensures.wrote tells b c.in_ok-board.ensures.board)
 
 pub returns-clause-wrote : goal.returns-clause-wrote
 returns-clause-wrote g c tells shelf_tells closed =
     let b : Board = c.in_ok-board.board.now.board in
     toss_within (g.H.Host.disk c.args.host.now) (g.H.Host.disk c.find.new.host) (g.H.Host.disk c.make_change.new.host) (g.S.Shelf.files c.args.shelf.now) closed (c.find.ensures.wrote tells) (kept_board c.find.new.kept) (c.in_ok-find.ensures.state tells) b c.in_ok-board.ensures.board c.in_ok-board.ensures.valid c.args.file.now c.args.now
-    c.in_ok-messages.messages (c.in_ok-messages.ensures.packet shelf_tells) c.in_ok-tossing.tossing c.in_ok-tossing.ensures
+    c.in_ok-messages.messages (c.in_ok-messages.ensures.packet shelf_tells) c.in_ok-tossing.tossing c.in_ok-tossing.ensures.may c.in_ok-tossing.ensures.change
     (c.make_change.ensures.wrote tells b c.in_ok-board.ensures.board)

@@ -1,22 +1,18 @@
 use Rattle.std.proofs.Common.{◌≡◌, sym, ap, ◌∙◌, subst}
-use Rattle.board_changes.specs.Change.{Becomes}
-use Rattle.board_changes.specs.declared.change.BoardChange.{BoardChange}
 use Rattle.board_layout.specs.Board.{Board}
 use Rattle.board_layout.specs.Layout.{IsLayout}
+use Rattle.board_layout.specs.Outlines.{board_outline}
+use Rattle.board_layout.specs.Valid.{IsBoard}
+use Rattle.board_changes.proofs.NextLaws.{next_is, next_board, next_shapes}
 use Rattle.mail_board.specs.Changes.{changed, Fits}
 use Rattle.mail_board.specs.Held.{HeldBoard}
 use Rattle.mail_board.specs.Written.{PutsFew}
-use Rattle.mail_board.specs.declared.change.Change.{Change}
 use Rattle.mail_board.proofs.CommitLaws.{calm_now, commit_moments, commit_now, commit_rests}
 use Rattle.mail_board.proofs.DataLaws.{layout_moves}
-use Rattle.board_changes.proofs.NextLaws.{next_is, next_board, next_shapes}
 use Rattle.mail_board.proofs.NextLaws.{fits_board}
+use Rattle.mail_board.proofs.OneHost.{follows_on, holds_one, leads_held}
 use Rattle.mail_board.proofs.WriteBounds.{few_written, none_written}
 use Rattle.mail_board.proofs.board.Board.change.Goals as goal
-
--- the change of the board that is stored is one of the board as it is seen
-seen : (stored : Board) (held : HeldBoard) (change : Change) (next : BoardChange) → stored ≡ held.board → Becomes stored (changed change stored) next → Becomes held.board (changed change held.board) next
-seen stored held change next is becomes = subst (λ (b : Board). Becomes b (changed change b) next) is becomes
 
 pub returns-then-self-clause-wrote : goal.returns-then-self-clause-wrote
 returns-then-self-clause-wrote g c = λ told. none_written c.args.change.now c.args.self.now.board (g.H.Host.disk c.args.host.now).wrote
@@ -35,17 +31,19 @@ returns-clause-wrote g c = λ told.
     (subst (λ (b : Board). PutsFew c.args.change.now b c.in_ok-next.next.intent) (ap (λ (h : HeldBoard). h.board) c.self.view_is) c.in_ok-next.ensures.costs) (c.commit.ensures.wrote told)
 
 pub returns-in_err-next-clause-now : goal.returns-in_err-next-clause-now
-returns-in_err-next-clause-now g c = λ told sure. calm_now (IsLayout c.args.self.now.board) (layout_moves c.args.self.now.board) (changed c.args.change.now c.args.self.now.board) (g.H.Host.disk c.args.host.now) (c.requires.rests told sure).calm (c.requires.rests told sure).files
+returns-in_err-next-clause-now g c = λ told certain b holds. calm_now (IsLayout b) (layout_moves b) (changed c.args.change.now b) (g.H.Host.disk c.args.host.now) holds.1.calm holds.1.files
 
 pub returns-in-Err-clause-moments : goal.returns-in-Err-clause-moments
-returns-in-Err-clause-moments g c = λ told sure.
-    commit_moments (IsLayout c.args.self.now.board) (layout_moves c.args.self.now.board) (changed c.args.change.now c.args.self.now.board) c.in_ok-next.next.intent (seen c.self.inside.stored c.args.self.now c.args.change.now c.in_ok-next.next (ap (λ (h : HeldBoard). h.board) c.self.view_is) c.in_ok-next.ensures.becomes).intent
-    (g.H.Host.disk c.args.host.now) (c.requires.rests told sure).files (g.H.Host.disk c.commit.new.host) (c.commit.ensures.moments told)
+returns-in-Err-clause-moments g c = λ told certain b holds.
+    let disk = g.H.Host.disk c.args.host.now in
+    let leads = leads_held c.args.self.now.board disk (c.requires.rests told certain) b holds c.self.inside.stored (ap (λ (h : HeldBoard). h.board) c.self.view_is) c.args.change.now c.in_ok-next.next.intent c.in_ok-next.ensures.each in
+    commit_moments (IsLayout b) (layout_moves b) (changed c.args.change.now b) c.in_ok-next.next.intent leads disk holds.1.files (g.H.Host.disk c.commit.new.host) (c.commit.ensures.moments told)
 
 pub returns-in-Err-clause-now : goal.returns-in-Err-clause-now
-returns-in-Err-clause-now g c = λ told sure.
-    commit_now (IsLayout c.args.self.now.board) (layout_moves c.args.self.now.board) (changed c.args.change.now c.args.self.now.board) c.in_ok-next.next.intent (seen c.self.inside.stored c.args.self.now c.args.change.now c.in_ok-next.next (ap (λ (h : HeldBoard). h.board) c.self.view_is) c.in_ok-next.ensures.becomes).intent
-    (g.H.Host.disk c.args.host.now) (c.requires.rests told sure).files (g.H.Host.disk c.commit.new.host) (c.commit.ensures.now told)
+returns-in-Err-clause-now g c = λ told certain b holds.
+    let disk = g.H.Host.disk c.args.host.now in
+    let leads = leads_held c.args.self.now.board disk (c.requires.rests told certain) b holds c.self.inside.stored (ap (λ (h : HeldBoard). h.board) c.self.view_is) c.args.change.now c.in_ok-next.next.intent c.in_ok-next.ensures.each in
+    commit_now (IsLayout b) (layout_moves b) (changed c.args.change.now b) c.in_ok-next.next.intent leads disk holds.1.files (g.H.Host.disk c.commit.new.host) (c.commit.ensures.now told)
 
 pub renew-requires-clause-board : goal.renew-requires-clause-board
 renew-requires-clause-board g c = next_board c.self.inside.stored (changed c.args.change.now c.self.inside.stored) c.in_ok-next.next c.in_ok-next.ensures.becomes (fits_board c.args.change.now c.self.inside.stored (subst (Fits c.args.change.now) (sym (ap (λ (h : HeldBoard). h.board) c.self.view_is)) c.requires.fits))
@@ -54,23 +52,45 @@ pub renew-requires-clause-shapes : goal.renew-requires-clause-shapes
 renew-requires-clause-shapes g c = next_shapes c.self.inside.stored (changed c.args.change.now c.self.inside.stored) c.in_ok-next.next c.in_ok-next.ensures.becomes (fits_board c.args.change.now c.self.inside.stored (subst (Fits c.args.change.now) (sym (ap (λ (h : HeldBoard). h.board) c.self.view_is)) c.requires.fits))
 
 pub returns-clause-moments : goal.returns-clause-moments
-returns-clause-moments g c = λ told sure.
-    commit_moments (IsLayout c.args.self.now.board) (layout_moves c.args.self.now.board) (changed c.args.change.now c.args.self.now.board) c.in_ok-next.next.intent (seen c.self.inside.stored c.args.self.now c.args.change.now c.in_ok-next.next (ap (λ (h : HeldBoard). h.board) c.self.view_is) c.in_ok-next.ensures.becomes).intent
-    (g.H.Host.disk c.args.host.now) (c.requires.rests told sure).files (g.H.Host.disk c.commit.new.host) (c.commit.ensures.moments told)
+returns-clause-moments g c = λ told certain b holds.
+    let disk = g.H.Host.disk c.args.host.now in
+    let leads = leads_held c.args.self.now.board disk (c.requires.rests told certain) b holds c.self.inside.stored (ap (λ (h : HeldBoard). h.board) c.self.view_is) c.args.change.now c.in_ok-next.next.intent c.in_ok-next.ensures.each in
+    commit_moments (IsLayout b) (layout_moves b) (changed c.args.change.now b) c.in_ok-next.next.intent leads disk holds.1.files (g.H.Host.disk c.commit.new.host) (c.commit.ensures.moments told)
 
 pub returns-clause-now : goal.returns-clause-now
-returns-clause-now g c = λ told sure.
-    commit_now (IsLayout c.args.self.now.board) (layout_moves c.args.self.now.board) (changed c.args.change.now c.args.self.now.board) c.in_ok-next.next.intent (seen c.self.inside.stored c.args.self.now c.args.change.now c.in_ok-next.next (ap (λ (h : HeldBoard). h.board) c.self.view_is) c.in_ok-next.ensures.becomes).intent
-    (g.H.Host.disk c.args.host.now) (c.requires.rests told sure).files (g.H.Host.disk c.commit.new.host) (c.commit.ensures.now told)
+returns-clause-now g c = λ told certain b holds.
+    let disk = g.H.Host.disk c.args.host.now in
+    let leads = leads_held c.args.self.now.board disk (c.requires.rests told certain) b holds c.self.inside.stored (ap (λ (h : HeldBoard). h.board) c.self.view_is) c.args.change.now c.in_ok-next.next.intent c.in_ok-next.ensures.each in
+    commit_now (IsLayout b) (layout_moves b) (changed c.args.change.now b) c.in_ok-next.next.intent leads disk holds.1.files (g.H.Host.disk c.commit.new.host) (c.commit.ensures.now told)
 
 pub returns-clause-board : goal.returns-clause-board
 returns-clause-board g c =
+    let stored : c.self.inside.stored ≡ c.args.self.now.board = ap (λ (h : HeldBoard). h.board) c.self.view_is in
     let board : c.renew.new.self ≡ changed c.args.change.now c.args.self.now.board =
-    c.renew.ensures ∙ (next_is c.self.inside.stored (changed c.args.change.now c.self.inside.stored) c.in_ok-next.next c.in_ok-next.ensures.becomes (fits_board c.args.change.now c.self.inside.stored (subst (Fits c.args.change.now) (sym (ap (λ (h : HeldBoard). h.board) c.self.view_is)) c.requires.fits)) ∙ ap (changed c.args.change.now) (ap (λ (h : HeldBoard). h.board) c.self.view_is)) in
-    λ i. record { board = board i; doubtful = c.if-self.false i }
+    c.renew.ensures ∙ (next_is c.self.inside.stored (changed c.args.change.now c.self.inside.stored) c.in_ok-next.next c.in_ok-next.ensures.becomes (fits_board c.args.change.now c.self.inside.stored (subst (Fits c.args.change.now) (sym stored) c.requires.fits)) ∙ ap (changed c.args.change.now) stored) in
+    record {
+      valid = subst IsBoard (sym board) (fits_board c.args.change.now c.args.self.now.board c.requires.fits);
+      alike = ap board_outline board;
+      sure = c.if-self.false;
+    }
+
+pub returns-clause-next : goal.returns-clause-next
+returns-clause-next g c = λ told b holds.
+    let certain = sym (ap (λ (h : HeldBoard). h.doubtful) c.self.view_is) ∙ c.if-self.false in
+    let disk = g.H.Host.disk c.args.host.now in
+    let leads = leads_held c.args.self.now.board disk (c.requires.rests told certain) b holds c.self.inside.stored (ap (λ (h : HeldBoard). h.board) c.self.view_is) c.args.change.now c.in_ok-next.next.intent c.in_ok-next.ensures.each in
+    commit_rests (IsLayout b) (layout_moves b) (changed c.args.change.now b) c.in_ok-next.next.intent leads disk holds.1.files (g.H.Host.disk c.commit.new.host) (c.in_default.ensures.calm told) (c.in_default.ensures.done told)
 
 pub returns-clause-rests : goal.returns-clause-rests
 returns-clause-rests g c = λ told.
-    let sure = sym (ap (λ (h : HeldBoard). h.doubtful) c.self.view_is) ∙ c.if-self.false in
-    commit_rests (IsLayout c.args.self.now.board) (layout_moves c.args.self.now.board) (changed c.args.change.now c.args.self.now.board) c.in_ok-next.next.intent (seen c.self.inside.stored c.args.self.now c.args.change.now c.in_ok-next.next (ap (λ (h : HeldBoard). h.board) c.self.view_is) c.in_ok-next.ensures.becomes).intent
-    (g.H.Host.disk c.args.host.now) (c.requires.rests told sure).files (g.H.Host.disk c.commit.new.host) (c.in_default.ensures.calm told) (c.in_default.ensures.done told)
+    let certain = sym (ap (λ (h : HeldBoard). h.doubtful) c.self.view_is) ∙ c.if-self.false in
+    let disk = g.H.Host.disk c.args.host.now in
+    let stored : c.self.inside.stored ≡ c.args.self.now.board = ap (λ (h : HeldBoard). h.board) c.self.view_is in
+    let rests = c.requires.rests told certain in
+    let b : Board = rests.stands.board in
+    let holds = holds_one c.args.self.now.board disk rests in
+    let board : c.renew.new.self ≡ changed c.args.change.now c.args.self.now.board =
+    c.renew.ensures ∙ (next_is c.self.inside.stored (changed c.args.change.now c.self.inside.stored) c.in_ok-next.next c.in_ok-next.ensures.becomes (fits_board c.args.change.now c.self.inside.stored (subst (Fits c.args.change.now) (sym stored) c.requires.fits)) ∙ ap (changed c.args.change.now) stored) in
+    let leads = leads_held c.args.self.now.board disk rests b holds c.self.inside.stored stored c.args.change.now c.in_ok-next.next.intent c.in_ok-next.ensures.each in
+    follows_on c.args.self.now.board disk rests c.args.change.now c.renew.new.self (g.H.Host.disk c.commit.new.host) (subst IsBoard stored c.in_ok-next.ensures.board) c.requires.fits (ap board_outline board)
+    (commit_rests (IsLayout b) (layout_moves b) (changed c.args.change.now b) c.in_ok-next.next.intent leads disk holds.1.files (g.H.Host.disk c.commit.new.host) (c.in_default.ensures.calm told) (c.in_default.ensures.done told))
