@@ -1,6 +1,7 @@
 mod examples;
 mod folder_host;
 mod folder_shelf;
+mod folders;
 mod journal;
 mod memory_host;
 mod memory_shelf;

@@ -85,7 +85,7 @@ fn put(host: &mut MemoryHost, file: FileId, text: &str) -> Option<bool> {
     Some(host.put(file, bytes).is_ok())
 }
 
-fn write(host: &mut MemoryHost, file: FileId, at: u16, text: &str, answer: &str) -> Option<bool> {
+fn write<H: Host>(host: &mut H, file: FileId, at: u16, text: &str, answer: &str) -> Option<bool> {
     let bytes = text.as_bytes();
     if bytes.len() > 64 {
         return None;
@@ -93,14 +93,14 @@ fn write(host: &mut MemoryHost, file: FileId, at: u16, text: &str, answer: &str)
     Some(ends(host.write_at(file, u32::from(at), bytes).is_ok(), answer))
 }
 
-fn length(host: &mut MemoryHost, file: FileId, answer: &str) -> bool {
+fn length<H: Host>(host: &mut H, file: FileId, answer: &str) -> bool {
     match host.length(file) {
         Ok(length) => is_number(u64::from(length), answer),
         Err(_) => answer == "fault",
     }
 }
 
-fn read(host: &mut MemoryHost, file: FileId, at: u16, answer: &str) -> Option<bool> {
+fn read<H: Host>(host: &mut H, file: FileId, at: u16, answer: &str) -> Option<bool> {
     let (count, left) = numbered(answer)?;
     let mut buf = [b'.'; 4];
     let given = host.read_at(file, u32::from(at), &mut buf).ok()?;
@@ -108,8 +108,8 @@ fn read(host: &mut MemoryHost, file: FileId, at: u16, answer: &str) -> Option<bo
 }
 
 /// Whether a line on a place of a file is so.
-fn place_is_so(
-    host: &mut MemoryHost,
+fn place_is_so<H: Host>(
+    host: &mut H,
     file: FileId,
     verb: &str,
     words: &str,
@@ -125,16 +125,29 @@ fn place_is_so(
     }
 }
 
+/// Whether a line on a file of any host is so.
+pub(crate) fn call_is_so<H: Host>(
+    host: &mut H,
+    file: FileId,
+    verb: &str,
+    words: &str,
+    answer: &str,
+) -> Option<bool> {
+    match verb {
+        "sync" => Some(ends(host.sync(file).is_ok(), answer)),
+        "length" => Some(length(host, file, answer)),
+        _ => place_is_so(host, file, verb, words, answer),
+    }
+}
+
 /// Whether a line on a file is so.
 fn file_is_so(host: &mut MemoryHost, verb: &str, words: &str, answer: &str) -> Option<bool> {
     let (number, words) = parted(words);
     let file = FileId::new(number.parse::<u16>().ok()?)?;
     match verb {
         "put" => put(host, file, words),
-        "sync" => Some(ends(host.sync(file).is_ok(), answer)),
-        "length" => Some(length(host, file, answer)),
         "file" => Some(host.file(file) == answer.as_bytes()),
-        _ => place_is_so(host, file, verb, words, answer),
+        _ => call_is_so(host, file, verb, words, answer),
     }
 }
 
