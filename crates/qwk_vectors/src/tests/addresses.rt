@@ -1,55 +1,66 @@
-//! Uploaded messages from worked examples.
+//! Address lines from worked examples. A case is a line, and what is found its name and its address.
+use byte_lists::Bytes;
+use case_texts::{Miss, expect_cases};
 use netmail_rules::{Address, address_line};
-use std::process::Abort;
-use std::test::Fail;
+use std::alloc::{AllocError, Global};
 
-/// The name and the address of a line, or none.
-fn named(line: &[u8]) -> Option<(&[u8], (u16, u16, u16, u16))> {
-    let found = address_line(line)?;
-    let name = line.get(found.name_from..found.name_to)?;
+/// A name before an address, or none.
+fn told(alloc: Global, name: Option<&[u8]>, address: &Address) -> Result<String, AllocError> {
+    let Some(name) = name else {
+        return String::from_str(alloc, "none");
+    };
     let Address {
         zone,
         net,
         node,
         point,
-    } = found.address;
-    Some((name, (zone, net, node, point)))
+    } = address;
+    let name = name.escape_ascii();
+    format!(in alloc; "\"{name}\" {zone} {net} {node} {point}")
 }
 
-#[test]
-fn reads_address_lines(rt: HostRuntime) -> Result<(), Fail> {
-    for (line, name, address) in [
-        (
-            b"Ann@2:5020/400.1".as_slice(),
-            b"Ann".as_slice(),
-            (2, 5020, 400, 1),
-        ),
-        (b"  Ann @1:1/1 ", b"Ann ", (1, 1, 1, 0)),
-        (b"ann@host@0:0/0", b"ann@host", (0, 0, 0, 0)),
-        (b"A@00001:32767/00032.0", b"A", (1, 32_767, 32, 0)),
-    ] {
-        assert_eq!(rt; named(line), Some((name, address)));
+fn read(alloc: Global, words: &[Bytes]) -> Result<String, Miss> {
+    let [line] = words else {
+        return Err(Miss::Words);
+    };
+    let line = line.as_slice();
+    match address_line(line) {
+        Some(found) => {
+            let name = line.get(found.name_from..found.name_to);
+            Ok(told(alloc, name, &found.address)?)
+        }
+        None => Ok(String::from_str(alloc, "none")?),
     }
-    Ok(())
 }
 
+const ADDRESSES: &str = r#"
+Ann@2:5020/400.1 => "Ann" 2 5020 400 1
+"  Ann @1:1/1 " => "Ann " 1 1 1 0
+ann@host@0:0/0 => "ann@host" 0 0 0 0
+A@00001:32767/00032.0 => "A" 1 32767 32 0
+"#;
+
 #[test]
-fn refuses_other_lines(rt: HostRuntime) -> Result<(), Fail> {
-    for line in [
-        b"Ann@2:5020/40000".as_slice(),
-        b"Ann@2:5020/400.",
-        b"Ann@2:5020/400.1.1",
-        b"Ann@2:5020",
-        b"Ann@2/5020:400",
-        b"Ann@000001:1/1",
-        b"Ann@ 1:1/1",
-        b" @1:1/1",
-        b"A\x1Fnn@1:1/1",
-        b"Ann 1:1/1",
-        b"1234567890123456789012345678901234567@1:1/1",
-        b"",
-    ] {
-        assert_eq!(rt; named(line), None);
-    }
-    Ok(())
+fn reads_address_lines(rt: HostRuntime) -> Result<(), Miss> {
+    expect_cases(rt.alloc(), ADDRESSES, read)
+}
+
+const OTHERS: &str = r#"
+Ann@2:5020/40000 => none
+Ann@2:5020/400. => none
+Ann@2:5020/400.1.1 => none
+Ann@2:5020 => none
+Ann@2/5020:400 => none
+Ann@000001:1/1 => none
+"Ann@ 1:1/1" => none
+" @1:1/1" => none
+A\x1Fnn@1:1/1 => none
+"Ann 1:1/1" => none
+1234567890123456789012345678901234567@1:1/1 => none
+"" => none
+"#;
+
+#[test]
+fn refuses_other_lines(rt: HostRuntime) -> Result<(), Miss> {
+    expect_cases(rt.alloc(), OTHERS, read)
 }
