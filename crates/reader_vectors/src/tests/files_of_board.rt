@@ -3,7 +3,7 @@ use super::answers::Answers;
 use super::changes::damages_at;
 use door_outside::FileId;
 use example_runs::{
-    Damage, Miss, Status, host_with, no_faults, played, reply_of, run_next, stops_at,
+    Damage, Miss, Stage, Status, host_with, no_faults, played, reply_of, run_next, stops_at,
 };
 use memory_outside::{ImageChoice, MemoryHost, MemoryShelf};
 use std::alloc::Global;
@@ -51,7 +51,25 @@ fn is_damage(line: &str) -> Option<bool> {
     Some(rules_of(file).split(' ').any(|word| word == rule))
 }
 
-/// Looks at what `check` says where a file is damaged: what a board has, or a damage.
+/// Whether a reply of `check` says what a board has, or a damage.
+fn is_answer(reply: &str) -> bool {
+    let line = reply.strip_suffix('\n').unwrap_or("");
+    WHOLE.take(reply) || is_damage(line) == Some(true)
+}
+
+/// What `check` says where a file is damaged.
+fn reply_with(
+    alloc: Global,
+    whole: &MemoryHost,
+    shelf: &mut MemoryShelf,
+    file: FileId,
+    damage: Damage,
+) -> Result<String, Miss> {
+    let host = host_with(alloc, whole, file, damage)?;
+    reply_of(alloc, &host, shelf, "check")
+}
+
+/// Looks at what `check` says there.
 fn expect_answer(
     alloc: Global,
     whole: &MemoryHost,
@@ -59,14 +77,11 @@ fn expect_answer(
     file: FileId,
     damage: Damage,
 ) -> Result<(), Miss> {
-    let host = host_with(alloc, whole, file, damage)?;
-    let reply = reply_of(alloc, &host, shelf, "check")?;
-    let text = reply.as_str();
-    let line = text.strip_suffix('\n').unwrap_or("");
-    if !WHOLE.take(text) && is_damage(line) != Some(true) {
-        return Err(Miss::said(alloc, "check", reply.as_bytes(), "a damage, or a board")?);
+    let reply = reply_with(alloc, whole, shelf, file, damage)?;
+    if is_answer(reply.as_str()) {
+        return Ok(());
     }
-    Ok(())
+    Err(Miss::said(alloc, "check", reply.as_bytes(), "a damage, or a board")?)
 }
 
 /// The same of each change of a file at each place.
@@ -99,20 +114,38 @@ replied to 1, 1 in R.MSG
 posted 1 refused 0
 "#;
 
-#[test]
-fn a_changed_board_is_another_one_or_damaged(rt: HostRuntime) -> Result<(), Miss> {
-    let alloc = rt.alloc();
-    let mut stage = played(alloc, BOARD)?;
-    let bases = [
+/// The same of each file of the board.
+fn expect_all(alloc: Global, stage: &mut Stage) -> Result<(), Miss> {
+    let files = [
         FileId::jhr(0),
         FileId::jdt(0),
         FileId::jdx(0),
         FileId::jlr(0),
+        FileId::ledger(),
     ];
-    for file in bases {
+    for file in files {
         expect_answers(alloc, &stage.host, &mut stage.shelf, file)?;
     }
-    expect_answers(alloc, &stage.host, &mut stage.shelf, FileId::ledger())
+    Ok(())
+}
+
+#[test]
+fn a_changed_board_is_another_one_or_damaged(rt: HostRuntime) -> Result<(), Miss> {
+    let mut stage = played(rt.alloc(), BOARD)?;
+    expect_all(rt.alloc(), &mut stage)
+}
+
+/// What is left on the disk of an import that is stopped at a call, and how it ends.
+fn image_at(
+    alloc: Global,
+    start: &MemoryHost,
+    shelf: &mut MemoryShelf,
+    call: u32,
+) -> Result<(MemoryHost, Status), Miss> {
+    let plan = stops_at(alloc, Some(call));
+    let (host, ended) = run_next(alloc, start, plan, shelf, "import 0 one")?;
+    let image = host.after_crash(alloc, ImageChoice::Written, no_faults(alloc))?;
+    Ok((image, ended))
 }
 
 /// The board with an import under way: its journal is open, and no other file is changed.
@@ -122,9 +155,7 @@ fn open_journal(
     shelf: &mut MemoryShelf,
 ) -> Result<MemoryHost, Miss> {
     for call in 1..2000 {
-        let plan = stops_at(alloc, Some(call));
-        let (host, ended) = run_next(alloc, start, plan, shelf, "import 0 one")?;
-        let image = host.after_crash(alloc, ImageChoice::Written, no_faults(alloc))?;
+        let (image, ended) = image_at(alloc, start, shelf, call)?;
         if image.file(FileId::journal()).first() == Some(&b'O') {
             return Ok(image);
         }
@@ -135,10 +166,14 @@ fn open_journal(
     Err(Miss::Broken("the import doesn't end"))
 }
 
-#[test]
-fn a_changed_journal_is_carried_out_or_closed(rt: HostRuntime) -> Result<(), Miss> {
-    let alloc = rt.alloc();
-    let mut stage = played(alloc, BOARD)?;
+/// Looks at what `check` says of each change of an open journal.
+fn expect_journal(alloc: Global, stage: &mut Stage) -> Result<(), Miss> {
     let open = open_journal(alloc, &stage.host, &mut stage.shelf)?;
     expect_answers(alloc, &open, &mut stage.shelf, FileId::journal())
+}
+
+#[test]
+fn a_changed_journal_is_carried_out_or_closed(rt: HostRuntime) -> Result<(), Miss> {
+    let mut stage = played(rt.alloc(), BOARD)?;
+    expect_journal(rt.alloc(), &mut stage)
 }

@@ -37,6 +37,20 @@ impl Reading<'_> {
     }
 }
 
+/// Looks at what each of some commands says.
+fn expect_each(alloc: Global, stage: &mut Stage, readings: &[Reading<'_>]) -> Result<(), Miss> {
+    for reading in readings {
+        reading.expect_answers(alloc, stage)?;
+    }
+    Ok(())
+}
+
+/// The same where a transcript has left the files.
+fn expect_readings(alloc: Global, transcript: &str, readings: &[Reading<'_>]) -> Result<(), Miss> {
+    let mut stage = played(alloc, transcript)?;
+    expect_each(alloc, &mut stage, readings)
+}
+
 /// The lines of a packet, and of a listing, before the last one.
 const LISTED: &str = "\
 board *
@@ -94,12 +108,7 @@ refused control id 5",
 
 #[test]
 fn a_changed_packet_is_read_or_refused(rt: HostRuntime) -> Result<(), Miss> {
-    let alloc = rt.alloc();
-    let mut stage = played(alloc, "\n* packets\n* folders\n")?;
-    for reading in [LIST, SCAN, READ_MESSAGES, READ_CONTROL] {
-        reading.expect_answers(alloc, &mut stage)?;
-    }
-    Ok(())
+    expect_readings(rt.alloc(), "\n* packets\n* folders\n", &[LIST, SCAN, READ_MESSAGES, READ_CONTROL])
 }
 
 const INIT: Reading<'static> = Reading {
@@ -149,10 +158,7 @@ const SETUP_AND_LINES: &str = r#"
 
 #[test]
 fn a_changed_setup_or_batch_is_carried_out_or_refused(rt: HostRuntime) -> Result<(), Miss> {
-    let alloc = rt.alloc();
-    let mut stage = played(alloc, SETUP_AND_LINES)?;
-    INIT.expect_answers(alloc, &mut stage)?;
-    BATCH.expect_answers(alloc, &mut stage)
+    expect_readings(rt.alloc(), SETUP_AND_LINES, &[INIT, BATCH])
 }
 
 const IMPORT: Reading<'static> = Reading {
@@ -242,12 +248,7 @@ composed 2, 2 in R.MSG
 
 #[test]
 fn a_changed_sheet_or_reply_packet_is_taken_or_refused(rt: HostRuntime) -> Result<(), Miss> {
-    let alloc = rt.alloc();
-    let mut stage = played(alloc, COMPOSED)?;
-    for reading in [IMPORT, UPLOAD, REPLY, TEXT] {
-        reading.expect_answers(alloc, &mut stage)?;
-    }
-    Ok(())
+    expect_readings(rt.alloc(), COMPOSED, &[IMPORT, UPLOAD, REPLY, TEXT])
 }
 
 /// What may be said of a base that is adopted.
@@ -301,12 +302,7 @@ posted 1 refused 0
 
 #[test]
 fn a_changed_base_is_adopted_or_refused(rt: HostRuntime) -> Result<(), Miss> {
-    let alloc = rt.alloc();
-    let mut stage = played(alloc, FOREIGN)?;
-    for reading in [ADOPT_HEADERS, ADOPT_TEXTS, ADOPT_INDEX] {
-        reading.expect_answers(alloc, &mut stage)?;
-    }
-    Ok(())
+    expect_readings(rt.alloc(), FOREIGN, &[ADOPT_HEADERS, ADOPT_TEXTS, ADOPT_INDEX])
 }
 
 const TOSS: Reading<'static> = Reading {
@@ -358,7 +354,5 @@ posted 0 refused 2
 
 #[test]
 fn a_changed_type_2_packet_is_tossed_or_refused(rt: HostRuntime) -> Result<(), Miss> {
-    let alloc = rt.alloc();
-    let mut stage = played(alloc, NEIGHBOUR)?;
-    TOSS.expect_answers(alloc, &mut stage)
+    expect_readings(rt.alloc(), NEIGHBOUR, &[TOSS])
 }
