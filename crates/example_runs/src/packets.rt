@@ -59,34 +59,31 @@ fn put_front(
     )
 }
 
+/// The packets of the examples: their names, how many messages they have, the count of blocks of each, what texts are
+/// filled up with, and how many bytes of them there are.
+const FRONTS: [(&str, usize, &str, u8, usize); 9] = [
+    ("P1", 1, "2", b' ', 384),
+    ("p0", 1, "2", b' ', 0),
+    ("p127", 1, "2", b' ', 127),
+    ("p128", 1, "2", b' ', 128),
+    ("cut", 2, "2", b' ', 639),
+    ("zero", 1, "0", b' ', 384),
+    ("blank", 1, "", b' ', 384),
+    ("header", 1, "1", b' ', 256),
+    ("nuls", 1, "2", 0, 384),
+];
+
 /// Puts the packets of the examples.
 pub fn put_packets(shelf: &mut MemoryShelf, alloc: Global) -> Result<(), Miss> {
-    let one = packet(alloc, 1, b"2", b' ')?;
-    put(shelf, alloc, "P1", one.as_slice())?;
-    for (name, len) in [("p0", 0), ("p127", 127), ("p128", 128)] {
-        put_front(shelf, alloc, name, &one, len)?;
+    for (name, messages, count, pad, len) in FRONTS {
+        let whole = packet(alloc, messages, count.as_bytes(), pad)?;
+        put_front(shelf, alloc, name, &whole, len)?;
     }
-    let two = packet(alloc, 2, b"2", b' ')?;
-    put_front(shelf, alloc, "cut", &two, 639)?;
-    put(
-        shelf,
-        alloc,
-        "zero",
-        packet(alloc, 1, b"0", b' ')?.as_slice(),
-    )?;
-    put(
-        shelf,
-        alloc,
-        "blank",
-        packet(alloc, 1, b"", b' ')?.as_slice(),
-    )?;
-    put_front(shelf, alloc, "header", &packet(alloc, 1, b"1", b' ')?, 256)?;
-    put(shelf, alloc, "nuls", packet(alloc, 1, b"2", 0)?.as_slice())
+    Ok(())
 }
 
-/// Puts the folders of packets: a whole one, and ones in which each refusal comes first.
-pub(crate) fn put_folders(shelf: &mut MemoryShelf, alloc: Global) -> Result<(), Miss> {
-    let one = packet(alloc, 1, b"2", b' ')?;
+/// Puts the folders around a packet: a whole one, and ones in which each refusal comes first.
+fn put_around(shelf: &mut MemoryShelf, alloc: Global, one: &Bytes) -> Result<(), Miss> {
     put(shelf, alloc, "out/CONTROL.DAT", CONTROL)?;
     put(shelf, alloc, "out/MESSAGES.DAT", one.as_slice())?;
     put(shelf, alloc, "none/MESSAGES.DAT", one.as_slice())?;
@@ -98,5 +95,11 @@ pub(crate) fn put_folders(shelf: &mut MemoryShelf, alloc: Global) -> Result<(), 
     )?;
     put(shelf, alloc, "bare/CONTROL.DAT", CONTROL)?;
     put(shelf, alloc, "broken/CONTROL.DAT", CONTROL)?;
-    put_front(shelf, alloc, "broken/MESSAGES.DAT", &one, 383)
+    put_front(shelf, alloc, "broken/MESSAGES.DAT", one, 383)
+}
+
+/// Puts the folders of packets.
+pub(crate) fn put_folders(shelf: &mut MemoryShelf, alloc: Global) -> Result<(), Miss> {
+    let one = packet(alloc, 1, b"2", b' ')?;
+    put_around(shelf, alloc, &one)
 }

@@ -41,8 +41,8 @@ pub(crate) fn run_image(
     line: &str,
     now: u32,
 ) -> Result<(MemoryHost, Status), Miss> {
-    let mut host = after_crash(alloc, last, choice, plan)?;
     let words = words_of(alloc, line)?;
+    let mut host = after_crash(alloc, last, choice, plan)?;
     let status = run(alloc, &words, &mut host, shelf, now);
     Ok((host, status))
 }
@@ -57,11 +57,10 @@ pub fn run_twice(
     first: &str,
     second: &str,
 ) -> Result<(MemoryHost, Status, Status), Miss> {
+    let (first, second) = (words_of(alloc, first)?, words_of(alloc, second)?);
     let mut host = after_crash(alloc, last, ImageChoice::Synced, plan)?;
-    let words = words_of(alloc, first)?;
-    let first = run(alloc, &words, &mut host, shelf, NOW);
-    let words = words_of(alloc, second)?;
-    let second = run(alloc, &words, &mut host, shelf, NOW);
+    let first = run(alloc, &first, &mut host, shelf, NOW);
+    let second = run(alloc, &second, &mut host, shelf, NOW);
     Ok((host, first, second))
 }
 

@@ -43,16 +43,33 @@ impl Steps {
         let mut steps = Steps {
             steps: Vec::new(alloc),
         };
-        steps.add(start)?;
+        steps.carry_out(alloc, start, shelf, lines)?;
+        Ok(steps)
+    }
+
+    /// Adds the board before the lines of a text, and that after each of them.
+    fn carry_out(
+        &mut self,
+        alloc: Global,
+        start: MemoryHost,
+        shelf: &mut MemoryShelf,
+        lines: &str,
+    ) -> Result<(), Miss> {
+        self.add(start)?;
         for line in lines.lines() {
             if !line.is_empty() && !line.starts_with('#') {
-                let last = steps.last()?;
-                let (host, ended) = run_next(alloc, last, no_faults(alloc), shelf, line)?;
-                expect_status(alloc, line, ended, Status::Done)?;
-                steps.add(host)?;
+                self.step(alloc, shelf, line)?;
             }
         }
-        Ok(steps)
+        Ok(())
+    }
+
+    /// Carries out a line on what the last one has synced.
+    fn step(&mut self, alloc: Global, shelf: &mut MemoryShelf, line: &str) -> Result<(), Miss> {
+        let last = self.last()?;
+        let (host, ended) = run_next(alloc, last, no_faults(alloc), shelf, line)?;
+        expect_status(alloc, line, ended, Status::Done)?;
+        self.add(host)
     }
 
     /// Adds a board behind the others.
@@ -102,6 +119,19 @@ impl Steps {
         }
     }
 
+    /// After how many commands the board of a host stands, where a `check` ended so: it found it whole, or not made.
+    fn found(
+        &mut self,
+        host: &MemoryHost,
+        last: &MemoryHost,
+        ended: Status,
+    ) -> Result<usize, Miss> {
+        if ended != Status::Done && !has_said(host, last, "refused notmade\n") {
+            return Err(Miss::Broken("check finds no whole board"));
+        }
+        Ok(self.find(host).ok_or("a crash leaves another board")?)
+    }
+
     /// After how many commands a crash leaves the board: the next `check` finds it whole, or not made.
     pub fn after_crash(
         &mut self,
@@ -112,11 +142,7 @@ impl Steps {
     ) -> Result<usize, Miss> {
         let plan = no_faults(alloc);
         let (host, ended) = run_after_crash(alloc, last, choice, plan, shelf, "check")?;
-        if ended != Status::Done && !has_said(&host, last, "refused notmade\n") {
-            return Err(Miss::Broken("check finds no whole board"));
-        }
-        let place = self.find(&host);
-        Ok(place.ok_or("a crash leaves another board")?)
+        self.found(&host, last, ended)
     }
 
     /// The same of a run that a call of the host stopped, which has said no more than these commands say.
@@ -139,6 +165,36 @@ impl Steps {
         Ok(place)
     }
 
+    /// After how many commands the synced, the written and a mixed image of such a run leave the board: the fewest.
+    fn fewest_after_stop(
+        &mut self,
+        alloc: Global,
+        stopped: &MemoryHost,
+        stop: (&str, u32),
+        shelf: &mut MemoryShelf,
+    ) -> Result<usize, Miss> {
+        let (_, call) = stop;
+        let synced = self.after_stop(alloc, stopped, stop, ImageChoice::Synced, shelf)?;
+        let written = self.after_stop(alloc, stopped, stop, ImageChoice::Written, shelf)?;
+        let mixed = self.after_stop(alloc, stopped, stop, ImageChoice::Mixed(call), shelf)?;
+        Ok(synced.min(written).min(mixed))
+    }
+
+    /// Whether a line ended before the call that was to stop it, where its images leave the board after so many commands.
+    fn has_ended(
+        &self,
+        alloc: Global,
+        (line, call): (&str, u32),
+        ended: Status,
+        fewest: usize,
+    ) -> Result<bool, Miss> {
+        match ended {
+            Status::DiskFault | Status::VoiceFault => Ok(false),
+            Status::Done if self.all_found() && self.is_last(fewest) => Ok(true),
+            _ => Err(Miss::stopped(alloc, line, call, "the stops leave fewer boards")?),
+        }
+    }
+
     /// Stops a line, which carries out these commands, at a call of the host: the synced, the written and a mixed image
     /// each hold a board between the commands, and no more was said than they say. Answers whether the line ended before
     /// that call. It has then carried out all of them, and each board was left by an earlier stop.
@@ -149,19 +205,11 @@ impl Steps {
         line: &str,
         call: u32,
     ) -> Result<bool, Miss> {
+        let start = self.start()?;
         let plan = stops_at(alloc, Some(call));
-        let (host, ended) = run_next(alloc, self.start()?, plan, shelf, line)?;
-        let stop = (line, call);
-        let synced = self.after_stop(alloc, &host, stop, ImageChoice::Synced, shelf)?;
-        let written = self.after_stop(alloc, &host, stop, ImageChoice::Written, shelf)?;
-        let mixed = self.after_stop(alloc, &host, stop, ImageChoice::Mixed(call), shelf)?;
-        match ended {
-            Status::DiskFault | Status::VoiceFault => Ok(false),
-            Status::Done if self.all_found() && self.is_last(synced.min(written).min(mixed)) => {
-                Ok(true)
-            }
-            _ => Err(Miss::stopped(alloc, line, call, "the stops leave fewer boards")?),
-        }
+        let (host, ended) = run_next(alloc, start, plan, shelf, line)?;
+        let fewest = self.fewest_after_stop(alloc, &host, (line, call), shelf)?;
+        self.has_ended(alloc, (line, call), ended, fewest)
     }
 
     /// Stops a line, which carries out these commands, at each call of the host in turn.

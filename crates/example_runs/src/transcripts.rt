@@ -31,6 +31,35 @@ fn status_of(reply: &str) -> Status {
     status
 }
 
+/// Looks whether a host and a shelf had the memory for each call.
+fn expect_fed(
+    alloc: Global,
+    host: &MemoryHost,
+    shelf: &MemoryShelf,
+    line: &str,
+) -> Result<(), Miss> {
+    if host.starved() > 0 || shelf.starved() > 0 {
+        return Err(Miss::starved(alloc, line)?);
+    }
+    Ok(())
+}
+
+/// What a line said. How it ended has to follow from that, and no memory may be wanting.
+fn reply_on(
+    alloc: Global,
+    host: &MemoryHost,
+    last: &MemoryHost,
+    shelf: &MemoryShelf,
+    line: &str,
+    ended: Status,
+) -> Result<String, Miss> {
+    let said = said_since(host, last).ok_or("less was said than before")?;
+    let reply = String::from_utf8_lossy(alloc, said)?;
+    expect_status(alloc, line, ended, status_of(reply.as_str()))?;
+    expect_fed(alloc, host, shelf, line)?;
+    Ok(reply)
+}
+
 /// Runs a line on what the last run has synced, and answers what it says. How it ends has to follow from that, and no
 /// memory may be wanting.
 pub fn reply_of(
@@ -40,13 +69,21 @@ pub fn reply_of(
     line: &str,
 ) -> Result<String, Miss> {
     let (host, ended) = run_next(alloc, last, no_faults(alloc), shelf, line)?;
-    let said = said_since(&host, last).ok_or("less was said than before")?;
-    let reply = String::from_utf8_lossy(alloc, said)?;
-    expect_status(alloc, line, ended, status_of(reply.as_str()))?;
-    if host.starved() > 0 || shelf.starved() > 0 {
-        return Err(Miss::starved(alloc, line)?);
-    }
-    Ok(reply)
+    reply_on(alloc, &host, last, shelf, line, ended)
+}
+
+/// Looks at what a line said and how it ended, and whether memory was wanting.
+fn expect_reply(
+    alloc: Global,
+    host: &MemoryHost,
+    last: &MemoryHost,
+    shelf: &MemoryShelf,
+    (line, reply): (&str, &str),
+    ended: Status,
+) -> Result<(), Miss> {
+    expect_said(alloc, host, last, line, reply)?;
+    expect_status(alloc, line, ended, status_of(reply))?;
+    expect_fed(alloc, host, shelf, line)
 }
 
 /// Runs a line at a moment on what the last run has synced, and looks at what it says and how it ends.
@@ -60,11 +97,7 @@ fn run_line(
 ) -> Result<MemoryHost, Miss> {
     let plan = no_faults(alloc);
     let (host, ended) = run_image(alloc, last, ImageChoice::Synced, plan, shelf, line, now)?;
-    expect_said(alloc, &host, last, line, reply)?;
-    expect_status(alloc, line, ended, status_of(reply))?;
-    if shelf.starved() > 0 {
-        return Err(Miss::starved(alloc, line)?);
-    }
+    expect_reply(alloc, &host, last, shelf, (line, reply), ended)?;
     Ok(host)
 }
 
