@@ -47,17 +47,10 @@ fn found_line(alloc: Global, found: &Found) -> Result<String, AllocError> {
     }
 }
 
-/// All that is found, in order and by a copy of it, or why nothing is read.
-pub fn all_found(
-    alloc: Global,
-    read: &Result<Foreign, ForeignError>,
-) -> Result<String, AllocError> {
-    let copy = match read {
-        Err(error) => return format!(in alloc; "{error:?}"),
-        Ok(found) => found.copy(alloc)?,
-    };
+/// All that is found, in order.
+fn found_lines(alloc: Global, found: &Foreign) -> Result<String, AllocError> {
     let mut line = String::new(alloc);
-    for one in copy.as_slice() {
+    for one in found.as_slice() {
         if !line.is_empty() {
             line.push_str(", ")?;
         }
@@ -67,6 +60,17 @@ pub fn all_found(
         line.push_str("none")?;
     }
     Ok(line)
+}
+
+/// All that is found, by a copy of it, or why nothing is read.
+pub fn all_found(
+    alloc: Global,
+    read: &Result<Foreign, ForeignError>,
+) -> Result<String, AllocError> {
+    match read {
+        Ok(found) => found_lines(alloc, &found.copy(alloc)?),
+        Err(error) => format!(in alloc; "{error:?}"),
+    }
 }
 
 /// The message of the first record that is found, by a copy of it.

@@ -5,19 +5,22 @@ use super::files::Files;
 use byte_lists::Bytes;
 use case_texts::{Miss, expect_cases, number_of};
 use jam_adopt::{Foreign, ForeignError, Found, FoundVerdict};
-use std::alloc::Global;
+use std::alloc::{AllocError, Global};
 
-/// The files of one header with so many empty subfields, and behind these one with a name; with a text of so many line
-/// feeds, and a letter behind these; and with so many records.
-fn shared_files(alloc: Global, shared: u32, records: u32) -> Result<Files, Miss> {
+/// Cuts the subfields, the text and the records of the first header off, and gives it the lengths of those that follow.
+fn cut(alloc: Global, files: &mut Files, shared: u32) -> Result<(), Miss> {
     let fields_len = shared.saturating_mul(8).saturating_add(11);
     let text_len = shared.saturating_add(1);
-    let mut files = Files::two(alloc)?;
     files.change(alloc, b"jhr", b"cut", b"1100")?;
     files.change(alloc, b"jhr", b"1032", &fields_len.to_le_bytes())?;
     files.change(alloc, b"jhr", b"1088", &text_len.to_le_bytes())?;
-    files.jdt = Bytes::new(alloc);
-    files.jdx = Bytes::new(alloc);
+    files.change(alloc, b"jdt", b"cut", b"0")?;
+    files.change(alloc, b"jdx", b"cut", b"0")
+}
+
+/// Adds so many empty subfields, and behind these one with a name; so many line feeds, and a letter behind these; and so
+/// many records.
+fn add(files: &mut Files, shared: u32, records: u32) -> Result<(), AllocError> {
     for _ in 0..shared {
         files.jhr.add(b"\xD0\x07\0\0\0\0\0\0")?;
         files.jdt.add(b"\n")?;
@@ -27,6 +30,14 @@ fn shared_files(alloc: Global, shared: u32, records: u32) -> Result<Files, Miss>
     for _ in 0..records {
         files.jdx.add(b"\0\0\0\0\0\x04\0\0")?;
     }
+    Ok(())
+}
+
+/// The files of one header that these share.
+fn shared_files(alloc: Global, shared: u32, records: u32) -> Result<Files, Miss> {
+    let mut files = Files::two(alloc)?;
+    cut(alloc, &mut files, shared)?;
+    add(&mut files, shared, records)?;
     Ok(files)
 }
 

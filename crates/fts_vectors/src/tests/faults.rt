@@ -16,9 +16,13 @@ fn outcome(alloc: Global, bytes: &[u8]) -> Result<String, AllocError> {
     }
 }
 
-fn read_all(alloc: Global, words: &[Bytes]) -> Result<String, Miss> {
-    let bytes = joined(alloc, words)?;
-    Ok(outcome(alloc, bytes.as_slice())?)
+/// So many first bytes of a packet, or all of them.
+fn front<'a>(bytes: &'a [u8], length: &[u8]) -> Result<&'a [u8], Miss> {
+    if length == b"all".as_slice() {
+        return Ok(bytes);
+    }
+    let length = number_of(length)?;
+    bytes.get(..length as usize).ok_or(Miss::Words)
 }
 
 fn read_front(alloc: Global, words: &[Bytes]) -> Result<String, Miss> {
@@ -26,13 +30,13 @@ fn read_front(alloc: Global, words: &[Bytes]) -> Result<String, Miss> {
         return Err(Miss::Words);
     };
     let bytes = joined(alloc, words)?;
-    let length = number_of(length.as_slice())?;
-    let front = bytes.as_slice().get(..length as usize);
-    Ok(outcome(alloc, front.ok_or(Miss::Words)?)?)
+    let front = front(bytes.as_slice(), length.as_slice())?;
+    Ok(outcome(alloc, front)?)
 }
 
-/// A case is how many of the packet's first bytes there are, and its parts.
-const FRONTS: &str = r#"
+/// A case is how many of a packet's first bytes there are, or `all`, and its parts.
+const CASES: &str = r#"
+# The fronts of the example.
 0 header => short 0
 57 header => short 0
 58 header => 0 messages
@@ -47,60 +51,44 @@ const FRONTS: &str = r#"
 145 header numbers date names echo \0\0 => 1 messages
 146 header numbers date names echo \0\0 => cut 145
 147 header numbers date names echo \0\0 => 1 messages
+# Whole packets, and the places of their faults.
+all h\{18}\x02\0 h\{38} => 0 messages
+all h\{18}\x03\0 h\{38} => type 18
+all h\{18}\x02\x01 h\{38} => type 18
+all h\{18}\0\0 h\{38} => type 18
+all h\{18}\x03\0 h\{37} => short 0
+all header \0 => cut 58
+all header \0\0 => 0 messages
+all header \0\0free => 0 messages
+all header \x01\0 => kind 58
+all header \x02\x01 => kind 58
+all header \0\x02 => kind 58
+all header \x02\0 => cut 58
+all header numbers date \0\0\0\0 => 1 messages
+all header numbers date \0\0\0\0 numbers date \0\0\0\0 \0\0 => 2 messages
+all header numbers date \0\0\0\0 \0\0 numbers date \0\0\0\0 => 1 messages
+all header numbers date names \0 \x01\0 => kind 108
+all header numbers date names \0 \x02\x01 => kind 108
+all header numbers date names \0 \0\x02 => kind 108
+all header numbers date names \0 \x02\0 => cut 108
+all header numbers date names \0 \0 => cut 108
+all header numbers date names \0 \0\0\x03\0 => 1 messages
+# A field has its NUL in its 36 bytes, Subject in its 72, or the file ends in them, or it is too long.
+all header numbers date x\{35}\0 x\{35}\0 x\{71}\0\0 => 1 messages
+all header numbers date x\{36}\0 \0\0\0 => field 58
+all header numbers date x\{36} => field 58
+all header numbers date x\{35} => cut 58
+all header numbers date \0 x\{36}\0 \0\0 => field 58
+all header numbers date \0 x\{36} => field 58
+all header numbers date \0 x\{35} => cut 58
+all header numbers date \0\0 x\{71}\0\0 => 1 messages
+all header numbers date \0\0 x\{72}\0\0 => field 58
+all header numbers date \0\0 x\{72} => field 58
+all header numbers date \0\0 x\{71} => cut 58
+all header numbers date \0\0\0 x\{105} => cut 58
 "#;
 
 #[test]
-fn fronts_of_the_example(rt: HostRuntime) -> Result<(), Miss> {
-    expect_cases(rt.alloc(), FRONTS, read_front)
-}
-
-/// A case is the bytes of a packet.
-const FAULTS: &str = r#"
-h\{18}\x02\0 h\{38} => 0 messages
-h\{18}\x03\0 h\{38} => type 18
-h\{18}\x02\x01 h\{38} => type 18
-h\{18}\0\0 h\{38} => type 18
-h\{18}\x03\0 h\{37} => short 0
-header \0 => cut 58
-header \0\0 => 0 messages
-header \0\0free => 0 messages
-header \x01\0 => kind 58
-header \x02\x01 => kind 58
-header \0\x02 => kind 58
-header \x02\0 => cut 58
-header numbers date \0\0\0\0 => 1 messages
-header numbers date \0\0\0\0 numbers date \0\0\0\0 \0\0 => 2 messages
-header numbers date \0\0\0\0 \0\0 numbers date \0\0\0\0 => 1 messages
-header numbers date names \0 \x01\0 => kind 108
-header numbers date names \0 \x02\x01 => kind 108
-header numbers date names \0 \0\x02 => kind 108
-header numbers date names \0 \x02\0 => cut 108
-header numbers date names \0 \0 => cut 108
-header numbers date names \0 \0\0\x03\0 => 1 messages
-"#;
-
-#[test]
-fn faults_by_place(rt: HostRuntime) -> Result<(), Miss> {
-    expect_cases(rt.alloc(), FAULTS, read_all)
-}
-
-/// A field has its NUL in its 36 bytes, Subject in its 72, or the file ends in them, or it is too long.
-const FIELDS: &str = r#"
-header numbers date x\{35}\0 x\{35}\0 x\{71}\0\0 => 1 messages
-header numbers date x\{36}\0 \0\0\0 => field 58
-header numbers date x\{36} => field 58
-header numbers date x\{35} => cut 58
-header numbers date \0 x\{36}\0 \0\0 => field 58
-header numbers date \0 x\{36} => field 58
-header numbers date \0 x\{35} => cut 58
-header numbers date \0\0 x\{71}\0\0 => 1 messages
-header numbers date \0\0 x\{72}\0\0 => field 58
-header numbers date \0\0 x\{72} => field 58
-header numbers date \0\0 x\{71} => cut 58
-header numbers date \0\0\0 x\{105} => cut 58
-"#;
-
-#[test]
-fn faults_of_fields(rt: HostRuntime) -> Result<(), Miss> {
-    expect_cases(rt.alloc(), FIELDS, read_all)
+fn faults_come_by_place(rt: HostRuntime) -> Result<(), Miss> {
+    expect_cases(rt.alloc(), CASES, read_front)
 }

@@ -2,7 +2,7 @@
 use super::samples::messages_of;
 use byte_lists::{Bytes, Lines};
 use case_texts::{Miss, expect_cases, quoted};
-use fts_packet::FtsMessage;
+use fts_packet::{FtsMessage, FtsPacket};
 use std::alloc::{AllocError, Global};
 
 /// Adds a text, in quotes.
@@ -35,9 +35,8 @@ fn header_found(alloc: Global, message: &FtsMessage) -> Result<String, AllocErro
     Ok(found)
 }
 
-/// The headers of a copy of the packet's messages.
-fn read_headers(alloc: Global, words: &[Bytes]) -> Result<String, Miss> {
-    let packet = messages_of(alloc, words)?.copy(alloc)?;
+/// The headers of messages.
+fn headers_found(alloc: Global, packet: &FtsPacket) -> Result<String, AllocError> {
     let mut found = String::new(alloc);
     for message in packet.as_slice() {
         found.push_str(header_found(alloc, message)?.as_str())?;
@@ -45,6 +44,12 @@ fn read_headers(alloc: Global, words: &[Bytes]) -> Result<String, Miss> {
     }
     found.push_str("end")?;
     Ok(found)
+}
+
+/// The headers of a copy of the packet's messages.
+fn read_headers(alloc: Global, words: &[Bytes]) -> Result<String, Miss> {
+    let packet = messages_of(alloc, words)?.copy(alloc)?;
+    Ok(headers_found(alloc, &packet)?)
 }
 
 const HEADERS: &str = r#"
