@@ -52,26 +52,6 @@ fn read_headers(alloc: Global, words: &[Bytes]) -> Result<String, Miss> {
     Ok(headers_found(alloc, &packet)?)
 }
 
-const HEADERS: &str = r#"
-header numbers date names echo \0\0
-=> "09 Sep 01  01:46:40\x00" "2:5020/400" "2:5020/1" "Ann Lee" "Joe" "Hi"; end
-header numbers date names echo numbers "any twenty bytes....b\0\0\0\0"
-=> "09 Sep 01  01:46:40\x00" "2:5020/400" "2:5020/1" "Ann Lee" "Joe" "Hi"; "any twenty bytes...." "2:5020/400" "2:5020/1" "b" "" ""; end
-header \x02\0\xFF\x7F\0\0\xFF\x7F\0\0aacc date names \0
-=> "09 Sep 01  01:46:40\x00" "2:32767/32767" "2:0/0" "Ann Lee" "Joe" "Hi"; end
-header \x02\0\0\x80\x01\0\x01\0\x01\0aacc date names \0
-=> "09 Sep 01  01:46:40\x00" "" "2:1/1" "Ann Lee" "Joe" "Hi"; end
-header \x02\0\x01\0\x01\0\x01\0\xFF\xFFaacc date names \0
-=> "09 Sep 01  01:46:40\x00" "2:1/1" "" "Ann Lee" "Joe" "Hi"; end
-h\{18}\x02\0 h\{14}\0\x80\0\0 h\{20} numbers date names \0
-=> "09 Sep 01  01:46:40\x00" "" "0:5020/1" "Ann Lee" "Joe" "Hi"; end
-"#;
-
-#[test]
-fn reads_and_copies_headers(rt: HostRuntime) -> Result<(), Miss> {
-    expect_cases(rt.alloc(), HEADERS, read_headers)
-}
-
 /// The lines of the packet's first message.
 fn read_lines(alloc: Global, words: &[Bytes]) -> Result<String, Miss> {
     let packet = messages_of(alloc, words)?;
@@ -79,22 +59,48 @@ fn read_lines(alloc: Global, words: &[Bytes]) -> Result<String, Miss> {
     Ok(lines_found(alloc, &message.lines)?)
 }
 
-const TEXTS: &str = r#"
-header numbers date names \0 => 0 lines
-header numbers date names \n\n\0 => 0 lines
-header numbers date names \r\0 => 1 lines ""
-header numbers date names \r\n\r\n\0 => 2 lines "" ""
-header numbers date names a\0 => 1 lines "a"
-header numbers date names a\r\0 => 1 lines "a"
-header numbers date names a\r\n\0 => 1 lines "a"
-header numbers date names a\nb\rc\0 => 2 lines "ab" "c"
-header numbers date names a\r\nb\n\0 => 2 lines "a" "b"
-header numbers date names soft\x8Dend\r\0 => 1 lines "soft\x8dend"
-header numbers date names "\x01PID: x\r tail \0" => 2 lines "\x01PID: x" " tail "
-header numbers date names echo => 3 lines "AREA:FIDO" "\x01MSGID: 2:5020/400 1" "Hello"
+/// What is found of a case, which begins with what it asks.
+fn found(alloc: Global, words: &[Bytes]) -> Result<String, Miss> {
+    let [asked, words @ ..] = words else {
+        return Err(Miss::Words);
+    };
+    match asked.as_slice() {
+        b"headers" => read_headers(alloc, words),
+        b"lines" => read_lines(alloc, words),
+        _ => Err(Miss::Words),
+    }
+}
+
+const CASES: &str = r#"
+# Headers.
+headers header numbers date names echo \0\0
+=> "09 Sep 01  01:46:40\x00" "2:5020/400" "2:5020/1" "Ann Lee" "Joe" "Hi"; end
+headers header numbers date names echo numbers "any twenty bytes....b\0\0\0\0"
+=> "09 Sep 01  01:46:40\x00" "2:5020/400" "2:5020/1" "Ann Lee" "Joe" "Hi"; "any twenty bytes...." "2:5020/400" "2:5020/1" "b" "" ""; end
+headers header \x02\0\xFF\x7F\0\0\xFF\x7F\0\0aacc date names \0
+=> "09 Sep 01  01:46:40\x00" "2:32767/32767" "2:0/0" "Ann Lee" "Joe" "Hi"; end
+headers header \x02\0\0\x80\x01\0\x01\0\x01\0aacc date names \0
+=> "09 Sep 01  01:46:40\x00" "" "2:1/1" "Ann Lee" "Joe" "Hi"; end
+headers header \x02\0\x01\0\x01\0\x01\0\xFF\xFFaacc date names \0
+=> "09 Sep 01  01:46:40\x00" "2:1/1" "" "Ann Lee" "Joe" "Hi"; end
+headers h\{18}\x02\0 h\{14}\0\x80\0\0 h\{20} numbers date names \0
+=> "09 Sep 01  01:46:40\x00" "" "0:5020/1" "Ann Lee" "Joe" "Hi"; end
+# Lines of texts.
+lines header numbers date names \0 => 0 lines
+lines header numbers date names \n\n\0 => 0 lines
+lines header numbers date names \r\0 => 1 lines ""
+lines header numbers date names \r\n\r\n\0 => 2 lines "" ""
+lines header numbers date names a\0 => 1 lines "a"
+lines header numbers date names a\r\0 => 1 lines "a"
+lines header numbers date names a\r\n\0 => 1 lines "a"
+lines header numbers date names a\nb\rc\0 => 2 lines "ab" "c"
+lines header numbers date names a\r\nb\n\0 => 2 lines "a" "b"
+lines header numbers date names soft\x8Dend\r\0 => 1 lines "soft\x8dend"
+lines header numbers date names "\x01PID: x\r tail \0" => 2 lines "\x01PID: x" " tail "
+lines header numbers date names echo => 3 lines "AREA:FIDO" "\x01MSGID: 2:5020/400 1" "Hello"
 "#;
 
 #[test]
-fn makes_lines_of_texts(rt: HostRuntime) -> Result<(), Miss> {
-    expect_cases(rt.alloc(), TEXTS, read_lines)
+fn packets_are_read(rt: HostRuntime) -> Result<(), Miss> {
+    expect_cases(rt.alloc(), CASES, found)
 }

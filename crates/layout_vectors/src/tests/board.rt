@@ -123,10 +123,10 @@ fn board_read(alloc: Global, words: &[Bytes]) -> Result<String, Miss> {
     )
 }
 
-/// The first damage comes by file; a high behind the conferences, whose last-read record of Eve is there. The faults are
-/// those of the first call, of the first after the lengths of 257 files, of the first after the look at the version, and of
-/// the length of the last file.
-const BOARDS: &str = r#"
+const CASES: &str = r#"
+# The first damage comes by file; a high behind the conferences, whose last-read record of Eve is there. The faults are
+# those of the first call, of the first after the lengths of 257 files, of the first after the look at the version, and of
+# the length of the last file.
 0 - "" => none
 0 2 "" => new 3191 [Some(0), Some(0), Some(0), None] 12345 3 version 2
 0 2 "" 0 "" => damaged: file 0, record 0, Short
@@ -142,16 +142,8 @@ const BOARDS: &str = r#"
 260 2 "" => disk fault
 529 2 "" => disk fault
 530 2 "" => new 3191 [Some(0), Some(0), Some(0), None] 12345 3 version 2
-"#;
-
-#[test]
-fn boards_are_read(rt: HostRuntime) -> Result<(), Miss> {
-    expect_cases(rt.alloc(), BOARDS, board_read)
-}
-
-/// A board of either version has the same conferences, and its ledger has version 2. In version 1 a user's record is 48
-/// bytes shorter where there are three conferences.
-const VERSIONS: &str = r#"
+# A board of either version has the same conferences, and its ledger has version 2. In version 1 a user's record is 48
+# bytes shorter where there are three conferences.
 0 1 "" => old 3191 [Some(0), Some(0), Some(0), None] 12345 3 version 2
 0 1 B 5 \x91\x64\x92\xC6\x01\0\0\0\0\0\0\0\0\0\0\0 => old 3293 [Some(0), Some(0), Some(0), None] 12345 3 version 2
 0 2 B 5 \x91\x64\x92\xC6\x01\0\0\0\0\0\0\0\0\0\0\0 => new 3293 [Some(0), Some(0), Some(0), None] 12345 3 version 2
@@ -162,42 +154,18 @@ const VERSIONS: &str = r#"
 258 1 "" => disk fault
 259 1 "" => disk fault
 529 1 "" => disk fault
-"#;
-
-#[test]
-fn boards_of_both_versions_are_read(rt: HostRuntime) -> Result<(), Miss> {
-    expect_cases(rt.alloc(), VERSIONS, board_read)
-}
-
-/// The size comes before all. Its limit is 34,603,008 bytes.
-const SIZES: &str = r#"
+# The size comes before all. Its limit is 34,603,008 bytes.
 0 2 "" 3 \0\{34599818} => damaged: file 0, record 0, Size
 0 2 "" 3 \0\{34599817} => damaged: file 3, record 1, Rest
-"#;
-
-#[test]
-fn sizes_are_limited(rt: HostRuntime) -> Result<(), Miss> {
-    expect_cases(rt.alloc(), SIZES, board_read)
-}
-
-/// With a ledger of version 1 the limit is 33,554,432 bytes.
-const OLD_SIZES: &str = r#"
+# With a ledger of version 1 the limit is 33,554,432 bytes.
 0 1 "" 3 \0\{33551242} => damaged: file 0, record 0, Size
 0 1 "" 3 \0\{33551241} => damaged: file 3, record 1, Rest
-"#;
-
-#[test]
-fn old_sizes_are_limited(rt: HostRuntime) -> Result<(), Miss> {
-    expect_cases(rt.alloc(), OLD_SIZES, board_read)
-}
-
-/// It is that where file 0 has 24 bytes and begins as one of version 1, whatever else is wrong in it.
-const OLD_BEGINNINGS: &str = r#"
+# It is that where file 0 has 24 bytes and begins as one of version 1, whatever else is wrong in it.
 0 2 "" 0 QMDL\x01\0\0\{18} 3 \0\{33551360} => damaged: file 0, record 0, Size
 0 2 "" 0 QMDL\x01\0\0\{17} 3 \0\{33551360} => damaged: file 0, record 0, Short
 "#;
 
 #[test]
-fn a_ledger_begins_with_its_version(rt: HostRuntime) -> Result<(), Miss> {
-    expect_cases(rt.alloc(), OLD_BEGINNINGS, board_read)
+fn boards_are_read(rt: HostRuntime) -> Result<(), Miss> {
+    expect_cases(rt.alloc(), CASES, board_read)
 }

@@ -1,4 +1,5 @@
-//! Ledgers, as they are read, written and damaged. A case is users, uploads, and a change of their ledger's bytes.
+//! Ledgers, as they are read, written and damaged. A case is what it asks, and then users, uploads, and a change of
+//! their ledger's bytes.
 ghost use Rattle.std.specs.Prelude.{IfOk};
 ghost use Rattle.board_ledger.specs.Valid.{IsStored};
 
@@ -40,18 +41,6 @@ fn read_all(alloc: Global, words: &[Bytes]) -> Result<String, Miss> {
     outcome(alloc, bytes.as_slice(), bytes.as_slice())
 }
 
-const KEPT: &str = r#"
-2 "" "" => 119 version 2 written true
-2 AE 12 => 375 version 2 written true
-2 AF 12 => 375 version 2 written true
-2 AE 12 227 \x04 => 375 version 2 written true
-"#;
-
-#[test]
-fn ledgers_are_read_and_written(rt: HostRuntime) -> Result<(), Miss> {
-    expect_cases(rt.alloc(), KEPT, read_all)
-}
-
 /// What comes of a ledger of version 1, which is written as the same one of version 2.
 fn read_old(alloc: Global, words: &[Bytes]) -> Result<String, Miss> {
     let [users, uploads] = words else {
@@ -60,96 +49,6 @@ fn read_old(alloc: Global, words: &[Bytes]) -> Result<String, Miss> {
     let bytes = ledger_text(alloc, b'1', users.as_slice(), uploads.as_slice())?;
     let today = ledger_text(alloc, b'2', users.as_slice(), uploads.as_slice())?;
     outcome(alloc, bytes.as_slice(), today.as_slice())
-}
-
-const OLD: &str = r#"
-"" "" => 119 version 1 written true
-AE 12 => 279 version 1 written true
-ABSC "" => 272 version 1 written true
-"#;
-
-#[test]
-fn old_ledgers_are_read(rt: HostRuntime) -> Result<(), Miss> {
-    expect_cases(rt.alloc(), OLD, read_old)
-}
-
-/// Changes of the records of a board of four users, and of each rule of a board of two users and two uploads: record 0,
-/// conferences, users, upload records. First in version 1, and then what is different in version 2.
-const DAMAGED: &str = r#"
-1 ABSC "" 0 X => damaged: file 0, record 0, Magic
-1 ABSC "" cut 23 => damaged: file 0, record 0, Short
-1 ABSC "" 4 \x09 => damaged: file 0, record 0, Version
-1 ABSC "" 6 \0 => damaged: file 0, record 0, Count
-1 ABSC "" add \0 => damaged: file 0, record 8, Rest
-1 AE 12 6 \x41 => damaged: file 0, record 0, Count
-1 AE 12 8 \xF5\x01 => damaged: file 0, record 0, Count
-1 AE 12 10 \x11 => damaged: file 0, record 0, Count
-1 AE 12 12 \xA1\x86\x01 => damaged: file 0, record 0, Count
-1 AE 12 20 \xA0\x86\x01 => damaged: file 0, record 0, Number
-1 AE 12 cut 82 => damaged: file 0, record 0, Short
-1 AE 12 26 \x1F => damaged: file 0, record 0, Text
-1 AE 12 61 \x22 => damaged: file 0, record 0, Text
-1 AE 12 72 - => damaged: file 0, record 0, Id
-1 AE 12 79 \x02 => damaged: file 0, record 0, Zones
-1 AE 12 cut 95 => damaged: file 0, record 1, Short
-1 AE 12 85 \x03 => damaged: file 0, record 1, Kind
-1 AE 12 86 \x04 => damaged: file 0, record 1, Rules
-1 AE 12 89 \x7F => damaged: file 0, record 1, Name
-1 AE 12 96 \0 => damaged: file 0, record 2, Order
-1 AE 12 cut 156 => damaged: file 0, record 4, Short
-1 AE 12 121 \x20 => damaged: file 0, record 4, Name
-1 AE 12 159 "aNN lEE" => damaged: file 0, record 5, Twice
-1 AE 12 128 \x02 => damaged: file 0, record 4, Flags
-1 AE 12 137 \0 => damaged: file 0, record 4, Member
-1 AE 12 137 \x08 => damaged: file 0, record 4, Member
-1 AE 12 133 \x01 => damaged: file 0, record 4, Offer
-1 AE 12 145 \x01 => damaged: file 0, record 4, Offer
-1 AE 12 187 \x01 => damaged: file 0, record 5, Offer
-1 AE 12 cut 278 => damaged: file 0, record 7, Short
-1 AE 12 195 \0 => damaged: file 0, record 6, User
-1 AE 12 195 \x03 => damaged: file 0, record 6, User
-1 AE 12 237 \x01 => damaged: file 0, record 7, Twice
-1 AE 12 271 \x01 => damaged: file 0, record 7, Counts
-1 AE 12 add \0 => damaged: file 0, record 8, Rest
-1 AE 12 4 \x03 => damaged: file 0, record 0, Version
-1 AE 12 171 \x04 => damaged: file 0, record 5, Offer
-1 AE 12 171 \0 => damaged: file 0, record 5, Offer
-1 AE 12 4 \x02 => damaged: file 0, record 4, Member
-2 AE 12 4 \0 => damaged: file 0, record 0, Version
-2 AE 12 4 \x03 => damaged: file 0, record 0, Version
-2 AE 12 4 \x01 => damaged: file 0, record 4, Member
-2 AE 12 cut 82 => damaged: file 0, record 0, Short
-2 AE 12 cut 204 => damaged: file 0, record 4, Short
-2 AE 12 121 \x20 => damaged: file 0, record 4, Name
-2 AE 12 207 "aNN lEE" => damaged: file 0, record 5, Twice
-2 AE 12 128 \x02 => damaged: file 0, record 4, Flags
-2 AE 12 133 \0 => damaged: file 0, record 4, Member
-2 AE 12 133 \x08 => damaged: file 0, record 4, Member
-2 AE 12 141 \x01 => damaged: file 0, record 4, Offer
-2 AE 12 145 \x01 => damaged: file 0, record 4, Offer
-2 AE 12 204 \x01 => damaged: file 0, record 4, Offer
-2 AE 12 227 \x06 => damaged: file 0, record 5, Offer
-2 AE 12 227 \0 => damaged: file 0, record 5, Offer
-2 AE 12 235 \x01 => damaged: file 0, record 5, Offer
-2 AE 12 243 \x05 => damaged: file 0, record 5, Offer
-2 AE 12 247 \x01 => damaged: file 0, record 5, Offer
-2 AE 12 275 \x05 => damaged: file 0, record 5, Offer
-2 AF 12 235 \x01 => damaged: file 0, record 5, Offer
-2 AF 12 243 \x02 => damaged: file 0, record 5, Offer
-2 AF 12 259 \0 => damaged: file 0, record 5, Offer
-2 AF 12 259 \0\{16} => damaged: file 0, record 5, Offer
-2 AF 12 275 \x0A => damaged: file 0, record 5, Offer
-2 AF 12 283 \x01 => damaged: file 0, record 5, Offer
-2 AE 12 cut 374 => damaged: file 0, record 7, Short
-2 AE 12 291 \x03 => damaged: file 0, record 6, User
-2 AE 12 333 \x01 => damaged: file 0, record 7, Twice
-2 AE 12 367 \x01 => damaged: file 0, record 7, Counts
-2 AE 12 add \0 => damaged: file 0, record 8, Rest
-"#;
-
-#[test]
-fn the_first_damage_is_named(rt: HostRuntime) -> Result<(), Miss> {
-    expect_cases(rt.alloc(), DAMAGED, read_all)
 }
 
 /// The ledger of these users and uploads in a version.
@@ -231,22 +130,6 @@ fn value_of(alloc: Global, words: &[Bytes]) -> Result<String, Miss> {
     value_in(alloc, &ledger, value.as_slice())
 }
 
-const VALUES: &str = r#"
-setup 1 "" "" => 1000000000 12345 TESTBBS [1, 2] 7 readonly true private false
-setup 2 "" "" => 1000000000 12345 TESTBBS [1, 2] 7 readonly true private false
-user 1 AE "" => Eve Poe net false in 1 last 5, 5 [3, 0, 0]
-user 2 AE "" => Eve Poe net false in 1 last 5, 5 [3, 0, 0]
-user 2 EA "" => Ann Lee net true in 7 last 0
-user 2 AF "" => Flo Fox net false in 5 last 9, 2 [1, 0, 0], 4 [3, 0, 2], 8 [3, 0, 2], 9 [7, 0, 2]
-upload 1 AB 12 => 2 posted 0 refused 8191 digest of thirty-two bytes, SHA2
-upload 2 AB 12 => 2 posted 0 refused 8191 digest of thirty-two bytes, SHA2
-"#;
-
-#[test]
-fn values_are_read(rt: HostRuntime) -> Result<(), Miss> {
-    expect_cases(rt.alloc(), VALUES, value_of)
-}
-
 /// The patches by which a ledger without upload records gets the first of another ledger of as many users.
 fn first_upload(
     alloc: Global,
@@ -311,11 +194,115 @@ fn upload_put(alloc: Global, words: &[Bytes]) -> Result<String, Miss> {
     patches_found(alloc, &ledger, &other)
 }
 
-const PUT: &str = r#"
-AE 1 => [0 12 "\x01\x00\x00\x00"][0 291 "\x01\x00digest of thirty-two bytes, SHA2\x01\x00\x00\x00\x02\x00\x00\x00"]
+/// What is found of a case, which begins with what it asks.
+fn found(alloc: Global, words: &[Bytes]) -> Result<String, Miss> {
+    let [asked, words @ ..] = words else {
+        return Err(Miss::Words);
+    };
+    match asked.as_slice() {
+        b"today" => read_all(alloc, words),
+        b"old" => read_old(alloc, words),
+        b"value" => value_of(alloc, words),
+        b"put" => upload_put(alloc, words),
+        _ => Err(Miss::Words),
+    }
+}
+
+const CASES: &str = r#"
+# Ledgers that are read and written.
+today 2 "" "" => 119 version 2 written true
+today 2 AE 12 => 375 version 2 written true
+today 2 AF 12 => 375 version 2 written true
+today 2 AE 12 227 \x04 => 375 version 2 written true
+# Those of version 1.
+old "" "" => 119 version 1 written true
+old AE 12 => 279 version 1 written true
+old ABSC "" => 272 version 1 written true
+# Changes of the records of a board of four users, and of each rule of a board of two users and two uploads: record 0,
+# conferences, users, upload records. First in version 1, and then what is different in version 2.
+today 1 ABSC "" 0 X => damaged: file 0, record 0, Magic
+today 1 ABSC "" cut 23 => damaged: file 0, record 0, Short
+today 1 ABSC "" 4 \x09 => damaged: file 0, record 0, Version
+today 1 ABSC "" 6 \0 => damaged: file 0, record 0, Count
+today 1 ABSC "" add \0 => damaged: file 0, record 8, Rest
+today 1 AE 12 6 \x41 => damaged: file 0, record 0, Count
+today 1 AE 12 8 \xF5\x01 => damaged: file 0, record 0, Count
+today 1 AE 12 10 \x11 => damaged: file 0, record 0, Count
+today 1 AE 12 12 \xA1\x86\x01 => damaged: file 0, record 0, Count
+today 1 AE 12 20 \xA0\x86\x01 => damaged: file 0, record 0, Number
+today 1 AE 12 cut 82 => damaged: file 0, record 0, Short
+today 1 AE 12 26 \x1F => damaged: file 0, record 0, Text
+today 1 AE 12 61 \x22 => damaged: file 0, record 0, Text
+today 1 AE 12 72 - => damaged: file 0, record 0, Id
+today 1 AE 12 79 \x02 => damaged: file 0, record 0, Zones
+today 1 AE 12 cut 95 => damaged: file 0, record 1, Short
+today 1 AE 12 85 \x03 => damaged: file 0, record 1, Kind
+today 1 AE 12 86 \x04 => damaged: file 0, record 1, Rules
+today 1 AE 12 89 \x7F => damaged: file 0, record 1, Name
+today 1 AE 12 96 \0 => damaged: file 0, record 2, Order
+today 1 AE 12 cut 156 => damaged: file 0, record 4, Short
+today 1 AE 12 121 \x20 => damaged: file 0, record 4, Name
+today 1 AE 12 159 "aNN lEE" => damaged: file 0, record 5, Twice
+today 1 AE 12 128 \x02 => damaged: file 0, record 4, Flags
+today 1 AE 12 137 \0 => damaged: file 0, record 4, Member
+today 1 AE 12 137 \x08 => damaged: file 0, record 4, Member
+today 1 AE 12 133 \x01 => damaged: file 0, record 4, Offer
+today 1 AE 12 145 \x01 => damaged: file 0, record 4, Offer
+today 1 AE 12 187 \x01 => damaged: file 0, record 5, Offer
+today 1 AE 12 cut 278 => damaged: file 0, record 7, Short
+today 1 AE 12 195 \0 => damaged: file 0, record 6, User
+today 1 AE 12 195 \x03 => damaged: file 0, record 6, User
+today 1 AE 12 237 \x01 => damaged: file 0, record 7, Twice
+today 1 AE 12 271 \x01 => damaged: file 0, record 7, Counts
+today 1 AE 12 add \0 => damaged: file 0, record 8, Rest
+today 1 AE 12 4 \x03 => damaged: file 0, record 0, Version
+today 1 AE 12 171 \x04 => damaged: file 0, record 5, Offer
+today 1 AE 12 171 \0 => damaged: file 0, record 5, Offer
+today 1 AE 12 4 \x02 => damaged: file 0, record 4, Member
+today 2 AE 12 4 \0 => damaged: file 0, record 0, Version
+today 2 AE 12 4 \x03 => damaged: file 0, record 0, Version
+today 2 AE 12 4 \x01 => damaged: file 0, record 4, Member
+today 2 AE 12 cut 82 => damaged: file 0, record 0, Short
+today 2 AE 12 cut 204 => damaged: file 0, record 4, Short
+today 2 AE 12 121 \x20 => damaged: file 0, record 4, Name
+today 2 AE 12 207 "aNN lEE" => damaged: file 0, record 5, Twice
+today 2 AE 12 128 \x02 => damaged: file 0, record 4, Flags
+today 2 AE 12 133 \0 => damaged: file 0, record 4, Member
+today 2 AE 12 133 \x08 => damaged: file 0, record 4, Member
+today 2 AE 12 141 \x01 => damaged: file 0, record 4, Offer
+today 2 AE 12 145 \x01 => damaged: file 0, record 4, Offer
+today 2 AE 12 204 \x01 => damaged: file 0, record 4, Offer
+today 2 AE 12 227 \x06 => damaged: file 0, record 5, Offer
+today 2 AE 12 227 \0 => damaged: file 0, record 5, Offer
+today 2 AE 12 235 \x01 => damaged: file 0, record 5, Offer
+today 2 AE 12 243 \x05 => damaged: file 0, record 5, Offer
+today 2 AE 12 247 \x01 => damaged: file 0, record 5, Offer
+today 2 AE 12 275 \x05 => damaged: file 0, record 5, Offer
+today 2 AF 12 235 \x01 => damaged: file 0, record 5, Offer
+today 2 AF 12 243 \x02 => damaged: file 0, record 5, Offer
+today 2 AF 12 259 \0 => damaged: file 0, record 5, Offer
+today 2 AF 12 259 \0\{16} => damaged: file 0, record 5, Offer
+today 2 AF 12 275 \x0A => damaged: file 0, record 5, Offer
+today 2 AF 12 283 \x01 => damaged: file 0, record 5, Offer
+today 2 AE 12 cut 374 => damaged: file 0, record 7, Short
+today 2 AE 12 291 \x03 => damaged: file 0, record 6, User
+today 2 AE 12 333 \x01 => damaged: file 0, record 7, Twice
+today 2 AE 12 367 \x01 => damaged: file 0, record 7, Counts
+today 2 AE 12 add \0 => damaged: file 0, record 8, Rest
+# Values.
+value setup 1 "" "" => 1000000000 12345 TESTBBS [1, 2] 7 readonly true private false
+value setup 2 "" "" => 1000000000 12345 TESTBBS [1, 2] 7 readonly true private false
+value user 1 AE "" => Eve Poe net false in 1 last 5, 5 [3, 0, 0]
+value user 2 AE "" => Eve Poe net false in 1 last 5, 5 [3, 0, 0]
+value user 2 EA "" => Ann Lee net true in 7 last 0
+value user 2 AF "" => Flo Fox net false in 5 last 9, 2 [1, 0, 0], 4 [3, 0, 2], 8 [3, 0, 2], 9 [7, 0, 2]
+value upload 1 AB 12 => 2 posted 0 refused 8191 digest of thirty-two bytes, SHA2
+value upload 2 AB 12 => 2 posted 0 refused 8191 digest of thirty-two bytes, SHA2
+# The patches of an upload record.
+put AE 1 => [0 12 "\x01\x00\x00\x00"][0 291 "\x01\x00digest of thirty-two bytes, SHA2\x01\x00\x00\x00\x02\x00\x00\x00"]
 "#;
 
 #[test]
-fn an_upload_is_put(rt: HostRuntime) -> Result<(), Miss> {
-    expect_cases(rt.alloc(), PUT, upload_put)
+fn ledgers_are_read_and_written(rt: HostRuntime) -> Result<(), Miss> {
+    expect_cases(rt.alloc(), CASES, found)
 }

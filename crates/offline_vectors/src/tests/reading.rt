@@ -52,24 +52,6 @@ fn list(alloc: Global, words: &[Bytes]) -> Result<String, Miss> {
     Ok(list_with(alloc, &mut messages, *status, *activity)?)
 }
 
-/// A case is the status and the activity of a packet's one message, and what is found is the list of the packet.
-const KINDS: &str = r#"
-" " \xE1 => "1 65535/- public BOB?RAY > ALL:  [1]\n1 messages\n"
-- \0 => "1 65535/- public BOB?RAY > ALL:  [1]\n1 messages\n"
-+ \xE1 => "1 65535/- private BOB?RAY > ALL:  [1]\n1 messages\n"
-* \xE1 => "1 65535/- private BOB?RAY > ALL:  [1]\n1 messages\n"
-~ \xE1 => "1 65535/- comment BOB?RAY > ALL:  [1]\n1 messages\n"
-` \xE1 => "1 65535/- comment BOB?RAY > ALL:  [1]\n1 messages\n"
-% \xE1 => "1 65535/- password BOB?RAY > ALL:  [1]\n1 messages\n"
-$ \xE1 => "1 65535/- password BOB?RAY > ALL:  [1]\n1 messages\n"
-+ \xE2 => "1 65535/- killed BOB?RAY > ALL:  [1]\n1 messages\n"
-"#;
-
-#[test]
-fn kinds_follow_status_and_activity(rt: HostRuntime) -> Result<(), Miss> {
-    expect_cases(rt.alloc(), KINDS, list)
-}
-
 /// The message in a place of a packet to which one is added, or why none is shown.
 fn show_with(alloc: Global, messages: &mut QwkMessages, place: u32) -> Result<String, AllocError> {
     add_message(alloc, messages, b' ', 0xE1)?;
@@ -85,19 +67,6 @@ fn show(alloc: Global, words: &[Bytes]) -> Result<String, Miss> {
     };
     let place = number_of(place.as_slice())?;
     Ok(show_with(alloc, &mut QwkMessages::new(alloc), place)?)
-}
-
-/// A case is a place in a packet of one message, and what is found is the message there.
-const SHOWN: &str = r#"
-1 => "From: BOB?RAY\nTo: ALL\nSubject: \nDate: 09-09-01 01:46\nConference: 65535\nNumber: -\nReference: -\n\ntab?here\n"
-0 => NoMessage
-2 => NoMessage
-4294967295 => NoMessage
-"#;
-
-#[test]
-fn messages_are_shown(rt: HostRuntime) -> Result<(), Miss> {
-    expect_cases(rt.alloc(), SHOWN, show)
 }
 
 /// The list of a folder without messages, whose packet says this of a board and a user.
@@ -120,12 +89,40 @@ fn list_empty(alloc: Global, words: &[Bytes]) -> Result<String, Miss> {
     Ok(list_named(alloc, &mut control, board.as_slice(), user.as_slice())?)
 }
 
-/// A case is the name of a board and of a user, and what is found is the list of a folder without messages.
-const FOLDERS: &str = r#"
-"Test\x01Board" "ANN LEE" => "board Test?Board\nuser ANN LEE\n0 messages\n"
+/// What is found of a case, which begins with what it asks.
+fn found(alloc: Global, words: &[Bytes]) -> Result<String, Miss> {
+    let [asked, words @ ..] = words else {
+        return Err(Miss::Words);
+    };
+    match asked.as_slice() {
+        b"list" => list(alloc, words),
+        b"show" => show(alloc, words),
+        b"folder" => list_empty(alloc, words),
+        _ => Err(Miss::Words),
+    }
+}
+
+const CASES: &str = r#"
+# A case is the status and the activity of a packet's one message, and what is found is the list of the packet.
+list " " \xE1 => "1 65535/- public BOB?RAY > ALL:  [1]\n1 messages\n"
+list - \0 => "1 65535/- public BOB?RAY > ALL:  [1]\n1 messages\n"
+list + \xE1 => "1 65535/- private BOB?RAY > ALL:  [1]\n1 messages\n"
+list * \xE1 => "1 65535/- private BOB?RAY > ALL:  [1]\n1 messages\n"
+list ~ \xE1 => "1 65535/- comment BOB?RAY > ALL:  [1]\n1 messages\n"
+list ` \xE1 => "1 65535/- comment BOB?RAY > ALL:  [1]\n1 messages\n"
+list % \xE1 => "1 65535/- password BOB?RAY > ALL:  [1]\n1 messages\n"
+list $ \xE1 => "1 65535/- password BOB?RAY > ALL:  [1]\n1 messages\n"
+list + \xE2 => "1 65535/- killed BOB?RAY > ALL:  [1]\n1 messages\n"
+# A case is a place in a packet of one message, and what is found is the message there.
+show 1 => "From: BOB?RAY\nTo: ALL\nSubject: \nDate: 09-09-01 01:46\nConference: 65535\nNumber: -\nReference: -\n\ntab?here\n"
+show 0 => NoMessage
+show 2 => NoMessage
+show 4294967295 => NoMessage
+# A case is the name of a board and of a user, and what is found is the list of a folder without messages.
+folder "Test\x01Board" "ANN LEE" => "board Test?Board\nuser ANN LEE\n0 messages\n"
 "#;
 
 #[test]
-fn a_board_and_a_user_are_shown(rt: HostRuntime) -> Result<(), Miss> {
-    expect_cases(rt.alloc(), FOLDERS, list_empty)
+fn packets_are_listed_and_shown(rt: HostRuntime) -> Result<(), Miss> {
+    expect_cases(rt.alloc(), CASES, found)
 }

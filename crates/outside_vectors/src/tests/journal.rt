@@ -243,35 +243,27 @@ fn play_with(alloc: Global, host: SmallHost, text: &'static str) -> Result<(), M
     )
 }
 
-#[test]
-fn an_open_journal_has_these_bytes(rt: HostRuntime) -> Result<(), Miss> {
-    play_on(rt.alloc(), WHOLE)?;
-    play_on(rt.alloc(), PUT)
-}
+/// The examples, each of which is played on a host of its own.
+const EXAMPLES: [&str; 8] = [
+    WHOLE,
+    PUT,
+    SYNCED,
+    BESIDE_PUT,
+    BESIDE_WHOLE,
+    RECOVERED,
+    RECOVERED_SO,
+    READ,
+];
 
 #[test]
-fn each_file_is_synced_once(rt: HostRuntime) -> Result<(), Miss> {
-    play_on(rt.alloc(), SYNCED)
-}
-
-#[test]
-fn a_patch_is_taken_under_its_conditions(rt: HostRuntime) -> Result<(), Miss> {
-    play_on(rt.alloc(), BESIDE_PUT)?;
-    play_on(rt.alloc(), BESIDE_WHOLE)
-}
-
-#[test]
-fn only_an_open_intent_is_carried_out(rt: HostRuntime) -> Result<(), Miss> {
-    play_on(rt.alloc(), RECOVERED)
+fn intents_are_committed_and_recovered(rt: HostRuntime) -> Result<(), Miss> {
+    for text in EXAMPLES {
+        play_on(rt.alloc(), text)?;
+    }
+    Ok(())
 }
 
 #[test]
 fn a_journal_without_a_length_serves(rt: HostRuntime) -> Result<(), Miss> {
-    play_with(rt.alloc(), SmallHost::long(), WHOLE)?;
-    play_on(rt.alloc(), RECOVERED_SO)
-}
-
-#[test]
-fn a_recovery_reads_what_stands_behind_an_open_gate(rt: HostRuntime) -> Result<(), Miss> {
-    play_on(rt.alloc(), READ)
+    play_with(rt.alloc(), SmallHost::long(), WHOLE)
 }

@@ -118,16 +118,9 @@ impl Example for Numbers {
 }
 
 #[test]
-fn shelf_names_follow_their_grammar(rt: HostRuntime) -> Result<(), Miss> {
-    play(&mut Names { alloc: rt.alloc() }, PARSED, 0)
-}
-
-#[test]
-fn a_name_is_joined_to_its_folder(rt: HostRuntime) -> Result<(), Miss> {
-    play(&mut Names { alloc: rt.alloc() }, JOINED, 0)
-}
-
-#[test]
-fn there_are_258_files(_rt: HostRuntime) -> Result<(), Miss> {
+fn names_and_files_follow_their_rules(rt: HostRuntime) -> Result<(), Miss> {
+    let mut names = Names { alloc: rt.alloc() };
+    play(&mut names, PARSED, 0)?;
+    play(&mut names, JOINED, 0)?;
     play(&mut Numbers, NUMBERS, 0)
 }

@@ -25,8 +25,6 @@ fn statuses_have_their_numbers(_rt: HostRuntime) -> Result<(), Status> {
 
 #[test]
 fn a_refusal_stays_to_the_end(rt: HostRuntime) {
-    let status = Class::Done.after(Class::Refused.after(Status::Done));
-    assert_eq!(rt; status, Status::Refused);
-    assert!(rt; !Class::Refused.is_last());
-    assert!(rt; Class::Usage.is_last());
+    let stays = Class::Done.after(Class::Refused.after(Status::Done)) == Status::Refused;
+    assert!(rt; stays && !Class::Refused.is_last() && Class::Usage.is_last());
 }

@@ -33,19 +33,12 @@ fn read(alloc: Global, words: &[Bytes]) -> Result<String, Miss> {
     }
 }
 
-const ADDRESSES: &str = r#"
+const CASES: &str = r#"
 Ann@2:5020/400.1 => "Ann" 2 5020 400 1
 "  Ann @1:1/1 " => "Ann " 1 1 1 0
 ann@host@0:0/0 => "ann@host" 0 0 0 0
 A@00001:32767/00032.0 => "A" 1 32767 32 0
-"#;
-
-#[test]
-fn reads_address_lines(rt: HostRuntime) -> Result<(), Miss> {
-    expect_cases(rt.alloc(), ADDRESSES, read)
-}
-
-const OTHERS: &str = r#"
+# Other lines.
 Ann@2:5020/40000 => none
 Ann@2:5020/400. => none
 Ann@2:5020/400.1.1 => none
@@ -61,6 +54,6 @@ A\x1Fnn@1:1/1 => none
 "#;
 
 #[test]
-fn refuses_other_lines(rt: HostRuntime) -> Result<(), Miss> {
-    expect_cases(rt.alloc(), OTHERS, read)
+fn address_lines_are_read(rt: HostRuntime) -> Result<(), Miss> {
+    expect_cases(rt.alloc(), CASES, read)
 }

@@ -1,4 +1,4 @@
-//! Files from worked examples. A case is how many bytes of a file are read, and its blocks.
+//! Files from worked examples. A case is what it asks, and then how many bytes of a file are read, and its blocks.
 mod pieces;
 
 use super::files::{file_of, front_of};
@@ -37,42 +37,6 @@ fn read(alloc: Global, words: &[Bytes]) -> Result<String, Miss> {
     reading_of(alloc, &file_of(alloc, words)?)
 }
 
-/// A message whose text is filled up with spaces, one with NULs, one with no text; and counts that are none.
-const FILES: &str = r#"
-384 "Produced by qwkdoor, packet 1"
-" 1      09-09-0101:46ALL                      BOB RAY                  Hello                                0       2     \xE1\0\0\x01\0 "
-"First line\xE3"
-=> 1 messages; " \xe1 " "09-09-01" "01:46" "ALL" "BOB RAY" "Hello" "" Some(1) Some(0) 0 1: "First line"
-384 "Produced by qwkdoor, packet 1"
-" 1      09-09-0101:46ALL                      BOB RAY                  Hello                                0       2     \xE1\0\0\x01\0 "
-"First line\xE3\0\{117}"
-=> 1 messages; " \xe1 " "09-09-01" "01:46" "ALL" "BOB RAY" "Hello" "" Some(1) Some(0) 0 1: "First line"
-256 "Produced by qwkdoor, packet 1"
-" 1      09-09-0101:46ALL                      BOB RAY                  Hello                                0       1     \xE1\0\0\x01\0 "
-=> 1 messages; " \xe1 " "09-09-01" "01:46" "ALL" "BOB RAY" "Hello" "" Some(1) Some(0) 0 1:
-384 "Produced by qwkdoor, packet 1"
-" 1      09-09-0101:46ALL                      BOB RAY                  Hello                                0       0     \xE1\0\0\x01\0 "
-"First line\xE3"
-=> Fault(BadBlocks { at: 128 })
-384 "Produced by qwkdoor, packet 1"
-" 1      09-09-0101:46ALL                      BOB RAY                  Hello                                0             \xE1\0\0\x01\0 "
-"First line\xE3"
-=> Fault(BadBlocks { at: 128 })
-384 "Produced by qwkdoor, packet 1"
-" 1      09-09-0101:46ALL                      BOB RAY                  Hello                                0       2x    \xE1\0\0\x01\0 "
-"First line\xE3"
-=> Fault(BadBlocks { at: 128 })
-384 "Produced by qwkdoor, packet 1"
-" 1      09-09-0101:46ALL                      BOB RAY                  Hello                                0       1 2   \xE1\0\0\x01\0 "
-"First line\xE3"
-=> Fault(BadBlocks { at: 128 })
-"#;
-
-#[test]
-fn reads_files(rt: HostRuntime) -> Result<(), Miss> {
-    expect_cases(rt.alloc(), FILES, read)
-}
-
 /// Reads so many bytes of the two messages.
 fn read_front(alloc: Global, words: &[Bytes]) -> Result<String, Miss> {
     let [length] = words else {
@@ -81,22 +45,6 @@ fn read_front(alloc: Global, words: &[Bytes]) -> Result<String, Miss> {
     let blocks = words_in(alloc, TWO)?;
     let front = front_of(alloc, blocks.as_slice(), number_of(length.as_slice())?)?;
     reading_of(alloc, &front)
-}
-
-const FRONTS: &str = r#"
-128 => 0 messages
-384 => 1 messages; " \xe1 " "09-09-01" "01:46" "ALL" "BOB RAY" "Hello" "" Some(1) Some(0) 0 1: "First line"
-640 => 2 messages; " \xe1 " "09-09-01" "01:46" "ALL" "BOB RAY" "Hello" "" Some(1) Some(0) 0 1: "First line"; " \xe1 " "09-09-01" "01:46" "ALL" "BOB RAY" "Hello" "" Some(1) Some(0) 0 1: "First line"
-0 => Fault(Truncated { at: 0 })
-127 => Fault(Truncated { at: 0 })
-129 => Fault(Truncated { at: 128 })
-256 => Fault(Truncated { at: 128 })
-639 => Fault(Truncated { at: 384 })
-"#;
-
-#[test]
-fn reads_up_to_a_cut(rt: HostRuntime) -> Result<(), Miss> {
-    expect_cases(rt.alloc(), FRONTS, read_front)
 }
 
 /// The written form of messages behind a notice.
@@ -119,23 +67,72 @@ fn read_and_write(alloc: Global, words: &[Bytes]) -> Result<String, Miss> {
     Ok(described(alloc, messages.as_slice())?)
 }
 
-/// Texts that end with a block, one byte behind it, and that are empty; a private message with a password and a reference,
-/// of two blocks of text, and a killed public one without a subject and a reference.
-const WRITTEN: &str = r#"
-384 "Produced by qwkdoor, packet 1"
+/// What is found of a case, which begins with what it asks.
+fn found(alloc: Global, words: &[Bytes]) -> Result<String, Miss> {
+    let [asked, words @ ..] = words else {
+        return Err(Miss::Words);
+    };
+    match asked.as_slice() {
+        b"file" => read(alloc, words),
+        b"front" => read_front(alloc, words),
+        b"write" => read_and_write(alloc, words),
+        _ => Err(Miss::Words),
+    }
+}
+
+const CASES: &str = r#"
+# A message whose text is filled up with spaces, one with NULs, one with no text; and counts that are none.
+file 384 "Produced by qwkdoor, packet 1"
+" 1      09-09-0101:46ALL                      BOB RAY                  Hello                                0       2     \xE1\0\0\x01\0 "
+"First line\xE3"
+=> 1 messages; " \xe1 " "09-09-01" "01:46" "ALL" "BOB RAY" "Hello" "" Some(1) Some(0) 0 1: "First line"
+file 384 "Produced by qwkdoor, packet 1"
+" 1      09-09-0101:46ALL                      BOB RAY                  Hello                                0       2     \xE1\0\0\x01\0 "
+"First line\xE3\0\{117}"
+=> 1 messages; " \xe1 " "09-09-01" "01:46" "ALL" "BOB RAY" "Hello" "" Some(1) Some(0) 0 1: "First line"
+file 256 "Produced by qwkdoor, packet 1"
+" 1      09-09-0101:46ALL                      BOB RAY                  Hello                                0       1     \xE1\0\0\x01\0 "
+=> 1 messages; " \xe1 " "09-09-01" "01:46" "ALL" "BOB RAY" "Hello" "" Some(1) Some(0) 0 1:
+file 384 "Produced by qwkdoor, packet 1"
+" 1      09-09-0101:46ALL                      BOB RAY                  Hello                                0       0     \xE1\0\0\x01\0 "
+"First line\xE3"
+=> Fault(BadBlocks { at: 128 })
+file 384 "Produced by qwkdoor, packet 1"
+" 1      09-09-0101:46ALL                      BOB RAY                  Hello                                0             \xE1\0\0\x01\0 "
+"First line\xE3"
+=> Fault(BadBlocks { at: 128 })
+file 384 "Produced by qwkdoor, packet 1"
+" 1      09-09-0101:46ALL                      BOB RAY                  Hello                                0       2x    \xE1\0\0\x01\0 "
+"First line\xE3"
+=> Fault(BadBlocks { at: 128 })
+file 384 "Produced by qwkdoor, packet 1"
+" 1      09-09-0101:46ALL                      BOB RAY                  Hello                                0       1 2   \xE1\0\0\x01\0 "
+"First line\xE3"
+=> Fault(BadBlocks { at: 128 })
+front 128 => 0 messages
+front 384 => 1 messages; " \xe1 " "09-09-01" "01:46" "ALL" "BOB RAY" "Hello" "" Some(1) Some(0) 0 1: "First line"
+front 640 => 2 messages; " \xe1 " "09-09-01" "01:46" "ALL" "BOB RAY" "Hello" "" Some(1) Some(0) 0 1: "First line"; " \xe1 " "09-09-01" "01:46" "ALL" "BOB RAY" "Hello" "" Some(1) Some(0) 0 1: "First line"
+front 0 => Fault(Truncated { at: 0 })
+front 127 => Fault(Truncated { at: 0 })
+front 129 => Fault(Truncated { at: 128 })
+front 256 => Fault(Truncated { at: 128 })
+front 639 => Fault(Truncated { at: 384 })
+# Texts that end with a block, one byte behind it, and that are empty; a private message with a password and a reference,
+# of two blocks of text, and a killed public one without a subject and a reference.
+write 384 "Produced by qwkdoor, packet 1"
 " 1      09-09-0101:46ALL                      BOB RAY                  Hello                                0       2     \xE1\0\0\x01\0 "
 x\{127}\xE3
 => 1 messages; " \xe1 " "09-09-01" "01:46" "ALL" "BOB RAY" "Hello" "" Some(1) Some(0) 0 1: "xxxxxxxxxxxxxxxxxxxxxxxxxxxxxxxxxxxxxxxxxxxxxxxxxxxxxxxxxxxxxxxxxxxxxxxxxxxxxxxxxxxxxxxxxxxxxxxxxxxxxxxxxxxxxxxxxxxxxxxxxxxxxxx"
-512 "Produced by qwkdoor, packet 1"
+write 512 "Produced by qwkdoor, packet 1"
 " 1      09-09-0101:46ALL                      BOB RAY                  Hello                                0       3     \xE1\0\0\x01\0 "
 x\{128}
 \xE3
 => 1 messages; " \xe1 " "09-09-01" "01:46" "ALL" "BOB RAY" "Hello" "" Some(1) Some(0) 0 1: "xxxxxxxxxxxxxxxxxxxxxxxxxxxxxxxxxxxxxxxxxxxxxxxxxxxxxxxxxxxxxxxxxxxxxxxxxxxxxxxxxxxxxxxxxxxxxxxxxxxxxxxxxxxxxxxxxxxxxxxxxxxxxxxx"
-384 "Produced by qwkdoor, packet 1"
+write 384 "Produced by qwkdoor, packet 1"
 " 1      09-09-0101:46ALL                      BOB RAY                  Hello                                0       2     \xE1\0\0\x01\0 "
 ""
 => 1 messages; " \xe1 " "09-09-01" "01:46" "ALL" "BOB RAY" "Hello" "" Some(1) Some(0) 0 1:
-768 "Produced by qwkdoor, packet 1"
+write 768 "Produced by qwkdoor, packet 1"
 "+999999911-27-2623:59SAM SYSOP                ANN LEE                  Re: Hello                SECRETSECRET999999993     \xE1\x07\x01\x01\x00*"
 "Dear Sam,\xE3\xE3this line has a  gap, and spaces at its end  \xE3and with this one the text takes more than a single block of one hundre"
 "d and twenty-eight bytes.\xE3"
@@ -145,6 +142,6 @@ x\{128}
 "#;
 
 #[test]
-fn reads_and_writes_files(rt: HostRuntime) -> Result<(), Miss> {
-    expect_cases(rt.alloc(), WRITTEN, read_and_write)
+fn files_are_read_and_written(rt: HostRuntime) -> Result<(), Miss> {
+    expect_cases(rt.alloc(), CASES, found)
 }

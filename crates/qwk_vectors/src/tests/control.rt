@@ -70,8 +70,7 @@ fn read(alloc: Global, words: &[Bytes]) -> Result<String, Miss> {
     }
 }
 
-/// The example, also with lines behind the last that are not looked at, and loose lines.
-const FILES: &str = r#"
+const CASES: &str = r#"
 "Test Board\r\nSpringfield\r\n555-0100\r\nSam Sysop\r\n12345,TESTBBS\r\n09-09-2001,01:46:40\r\nANN LEE\r\n\r\n0\r\n1\r\n2\r\n0\r\nGENERAL\r\n1\r\nNETMAIL\r\n7\r\nNEWS\r\nWELCOME\r\nNEWS\r\nGOODBYE\r\n"
 => "Test Board" "Springfield" "555-0100" "Sam Sysop" "12345" "TESTBBS" "09-09-2001,01:46:40" "ANN LEE" "" "WELCOME" "NEWS" "GOODBYE" 1 0 "GENERAL" 1 "NETMAIL" 7 "NEWS", written so
 "Test Board\r\nSpringfield\r\n555-0100\r\nSam Sysop\r\n12345,TESTBBS\r\n09-09-2001,01:46:40\r\nANN LEE\r\n\r\n0\r\n1\r\n2\r\n0\r\nGENERAL\r\n1\r\nNETMAIL\r\n7\r\nNEWS\r\nWELCOME\r\nNEWS\r\nGOODBYE\r\n\n\{4096000}"
@@ -79,14 +78,7 @@ const FILES: &str = r#"
 "B\nC\nP\nS\n1, ID ,\nT\nU\nM\n0\nmany\n 0 \n 007\nMAIN\nHELLO\r" => BadBoardId
 "B\nC\nP\nS\n1, I,D \nT\nU\nM\n0\nmany\n 0 \n 007\nMAIN\nHELLO\r"
 => "B" "C" "P" "S" "1" "I,D" "T" "U" "M" "HELLO\r" "" "" 0 7 "MAIN", not writable
-"#;
-
-#[test]
-fn reads_and_writes_files(rt: HostRuntime) -> Result<(), Miss> {
-    expect_cases(rt.alloc(), FILES, read)
-}
-
-const FAULTS: &str = r#"
+# The first faults.
 "Test Board\nSpringfield\n555-0100\nSam Sysop\n" => TooFewLines { line: 5 }
 "B\nC\nP\nS\n1,ABCDEFGHI\n" => BadBoardId
 "B\nC\nP\nS\n12345\n" => BadBoardId
@@ -96,6 +88,6 @@ const FAULTS: &str = r#"
 "#;
 
 #[test]
-fn names_the_first_fault(rt: HostRuntime) -> Result<(), Miss> {
-    expect_cases(rt.alloc(), FAULTS, read)
+fn control_files_are_read(rt: HostRuntime) -> Result<(), Miss> {
+    expect_cases(rt.alloc(), CASES, read)
 }

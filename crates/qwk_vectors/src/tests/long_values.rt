@@ -1,4 +1,5 @@
-//! Long names and subjects. A case is To, From, the subject and the lines of a message, and so is what is found.
+//! Long names and subjects. A case is what it asks, and then To, From, the subject and the lines of a message, and so
+//! is what is found.
 use byte_lists::{Bytes, Lines};
 use case_texts::{Miss, expect_cases, quoted};
 use long_names::{plain, with_long};
@@ -85,77 +86,81 @@ fn gone(alloc: Global, words: &[Bytes]) -> Result<String, Miss> {
     gone_filled(alloc, &mut empty_message(alloc), words)
 }
 
-const GONE: &str = r#"
-# Values of 25, 26, 36 and 37 bytes, and a subject of 72 and 73.
-"abcdefghijklmnopqrstuvwxy" "B" "S" "Hi"
-=> "abcdefghijklmnopqrstuvwxy" "B" "S" "Hi"
-"abcdefghijklmnopqrstuvwxyz" "B" "S" "Hi"
-=> "abcdefghijklmnopqrstuvwxy" "B" "S" "To: abcdefghijklmnopqrstuvwxyz" "" "Hi"
-"A" "abcdefghijklmnopqrstuvwxyz0123456789" "S" "Hi"
-=> "A" "abcdefghijklmnopqrstuvwxy" "S" "From: abcdefghijklmnopqrstuvwxyz0123456789" "" "Hi"
-"A" "abcdefghijklmnopqrstuvwxyz0123456789a" "S" "Hi"
-=> "A" "abcdefghijklmnopqrstuvwxyz0123456789a" "S" "Hi"
-"A" "B" "abcdefghijklmnopqrstuvwxyz0123456789abcdefghijklmnopqrstuvwxyz0123456789"
-=> "A" "B" "abcdefghijklmnopqrstuvwxy" "Subject: abcdefghijklmnopqrstuvwxyz0123456789abcdefghijklmnopqrstuvwxyz0123456789" ""
-"A" "B" "abcdefghijklmnopqrstuvwxyz0123456789abcdefghijklmnopqrstuvwxyz0123456789a"
-=> "A" "B" "abcdefghijklmnopqrstuvwxyz0123456789abcdefghijklmnopqrstuvwxyz0123456789a"
-# All three, in their order; and one whose 25th byte is a space.
-"abcdefghijklmnopqrstuvwxyz" "bcdefghijklmnopqrstuvwxyz0" "cdefghijklmnopqrstuvwxyz01" "Hi"
-=> "abcdefghijklmnopqrstuvwxy" "bcdefghijklmnopqrstuvwxyz" "cdefghijklmnopqrstuvwxyz0" "To: abcdefghijklmnopqrstuvwxyz" "From: bcdefghijklmnopqrstuvwxyz0" "Subject: cdefghijklmnopqrstuvwxyz01" "" "Hi"
-"abcdefghijklmnopqrstuvwx z" "B" "S" "Hi"
-=> "abcdefghijklmnopqrstuvwx" "B" "S" "To: abcdefghijklmnopqrstuvwx z" "" "Hi"
-# A space at either end, a byte below 20h, and E3h.
-" abcdefghijklmnopqrstuvwxyz" "abcdefghijklmnopqrstuvwxyz " "abcdefghijklmnopqrstuvwxyz\x1F" "Hi"
-=> " abcdefghijklmnopqrstuvwxyz" "abcdefghijklmnopqrstuvwxyz " "abcdefghijklmnopqrstuvwxyz\x1f" "Hi"
-"A" "B" "abcdefghijklmnopqrstuvwxyz\xE3" "Hi"
-=> "A" "B" "abcdefghijklmnopqrstuvwxyz\xe3" "Hi"
-# A text that would be taken for such lines, also behind empty ones.
-"abcdefghijklmnopqrstuvwxy" "B" "S" "To: abcdefghijklmnopqrstuvwxyz" "" "Hi"
-=> "abcdefghijklmnopqrstuvwxy" "B" "S" "" "To: abcdefghijklmnopqrstuvwxyz" "" "Hi"
-"abcdefghijklmnopqrstuvwxy" "B" "S" "" "" "To: abcdefghijklmnopqrstuvwxyz" ""
-=> "abcdefghijklmnopqrstuvwxy" "B" "S" "" "" "" "To: abcdefghijklmnopqrstuvwxyz" ""
-"A" "B" "S" "" "" => "A" "B" "S" "" ""
-"A" "B" "S" => "A" "B" "S"
-"#;
-
-#[test]
-fn long_values_go_as_lines(rt: HostRuntime) -> Result<(), Miss> {
-    expect_cases(rt.alloc(), GONE, gone)
+/// What is found of a case, which begins with what it asks.
+fn found(alloc: Global, words: &[Bytes]) -> Result<String, Miss> {
+    let [asked, words @ ..] = words else {
+        return Err(Miss::Words);
+    };
+    match asked.as_slice() {
+        b"gone" => gone(alloc, words),
+        b"read" => read(alloc, words),
+        _ => Err(Miss::Words),
+    }
 }
 
-const READ: &str = r#"
-"ABCDEFGHIJKLMNOPQRSTUVWXY" "B" "S" "To: abcdefghijklmnopqrstuvwxyz" "" "Hi"
+const CASES: &str = r#"
+# Values of 25, 26, 36 and 37 bytes, and a subject of 72 and 73.
+gone "abcdefghijklmnopqrstuvwxy" "B" "S" "Hi"
+=> "abcdefghijklmnopqrstuvwxy" "B" "S" "Hi"
+gone "abcdefghijklmnopqrstuvwxyz" "B" "S" "Hi"
+=> "abcdefghijklmnopqrstuvwxy" "B" "S" "To: abcdefghijklmnopqrstuvwxyz" "" "Hi"
+gone "A" "abcdefghijklmnopqrstuvwxyz0123456789" "S" "Hi"
+=> "A" "abcdefghijklmnopqrstuvwxy" "S" "From: abcdefghijklmnopqrstuvwxyz0123456789" "" "Hi"
+gone "A" "abcdefghijklmnopqrstuvwxyz0123456789a" "S" "Hi"
+=> "A" "abcdefghijklmnopqrstuvwxyz0123456789a" "S" "Hi"
+gone "A" "B" "abcdefghijklmnopqrstuvwxyz0123456789abcdefghijklmnopqrstuvwxyz0123456789"
+=> "A" "B" "abcdefghijklmnopqrstuvwxy" "Subject: abcdefghijklmnopqrstuvwxyz0123456789abcdefghijklmnopqrstuvwxyz0123456789" ""
+gone "A" "B" "abcdefghijklmnopqrstuvwxyz0123456789abcdefghijklmnopqrstuvwxyz0123456789a"
+=> "A" "B" "abcdefghijklmnopqrstuvwxyz0123456789abcdefghijklmnopqrstuvwxyz0123456789a"
+# All three, in their order; and one whose 25th byte is a space.
+gone "abcdefghijklmnopqrstuvwxyz" "bcdefghijklmnopqrstuvwxyz0" "cdefghijklmnopqrstuvwxyz01" "Hi"
+=> "abcdefghijklmnopqrstuvwxy" "bcdefghijklmnopqrstuvwxyz" "cdefghijklmnopqrstuvwxyz0" "To: abcdefghijklmnopqrstuvwxyz" "From: bcdefghijklmnopqrstuvwxyz0" "Subject: cdefghijklmnopqrstuvwxyz01" "" "Hi"
+gone "abcdefghijklmnopqrstuvwx z" "B" "S" "Hi"
+=> "abcdefghijklmnopqrstuvwx" "B" "S" "To: abcdefghijklmnopqrstuvwx z" "" "Hi"
+# A space at either end, a byte below 20h, and E3h.
+gone " abcdefghijklmnopqrstuvwxyz" "abcdefghijklmnopqrstuvwxyz " "abcdefghijklmnopqrstuvwxyz\x1F" "Hi"
+=> " abcdefghijklmnopqrstuvwxyz" "abcdefghijklmnopqrstuvwxyz " "abcdefghijklmnopqrstuvwxyz\x1f" "Hi"
+gone "A" "B" "abcdefghijklmnopqrstuvwxyz\xE3" "Hi"
+=> "A" "B" "abcdefghijklmnopqrstuvwxyz\xe3" "Hi"
+# A text that would be taken for such lines, also behind empty ones.
+gone "abcdefghijklmnopqrstuvwxy" "B" "S" "To: abcdefghijklmnopqrstuvwxyz" "" "Hi"
+=> "abcdefghijklmnopqrstuvwxy" "B" "S" "" "To: abcdefghijklmnopqrstuvwxyz" "" "Hi"
+gone "abcdefghijklmnopqrstuvwxy" "B" "S" "" "" "To: abcdefghijklmnopqrstuvwxyz" ""
+=> "abcdefghijklmnopqrstuvwxy" "B" "S" "" "" "" "To: abcdefghijklmnopqrstuvwxyz" ""
+gone "A" "B" "S" "" "" => "A" "B" "S" "" ""
+gone "A" "B" "S" => "A" "B" "S"
+read "ABCDEFGHIJKLMNOPQRSTUVWXY" "B" "S" "To: abcdefghijklmnopqrstuvwxyz" "" "Hi"
 => "abcdefghijklmnopqrstuvwxyz" "B" "S" "Hi"
-"ABCDEFGHIJKLMNOPQRSTUVWXY" "BCDEFGHIJKLMNOPQRSTUVWXYZ" "cdefghijklmnopqrstuvwxyz0" "To: abcdefghijklmnopqrstuvwxyz" "From: bcdefghijklmnopqrstuvwxyz0" "Subject: cdefghijklmnopqrstuvwxyz01" "" "" "Hi"
+read "ABCDEFGHIJKLMNOPQRSTUVWXY" "BCDEFGHIJKLMNOPQRSTUVWXYZ" "cdefghijklmnopqrstuvwxyz0" "To: abcdefghijklmnopqrstuvwxyz" "From: bcdefghijklmnopqrstuvwxyz0" "Subject: cdefghijklmnopqrstuvwxyz01" "" "" "Hi"
 => "abcdefghijklmnopqrstuvwxyz" "bcdefghijklmnopqrstuvwxyz0" "cdefghijklmnopqrstuvwxyz01" "" "Hi"
-"ABCDEFGHIJKLMNOPQRSTUVWX" "B" "S" "To: abcdefghijklmnopqrstuvwx z" ""
+read "ABCDEFGHIJKLMNOPQRSTUVWX" "B" "S" "To: abcdefghijklmnopqrstuvwx z" ""
 => "abcdefghijklmnopqrstuvwx z" "B" "S"
 # Out of order, twice, without an empty line, for another field, and for another value.
-"abcdefghijklmnopqrstuvwxy" "abcdefghijklmnopqrstuvwxy" "S" "From: abcdefghijklmnopqrstuvwxyz" "To: abcdefghijklmnopqrstuvwxyz" ""
+read "abcdefghijklmnopqrstuvwxy" "abcdefghijklmnopqrstuvwxy" "S" "From: abcdefghijklmnopqrstuvwxyz" "To: abcdefghijklmnopqrstuvwxyz" ""
 => "abcdefghijklmnopqrstuvwxy" "abcdefghijklmnopqrstuvwxy" "S" "From: abcdefghijklmnopqrstuvwxyz" "To: abcdefghijklmnopqrstuvwxyz" ""
-"abcdefghijklmnopqrstuvwxy" "B" "S" "To: abcdefghijklmnopqrstuvwxyz" "To: abcdefghijklmnopqrstuvwxyz" ""
+read "abcdefghijklmnopqrstuvwxy" "B" "S" "To: abcdefghijklmnopqrstuvwxyz" "To: abcdefghijklmnopqrstuvwxyz" ""
 => "abcdefghijklmnopqrstuvwxy" "B" "S" "To: abcdefghijklmnopqrstuvwxyz" "To: abcdefghijklmnopqrstuvwxyz" ""
-"abcdefghijklmnopqrstuvwxy" "B" "S" "To: abcdefghijklmnopqrstuvwxyz" "Hi"
+read "abcdefghijklmnopqrstuvwxy" "B" "S" "To: abcdefghijklmnopqrstuvwxyz" "Hi"
 => "abcdefghijklmnopqrstuvwxy" "B" "S" "To: abcdefghijklmnopqrstuvwxyz" "Hi"
-"abcdefghijklmnopqrstuvwxy" "B" "S" "To: abcdefghijklmnopqrstuvwxyz"
+read "abcdefghijklmnopqrstuvwxy" "B" "S" "To: abcdefghijklmnopqrstuvwxyz"
 => "abcdefghijklmnopqrstuvwxy" "B" "S" "To: abcdefghijklmnopqrstuvwxyz"
-"abcdefghijklmnopqrstuvwxy" "B" "S" "From: abcdefghijklmnopqrstuvwxyz" ""
+read "abcdefghijklmnopqrstuvwxy" "B" "S" "From: abcdefghijklmnopqrstuvwxyz" ""
 => "abcdefghijklmnopqrstuvwxy" "B" "S" "From: abcdefghijklmnopqrstuvwxyz" ""
-"abcdefghijklmnopqrstuvwxz" "B" "S" "To: abcdefghijklmnopqrstuvwxyz" ""
+read "abcdefghijklmnopqrstuvwxz" "B" "S" "To: abcdefghijklmnopqrstuvwxyz" ""
 => "abcdefghijklmnopqrstuvwxz" "B" "S" "To: abcdefghijklmnopqrstuvwxyz" ""
-"abcdefghijklmnopqrstuvwxy" "B" "S" "To:abcdefghijklmnopqrstuvwxyz" ""
+read "abcdefghijklmnopqrstuvwxy" "B" "S" "To:abcdefghijklmnopqrstuvwxyz" ""
 => "abcdefghijklmnopqrstuvwxy" "B" "S" "To:abcdefghijklmnopqrstuvwxyz" ""
 # A value that is short, as anybody may write it.
-"ALL" "B" "S" "To: whom it may concern" "" "Hi" => "ALL" "B" "S" "To: whom it may concern" "" "Hi"
+read "ALL" "B" "S" "To: whom it may concern" "" "Hi" => "ALL" "B" "S" "To: whom it may concern" "" "Hi"
 # Behind one empty line more than the text had.
-"abcdefghijklmnopqrstuvwxy" "B" "S" "" "To: abcdefghijklmnopqrstuvwxyz" "" "Hi"
+read "abcdefghijklmnopqrstuvwxy" "B" "S" "" "To: abcdefghijklmnopqrstuvwxyz" "" "Hi"
 => "abcdefghijklmnopqrstuvwxy" "B" "S" "To: abcdefghijklmnopqrstuvwxyz" "" "Hi"
-"abcdefghijklmnopqrstuvwxy" "B" "S" "" "" "To: abcdefghijklmnopqrstuvwxyz" ""
+read "abcdefghijklmnopqrstuvwxy" "B" "S" "" "" "To: abcdefghijklmnopqrstuvwxyz" ""
 => "abcdefghijklmnopqrstuvwxy" "B" "S" "" "To: abcdefghijklmnopqrstuvwxyz" ""
-"A" "B" "S" "" "" => "A" "B" "S" "" ""
+read "A" "B" "S" "" "" => "A" "B" "S" "" ""
 "#;
 
 #[test]
-fn long_values_are_read_from_lines(rt: HostRuntime) -> Result<(), Miss> {
-    expect_cases(rt.alloc(), READ, read)
+fn long_values_go_and_come_as_lines(rt: HostRuntime) -> Result<(), Miss> {
+    expect_cases(rt.alloc(), CASES, found)
 }

@@ -14,41 +14,6 @@ fn read(alloc: Global, words: &[Bytes]) -> Result<String, Miss> {
     Ok(format!(in alloc; "{:?}", read_moment(&date, &time))?)
 }
 
-const READ: &str = r#"
-09-09-01 01:46 => Some(999999960)
-09/09/01 01:46 => Some(999999960)
-01-01-70 00:00 => Some(0)
-12-31-69 23:59 => Some(3155759940)
-02-29-00 00:00 => Some(951782400)
-"#;
-
-#[test]
-fn fields_that_read(rt: HostRuntime) -> Result<(), Miss> {
-    expect_cases(rt.alloc(), READ, read)
-}
-
-const UNREAD: &str = r#"
-02-29-01 00:00 => None
-00-01-01 00:00 => None
-13-01-01 00:00 => None
-01-00-01 00:00 => None
-04-31-01 00:00 => None
-09-09/01 01:46 => None
-09/09-01 01:46 => None
-09.09.01 01:46 => None
-0a-09-01 01:46 => None
-" 9-09-01" 01:46 => None
-09-09-01 24:00 => None
-09-09-01 00:60 => None
-09-09-01 01.46 => None
-09-09-01 " 1:46" => None
-"#;
-
-#[test]
-fn fields_that_do_not_read(rt: HostRuntime) -> Result<(), Miss> {
-    expect_cases(rt.alloc(), UNREAD, read)
-}
-
 /// The seconds of a case.
 fn seconds_of(words: &[Bytes]) -> Result<u32, Miss> {
     match words {
@@ -64,29 +29,55 @@ fn write(alloc: Global, words: &[Bytes]) -> Result<String, Miss> {
     Ok(format!(in alloc; "{} {}", date.escape_ascii(), time.escape_ascii())?)
 }
 
-const WRITTEN: &str = r#"
-0 => 01-01-70 00:00
-1000000000 => 09-09-01 01:46
-951868799 => 02-29-00 23:59
-3155760000 => 01-01-70 00:00
-4294967295 => 02-07-06 06:28
-"#;
-
-#[test]
-fn fields_as_written(rt: HostRuntime) -> Result<(), Miss> {
-    expect_cases(rt.alloc(), WRITTEN, write)
-}
-
 fn write_stamp(alloc: Global, words: &[Bytes]) -> Result<String, Miss> {
     let stamp = stamp(seconds_of(words)?);
     Ok(format!(in alloc; "{}", stamp.escape_ascii())?)
 }
 
-const STAMP: &str = r#"
-1000000000 => 09-09-2001,01:46:40
+/// What is found of a case, which begins with what it asks.
+fn found(alloc: Global, words: &[Bytes]) -> Result<String, Miss> {
+    let [asked, words @ ..] = words else {
+        return Err(Miss::Words);
+    };
+    match asked.as_slice() {
+        b"read" => read(alloc, words),
+        b"write" => write(alloc, words),
+        b"stamp" => write_stamp(alloc, words),
+        _ => Err(Miss::Words),
+    }
+}
+
+const CASES: &str = r#"
+# Fields that read, and others.
+read 09-09-01 01:46 => Some(999999960)
+read 09/09/01 01:46 => Some(999999960)
+read 01-01-70 00:00 => Some(0)
+read 12-31-69 23:59 => Some(3155759940)
+read 02-29-00 00:00 => Some(951782400)
+read 02-29-01 00:00 => None
+read 00-01-01 00:00 => None
+read 13-01-01 00:00 => None
+read 01-00-01 00:00 => None
+read 04-31-01 00:00 => None
+read 09-09/01 01:46 => None
+read 09/09-01 01:46 => None
+read 09.09.01 01:46 => None
+read 0a-09-01 01:46 => None
+read " 9-09-01" 01:46 => None
+read 09-09-01 24:00 => None
+read 09-09-01 00:60 => None
+read 09-09-01 01.46 => None
+read 09-09-01 " 1:46" => None
+# Fields as they are written, and the stamp.
+write 0 => 01-01-70 00:00
+write 1000000000 => 09-09-01 01:46
+write 951868799 => 02-29-00 23:59
+write 3155760000 => 01-01-70 00:00
+write 4294967295 => 02-07-06 06:28
+stamp 1000000000 => 09-09-2001,01:46:40
 "#;
 
 #[test]
-fn the_stamp(rt: HostRuntime) -> Result<(), Miss> {
-    expect_cases(rt.alloc(), STAMP, write_stamp)
+fn moments_are_read_and_written(rt: HostRuntime) -> Result<(), Miss> {
+    expect_cases(rt.alloc(), CASES, found)
 }

@@ -1,4 +1,4 @@
-//! Files from worked examples. A case is how many bytes a file has, and its blocks.
+//! Files from worked examples. A case is what it asks, and then how many bytes a file has, and its blocks.
 ghost use Rattle.std.specs.Prelude.{◌↔◌, IsTrue};
 ghost use Rattle.text_fields.specs.Trim.{EndsWithNone};
 ghost use Rattle.qwk_blocks.specs.Header.{IsPad};
@@ -32,27 +32,6 @@ fn read(alloc: Global, words: &[Bytes]) -> Result<String, Miss> {
         Ok(rep) => Ok(contents(alloc, &rep)?),
         Err(fault) => Ok(format!(in alloc; "{fault:?}")?),
     }
-}
-
-const FILES: &str = r#"
-128 "A       x\{120}" => "A" 0 messages
-128 "TESTBBS8x\{120}" => "TESTBBS8" 0 messages
-128 "AB\0 \0   x\{120}" => "AB" 0 messages
-128 " A\0B\0\0\0\0x\{120}" => " A\x00B" 0 messages
-128 "        x\{120}" => NoBoardId
-128 "\0\0\0\0\0\0\0\0x\{120}" => NoBoardId
-256 "        x\{120}" "" => NoBoardId
-256 "A       x\{120}" "" => Fault(BadBlocks { at: 128 })
-256 "A       x\{120}"
-" 0      09-09-0101:46BOB RAY                  ANN LEE                  Hello                                1       2     \xE1\x00\x00\x01\x00 "
-=> Fault(Truncated { at: 128 })
-127 "" => Fault(Truncated { at: 0 })
-127 "TESTBBS" => Fault(Truncated { at: 0 })
-"#;
-
-#[test]
-fn reads_files(rt: HostRuntime) -> Result<(), Miss> {
-    expect_cases(rt.alloc(), FILES, read)
 }
 
 /// Whether a board id has no blank at its end.
@@ -115,8 +94,33 @@ fn add_replies(alloc: Global, words: &[Bytes]) -> Result<String, Miss> {
     Ok(found)
 }
 
-const REPLIES: &str = r#"
-640 "TESTBBS"
+/// What is found of a case, which begins with what it asks.
+fn found(alloc: Global, words: &[Bytes]) -> Result<String, Miss> {
+    let [asked, words @ ..] = words else {
+        return Err(Miss::Words);
+    };
+    match asked.as_slice() {
+        b"file" => read(alloc, words),
+        b"add" => add_replies(alloc, words),
+        _ => Err(Miss::Words),
+    }
+}
+
+const CASES: &str = r#"
+file 128 "A       x\{120}" => "A" 0 messages
+file 128 "TESTBBS8x\{120}" => "TESTBBS8" 0 messages
+file 128 "AB\0 \0   x\{120}" => "AB" 0 messages
+file 128 " A\0B\0\0\0\0x\{120}" => " A\x00B" 0 messages
+file 128 "        x\{120}" => NoBoardId
+file 128 "\0\0\0\0\0\0\0\0x\{120}" => NoBoardId
+file 256 "        x\{120}" "" => NoBoardId
+file 256 "A       x\{120}" "" => Fault(BadBlocks { at: 128 })
+file 256 "A       x\{120}"
+" 0      09-09-0101:46BOB RAY                  ANN LEE                  Hello                                1       2     \xE1\x00\x00\x01\x00 "
+=> Fault(Truncated { at: 128 })
+file 127 "" => Fault(Truncated { at: 0 })
+file 127 "TESTBBS" => Fault(Truncated { at: 0 })
+add 640 "TESTBBS"
 " 0      09-09-0101:46BOB RAY                  ANN LEE                  Hello                                1       2     \xE1\x00\x00\x01\x00 "
 "Thanks\xE3"
 " 263    09-09-0101:46BOB RAY                  ANN LEE                  Hello                                1       2     \xE1\x07\x01\x02\x00 "
@@ -125,6 +129,6 @@ const REPLIES: &str = r#"
 "#;
 
 #[test]
-fn replies_are_added_and_read_back(rt: HostRuntime) -> Result<(), Miss> {
-    expect_cases(rt.alloc(), REPLIES, add_replies)
+fn replies_are_read_and_added(rt: HostRuntime) -> Result<(), Miss> {
+    expect_cases(rt.alloc(), CASES, found)
 }

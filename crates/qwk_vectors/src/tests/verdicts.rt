@@ -217,46 +217,6 @@ fn judge_broken(alloc: Global, words: &[Bytes]) -> Result<String, Miss> {
     Upload::new(alloc, conference).judge_broken(alloc, rules.as_slice())
 }
 
-/// A case is the kind of a conference, and the rules that are broken in order. To isn't judged in net mail.
-const BROKEN: &str = r#"
-local => posted
-echo => posted
-net => posted
-local killed => Killed killed
-local password killed => Killed killed
-local password => Password password
-local conference password => Password password
-local conference => Conference conference
-local member conference => Conference conference
-local member => Member member
-local readonly member => Member member
-echo readonly => Readonly readonly
-echo sender readonly => Readonly readonly
-local sender => Sender sender
-local to sender => Sender sender
-local to => To to
-local subject to => To to
-net subject => Subject subject
-net length subject => Subject subject
-local length => Length length
-local private length => Length length
-local private => Private private
-local full private => Private private
-net netuser => Netuser netuser
-net address netuser => Netuser netuser
-net address => Address address
-net zone address => Address address
-net zone => Zone zone
-net full zone => Zone zone
-net full => Full full
-net to full => Full full
-"#;
-
-#[test]
-fn the_first_rule_refuses(rt: HostRuntime) -> Result<(), Miss> {
-    expect_cases(rt.alloc(), BROKEN, judge_broken)
-}
-
 impl Upload {
     /// Sends these lines to a name, where there is so much room for messages, and judges them.
     fn judge_size(
@@ -282,23 +242,6 @@ fn judge_size(alloc: Global, words: &[Bytes]) -> Result<String, Miss> {
     conference.slots = number_of(slots.as_slice())?;
     let room = number_of(room.as_slice())?;
     Upload::new(alloc, conference).judge_size(alloc, room, to, lines)
-}
-
-/// A case is the kind of a conference, its slots, the room for its messages, To, and lines. The address line takes no room,
-/// and a header and its subfields take 76 and 58 bytes, the body 11, the index record 8.
-const SIZES: &str = r#"
-net 0 1048576 "BOB RAY" Ann@1:1/1 x\{16383} => posted
-net 0 1048576 "BOB RAY" Ann@1:1/1 x\{16384} => Length length
-local 0 1048576 "BOB RAY" Ann@1:1/1 x\{16373} => posted
-local 0 1048576 "BOB RAY" Ann@1:1/1 x\{16374} => Length length
-local 9998 153 All "First line" => posted
-local 9999 153 All "First line" => Full full
-local 0 152 All "First line" => Full full
-"#;
-
-#[test]
-fn a_message_needs_a_slot_and_room(rt: HostRuntime) -> Result<(), Miss> {
-    expect_cases(rt.alloc(), SIZES, judge_size)
 }
 
 /// Adds a text of a message that is posted.
@@ -354,42 +297,96 @@ fn judge_letter(alloc: Global, words: &[Bytes]) -> Result<String, Miss> {
     upload.judge_letter(alloc, lines)
 }
 
-/// A case is the kind of a conference, a status, a date, a time, and lines: net mail that goes to its address or to none, a
-/// status that says who may see a message, and the moment that it keeps.
-const LETTERS: &str = r#"
-net ~ 09-09-01 01:46 Ann@2:5020/400.1 Hi
+/// What is found of a case, which begins with what it asks.
+fn found(alloc: Global, words: &[Bytes]) -> Result<String, Miss> {
+    let [asked, words @ ..] = words else {
+        return Err(Miss::Words);
+    };
+    match asked.as_slice() {
+        b"broken" => judge_broken(alloc, words),
+        b"size" => judge_size(alloc, words),
+        b"letter" => judge_letter(alloc, words),
+        _ => Err(Miss::Words),
+    }
+}
+
+const CASES: &str = r#"
+# A case is the kind of a conference, and the rules that are broken in order. To isn't judged in net mail.
+broken local => posted
+broken echo => posted
+broken net => posted
+broken local killed => Killed killed
+broken local password killed => Killed killed
+broken local password => Password password
+broken local conference password => Password password
+broken local conference => Conference conference
+broken local member conference => Conference conference
+broken local member => Member member
+broken local readonly member => Member member
+broken echo readonly => Readonly readonly
+broken echo sender readonly => Readonly readonly
+broken local sender => Sender sender
+broken local to sender => Sender sender
+broken local to => To to
+broken local subject to => To to
+broken net subject => Subject subject
+broken net length subject => Subject subject
+broken local length => Length length
+broken local private length => Length length
+broken local private => Private private
+broken local full private => Private private
+broken net netuser => Netuser netuser
+broken net address netuser => Netuser netuser
+broken net address => Address address
+broken net zone address => Address address
+broken net zone => Zone zone
+broken net full zone => Zone zone
+broken net full => Full full
+broken net to full => Full full
+# A case is the kind of a conference, its slots, the room for its messages, To, and lines. The address line takes no room,
+# and a header and its subfields take 76 and 58 bytes, the body 11, the index record 8.
+size net 0 1048576 "BOB RAY" Ann@1:1/1 x\{16383} => posted
+size net 0 1048576 "BOB RAY" Ann@1:1/1 x\{16384} => Length length
+size local 0 1048576 "BOB RAY" Ann@1:1/1 x\{16373} => posted
+size local 0 1048576 "BOB RAY" Ann@1:1/1 x\{16374} => Length length
+size local 9998 153 All "First line" => posted
+size local 9999 153 All "First line" => Full full
+size local 0 152 All "First line" => Full full
+# A case is the kind of a conference, a status, a date, a time, and lines: net mail that goes to its address or to none, a
+# status that says who may see a message, and the moment that it keeps.
+letter net ~ 09-09-01 01:46 Ann@2:5020/400.1 Hi
 => written 999999960 processed 1000000000 private true from "Ann Lee" to "Ann" at "2:5020/400.1" says "Hi\r"
-net ~ 09-09-01 01:46 " Bob Ray @01:00002/3.0 " Hi
+letter net ~ 09-09-01 01:46 " Bob Ray @01:00002/3.0 " Hi
 => written 999999960 processed 1000000000 private true from "Ann Lee" to "Bob Ray " at "1:2/3" says "Hi\r"
-net " " 09-09-01 01:46 Ann@2:5020/40000 Hi => Address address
-net " " 09-09-01 01:46 Ann@3:1/1 Hi => Zone zone
-echo " " 09-09-01 01:46 a\rb ""
+letter net " " 09-09-01 01:46 Ann@2:5020/40000 Hi => Address address
+letter net " " 09-09-01 01:46 Ann@3:1/1 Hi => Zone zone
+letter echo " " 09-09-01 01:46 a\rb ""
 => written 999999960 processed 1000000000 private false from "Ann Lee" to "BOB RAY" at "" says "a b\r\r"
-echo - 09-09-01 01:46 a\rb ""
+letter echo - 09-09-01 01:46 a\rb ""
 => written 999999960 processed 1000000000 private false from "Ann Lee" to "BOB RAY" at "" says "a b\r\r"
-echo x 09-09-01 01:46 a\rb ""
+letter echo x 09-09-01 01:46 a\rb ""
 => written 999999960 processed 1000000000 private false from "Ann Lee" to "BOB RAY" at "" says "a b\r\r"
-echo + 09-09-01 01:46 a\rb ""
+letter echo + 09-09-01 01:46 a\rb ""
 => written 999999960 processed 1000000000 private true from "Ann Lee" to "BOB RAY" at "" says "a b\r\r"
-echo * 09-09-01 01:46 a\rb ""
+letter echo * 09-09-01 01:46 a\rb ""
 => written 999999960 processed 1000000000 private true from "Ann Lee" to "BOB RAY" at "" says "a b\r\r"
-echo ~ 09-09-01 01:46 a\rb ""
+letter echo ~ 09-09-01 01:46 a\rb ""
 => written 999999960 processed 1000000000 private true from "Ann Lee" to "Sam Sysop" at "" says "a b\r\r"
-echo ` 09-09-01 01:46 a\rb ""
+letter echo ` 09-09-01 01:46 a\rb ""
 => written 999999960 processed 1000000000 private true from "Ann Lee" to "Sam Sysop" at "" says "a b\r\r"
-local " " 09-09-01 01:46 Hi
+letter local " " 09-09-01 01:46 Hi
 => written 999999960 processed 1000000000 private false from "Ann Lee" to "BOB RAY" at "" says "Hi\r"
-local " " 09/09/01 01:46 Hi
+letter local " " 09/09/01 01:46 Hi
 => written 999999960 processed 1000000000 private false from "Ann Lee" to "BOB RAY" at "" says "Hi\r"
-local " " 09-09/01 01:46 Hi
+letter local " " 09-09/01 01:46 Hi
 => written 1000000000 processed 1000000000 private false from "Ann Lee" to "BOB RAY" at "" says "Hi\r"
-local " " 02-29-01 01:46 Hi
+letter local " " 02-29-01 01:46 Hi
 => written 1000000000 processed 1000000000 private false from "Ann Lee" to "BOB RAY" at "" says "Hi\r"
-local " " 09-09-01 24:00 Hi
+letter local " " 09-09-01 24:00 Hi
 => written 1000000000 processed 1000000000 private false from "Ann Lee" to "BOB RAY" at "" says "Hi\r"
 "#;
 
 #[test]
-fn letters_are_posted_or_refused(rt: HostRuntime) -> Result<(), Miss> {
-    expect_cases(rt.alloc(), LETTERS, judge_letter)
+fn messages_are_judged(rt: HostRuntime) -> Result<(), Miss> {
+    expect_cases(rt.alloc(), CASES, found)
 }

@@ -104,21 +104,6 @@ fn read_ended(alloc: Global, words: &[Bytes]) -> Result<String, Miss> {
     Ok(found)
 }
 
-/// A case is the end of each line.
-const ENDS: &str = r#"
-\n
-=> "Test Board" "Springfield" "555-0100" "Sam Sysop" "TESTBBS" 12345 [1, 2] true false: 0 Local false true "GENERAL"; 1 Net false false "NETMAIL"; 7 Local true false "NEWS"; no more
-\r\n
-=> "Test Board" "Springfield" "555-0100" "Sam Sysop" "TESTBBS" 12345 [1, 2] true false: 0 Local false true "GENERAL"; 1 Net false false "NETMAIL"; 7 Local true false "NEWS"; no more
-"  \n\n# \n"
-=> "Test Board" "Springfield" "555-0100" "Sam Sysop" "TESTBBS" 12345 [1, 2] true false: 0 Local false true "GENERAL"; 1 Net false false "NETMAIL"; 7 Local true false "NEWS"; no more
-"#;
-
-#[test]
-fn reads_and_copies_the_example(rt: HostRuntime) -> Result<(), Miss> {
-    expect_cases(rt.alloc(), ENDS, read_ended)
-}
-
 fn read_line(alloc: Global, words: &[Bytes]) -> Result<String, Miss> {
     let [line, text] = words else {
         return Err(Miss::Words);
@@ -127,88 +112,11 @@ fn read_line(alloc: Global, words: &[Bytes]) -> Result<String, Miss> {
     Ok(outcome(alloc, file.as_slice())?)
 }
 
-/// A case is the number of a line from 1, and what stands there in place of the example's. Behind lines that break one rule
-/// come those that break several, and those that are on the edge.
-const OTHER_LINES: &str = r#"
-1 "Board: A" => Err(Line { line: 1, rule: Key })
-1 " board: A" => Err(Line { line: 1, rule: Key })
-1 "board : A" => Err(Line { line: 1, rule: Key })
-1 "board: A\x1f" => Err(Line { line: 1, rule: Text })
-2 "phone: A" => Err(Line { line: 2, rule: Key })
-2 "city: A\tB" => Err(Line { line: 2, rule: Text })
-2 "city:1234567890123456789012345678901234567890123456789012345678901" => Err(Line { line: 2, rule: Text })
-3 "phone: \x7f" => Err(Line { line: 3, rule: Text })
-4 "sysop:" => Err(Line { line: 4, rule: Text })
-4 "sysop: Sam \x22Sysop" => Err(Line { line: 4, rule: Text })
-4 "sysop: ABCDEFGHIJKLMNOPQRSTUVWXYZ" => Err(Line { line: 4, rule: Text })
-5 "bbsid: ABCDEFGHI" => Err(Line { line: 5, rule: Id })
-5 "bbsid:" => Err(Line { line: 5, rule: Id })
-5 "bbsid: TEST BBS" => Err(Line { line: 5, rule: Id })
-6 "serial:" => Err(Line { line: 6, rule: Number })
-6 "serial: 123456" => Err(Line { line: 6, rule: Number })
-6 "serial: 1 2" => Err(Line { line: 6, rule: Number })
-7 "zones 1" => Err(Line { line: 7, rule: Key })
-7 "zones: 0" => Err(Line { line: 7, rule: Zones })
-7 "zones: 32768" => Err(Line { line: 7, rule: Zones })
-7 "zones: 000001" => Err(Line { line: 7, rule: Zones })
-7 "zones: 1 2 2" => Err(Line { line: 7, rule: Zones })
-7 "zones: 2 1" => Err(Line { line: 7, rule: Zones })
-7 "zones: 1 x" => Err(Line { line: 7, rule: Zones })
-7 "zones: 1 2 3 4 5 6 7 8 9 10 11 12 13 14 15 16 17" => Err(Line { line: 7, rule: Zones })
-8 "Conference: 0 local p A" => Err(Line { line: 8, rule: Key })
-8 "conference:" => Err(Line { line: 8, rule: Number })
-8 "conference: 65536 local p A" => Err(Line { line: 8, rule: Number })
-8 "conference: 000001 local p A" => Err(Line { line: 8, rule: Number })
-8 "conference: 0" => Err(Line { line: 8, rule: Kind })
-8 "conference: 0 Local p A" => Err(Line { line: 8, rule: Kind })
-8 "conference: 0 local" => Err(Line { line: 8, rule: Rules })
-8 "conference: 0 local pr A" => Err(Line { line: 8, rule: Rules })
-8 "conference: 0 local p " => Err(Line { line: 8, rule: Name })
-8 "conference: 0 local p ABCDEFGHIJKLMN" => Err(Line { line: 8, rule: Name })
-8 "conference: 0 local p A\x1fB" => Err(Line { line: 8, rule: Name })
-9 "conference: 0 net - A" => Err(Line { line: 9, rule: Order })
-10 "conference: 0 net - A" => Err(Line { line: 10, rule: Order })
-9 "conferenc: x any q \x01" => Err(Line { line: 9, rule: Key })
-9 "conference: x any q \x01" => Err(Line { line: 9, rule: Number })
-9 "conference: 0 any q \x01" => Err(Line { line: 9, rule: Kind })
-9 "conference: 0 echo q \x01" => Err(Line { line: 9, rule: Rules })
-9 "conference: 0 echo rp \x01" => Err(Line { line: 9, rule: Name })
-9 "conference: 0 echo rp A" => Err(Line { line: 9, rule: Order })
-1 "board:" => Ok(3)
-2 "city:123456789012345678901234567890123456789012345678901234567890" => Ok(3)
-4 "sysop: ABCDEFGHIJKLMNOPQRSTUVWXY" => Ok(3)
-5 "bbsid: aZ09bY18" => Ok(3)
-6 "serial: 00001 " => Ok(3)
-7 "zones:" => Ok(3)
-7 "zones: 1 2 3 4 5 6 7 8 9 10 11 12 13 14 15 16" => Ok(3)
-7 "zones:00001   32767 " => Ok(3)
-10 "conference:  65535   echo   rp   AB  CDEFGH \x22 " => Ok(3)
-"#;
-
-#[test]
-fn names_the_rule_of_a_failing_line(rt: HostRuntime) -> Result<(), Miss> {
-    expect_cases(rt.alloc(), OTHER_LINES, read_line)
-}
-
 fn read(alloc: Global, words: &[Bytes]) -> Result<String, Miss> {
     let [text] = words else {
         return Err(Miss::Words);
     };
     Ok(outcome(alloc, text.as_slice())?)
-}
-
-const TEXTS: &str = r##"
-"Board: \x01\nCity: \x01\n" => Err(Line { line: 1, rule: Key })
-"# \x01\n\nboard: \x01\ncity: \x01\n" => Err(Line { line: 3, rule: Text })
-"" => Err(Line { line: 1, rule: Missing })
-"\n#\n" => Err(Line { line: 3, rule: Missing })
-"board: A\ncity: B" => Err(Line { line: 3, rule: Missing })
-" # \n" => Err(Line { line: 1, rule: Key })
-"##;
-
-#[test]
-fn tries_the_rules_in_order(rt: HostRuntime) -> Result<(), Miss> {
-    expect_cases(rt.alloc(), TEXTS, read)
 }
 
 /// The first lines of the example, and conferences of the numbers below this one, in lines 8 and on.
@@ -235,17 +143,100 @@ fn read_conferences(alloc: Global, words: &[Bytes]) -> Result<String, Miss> {
     Ok(outcome(alloc, file.as_slice())?)
 }
 
-/// A case is how many conferences there are, and the line behind them.
-const LAST_LINES: &str = r#"
-64 "" => Ok(64)
-0 "" => Err(Line { line: 8, rule: Missing })
-65 "" => Err(Line { line: 72, rule: Many })
-64 "conference: x" => Err(Line { line: 72, rule: Many })
-64 "conf: x" => Err(Line { line: 72, rule: Key })
-0 "conference: 0 local p A\r" => Err(Line { line: 8, rule: Name })
-"#;
+/// What is found of a case, which begins with what it asks.
+fn found(alloc: Global, words: &[Bytes]) -> Result<String, Miss> {
+    let [asked, words @ ..] = words else {
+        return Err(Miss::Words);
+    };
+    match asked.as_slice() {
+        b"ends" => read_ended(alloc, words),
+        b"line" => read_line(alloc, words),
+        b"text" => read(alloc, words),
+        b"last" => read_conferences(alloc, words),
+        _ => Err(Miss::Words),
+    }
+}
+
+const CASES: &str = r##"
+# A case is the end of each line.
+ends \n
+=> "Test Board" "Springfield" "555-0100" "Sam Sysop" "TESTBBS" 12345 [1, 2] true false: 0 Local false true "GENERAL"; 1 Net false false "NETMAIL"; 7 Local true false "NEWS"; no more
+ends \r\n
+=> "Test Board" "Springfield" "555-0100" "Sam Sysop" "TESTBBS" 12345 [1, 2] true false: 0 Local false true "GENERAL"; 1 Net false false "NETMAIL"; 7 Local true false "NEWS"; no more
+ends "  \n\n# \n"
+=> "Test Board" "Springfield" "555-0100" "Sam Sysop" "TESTBBS" 12345 [1, 2] true false: 0 Local false true "GENERAL"; 1 Net false false "NETMAIL"; 7 Local true false "NEWS"; no more
+# A case is the number of a line from 1, and what stands there in place of the example's. Behind lines that break one rule
+# come those that break several, and those that are on the edge.
+line 1 "Board: A" => Err(Line { line: 1, rule: Key })
+line 1 " board: A" => Err(Line { line: 1, rule: Key })
+line 1 "board : A" => Err(Line { line: 1, rule: Key })
+line 1 "board: A\x1f" => Err(Line { line: 1, rule: Text })
+line 2 "phone: A" => Err(Line { line: 2, rule: Key })
+line 2 "city: A\tB" => Err(Line { line: 2, rule: Text })
+line 2 "city:1234567890123456789012345678901234567890123456789012345678901" => Err(Line { line: 2, rule: Text })
+line 3 "phone: \x7f" => Err(Line { line: 3, rule: Text })
+line 4 "sysop:" => Err(Line { line: 4, rule: Text })
+line 4 "sysop: Sam \x22Sysop" => Err(Line { line: 4, rule: Text })
+line 4 "sysop: ABCDEFGHIJKLMNOPQRSTUVWXYZ" => Err(Line { line: 4, rule: Text })
+line 5 "bbsid: ABCDEFGHI" => Err(Line { line: 5, rule: Id })
+line 5 "bbsid:" => Err(Line { line: 5, rule: Id })
+line 5 "bbsid: TEST BBS" => Err(Line { line: 5, rule: Id })
+line 6 "serial:" => Err(Line { line: 6, rule: Number })
+line 6 "serial: 123456" => Err(Line { line: 6, rule: Number })
+line 6 "serial: 1 2" => Err(Line { line: 6, rule: Number })
+line 7 "zones 1" => Err(Line { line: 7, rule: Key })
+line 7 "zones: 0" => Err(Line { line: 7, rule: Zones })
+line 7 "zones: 32768" => Err(Line { line: 7, rule: Zones })
+line 7 "zones: 000001" => Err(Line { line: 7, rule: Zones })
+line 7 "zones: 1 2 2" => Err(Line { line: 7, rule: Zones })
+line 7 "zones: 2 1" => Err(Line { line: 7, rule: Zones })
+line 7 "zones: 1 x" => Err(Line { line: 7, rule: Zones })
+line 7 "zones: 1 2 3 4 5 6 7 8 9 10 11 12 13 14 15 16 17" => Err(Line { line: 7, rule: Zones })
+line 8 "Conference: 0 local p A" => Err(Line { line: 8, rule: Key })
+line 8 "conference:" => Err(Line { line: 8, rule: Number })
+line 8 "conference: 65536 local p A" => Err(Line { line: 8, rule: Number })
+line 8 "conference: 000001 local p A" => Err(Line { line: 8, rule: Number })
+line 8 "conference: 0" => Err(Line { line: 8, rule: Kind })
+line 8 "conference: 0 Local p A" => Err(Line { line: 8, rule: Kind })
+line 8 "conference: 0 local" => Err(Line { line: 8, rule: Rules })
+line 8 "conference: 0 local pr A" => Err(Line { line: 8, rule: Rules })
+line 8 "conference: 0 local p " => Err(Line { line: 8, rule: Name })
+line 8 "conference: 0 local p ABCDEFGHIJKLMN" => Err(Line { line: 8, rule: Name })
+line 8 "conference: 0 local p A\x1fB" => Err(Line { line: 8, rule: Name })
+line 9 "conference: 0 net - A" => Err(Line { line: 9, rule: Order })
+line 10 "conference: 0 net - A" => Err(Line { line: 10, rule: Order })
+line 9 "conferenc: x any q \x01" => Err(Line { line: 9, rule: Key })
+line 9 "conference: x any q \x01" => Err(Line { line: 9, rule: Number })
+line 9 "conference: 0 any q \x01" => Err(Line { line: 9, rule: Kind })
+line 9 "conference: 0 echo q \x01" => Err(Line { line: 9, rule: Rules })
+line 9 "conference: 0 echo rp \x01" => Err(Line { line: 9, rule: Name })
+line 9 "conference: 0 echo rp A" => Err(Line { line: 9, rule: Order })
+line 1 "board:" => Ok(3)
+line 2 "city:123456789012345678901234567890123456789012345678901234567890" => Ok(3)
+line 4 "sysop: ABCDEFGHIJKLMNOPQRSTUVWXY" => Ok(3)
+line 5 "bbsid: aZ09bY18" => Ok(3)
+line 6 "serial: 00001 " => Ok(3)
+line 7 "zones:" => Ok(3)
+line 7 "zones: 1 2 3 4 5 6 7 8 9 10 11 12 13 14 15 16" => Ok(3)
+line 7 "zones:00001   32767 " => Ok(3)
+line 10 "conference:  65535   echo   rp   AB  CDEFGH \x22 " => Ok(3)
+# The first failing line counts.
+text "Board: \x01\nCity: \x01\n" => Err(Line { line: 1, rule: Key })
+text "# \x01\n\nboard: \x01\ncity: \x01\n" => Err(Line { line: 3, rule: Text })
+text "" => Err(Line { line: 1, rule: Missing })
+text "\n#\n" => Err(Line { line: 3, rule: Missing })
+text "board: A\ncity: B" => Err(Line { line: 3, rule: Missing })
+text " # \n" => Err(Line { line: 1, rule: Key })
+# A case is how many conferences there are, and the line behind them.
+last 64 "" => Ok(64)
+last 0 "" => Err(Line { line: 8, rule: Missing })
+last 65 "" => Err(Line { line: 72, rule: Many })
+last 64 "conference: x" => Err(Line { line: 72, rule: Many })
+last 64 "conf: x" => Err(Line { line: 72, rule: Key })
+last 0 "conference: 0 local p A\r" => Err(Line { line: 8, rule: Name })
+"##;
 
 #[test]
-fn names_the_rule_of_a_last_line(rt: HostRuntime) -> Result<(), Miss> {
-    expect_cases(rt.alloc(), LAST_LINES, read_conferences)
+fn setup_files_are_read(rt: HostRuntime) -> Result<(), Miss> {
+    expect_cases(rt.alloc(), CASES, found)
 }

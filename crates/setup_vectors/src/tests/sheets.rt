@@ -1,4 +1,4 @@
-//! Sheets from worked examples. A case is a sheet.
+//! Sheets from worked examples. A case is what it asks, and then a sheet.
 use byte_lists::Bytes;
 use case_texts::{Miss, expect_cases, quoted};
 use import_sheet::{Sheet, SheetError, Sheets, read_sheet};
@@ -50,86 +50,6 @@ fn read(alloc: Global, words: &[Bytes]) -> Result<String, Miss> {
     }
 }
 
-/// Sheet H of the examples, the same twice, every header, and sheets of other counts of messages.
-const SHEETS: &str = r#"
-"From: Bob Ray\nTo: All\nSubject: Hello\n\nFirst line\n.\n"
-=> 1 messages; "Bob Ray" "All" "Hello" "" "" "First line\r" None false
-"From: Bob Ray\nTo: All\nSubject: Hello\n\nFirst line\n.\nFrom: Bob Ray\nTo: All\nSubject: Hello\n\nFirst line\n.\n"
-=> 2 messages; "Bob Ray" "All" "Hello" "" "" "First line\r" None false; "Bob Ray" "All" "Hello" "" "" "First line\r" None false
-"Private:yes\r\nReply: 0.1.TESTBBS \r\nMsgid:  0.2.TESTBBS\r\nDate: 4294967295\r\nTo:B\r\nFrom: A B \r\nSubject:\r\n\r\n..x\r\n\r\n...\r\n.\r\n"
-=> 1 messages; "A B" "B" "" "0.2.TESTBBS" "0.1.TESTBBS" ".x\r\r..\r" Some(4294967295) true
-"" => 0 messages
-"\r\n\n\r\n" => 0 messages
-"\n\nFrom: A\nTo: B\n\n.\n\r\n\nTo: A\nFrom: B\n\nx\n.\n\n"
-=> 2 messages; "A" "B" "" "" "" "" None false; "B" "A" "" "" "" "x\r" None false
-"From: A\nTo: B\nPrivate: no\n\n."
-=> 1 messages; "A" "B" "" "" "" "" None false
-"#;
-
-#[test]
-fn reads_and_copies_sheets(rt: HostRuntime) -> Result<(), Miss> {
-    expect_cases(rt.alloc(), SHEETS, read)
-}
-
-/// Sheets whose first failing line breaks a rule, those of which two lines break one, headers of the greatest length and
-/// longer ones, and bodies that are too long.
-const FAULTS: &str = r#"
-"From: A\nSubject: x\n\n" => Line { line: 3, rule: Missing }
-"To: A\n\nTo: B\n\n" => Line { line: 2, rule: Missing }
-"From: A\nFrom: B\n" => Line { line: 2, rule: Twice }
-"From: A\nTo: B\n\na\n" => Line { line: 5, rule: End }
-"From: A" => Line { line: 2, rule: End }
-"From: A\nTo: B\n\n" => Line { line: 4, rule: End }
-" " => Line { line: 1, rule: Header }
-"\r" => Line { line: 1, rule: Header }
-"\n\nfrom: A\nto: B\n" => Line { line: 3, rule: Header }
-"From: A\nTo : B\nFrom: B\n" => Line { line: 2, rule: Header }
-"From:\nTo:\n" => Line { line: 1, rule: From }
-"From: A\x1f\nFrom:\n" => Line { line: 1, rule: From }
-"From: A\nTo:  \nTo:\n" => Line { line: 2, rule: To }
-"To: B\nTo:\nTo: C\n" => Line { line: 2, rule: Twice }
-"Subject: a\tb\nSubject: \x01\n" => Line { line: 1, rule: Subject }
-"Date:\nDate: x\n" => Line { line: 1, rule: Date }
-"Date: 4294967296\n" => Line { line: 1, rule: Date }
-"Date: 00000000001\n" => Line { line: 1, rule: Date }
-"Date: 1\nDate: x\n" => Line { line: 2, rule: Twice }
-"Msgid:\nMsgid:\n" => Line { line: 1, rule: Msgid }
-"Reply: \nReply:\n" => Line { line: 1, rule: Reply }
-"Private: Yes\nPrivate: NO\n" => Line { line: 1, rule: Private }
-"From: A\nTo: B\n\na\rb\nc\rd\n" => Line { line: 4, rule: Byte }
-"From: A\nTo: B\n\n.\r" => Line { line: 4, rule: Byte }
-"From: A\nTo: B\n\n.\n\nTo: A\nfrom: B\n" => Line { line: 7, rule: Header }
-"x\ny\n" => Line { line: 1, rule: Header }
-"From: A\nFrom: B\nFrom: C\n" => Line { line: 2, rule: Twice }
-"From:\nTo: B\n\n.\nFrom:\n" => Line { line: 1, rule: From }
-"From: A\nTo:\nTo:\n" => Line { line: 2, rule: To }
-"Subject: \x01\nSubject: \x02\n" => Line { line: 1, rule: Subject }
-"Date: x\nDate: y\n" => Line { line: 1, rule: Date }
-"Msgid:\nMsgid:\n" => Line { line: 1, rule: Msgid }
-"Reply:\nReply:\n" => Line { line: 1, rule: Reply }
-"Private: x\nPrivate: y\n" => Line { line: 1, rule: Private }
-"From: A\n\nTo: B\n\n" => Line { line: 2, rule: Missing }
-"From: A\nTo: B\n\na\rb\nc\rd\n" => Line { line: 4, rule: Byte }
-"From: x\{36}" => Line { line: 2, rule: End }
-"From: x\{37}" => Line { line: 1, rule: From }
-"To: x\{36}" => Line { line: 2, rule: End }
-"To: x\{37}" => Line { line: 1, rule: To }
-"Subject: x\{72}" => Line { line: 2, rule: End }
-"Subject: x\{73}" => Line { line: 1, rule: Subject }
-"Msgid: x\{80}" => Line { line: 2, rule: End }
-"Msgid: x\{81}" => Line { line: 1, rule: Msgid }
-"Reply: x\{80}" => Line { line: 2, rule: End }
-"Reply: x\{81}" => Line { line: 1, rule: Reply }
-"From: A\nTo: B\n\nx\{16384}\n.\n" => Line { line: 4, rule: Length }
-"From: A\nTo: B\n\n\n\{16385}.\n" => Line { line: 16388, rule: Length }
-"From: A\nTo: B\n\n\n\{16400}" => Line { line: 16388, rule: Length }
-"#;
-
-#[test]
-fn names_the_first_failing_line(rt: HostRuntime) -> Result<(), Miss> {
-    expect_cases(rt.alloc(), FAULTS, read)
-}
-
 /// Reads a sheet. What is found is how many bytes the body of its first message has.
 fn measure(alloc: Global, words: &[Bytes]) -> Result<String, Miss> {
     let [text] = words else {
@@ -142,12 +62,89 @@ fn measure(alloc: Global, words: &[Bytes]) -> Result<String, Miss> {
     Ok(format!(in alloc; "{}", sheet.body.as_slice().len())?)
 }
 
-const BODIES: &str = r#"
-"From: A\nTo: B\n\nx\{16383}\n.\n" => 16384
-"From: A\nTo: B\n\n\n\{16384}.\n" => 16384
+/// What is found of a case, which begins with what it asks.
+fn found(alloc: Global, words: &[Bytes]) -> Result<String, Miss> {
+    let [asked, words @ ..] = words else {
+        return Err(Miss::Words);
+    };
+    match asked.as_slice() {
+        b"read" => read(alloc, words),
+        b"body" => measure(alloc, words),
+        _ => Err(Miss::Words),
+    }
+}
+
+const CASES: &str = r#"
+# Sheet H of the examples, the same twice, every header, and sheets of other counts of messages.
+read "From: Bob Ray\nTo: All\nSubject: Hello\n\nFirst line\n.\n"
+=> 1 messages; "Bob Ray" "All" "Hello" "" "" "First line\r" None false
+read "From: Bob Ray\nTo: All\nSubject: Hello\n\nFirst line\n.\nFrom: Bob Ray\nTo: All\nSubject: Hello\n\nFirst line\n.\n"
+=> 2 messages; "Bob Ray" "All" "Hello" "" "" "First line\r" None false; "Bob Ray" "All" "Hello" "" "" "First line\r" None false
+read "Private:yes\r\nReply: 0.1.TESTBBS \r\nMsgid:  0.2.TESTBBS\r\nDate: 4294967295\r\nTo:B\r\nFrom: A B \r\nSubject:\r\n\r\n..x\r\n\r\n...\r\n.\r\n"
+=> 1 messages; "A B" "B" "" "0.2.TESTBBS" "0.1.TESTBBS" ".x\r\r..\r" Some(4294967295) true
+read "" => 0 messages
+read "\r\n\n\r\n" => 0 messages
+read "\n\nFrom: A\nTo: B\n\n.\n\r\n\nTo: A\nFrom: B\n\nx\n.\n\n"
+=> 2 messages; "A" "B" "" "" "" "" None false; "B" "A" "" "" "" "x\r" None false
+read "From: A\nTo: B\nPrivate: no\n\n."
+=> 1 messages; "A" "B" "" "" "" "" None false
+# Sheets whose first failing line breaks a rule, those of which two lines break one, headers of the greatest length and
+# longer ones, and bodies that are too long.
+read "From: A\nSubject: x\n\n" => Line { line: 3, rule: Missing }
+read "To: A\n\nTo: B\n\n" => Line { line: 2, rule: Missing }
+read "From: A\nFrom: B\n" => Line { line: 2, rule: Twice }
+read "From: A\nTo: B\n\na\n" => Line { line: 5, rule: End }
+read "From: A" => Line { line: 2, rule: End }
+read "From: A\nTo: B\n\n" => Line { line: 4, rule: End }
+read " " => Line { line: 1, rule: Header }
+read "\r" => Line { line: 1, rule: Header }
+read "\n\nfrom: A\nto: B\n" => Line { line: 3, rule: Header }
+read "From: A\nTo : B\nFrom: B\n" => Line { line: 2, rule: Header }
+read "From:\nTo:\n" => Line { line: 1, rule: From }
+read "From: A\x1f\nFrom:\n" => Line { line: 1, rule: From }
+read "From: A\nTo:  \nTo:\n" => Line { line: 2, rule: To }
+read "To: B\nTo:\nTo: C\n" => Line { line: 2, rule: Twice }
+read "Subject: a\tb\nSubject: \x01\n" => Line { line: 1, rule: Subject }
+read "Date:\nDate: x\n" => Line { line: 1, rule: Date }
+read "Date: 4294967296\n" => Line { line: 1, rule: Date }
+read "Date: 00000000001\n" => Line { line: 1, rule: Date }
+read "Date: 1\nDate: x\n" => Line { line: 2, rule: Twice }
+read "Msgid:\nMsgid:\n" => Line { line: 1, rule: Msgid }
+read "Reply: \nReply:\n" => Line { line: 1, rule: Reply }
+read "Private: Yes\nPrivate: NO\n" => Line { line: 1, rule: Private }
+read "From: A\nTo: B\n\na\rb\nc\rd\n" => Line { line: 4, rule: Byte }
+read "From: A\nTo: B\n\n.\r" => Line { line: 4, rule: Byte }
+read "From: A\nTo: B\n\n.\n\nTo: A\nfrom: B\n" => Line { line: 7, rule: Header }
+read "x\ny\n" => Line { line: 1, rule: Header }
+read "From: A\nFrom: B\nFrom: C\n" => Line { line: 2, rule: Twice }
+read "From:\nTo: B\n\n.\nFrom:\n" => Line { line: 1, rule: From }
+read "From: A\nTo:\nTo:\n" => Line { line: 2, rule: To }
+read "Subject: \x01\nSubject: \x02\n" => Line { line: 1, rule: Subject }
+read "Date: x\nDate: y\n" => Line { line: 1, rule: Date }
+read "Msgid:\nMsgid:\n" => Line { line: 1, rule: Msgid }
+read "Reply:\nReply:\n" => Line { line: 1, rule: Reply }
+read "Private: x\nPrivate: y\n" => Line { line: 1, rule: Private }
+read "From: A\n\nTo: B\n\n" => Line { line: 2, rule: Missing }
+read "From: A\nTo: B\n\na\rb\nc\rd\n" => Line { line: 4, rule: Byte }
+read "From: x\{36}" => Line { line: 2, rule: End }
+read "From: x\{37}" => Line { line: 1, rule: From }
+read "To: x\{36}" => Line { line: 2, rule: End }
+read "To: x\{37}" => Line { line: 1, rule: To }
+read "Subject: x\{72}" => Line { line: 2, rule: End }
+read "Subject: x\{73}" => Line { line: 1, rule: Subject }
+read "Msgid: x\{80}" => Line { line: 2, rule: End }
+read "Msgid: x\{81}" => Line { line: 1, rule: Msgid }
+read "Reply: x\{80}" => Line { line: 2, rule: End }
+read "Reply: x\{81}" => Line { line: 1, rule: Reply }
+read "From: A\nTo: B\n\nx\{16384}\n.\n" => Line { line: 4, rule: Length }
+read "From: A\nTo: B\n\n\n\{16385}.\n" => Line { line: 16388, rule: Length }
+read "From: A\nTo: B\n\n\n\{16400}" => Line { line: 16388, rule: Length }
+# The longest bodies.
+body "From: A\nTo: B\n\nx\{16383}\n.\n" => 16384
+body "From: A\nTo: B\n\n\n\{16384}.\n" => 16384
 "#;
 
 #[test]
-fn takes_a_body_of_16384_bytes(rt: HostRuntime) -> Result<(), Miss> {
-    expect_cases(rt.alloc(), BODIES, measure)
+fn sheets_are_read(rt: HostRuntime) -> Result<(), Miss> {
+    expect_cases(rt.alloc(), CASES, found)
 }

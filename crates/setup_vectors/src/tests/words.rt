@@ -13,21 +13,6 @@ fn read_number(alloc: Global, words: &[Bytes]) -> Result<String, Miss> {
     Ok(format!(in alloc; "{:?}", number_of(word.as_slice()))?)
 }
 
-const NUMBERS: &str = r#"
-0 => Some(0)
-0000000007 => Some(7)
-4294967295 => Some(4294967295)
-4294967296 => None
-00000000007 => None
-+7 => None
-"" => None
-"#;
-
-#[test]
-fn numbers_have_one_to_ten_digits(rt: HostRuntime) -> Result<(), Miss> {
-    expect_cases(rt.alloc(), NUMBERS, read_number)
-}
-
 /// A conference of this number.
 fn conference(alloc: Global, number: u16) -> Result<Conference, AllocError> {
     Ok(Conference {
@@ -61,22 +46,41 @@ fn choose(alloc: Global, words: &[Bytes]) -> Result<String, Miss> {
     )?)
 }
 
-const CHOICES: &str = r#"
-all => known 111
-0 => known 001
-7,0,7 => known 101
-1,0007 => known 110
-2,1 => unknown 010
-65536 => unknown 000
-"" => no choice
-all,0 => no choice
-0, => no choice
-,0 => no choice
-0,,1 => no choice
--1 => no choice
+/// What is found of a case, which begins with what it asks.
+fn found(alloc: Global, words: &[Bytes]) -> Result<String, Miss> {
+    let [asked, words @ ..] = words else {
+        return Err(Miss::Words);
+    };
+    match asked.as_slice() {
+        b"number" => read_number(alloc, words),
+        b"conferences" => choose(alloc, words),
+        _ => Err(Miss::Words),
+    }
+}
+
+const CASES: &str = r#"
+number 0 => Some(0)
+number 0000000007 => Some(7)
+number 4294967295 => Some(4294967295)
+number 4294967296 => None
+number 00000000007 => None
+number +7 => None
+number "" => None
+conferences all => known 111
+conferences 0 => known 001
+conferences 7,0,7 => known 101
+conferences 1,0007 => known 110
+conferences 2,1 => unknown 010
+conferences 65536 => unknown 000
+conferences "" => no choice
+conferences all,0 => no choice
+conferences 0, => no choice
+conferences ,0 => no choice
+conferences 0,,1 => no choice
+conferences -1 => no choice
 "#;
 
 #[test]
-fn conferences_are_chosen(rt: HostRuntime) -> Result<(), Miss> {
-    expect_cases(rt.alloc(), CHOICES, choose)
+fn words_of_commands_are_read(rt: HostRuntime) -> Result<(), Miss> {
+    expect_cases(rt.alloc(), CASES, found)
 }

@@ -85,34 +85,20 @@ fn reply(alloc: Global, words: &[Bytes]) -> Result<String, Miss> {
     reply_on(alloc, &mut empty_desk(alloc), words)
 }
 
-/// A case is the status and the number of a packet's one message, its user, the place that is replied to, and a text.
-const MESSAGES: &str = r#"
+/// A case is the status and the number of a packet's one message, its user, the place that is replied to, and a text. A
+/// reply takes its fields from the message.
+const CASES: &str = r#"
+# Messages.
 " " 7 "ANN LEE" 1 Thanks\n => 1 messages; " \xe1 " 09-09-01 01:46 "BOB RAY" "ANN LEE" "Hello" Some(263) Some(7) 263 1 1
 + 7 "ANN LEE" 1 Thanks\n => 1 messages; "+\xe1 " 09-09-01 01:46 "BOB RAY" "ANN LEE" "Hello" Some(263) Some(7) 263 1 1
 * none "ANN LEE" 1 Thanks\n => 1 messages; "+\xe1 " 09-09-01 01:46 "BOB RAY" "ANN LEE" "Hello" Some(263) Some(0) 263 1 1
 ~ none "ANN LEE" 1 Thanks\n => 1 messages; " \xe1 " 09-09-01 01:46 "BOB RAY" "ANN LEE" "Hello" Some(263) Some(0) 263 1 1
 " " 7 "ANN LEE" 1 One\r\n\nTwo => 1 messages; " \xe1 " 09-09-01 01:46 "BOB RAY" "ANN LEE" "Hello" Some(263) Some(7) 263 1 3
-"#;
-
-#[test]
-fn a_reply_takes_its_fields_from_the_message(rt: HostRuntime) -> Result<(), Miss> {
-    expect_cases(rt.alloc(), MESSAGES, reply)
-}
-
-/// Users whose names don't fit, and one without a name.
-const USERS: &str = r#"
+# Users whose names don't fit, and one without a name.
 " " 7 ABCDEFGHIJKLMNOPQRSTUVWXYZ 1 "" => 1 messages; " \xe1 " 09-09-01 01:46 "BOB RAY" "ABCDEFGHIJKLMNOPQRSTUVWXY" "Hello" Some(263) Some(7) 263 1 0
 " " 7 "ABCDEFGHIJKLMNOPQRSTUVW \0Z" 1 "" => 1 messages; " \xe1 " 09-09-01 01:46 "BOB RAY" "ABCDEFGHIJKLMNOPQRSTUVW" "Hello" Some(263) Some(7) 263 1 0
 " " 7 "" 1 "" => 1 messages; " \xe1 " 09-09-01 01:46 "BOB RAY" "" "Hello" Some(263) Some(7) 263 1 0
-"#;
-
-#[test]
-fn from_is_cut(rt: HostRuntime) -> Result<(), Miss> {
-    expect_cases(rt.alloc(), USERS, reply)
-}
-
-/// Places without a message, and texts that QWK can't hold: a text has at most 16,384 bytes as it is stored.
-const TEXTS: &str = r#"
+# Places without a message, and texts that QWK can't hold: a text has at most 16,384 bytes as it is stored.
 " " 7 "ANN LEE" 0 "" => NoMessage
 " " 7 "ANN LEE" 2 \xE3 => NoMessage
 " " 7 "ANN LEE" 1 One\nTwo\xE3\n => Text(1)
@@ -124,6 +110,6 @@ const TEXTS: &str = r#"
 "#;
 
 #[test]
-fn what_cannot_be_put_into_qwk(rt: HostRuntime) -> Result<(), Miss> {
-    expect_cases(rt.alloc(), TEXTS, reply)
+fn replies_are_written(rt: HostRuntime) -> Result<(), Miss> {
+    expect_cases(rt.alloc(), CASES, reply)
 }

@@ -95,26 +95,18 @@ fn compose_case(alloc: Global, words: &[Bytes]) -> Result<String, Miss> {
 }
 
 /// A case is a conference and entries.
-const ENTRIES: &str = r#"
+const CASES: &str = r#"
 1 public|One|Ann@2:5020/400.1\rHi\r private|1234567890123456789012345|\r\rlast
 => 2 messages; " \xe1 " 09-09-01 01:46 "Ann" "ANN LEE" "One" Some(1) Some(0) 1 1 2; "+\xe1 " 09-09-01 01:46 "Ann" "ANN LEE" "1234567890123456789012345" Some(1) Some(0) 1 2 3
 0 public|One|Ann@2:5020/400.1\rHi\r private|1234567890123456789012345|\r\rlast public|1234567890123456789012345\xE3| public||\xE3\r
 => Text(3)
 5 public|One|Ann@2:5020/400.1\rHi\r private|1234567890123456789012345|\r\rlast public|1234567890123456789012345\xE3| public||\xE3\r
 => NoConference
-"#;
-
-#[test]
-fn entries_become_messages(rt: HostRuntime) -> Result<(), Miss> {
-    expect_cases(rt.alloc(), ENTRIES, compose_case)
-}
-
-/// No entries are no refusal.
-const NO_ENTRIES: &str = r#"
+# No entries are no refusal.
 0 => 0 messages
 "#;
 
 #[test]
-fn no_entries_are_no_refusal(rt: HostRuntime) -> Result<(), Miss> {
-    expect_cases(rt.alloc(), NO_ENTRIES, compose_case)
+fn entries_become_messages(rt: HostRuntime) -> Result<(), Miss> {
+    expect_cases(rt.alloc(), CASES, compose_case)
 }

@@ -1,6 +1,6 @@
-//! Files that are fed in pieces. A case is how many bytes of a file are fed, a cut, how many bytes are fed at most at
-//! once before it and behind it, and the blocks. What is found are the events with the places behind them, the end, and
-//! the last full block.
+//! Files that are fed in pieces. A case is what it asks, and then how many bytes of a file are fed, a cut, how many
+//! bytes are fed at most at once before it and behind it, and the blocks. What is found are the events with the places
+//! behind them, the end, and the last full block.
 use super::{TWO, front_of};
 use byte_lists::Bytes;
 use case_texts::{Miss, expect_cases, number_of, words_in};
@@ -94,28 +94,6 @@ fn feed_file(alloc: Global, words: &[Bytes]) -> Result<String, Miss> {
     fed(alloc, file.as_slice(), feeding)
 }
 
-/// A message byte by byte, the same without its last byte, nothing, and a message with a bad count.
-const PIECES: &str = r#"
-384 0 1 1 "Produced by qwkdoor, packet 1"
-" 1      09-09-0101:46ALL                      BOB RAY                  Hello                                0       2     \xE1\0\0\x01\0 "
-"First line\xE3"
-=> 128 Notice; 256 Head { blocks: 2 }; 384 Text { left: 0 }; Ok(1) "First line\xe3                                                                                                                     "
-383 0 1 1 "Produced by qwkdoor, packet 1"
-" 1      09-09-0101:46ALL                      BOB RAY                  Hello                                0       2     \xE1\0\0\x01\0 "
-"First line\xE3"
-=> 128 Notice; 256 Head { blocks: 2 }; Err(Truncated { at: 128 }) " 1      09-09-0101:46ALL                      BOB RAY                  Hello                                0       2     \xe1\x00\x00\x01\x00 "
-0 0 1 1 => Err(Truncated { at: 0 }) "\x00\x00\x00\x00\x00\x00\x00\x00\x00\x00\x00\x00\x00\x00\x00\x00\x00\x00\x00\x00\x00\x00\x00\x00\x00\x00\x00\x00\x00\x00\x00\x00\x00\x00\x00\x00\x00\x00\x00\x00\x00\x00\x00\x00\x00\x00\x00\x00\x00\x00\x00\x00\x00\x00\x00\x00\x00\x00\x00\x00\x00\x00\x00\x00\x00\x00\x00\x00\x00\x00\x00\x00\x00\x00\x00\x00\x00\x00\x00\x00\x00\x00\x00\x00\x00\x00\x00\x00\x00\x00\x00\x00\x00\x00\x00\x00\x00\x00\x00\x00\x00\x00\x00\x00\x00\x00\x00\x00\x00\x00\x00\x00\x00\x00\x00\x00\x00\x00\x00\x00\x00\x00\x00\x00\x00\x00\x00\x00"
-384 255 100 1000 "Produced by qwkdoor, packet 1"
-" 1      09-09-0101:46ALL                      BOB RAY                  Hello                                0       0     \xE1\0\0\x01\0 "
-"First line\xE3"
-=> 128 Notice; BlocksFault { at: 128 }; Err(BadBlocks { at: 128 }) " 1      09-09-0101:46ALL                      BOB RAY                  Hello                                0       0     \xe1\x00\x00\x01\x00 "
-"#;
-
-#[test]
-fn files_are_fed(rt: HostRuntime) -> Result<(), Miss> {
-    expect_cases(rt.alloc(), PIECES, feed_file)
-}
-
 /// Feeds the front of the two messages with each of these cuts. What is found is the same at all, or that of the first
 /// cut at which it is another.
 fn feed_cuts(alloc: Global, words: &[Bytes]) -> Result<String, Miss> {
@@ -138,16 +116,42 @@ fn feed_cuts(alloc: Global, words: &[Bytes]) -> Result<String, Miss> {
     Ok(found)
 }
 
-/// The two messages without their last byte. A case is how many bytes are fed, the first and the last cut, and how many
-/// bytes are fed at most at once.
-const CUTS: &str = r#"
-639 0 639 1000
+/// What is found of a case, which begins with what it asks.
+fn found(alloc: Global, words: &[Bytes]) -> Result<String, Miss> {
+    let [asked, words @ ..] = words else {
+        return Err(Miss::Words);
+    };
+    match asked.as_slice() {
+        b"file" => feed_file(alloc, words),
+        b"cuts" => feed_cuts(alloc, words),
+        _ => Err(Miss::Words),
+    }
+}
+
+const CASES: &str = r#"
+# A message byte by byte, the same without its last byte, nothing, and a message with a bad count.
+file 384 0 1 1 "Produced by qwkdoor, packet 1"
+" 1      09-09-0101:46ALL                      BOB RAY                  Hello                                0       2     \xE1\0\0\x01\0 "
+"First line\xE3"
+=> 128 Notice; 256 Head { blocks: 2 }; 384 Text { left: 0 }; Ok(1) "First line\xe3                                                                                                                     "
+file 383 0 1 1 "Produced by qwkdoor, packet 1"
+" 1      09-09-0101:46ALL                      BOB RAY                  Hello                                0       2     \xE1\0\0\x01\0 "
+"First line\xE3"
+=> 128 Notice; 256 Head { blocks: 2 }; Err(Truncated { at: 128 }) " 1      09-09-0101:46ALL                      BOB RAY                  Hello                                0       2     \xe1\x00\x00\x01\x00 "
+file 0 0 1 1 => Err(Truncated { at: 0 }) "\x00\x00\x00\x00\x00\x00\x00\x00\x00\x00\x00\x00\x00\x00\x00\x00\x00\x00\x00\x00\x00\x00\x00\x00\x00\x00\x00\x00\x00\x00\x00\x00\x00\x00\x00\x00\x00\x00\x00\x00\x00\x00\x00\x00\x00\x00\x00\x00\x00\x00\x00\x00\x00\x00\x00\x00\x00\x00\x00\x00\x00\x00\x00\x00\x00\x00\x00\x00\x00\x00\x00\x00\x00\x00\x00\x00\x00\x00\x00\x00\x00\x00\x00\x00\x00\x00\x00\x00\x00\x00\x00\x00\x00\x00\x00\x00\x00\x00\x00\x00\x00\x00\x00\x00\x00\x00\x00\x00\x00\x00\x00\x00\x00\x00\x00\x00\x00\x00\x00\x00\x00\x00\x00\x00\x00\x00\x00\x00"
+file 384 255 100 1000 "Produced by qwkdoor, packet 1"
+" 1      09-09-0101:46ALL                      BOB RAY                  Hello                                0       0     \xE1\0\0\x01\0 "
+"First line\xE3"
+=> 128 Notice; BlocksFault { at: 128 }; Err(BadBlocks { at: 128 }) " 1      09-09-0101:46ALL                      BOB RAY                  Hello                                0       0     \xe1\x00\x00\x01\x00 "
+# The two messages without their last byte. A case is how many bytes are fed, the first and the last cut, and how many
+# bytes are fed at most at once.
+cuts 639 0 639 1000
 => 128 Notice; 256 Head { blocks: 2 }; 384 Text { left: 0 }; 512 Head { blocks: 2 }; Err(Truncated { at: 384 }) " 1      09-09-0101:46ALL                      BOB RAY                  Hello                                0       2     \xe1\x00\x00\x01\x00 "
-639 0 0 1
+cuts 639 0 0 1
 => 128 Notice; 256 Head { blocks: 2 }; 384 Text { left: 0 }; 512 Head { blocks: 2 }; Err(Truncated { at: 384 }) " 1      09-09-0101:46ALL                      BOB RAY                  Hello                                0       2     \xe1\x00\x00\x01\x00 "
 "#;
 
 #[test]
-fn every_cut_gives_the_same(rt: HostRuntime) -> Result<(), Miss> {
-    expect_cases(rt.alloc(), CUTS, feed_cuts)
+fn files_are_fed(rt: HostRuntime) -> Result<(), Miss> {
+    expect_cases(rt.alloc(), CASES, found)
 }
