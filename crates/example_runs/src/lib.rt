@@ -34,6 +34,6 @@ pub use old_boards::{OLD_BOARD, OLD_LEDGER};
 pub use outside::{empty_host, empty_shelf, failing_shelf, fails_at, no_faults, stops_at};
 pub use packets::{CONTROL, put_packets};
 pub use runs::{run_after_crash, run_next, run_to_fault, run_twice};
-pub use stage::{Stage, expect_transcript, played};
+pub use stage::{Stage, expect_transcript, expect_transcripts, played};
 pub use steps::Steps;
 pub use transcripts::reply_of;

@@ -54,6 +54,14 @@ pub fn expect_transcript(alloc: Global, transcript: &str) -> Result<(), Miss> {
     Ok(())
 }
 
+/// Plays each of some transcripts so.
+pub fn expect_transcripts(alloc: Global, transcripts: &[&str]) -> Result<(), Miss> {
+    for transcript in transcripts {
+        expect_transcript(alloc, transcript)?;
+    }
+    Ok(())
+}
+
 impl Stage {
     /// What the last run on a host has synced, with an empty shelf.
     pub fn after(alloc: Global, last: &MemoryHost) -> Result<Stage, Miss> {

@@ -1,6 +1,6 @@
 //! Runs of `adopt`, by which a sysop takes another tool's base over.
 use door_outside::FileId;
-use example_runs::{Miss, Stage, expect_part, expect_transcript, file_of, played, put};
+use example_runs::{Miss, Stage, expect_part, expect_transcripts, file_of, played, put};
 use std::alloc::Global;
 
 /// The base `old`: the files of the conference 0 after the sheet given twice.
@@ -30,6 +30,14 @@ fn played_with_old(alloc: Global, transcript: &str) -> Result<Stage, Miss> {
 /// The same, where nothing more is to be looked at.
 fn expect_with_old(alloc: Global, transcript: &str) -> Result<(), Miss> {
     played_with_old(alloc, transcript)?;
+    Ok(())
+}
+
+/// The same of each of some transcripts.
+fn expect_all_with_old(alloc: Global, transcripts: &[&str]) -> Result<(), Miss> {
+    for transcript in transcripts {
+        expect_with_old(alloc, transcript)?;
+    }
     Ok(())
 }
 
@@ -110,11 +118,6 @@ board TESTBBS
 * data 2 from 8 \x01\0\0\0\x01\0\0\0
 "#;
 
-#[test]
-fn what_is_cut_short_is_refused(rt: HostRuntime) -> Result<(), Miss> {
-    expect_with_old(rt.alloc(), SHORT)
-}
-
 /// Twice into one conference, and then into another in one batch. The messages keep their msgids, which don't make them
 /// answers to each other: all are original ones.
 const TWICE: &str = r#"
@@ -147,11 +150,6 @@ usage line 5
 * data 10 has 1292
 "#;
 
-#[test]
-fn a_base_that_is_adopted_twice_is_there_twice(rt: HostRuntime) -> Result<(), Miss> {
-    expect_with_old(rt.alloc(), TWICE)
-}
-
 /// A base whose .JDX names the second header first, and whose bodies differ.
 const CROSSED: &str = r#"
 * board B
@@ -166,11 +164,6 @@ posted 2 refused 0
 * data 2 from 1260 \x04\0\0\0\x0B\0\0\00.1.TESTBBS
 * data 3 ends 0 Second one\rFirst line\r
 "#;
-
-#[test]
-fn messages_come_in_the_order_of_the_index(rt: HostRuntime) -> Result<(), Miss> {
-    expect_with_old(rt.alloc(), CROSSED)
-}
 
 /// In a net conference each message is private, so that the sysop alone sees what is to nobody who is a user. Each keeps
 /// its msgid.
@@ -194,11 +187,6 @@ posted 2 refused 0
 > export "Ann Lee" 10 out
 packet 2: 2 messages
 "#;
-
-#[test]
-fn messages_of_a_net_conference_become_private(rt: HostRuntime) -> Result<(), Miss> {
-    expect_with_old(rt.alloc(), NET)
-}
 
 /// A header without subfields, with each bit that has a meaning but DELETED, and in all fields that aren't looked at what
 /// the door never writes. The msgid is generated for each conference.
@@ -225,11 +213,6 @@ posted 1 refused 0
 * data 3 ends 0 Hiyou\r
 * data 10 from 1126 \x04\0\0\0\x0B\0\0\07.1.TESTBBS
 "#;
-
-#[test]
-fn a_header_without_subfields_becomes_a_message(rt: HostRuntime) -> Result<(), Miss> {
-    expect_transcript(rt.alloc(), BARE)
-}
 
 /// Records that name: no header, one whose subfields don't fill their length, none by 8 bytes FFh, one with a text past
 /// the end, a deleted one, one whose body would have 16,385 bytes, and one whose body has 16,384.
@@ -268,11 +251,6 @@ posted 1 refused 4
 * data 3 ends 16380 xxx\r
 * data 4 has 8
 "#;
-
-#[test]
-fn each_record_is_judged(rt: HostRuntime) -> Result<(), Miss> {
-    expect_transcript(rt.alloc(), JUDGED)
-}
 
 /// A conference of this board as a base: a message, a deleted one, an answer to the first, a slot without a message, and
 /// a message behind it.
@@ -363,11 +341,6 @@ refused foreign short
 damaged 0 0 magic
 "#;
 
-#[test]
-fn each_refusal_of_an_adoption_comes_in_order(rt: HostRuntime) -> Result<(), Miss> {
-    expect_transcript(rt.alloc(), REFUSED)
-}
-
 /// Files of 16,777,216 bytes, and of one more.
 const LARGE: &str = "
 * board B
@@ -393,11 +366,6 @@ refused toolarge most.JDT
 refused foreign signature
 ";
 
-#[test]
-fn each_file_of_a_base_has_a_limit(rt: HostRuntime) -> Result<(), Miss> {
-    expect_transcript(rt.alloc(), LARGE)
-}
-
 /// A conference that `sample` gives 9,998 slots has room for the first message alone. A deleted message makes no room.
 const FULL: &str = r#"
 * put setup board: One\ncity: Springfield\nphone: 555-0100\nsysop: Sam Sysop\nbbsid: ONE\nserial: 1\nzones:\nconference: 0 local - C0\n
@@ -422,8 +390,8 @@ posted 0 refused 2
 "#;
 
 #[test]
-fn a_full_conference_takes_no_message_more(rt: HostRuntime) -> Result<(), Miss> {
-    expect_with_old(rt.alloc(), FULL)
+fn bases_of_two_messages_are_adopted(rt: HostRuntime) -> Result<(), Miss> {
+    expect_all_with_old(rt.alloc(), &[SHORT, TWICE, CROSSED, NET, FULL])
 }
 
 /// PREFIX is a word with which PREFIX.JHR is a name of the shelf, also one that has an ending.
@@ -469,6 +437,6 @@ refused notmade
 "#;
 
 #[test]
-fn other_words_adopt_no_base(rt: HostRuntime) -> Result<(), Miss> {
-    expect_transcript(rt.alloc(), OTHER_WORDS)
+fn other_bases_are_adopted_or_refused(rt: HostRuntime) -> Result<(), Miss> {
+    expect_transcripts(rt.alloc(), &[BARE, JUDGED, REFUSED, LARGE, OTHER_WORDS])
 }

@@ -1,5 +1,5 @@
 //! Runs of batches.
-use example_runs::{Miss, expect_transcript};
+use example_runs::{Miss, expect_transcripts};
 
 /// What the day says, and the first subfields of its reply, which names the msgid of what it answers: forty headers of
 /// 76 bytes with subfields of 57 and 58 stand before it, nine of them with numbers of one digit.
@@ -24,11 +24,6 @@ board TESTBBS
 * data 2 from 6451 \x02\0\0\0\x07\0\0\0Ann Lee\x03\0\0\0\x07\0\0\0BOB RAY
 * data 2 from 6481 \x04\0\0\0\x0C\0\0\00.41.TESTBBS\x05\0\0\0\x0B\0\0\00.3.TESTBBS
 "#;
-
-#[test]
-fn a_day_is_one_batch(rt: HostRuntime) -> Result<(), Miss> {
-    expect_transcript(rt.alloc(), SAID)
-}
 
 /// Lines that are skipped, and words with spaces and quotes around them. Lines that are no command: a second word, a
 /// return behind no line end, spaces alone, a quote that is open, one that isn't followed by a space, and a batch. What
@@ -78,11 +73,6 @@ usage
 usage
 "#;
 
-#[test]
-fn lines_are_commands(rt: HostRuntime) -> Result<(), Miss> {
-    expect_transcript(rt.alloc(), LINE_RULES)
-}
-
 /// A batch that an export of its own writes over.
 const GOES_ON: &str = r#"
 * board B
@@ -105,6 +95,6 @@ usage line 2
 "#;
 
 #[test]
-fn a_batch_is_read_once_and_goes_on(rt: HostRuntime) -> Result<(), Miss> {
-    expect_transcript(rt.alloc(), GOES_ON)
+fn batches_are_carried_out(rt: HostRuntime) -> Result<(), Miss> {
+    expect_transcripts(rt.alloc(), &[SAID, LINE_RULES, GOES_ON])
 }

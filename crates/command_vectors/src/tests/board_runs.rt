@@ -1,5 +1,5 @@
 //! Runs of the commands over a board: `init`, `enroll` and `check`.
-use example_runs::{Miss, expect_transcript};
+use example_runs::{Miss, expect_transcripts};
 
 /// The ledger of the new board has 119 bytes, and each of the three headers 1,024.
 const MADE: &str = r#"
@@ -33,11 +33,6 @@ board TESTBBS
 7 NEWS: 0 slots, 0 live
 0 users, 0 uploads, 3191 bytes
 "#;
-
-#[test]
-fn a_board_is_made_once(rt: HostRuntime) -> Result<(), Miss> {
-    expect_transcript(rt.alloc(), MADE)
-}
 
 /// On the board B the users' records have 345 bytes more than the new board, and the eight last-read records 128. The
 /// record of Ed Poe, a member of two conferences, has 85, and his last-read records 32. Each refusal is the first of
@@ -82,11 +77,7 @@ board TESTBBS
 5 users, 0 uploads, 3781 bytes
 "#;
 
-#[test]
-fn users_are_enrolled_or_refused(rt: HostRuntime) -> Result<(), Miss> {
-    expect_transcript(rt.alloc(), ENROLLED)
-}
-
+/// Other words are no command.
 const OTHER_WORDS: &str = r#"
 > check now
 usage
@@ -124,11 +115,6 @@ usage
 usage
 "#;
 
-#[test]
-fn other_words_are_no_command(rt: HostRuntime) -> Result<(), Miss> {
-    expect_transcript(rt.alloc(), OTHER_WORDS)
-}
-
 /// The journal is one byte, an O.
 const CLOSED: &str = r#"
 * board B
@@ -150,11 +136,6 @@ board TESTBBS
 5 users, 0 uploads, 3781 bytes
 "#;
 
-#[test]
-fn a_journal_of_one_byte_is_closed(rt: HostRuntime) -> Result<(), Miss> {
-    expect_transcript(rt.alloc(), CLOSED)
-}
-
 /// The letters at the front of the ledger become QMDX.
 const DAMAGED: &str = r#"
 * board B
@@ -170,6 +151,6 @@ damaged 0 0 magic
 "#;
 
 #[test]
-fn damage_comes_before_each_refusal(rt: HostRuntime) -> Result<(), Miss> {
-    expect_transcript(rt.alloc(), DAMAGED)
+fn boards_are_made_and_users_enrolled(rt: HostRuntime) -> Result<(), Miss> {
+    expect_transcripts(rt.alloc(), &[MADE, ENROLLED, OTHER_WORDS, CLOSED, DAMAGED])
 }

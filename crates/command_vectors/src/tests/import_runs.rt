@@ -1,7 +1,7 @@
 //! Runs of the commands by which a sysop changes messages: `import` and `kill`.
 use byte_lists::Bytes;
 use door_outside::FileId;
-use example_runs::{Miss, copies, expect_part, expect_transcript, played, put_data};
+use example_runs::{Miss, copies, expect_part, expect_transcripts, played, put_data};
 use memory_outside::MemoryHost;
 use std::alloc::Global;
 
@@ -72,11 +72,6 @@ board TESTBBS
 * data 2 from 1488 \x01\0\0\0\0\0\0\0\0\0\0\0
 "#;
 
-#[test]
-fn replies_are_linked(rt: HostRuntime) -> Result<(), Miss> {
-    expect_transcript(rt.alloc(), LINKED)
-}
-
 /// A sheet with a date, a msgid and a line that begins with a dot: the moments, the number and the attribute of its
 /// header, its subfields, and its text.
 const DATED: &str = r#"
@@ -88,11 +83,6 @@ imported 1 into 0
 * data 2 ends 1100 \x02\0\0\0\x07\0\0\0Bob Ray\x03\0\0\0\x03\0\0\0All\x04\0\0\0\x03\0\0\0own
 * data 3 ends 0 .x\r
 "#;
-
-#[test]
-fn a_date_and_a_msgid_are_kept(rt: HostRuntime) -> Result<(), Miss> {
-    expect_transcript(rt.alloc(), DATED)
-}
 
 /// Lines that import nothing, where no board is made and on the board B, each with the first of the refusals that
 /// apply.
@@ -120,11 +110,7 @@ refused toolarge huge
 * data 10 has 1024
 "#;
 
-#[test]
-fn each_refusal_of_an_import_comes_in_order(rt: HostRuntime) -> Result<(), Miss> {
-    expect_transcript(rt.alloc(), REFUSED)
-}
-
+/// A conference has 9999 slots at most.
 const SLOTS: &str = r#"
 * board B
 * add most 9999 From: Bob Ray\nTo: All\nSubject: Hello\n\nFirst line\n.\n
@@ -138,11 +124,7 @@ refused slots 10001
 imported 1 into 7
 "#;
 
-#[test]
-fn a_conference_has_9999_slots_at_most(rt: HostRuntime) -> Result<(), Miss> {
-    expect_transcript(rt.alloc(), SLOTS)
-}
-
+/// A damaged index is named.
 const INDEX: &str = r#"
 * board B
 * add six 6 From: Bob Ray\nTo: All\nSubject: Hello\n\nFirst line\n.\n
@@ -158,11 +140,7 @@ damaged 4 5 index
 damaged 4 5 index
 "#;
 
-#[test]
-fn a_damaged_index_is_named(rt: HostRuntime) -> Result<(), Miss> {
-    expect_transcript(rt.alloc(), INDEX)
-}
-
+/// Other words change no message.
 const OTHER_WORDS: &str = "
 > import
 usage
@@ -185,8 +163,8 @@ usage
 ";
 
 #[test]
-fn other_words_change_no_message(rt: HostRuntime) -> Result<(), Miss> {
-    expect_transcript(rt.alloc(), OTHER_WORDS)
+fn sheets_are_imported_or_refused(rt: HostRuntime) -> Result<(), Miss> {
+    expect_transcripts(rt.alloc(), &[LINKED, DATED, REFUSED, SLOTS, INDEX, OTHER_WORDS])
 }
 
 /// Puts a copy of a file in the place of another.

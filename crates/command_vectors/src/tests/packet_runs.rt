@@ -1,6 +1,6 @@
 //! Runs of the commands over packets.
 use example_runs::{
-    Miss, Status, empty_host, expect_transcript, failing_shelf, fails_at, no_faults, put_packets,
+    Miss, Status, empty_host, expect_transcripts, failing_shelf, fails_at, no_faults, put_packets,
     run_to_fault,
 };
 
@@ -44,11 +44,6 @@ refused broken truncated 384
 refused broken blocks 128
 ";
 
-#[test]
-fn packets_are_listed_and_scanned(rt: HostRuntime) -> Result<(), Miss> {
-    expect_transcript(rt.alloc(), PACKETS)
-}
-
 /// What `read` says of a whole folder, and of ones in which each refusal comes first.
 const FOLDERS: &str = "
 * folders
@@ -83,11 +78,7 @@ refused nomessage
 refused nomessage
 ";
 
-#[test]
-fn folders_are_read_or_refused(rt: HostRuntime) -> Result<(), Miss> {
-    expect_transcript(rt.alloc(), FOLDERS)
-}
-
+/// Other words are no command.
 const OTHER_WORDS: &str = "
 > fly
 usage
@@ -116,8 +107,8 @@ usage
 ";
 
 #[test]
-fn other_words_are_no_command(rt: HostRuntime) -> Result<(), Miss> {
-    expect_transcript(rt.alloc(), OTHER_WORDS)
+fn packets_are_read_or_refused(rt: HostRuntime) -> Result<(), Miss> {
+    expect_transcripts(rt.alloc(), &[PACKETS, FOLDERS, OTHER_WORDS])
 }
 
 #[test]

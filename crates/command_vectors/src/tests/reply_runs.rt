@@ -1,6 +1,7 @@
 //! Runs of the commands by which a caller writes back: `reply` and `compose`.
-use example_runs::{Miss, expect_transcript};
+use example_runs::{Miss, expect_transcripts};
 
+/// A message is replied to twice.
 const TWICE: &str = r#"
 * folders
 * put text Thanks\n
@@ -20,11 +21,6 @@ Thanks\xE3
 Thanks\xE3
 "#;
 
-#[test]
-fn a_message_is_replied_to_twice(rt: HostRuntime) -> Result<(), Miss> {
-    expect_transcript(rt.alloc(), TWICE)
-}
-
 /// A message whose number field doesn't read, of the conference 7, and the reply of a user with a name of 26 bytes.
 const UNNUMBERED: &str = r#"
 * put text Thanks\n
@@ -41,11 +37,6 @@ TESTBBS
 +7      09-09-0101:46BOB RAY                  ABCDEFGHIJKLMNOPQRSTUVWXYHello                                0       2     \xE1\x07\0\x01\0
 Thanks\xE3
 "#;
-
-#[test]
-fn a_private_message_without_a_number_is_replied_to(rt: HostRuntime) -> Result<(), Miss> {
-    expect_transcript(rt.alloc(), UNNUMBERED)
-}
 
 /// Lines that write nothing, each with the first of the refusals that apply. The text `full` is as long as a text may
 /// be.
@@ -101,11 +92,6 @@ OTHER
 replied to 1, 1 in new
 "#;
 
-#[test]
-fn each_refusal_of_a_reply_comes_in_order(rt: HostRuntime) -> Result<(), Miss> {
-    expect_transcript(rt.alloc(), REFUSED)
-}
-
 /// A reply packet of 4,094 messages, of which the first has two blocks of text, and into which one more fits.
 const FULL: &str = r#"
 * folders
@@ -126,11 +112,6 @@ replied to 1, 4095 in R
 refused toolarge R
 * length R 1048576
 "#;
-
-#[test]
-fn a_reply_packet_has_a_mebibyte_at_most(rt: HostRuntime) -> Result<(), Miss> {
-    expect_transcript(rt.alloc(), FULL)
-}
 
 /// Lines that compose, the message that the sheet of the example of net mail makes, and the first of the refusals that
 /// apply to others.
@@ -160,11 +141,7 @@ TESTBBS
 Ann@2:5020/400.1\xE3Hi\xE3
 "#;
 
-#[test]
-fn sheets_are_composed(rt: HostRuntime) -> Result<(), Miss> {
-    expect_transcript(rt.alloc(), COMPOSED)
-}
-
+/// Other words write nothing back.
 const OTHER_WORDS: &str = "
 > reply out 1 text
 usage
@@ -187,6 +164,6 @@ usage
 ";
 
 #[test]
-fn other_words_write_nothing_back(rt: HostRuntime) -> Result<(), Miss> {
-    expect_transcript(rt.alloc(), OTHER_WORDS)
+fn replies_are_written_or_refused(rt: HostRuntime) -> Result<(), Miss> {
+    expect_transcripts(rt.alloc(), &[TWICE, UNNUMBERED, REFUSED, FULL, COMPOSED, OTHER_WORDS])
 }

@@ -1,5 +1,5 @@
 //! Runs of `sample`.
-use example_runs::{Miss, expect_transcript};
+use example_runs::{Miss, expect_transcript, expect_transcripts};
 
 /// The message is to the second user. At last come its subfields and its text.
 const SAMPLED: &str = r#"
@@ -29,11 +29,6 @@ board TESTBBS
 * data 6 ends 1149 \x06\0\0\0\x08\0\0\0Sample 1
 * data 7 ends 0 Line 1 of seed 1\rLine 1 of seed 1\rLine 1 of seed 1\rLine 1 of seed 1\r
 "#;
-
-#[test]
-fn one_message_is_sampled(rt: HostRuntime) -> Result<(), Miss> {
-    expect_transcript(rt.alloc(), SAMPLED)
-}
 
 /// What 5,000 messages of the seed 7 are on a board of one user, who reads all of them in three packets.
 const MANY: &str = r#"
@@ -77,6 +72,6 @@ sampled 10
 "#;
 
 #[test]
-fn a_full_conference_refuses_a_sample(rt: HostRuntime) -> Result<(), Miss> {
-    expect_transcript(rt.alloc(), FULL)
+fn messages_are_sampled_or_refused(rt: HostRuntime) -> Result<(), Miss> {
+    expect_transcripts(rt.alloc(), &[SAMPLED, FULL])
 }

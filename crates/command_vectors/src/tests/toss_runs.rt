@@ -1,5 +1,5 @@
 //! Runs of `toss`, by which the packet of a FidoNet neighbour comes in.
-use example_runs::{Miss, Stage, expect_transcript, played};
+use example_runs::{Miss, Stage, expect_transcripts, played};
 use std::alloc::Global;
 
 /// A board with an area, and the parts of packets: a header from zone 2 to zone 2; and the front and names of a message
@@ -34,6 +34,14 @@ fn expect_with_parts(alloc: Global, transcript: &str) -> Result<(), Miss> {
     Ok(())
 }
 
+/// The same of each of some transcripts.
+fn expect_all_with_parts(alloc: Global, transcripts: &[&str]) -> Result<(), Miss> {
+    for transcript in transcripts {
+        expect_with_parts(alloc, transcript)?;
+    }
+    Ok(())
+}
+
 /// One message of an area. Its date is a day before it is tossed, and it isn't local.
 const ECHO: &str = r#"
 * join echo.pkt 1 header
@@ -56,11 +64,6 @@ posted 0 refused 1
 * data 14 has 1174
 * data 14 from 8 \x01\0\0\0\x01\0\0\0
 "#;
-
-#[test]
-fn a_message_of_an_area_is_tossed_once(rt: HostRuntime) -> Result<(), Miss> {
-    expect_with_parts(rt.alloc(), ECHO)
-}
 
 /// The same packet cut short: its first 57, 144, 146 and 145 bytes. What is refused leaves the board as it was.
 const CUT: &str = r#"
@@ -86,11 +89,6 @@ posted 1 refused 0
 1 refused dupe
 posted 0 refused 1
 "#;
-
-#[test]
-fn a_packet_that_is_cut_short_is_refused(rt: HostRuntime) -> Result<(), Miss> {
-    expect_with_parts(rt.alloc(), CUT)
-}
 
 /// A packet in which each message is judged behind the ones before it: the third has the msgid of the first, the sixth the
 /// one that the fifth was given, and the seventh that of the first in another conference. Tossed again, what has no msgid
@@ -155,11 +153,6 @@ board TESTBBS
 * data 6 from 1100 \0\0\0\0\n\0\0\02:5020/400\x01\0\0\0\x08\0\0\02:5020/1\x02\0\0\0\x03\0\0\0Joe
 "#;
 
-#[test]
-fn each_message_is_judged_behind_the_ones_before_it(rt: HostRuntime) -> Result<(), Miss> {
-    expect_with_parts(rt.alloc(), MIXED)
-}
-
 /// Without a net conference net mail is refused. A message of no lines is empty, and a packet may have no messages.
 const NO_NET: &str = r#"
 * put setup board: One\ncity: Springfield\nphone: 555-0100\nsysop: Sam Sysop\nbbsid: ONE\nserial: 1\nzones:\nconference: 3 echo - FIDO\nconference: 4 echo - fido\n
@@ -188,11 +181,6 @@ posted 1 refused 1
 * data 2 from 1100 \0\0\0\0\x05\0\0\00:0/0\x02\0\0\0\x03\0\0\0Joe\x03\0\0\0\x03\0\0\0Ann\x04\0\0\0\x07\0\0\03.1.ONE
 * data 3 has 0
 "#;
-
-#[test]
-fn net_mail_needs_a_net_conference(rt: HostRuntime) -> Result<(), Miss> {
-    expect_transcript(rt.alloc(), NO_NET)
-}
 
 /// The refusals of the command in their order, and the faults of a packet.
 const REFUSED: &str = r#"
@@ -231,11 +219,6 @@ refused packet field 58
 damaged 0 0 magic
 "#;
 
-#[test]
-fn each_refusal_of_a_toss_comes_in_order(rt: HostRuntime) -> Result<(), Miss> {
-    expect_transcript(rt.alloc(), REFUSED)
-}
-
 /// Bodies of 16,384 bytes and of one more. What is posted is offered to who was a member before.
 const LONGEST: &str = r#"
 > enroll "Ann Lee" n all
@@ -267,8 +250,8 @@ user ANN LEE
 "#;
 
 #[test]
-fn the_longest_body_is_tossed(rt: HostRuntime) -> Result<(), Miss> {
-    expect_with_parts(rt.alloc(), LONGEST)
+fn packets_of_parts_are_tossed(rt: HostRuntime) -> Result<(), Miss> {
+    expect_all_with_parts(rt.alloc(), &[ECHO, CUT, MIXED, LONGEST])
 }
 
 /// A conference of 9,998 slots has room for the first message alone.
@@ -304,11 +287,6 @@ killed 0 9999
 posted 0 refused 3
 "#;
 
-#[test]
-fn a_full_conference_takes_no_tossed_message(rt: HostRuntime) -> Result<(), Miss> {
-    expect_transcript(rt.alloc(), FULL)
-}
-
 /// FILE is a name of the shelf.
 const OTHER_WORDS: &str = r#"
 > toss
@@ -326,6 +304,6 @@ refused notmade
 "#;
 
 #[test]
-fn other_words_toss_no_packet(rt: HostRuntime) -> Result<(), Miss> {
-    expect_transcript(rt.alloc(), OTHER_WORDS)
+fn other_packets_are_tossed_or_refused(rt: HostRuntime) -> Result<(), Miss> {
+    expect_transcripts(rt.alloc(), &[NO_NET, REFUSED, FULL, OTHER_WORDS])
 }

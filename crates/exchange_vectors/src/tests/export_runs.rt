@@ -1,5 +1,5 @@
 //! Runs of the commands by which a caller gets his mail: `export` and `ack`.
-use example_runs::{CONTROL, Miss, Stage, expect_file, expect_transcript, played};
+use example_runs::{CONTROL, Miss, Stage, expect_file, expect_transcript, expect_transcripts, played};
 use memory_outside::MemoryHost;
 use std::alloc::Global;
 
@@ -120,11 +120,6 @@ user ANN LEE
 * data 2 from 1608 \0\0\0\0\0\xCA\x9A;\x05\0\0\0\x01\0\x80\x80
 "#;
 
-#[test]
-fn an_offer_stands_until_it_is_acknowledged(rt: HostRuntime) -> Result<(), Miss> {
-    expect_transcript(rt.alloc(), OFFERS)
-}
-
 /// Five exports in a row: the first of five offers goes.
 const FIVE: &str = r#"
 * board B
@@ -151,11 +146,6 @@ refused nopacket 4
 > export "Ann Lee" 10 out
 packet 6: 0 messages
 "#;
-
-#[test]
-fn four_offers_are_open_at_most(rt: HostRuntime) -> Result<(), Miss> {
-    expect_transcript(rt.alloc(), FIVE)
-}
 
 /// A message more before each of four exports.
 const FOUR_OFFERS: &str = r#"
@@ -257,11 +247,6 @@ First line\xE3
 Produced by qwkdoor, packet 2
 "#;
 
-#[test]
-fn private_mail_is_shown_to_its_readers(rt: HostRuntime) -> Result<(), Miss> {
-    expect_transcript(rt.alloc(), PRIVATE)
-}
-
 /// The message is private in the net conference, which Ed isn't a member of, and Bob is a member of the first alone.
 const MEMBERS: &str = r#"
 * board B
@@ -304,11 +289,6 @@ First line\xE3
 * file bob/CONTROL.DAT Test Board\r\nSpringfield\r\n555-0100\r\nSam Sysop\r\n12345,TESTBBS\r\n09-09-2001,01:46:40\r\nBOB RAY\r\n\r\n0\r\n1\r\n0\r\n0\r\nGENERAL\r\nWELCOME\r\nNEWS\r\nGOODBYE\r\n
 "#;
 
-#[test]
-fn a_caller_gets_his_conferences_alone(rt: HostRuntime) -> Result<(), Miss> {
-    expect_transcript(rt.alloc(), MEMBERS)
-}
-
 /// Messages with long names and a long subject, a byte that QWK can't show, and the first and the last moment; and one
 /// that is as long as it may be.
 const CUT_SHORT: &str = r#"
@@ -336,11 +316,6 @@ To: Abcdefghijklmnopqrstuvwxyz0123456789\xE3From: Bob Ray The Second Of Us All O
 * add wanted 1 \xE3
 * same out/MESSAGES.DAT wanted
 "#;
-
-#[test]
-fn a_message_is_cut_to_what_qwk_shows(rt: HostRuntime) -> Result<(), Miss> {
-    expect_transcript(rt.alloc(), CUT_SHORT)
-}
 
 /// Offers of a conference of 2,001 messages.
 const LIMITS: &str = r#"
@@ -379,11 +354,6 @@ user ANN LEE
 1 0/2001 public BOB RAY > ALL: Hello [1]
 1 messages
 "#;
-
-#[test]
-fn a_packet_has_as_many_messages_as_its_limit(rt: HostRuntime) -> Result<(), Miss> {
-    expect_transcript(rt.alloc(), LIMITS)
-}
 
 /// Lines that are refused where no board is made, and ones that are on the board B, each by the first of the refusals
 /// that apply; and on a damaged board.
@@ -424,11 +394,6 @@ damaged 3 1 rest
 damaged 3 1 rest
 "#;
 
-#[test]
-fn each_refusal_of_an_export_comes_in_order(rt: HostRuntime) -> Result<(), Miss> {
-    expect_transcript(rt.alloc(), REFUSED)
-}
-
 /// Words that are no command.
 const OTHER_WORDS: &str = r#"
 * board B
@@ -467,8 +432,8 @@ usage
 "#;
 
 #[test]
-fn other_words_export_nothing(rt: HostRuntime) -> Result<(), Miss> {
-    expect_transcript(rt.alloc(), OTHER_WORDS)
+fn mail_is_exported_or_refused(rt: HostRuntime) -> Result<(), Miss> {
+    expect_transcripts(rt.alloc(), &[OFFERS, FIVE, PRIVATE, MEMBERS, CUT_SHORT, LIMITS, REFUSED, OTHER_WORDS])
 }
 
 /// A subject of 30 bytes, which goes as a line before the text.

@@ -1,5 +1,5 @@
 //! Uploads that are refused, each by the first refusal that applies.
-use example_runs::{Miss, expect_transcript};
+use example_runs::{Miss, expect_transcripts};
 
 /// Where no board is made, and on the board B. The file `largest` is as long as a packet may be.
 const REFUSED: &str = r#"
@@ -56,11 +56,7 @@ board TESTBBS
 damaged 3 1 rest
 "#;
 
-#[test]
-fn each_refusal_of_an_upload_comes_in_order(rt: HostRuntime) -> Result<(), Miss> {
-    expect_transcript(rt.alloc(), REFUSED)
-}
-
+/// Other words upload nothing.
 const OTHER_WORDS: &str = r#"
 * board B
 > upload
@@ -76,6 +72,6 @@ usage
 "#;
 
 #[test]
-fn other_words_upload_nothing(rt: HostRuntime) -> Result<(), Miss> {
-    expect_transcript(rt.alloc(), OTHER_WORDS)
+fn uploads_are_refused_in_order(rt: HostRuntime) -> Result<(), Miss> {
+    expect_transcripts(rt.alloc(), &[REFUSED, OTHER_WORDS])
 }

@@ -1,6 +1,6 @@
 //! What is posted of reply packets.
 use super::four::{FOUR, UPLOADED};
-use example_runs::{Miss, expect_transcript, played};
+use example_runs::{Miss, expect_transcripts, played};
 
 const ONE: &str = "
 * board B
@@ -97,11 +97,6 @@ composed 1, 1 in R5.MSG
 * data 7 ends 0 Hi\r
 "#;
 
-#[test]
-fn net_mail_goes_to_its_address(rt: HostRuntime) -> Result<(), Miss> {
-    expect_transcript(rt.alloc(), NET_MAIL)
-}
-
 /// A text that begins as lines of long names do, with a name that isn't long.
 const NO_LONG: &str = r#"
 * board B
@@ -114,11 +109,6 @@ To: whom it may concern\xE3\xE3Hi\xE3
 posted 1 refused 0
 * data 3 ends 0 To: whom it may concern\r\rHi\r
 "#;
-
-#[test]
-fn a_short_name_before_a_text_stays_in_it(rt: HostRuntime) -> Result<(), Miss> {
-    expect_transcript(rt.alloc(), NO_LONG)
-}
 
 /// Answers to a letter of Bob's to Cy, and one to the first of them; and the subfields of Ann's answer, who doesn't see
 /// the letter, of hers to that, and of Cy's.
@@ -152,11 +142,6 @@ posted 1 refused 0
 * data 2 ends 1580 \x05\0\0\0\x0B\0\0\00.1.TESTBBS\x06\0\0\0\x05\0\0\0Hello
 "#;
 
-#[test]
-fn a_reference_gives_the_msgid_of_what_is_seen(rt: HostRuntime) -> Result<(), Miss> {
-    expect_transcript(rt.alloc(), ANSWERS)
-}
-
 /// A conference that has room for one message more.
 const FULL: &str = r#"
 * board B
@@ -178,6 +163,6 @@ again posted 1 refused 1
 "#;
 
 #[test]
-fn a_conference_fills_in_the_middle_of_a_packet(rt: HostRuntime) -> Result<(), Miss> {
-    expect_transcript(rt.alloc(), FULL)
+fn packets_are_uploaded(rt: HostRuntime) -> Result<(), Miss> {
+    expect_transcripts(rt.alloc(), &[NET_MAIL, NO_LONG, ANSWERS, FULL])
 }
