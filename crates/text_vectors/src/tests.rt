@@ -1,4 +1,7 @@
 mod fields;
 mod lines;
 mod lists;
+mod setups;
+mod sheets;
 mod shown;
+mod words;

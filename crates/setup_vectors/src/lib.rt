@@ -1,5 +1,0 @@
-//! The worked examples of what a sysop writes, as tests: setup files, sheets, and the words of commands.
-#![tactic(auto)]
-
-#[cfg(test)]
-mod tests;

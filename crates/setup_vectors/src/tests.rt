@@ -1,3 +1,0 @@
-mod setups;
-mod sheets;
-mod words;
