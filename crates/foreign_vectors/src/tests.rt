@@ -1,5 +1,9 @@
+mod drafts;
+mod faults;
 mod files;
 mod lines;
 mod messages;
+mod packets;
 mod records;
+mod samples;
 mod shared;

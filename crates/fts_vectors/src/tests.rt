@@ -1,4 +1,0 @@
-mod drafts;
-mod faults;
-mod packets;
-mod samples;
