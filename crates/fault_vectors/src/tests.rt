@@ -1,4 +1,9 @@
+mod answers;
 mod boards;
+mod changes;
+mod files_of_board;
+mod files_of_shelf;
+mod hostile_files;
 mod single_faults;
 mod stopped_batches;
 mod stopped_migrations;
