@@ -57,13 +57,7 @@ fn copies_users(alloc: Global) -> Result<bool, AllocError> {
     Ok(are_users(&copies))
 }
 
-#[test]
-fn users_are_copied(rt: HostRuntime) -> Result<(), Fail> {
-    expect(copies_users(rt.alloc())?)
-}
-
-#[test]
-fn upload_records_are_copied(rt: HostRuntime) -> Result<(), Fail> {
+fn copies_uploads(alloc: Global) -> Result<bool, AllocError> {
     let record = UploadRecord {
         user: 1,
         digest: [9; 32],
@@ -72,8 +66,13 @@ fn upload_records_are_copied(rt: HostRuntime) -> Result<(), Fail> {
             refused: 1,
         },
     };
-    let mut uploads = Uploads::new(rt.alloc());
+    let mut uploads = Uploads::new(alloc);
     uploads.add(record)?;
-    let copies = uploads.copy(rt.alloc())?;
-    expect(copies.as_slice() == [record].as_slice())
+    let copies = uploads.copy(alloc)?;
+    Ok(copies.as_slice() == [record].as_slice())
+}
+
+#[test]
+fn users_and_upload_records_are_copied(rt: HostRuntime) -> Result<(), Fail> {
+    expect(copies_users(rt.alloc())? && copies_uploads(rt.alloc())?)
 }

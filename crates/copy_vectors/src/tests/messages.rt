@@ -84,13 +84,6 @@ fn copies_messages(alloc: Global, wanted: &Message) -> Result<bool, AllocError> 
     Ok(are_messages(&copies, wanted))
 }
 
-#[test]
-fn messages_are_copied(rt: HostRuntime) -> Result<(), Fail> {
-    let wanted = message_of(rt.alloc())?;
-    let same = copies_messages(rt.alloc(), &wanted)?;
-    expect(same)
-}
-
 fn posts_of(alloc: Global) -> Result<Posts, AllocError> {
     let mut posts = Posts::new(alloc);
     posts.add((3, message_of(alloc)?))?;
@@ -109,13 +102,6 @@ fn are_posts(posts: &Posts, wanted: &Message) -> bool {
 fn copies_posts(alloc: Global, wanted: &Message) -> Result<bool, AllocError> {
     let copies = posts_of(alloc)?.copy(alloc)?;
     Ok(are_posts(&copies, wanted))
-}
-
-#[test]
-fn posts_are_copied(rt: HostRuntime) -> Result<(), Fail> {
-    let wanted = message_of(rt.alloc())?;
-    let same = copies_posts(rt.alloc(), &wanted)?;
-    expect(same)
 }
 
 /// A slot that is gone, and one that holds a message.
@@ -142,13 +128,6 @@ fn copies_slots(alloc: Global, wanted: &Message) -> Result<bool, AllocError> {
     Ok(are_slots(&copies, wanted))
 }
 
-#[test]
-fn slots_are_copied(rt: HostRuntime) -> Result<(), Fail> {
-    let wanted = message_of(rt.alloc())?;
-    let same = copies_slots(rt.alloc(), &wanted)?;
-    expect(same)
-}
-
 /// The links of those slots.
 fn links_of(alloc: Global) -> Result<Links, AllocError> {
     let slots = slots_of(alloc)?;
@@ -166,9 +145,21 @@ fn copies_links(alloc: Global, found: &Links) -> Result<bool, AllocError> {
     Ok(are_links(&copies, found))
 }
 
+/// Whether the copies of the links of those slots are.
+fn copies_found_links(alloc: Global) -> Result<bool, AllocError> {
+    let found = links_of(alloc)?;
+    copies_links(alloc, &found)
+}
+
+/// Whether the copy of each list is what it is of.
+fn copies_all(alloc: Global, wanted: &Message) -> Result<bool, AllocError> {
+    let messages = copies_messages(alloc, wanted)? && copies_posts(alloc, wanted)?;
+    Ok(messages && copies_slots(alloc, wanted)? && copies_found_links(alloc)?)
+}
+
 #[test]
-fn links_are_copied(rt: HostRuntime) -> Result<(), Fail> {
-    let found = links_of(rt.alloc())?;
-    let same = copies_links(rt.alloc(), &found)?;
+fn messages_and_what_holds_them_are_copied(rt: HostRuntime) -> Result<(), Fail> {
+    let wanted = message_of(rt.alloc())?;
+    let same = copies_all(rt.alloc(), &wanted)?;
     expect(same)
 }

@@ -66,43 +66,35 @@ fn copies_patches(alloc: Global) -> Result<bool, AllocError> {
     Ok(are_patches(&copies))
 }
 
-#[test]
-fn patches_are_copied(rt: HostRuntime) -> Result<(), Fail> {
-    expect(copies_patches(rt.alloc())?)
-}
-
-#[test]
-fn offered_messages_are_copied(rt: HostRuntime) -> Result<(), Fail> {
+fn copies_offered(alloc: Global) -> Result<bool, AllocError> {
     let message = OfferedMessage {
         place: 2,
         number: 7,
     };
-    let mut offered = Offered::new(rt.alloc());
+    let mut offered = Offered::new(alloc);
     offered.add(message)?;
-    let copies = offered.copy(rt.alloc())?;
-    expect(copies.as_slice() == [message].as_slice())
+    let copies = offered.copy(alloc)?;
+    Ok(copies.as_slice() == [message].as_slice())
 }
 
-#[test]
-fn outcomes_are_copied(rt: HostRuntime) -> Result<(), Fail> {
+fn copies_outcomes(alloc: Global) -> Result<bool, AllocError> {
     let posted = Outcome::Posted {
         conference: 1,
         number: 9,
     };
     let refused = Outcome::Refused(Rule::Conference);
-    let mut outcomes = Outcomes::new(rt.alloc());
+    let mut outcomes = Outcomes::new(alloc);
     outcomes.add(posted)?;
     outcomes.add(refused)?;
-    let copies = outcomes.copy(rt.alloc())?;
-    expect(copies.as_slice() == [posted, refused].as_slice())
+    let copies = outcomes.copy(alloc)?;
+    Ok(copies.as_slice() == [posted, refused].as_slice())
 }
 
-#[test]
-fn numbers_of_calls_are_copied(rt: HostRuntime) -> Result<(), Fail> {
-    let mut calls = CallNumbers::new(rt.alloc());
+fn copies_calls(alloc: Global) -> Result<bool, AllocError> {
+    let mut calls = CallNumbers::new(alloc);
     calls.add(4)?;
-    let copies = calls.copy(rt.alloc())?;
-    expect(copies.as_slice() == [4].as_slice())
+    let copies = calls.copy(alloc)?;
+    Ok(copies.as_slice() == [4].as_slice())
 }
 
 fn readers_of(alloc: Global) -> Result<Readers, AllocError> {
@@ -125,14 +117,21 @@ fn copies_readers(alloc: Global) -> Result<bool, AllocError> {
     Ok(are_readers(&copies))
 }
 
-#[test]
-fn readers_are_copied(rt: HostRuntime) -> Result<(), Fail> {
-    expect(copies_readers(rt.alloc())?)
+fn copies_name(alloc: Global) -> Result<bool, AllocError> {
+    let Some(name) = ShelfName::parse(alloc, b"a/b")? else {
+        return Ok(false);
+    };
+    let copy = name.copy(alloc)?;
+    Ok(copy.as_slice() == b"a/b".as_slice())
+}
+
+/// Whether the copies of what says little itself are what they are of.
+fn copies_others(alloc: Global) -> Result<bool, AllocError> {
+    let lists = copies_offered(alloc)? && copies_outcomes(alloc)? && copies_calls(alloc)?;
+    Ok(lists && copies_readers(alloc)? && copies_name(alloc)?)
 }
 
 #[test]
-fn names_are_copied(rt: HostRuntime) -> Result<(), Fail> {
-    let name = ShelfName::parse(rt.alloc(), b"a/b")?.ok_or("no name")?;
-    let copy = name.copy(rt.alloc())?;
-    expect(copy.as_slice() == b"a/b".as_slice())
+fn patches_and_others_are_copied(rt: HostRuntime) -> Result<(), Fail> {
+    expect(copies_patches(rt.alloc())? && copies_others(rt.alloc())?)
 }
