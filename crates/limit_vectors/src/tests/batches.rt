@@ -1,6 +1,6 @@
 //! Batches, sheets, setups and texts as long as they may be, and one byte longer.
-use super::numbered::expect_numbered;
-use example_runs::{Miss, expect_transcript};
+use super::numbered::expect_each_numbered;
+use example_runs::Miss;
 
 /// A batch of as many commands as fit, where there is no board.
 const MOST: &str = r#"
@@ -14,11 +14,6 @@ const MOST: &str = r#"
 > batch lines
 refused toolarge lines
 "#;
-
-#[test]
-fn a_batch_has_as_many_commands_as_fit(rt: HostRuntime) -> Result<(), Miss> {
-    expect_numbered(rt.alloc(), MOST)
-}
 
 /// A batch as long as it may be that makes a board and works on it.
 const CHECKED: &str = r#"
@@ -38,11 +33,6 @@ board ONE
 0 C0: 0 slots, 0 live
 0 users, 0 uploads, 1100 bytes
 "#;
-
-#[test]
-fn the_longest_batch_works_on_a_board(rt: HostRuntime) -> Result<(), Miss> {
-    expect_numbered(rt.alloc(), CHECKED)
-}
 
 /// A setup, a sheet of as many messages as fit, and a text, each as long as a file may be, and then a byte longer.
 const FILES: &str = r#"
@@ -78,6 +68,6 @@ refused toolarge text
 "#;
 
 #[test]
-fn other_files_have_4194304_bytes(rt: HostRuntime) -> Result<(), Miss> {
-    expect_transcript(rt.alloc(), FILES)
+fn batches_and_files_have_limits(rt: HostRuntime) -> Result<(), Miss> {
+    expect_each_numbered(rt.alloc(), &[MOST, CHECKED, FILES])
 }

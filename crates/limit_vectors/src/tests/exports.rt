@@ -1,7 +1,8 @@
 //! Packets of as many messages as a packet has at most, and the last number of a packet.
-use super::numbered::expect_numbered;
-use example_runs::{Miss, expect_transcript};
+use super::numbered::expect_each_numbered;
+use example_runs::Miss;
 
+/// Two thousand messages are exported.
 const MOST: &str = r#"
 * board B
 * add sheet 2001 From: Bob Ray\nTo: All\nSubject: Hello\n\nFirst line\n.\n
@@ -22,11 +23,6 @@ packet 2: 1 messages
 1 0/2001 public BOB RAY > ALL: Hello [1]
 1 messages
 "#;
-
-#[test]
-fn two_thousand_messages_are_exported(rt: HostRuntime) -> Result<(), Miss> {
-    expect_numbered(rt.alloc(), MOST)
-}
 
 /// The last packet of Ann's becomes the one before the greatest number: the records before the users' have 119 bytes,
 /// and her name and her flags 10.
@@ -55,6 +51,6 @@ packet 1: 0 messages
 "#;
 
 #[test]
-fn packet_numbers_end(rt: HostRuntime) -> Result<(), Miss> {
-    expect_transcript(rt.alloc(), NUMBERS)
+fn exports_have_limits(rt: HostRuntime) -> Result<(), Miss> {
+    expect_each_numbered(rt.alloc(), &[MOST, NUMBERS])
 }

@@ -1,6 +1,6 @@
 //! Bodies and fields as long as they may be, and one byte longer.
-use super::numbered::expect_numbered;
-use example_runs::{Miss, expect_transcript};
+use super::numbered::expect_each_numbered;
+use example_runs::Miss;
 
 /// A message whose fields are as long as they may be: its subfields and the length of its body, and what a caller reads
 /// of it. What it answers isn't there.
@@ -28,11 +28,6 @@ Reference: 0
 
 [[1 16383 x]]
 "#;
-
-#[test]
-fn the_longest_message_is_stored(rt: HostRuntime) -> Result<(), Miss> {
-    expect_numbered(rt.alloc(), LONGEST)
-}
 
 /// Sheets of which one value is a byte too long, or the body, in one line or in lines without a byte.
 const TOO_LONG: &str = r#"
@@ -70,11 +65,6 @@ imported 1 into 0
 * data 3 has 16384
 "#;
 
-#[test]
-fn a_longer_value_is_refused(rt: HostRuntime) -> Result<(), Miss> {
-    expect_transcript(rt.alloc(), TOO_LONG)
-}
-
 /// A user with a name of 25 bytes, whose message has a text of 16,384 bytes, and whose second one has a byte more.
 const POSTED: &str = r#"
 * board B
@@ -100,11 +90,6 @@ posted 1 refused 1
 * data 3 has 16384
 * data 2 from 1100 \x02\0\0\0\x19\0\0\0Abcdefgh ijklmnop qrstuvw
 "#;
-
-#[test]
-fn a_text_of_16384_bytes_is_posted(rt: HostRuntime) -> Result<(), Miss> {
-    expect_transcript(rt.alloc(), POSTED)
-}
 
 /// Net mail to a name of 36 bytes at an address whose numbers are the greatest, to a name of 37, and to each number that
 /// is one greater.
@@ -143,6 +128,6 @@ posted 1 refused 6
 "#;
 
 #[test]
-fn the_greatest_address_is_taken(rt: HostRuntime) -> Result<(), Miss> {
-    expect_transcript(rt.alloc(), ADDRESSED)
+fn bodies_and_fields_have_limits(rt: HostRuntime) -> Result<(), Miss> {
+    expect_each_numbered(rt.alloc(), &[LONGEST, TOO_LONG, POSTED, ADDRESSED])
 }

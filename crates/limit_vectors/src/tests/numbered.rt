@@ -67,3 +67,11 @@ pub fn expect_numbered(alloc: Global, transcript: &str) -> Result<(), Miss> {
     played_numbered(alloc, transcript)?;
     Ok(())
 }
+
+/// The same of each of some transcripts.
+pub fn expect_each_numbered(alloc: Global, transcripts: &[&str]) -> Result<(), Miss> {
+    for transcript in transcripts {
+        expect_numbered(alloc, transcript)?;
+    }
+    Ok(())
+}

@@ -1,6 +1,6 @@
 //! MESSAGES.DAT as long as it may be, and one byte longer.
-use super::numbered::expect_numbered;
-use example_runs::{Miss, expect_transcript};
+use super::numbered::expect_each_numbered;
+use example_runs::Miss;
 
 /// A packet of 163,839 messages of two blocks, and one of a header alone.
 const MANY: &str = r#"
@@ -19,11 +19,6 @@ Produced by qwkdoor, packet 1
 ]]163840 0/1 public BOB RAY > ALL: Hello [0]
 163840 messages
 "#;
-
-#[test]
-fn the_longest_packet_is_listed(rt: HostRuntime) -> Result<(), Miss> {
-    expect_numbered(rt.alloc(), MANY)
-}
 
 /// The same length as 327,679 headers alone, which are counted and of which the last is shown.
 const HEADERS: &str = r#"
@@ -60,11 +55,6 @@ refused toolarge big/MESSAGES.DAT
 refused toolarge big/MESSAGES.DAT
 "#;
 
-#[test]
-fn the_longest_packet_is_counted_and_shown(rt: HostRuntime) -> Result<(), Miss> {
-    expect_transcript(rt.alloc(), HEADERS)
-}
-
 /// One message of 327,678 blocks of text, whose one line is as long as fits.
 const LINE: &str = r#"
 * folders
@@ -88,6 +78,6 @@ user ANN LEE
 "#;
 
 #[test]
-fn the_longest_line_is_read(rt: HostRuntime) -> Result<(), Miss> {
-    expect_transcript(rt.alloc(), LINE)
+fn the_longest_packets_are_read(rt: HostRuntime) -> Result<(), Miss> {
+    expect_each_numbered(rt.alloc(), &[MANY, HEADERS, LINE])
 }
