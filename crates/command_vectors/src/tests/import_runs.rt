@@ -164,7 +164,10 @@ usage
 
 #[test]
 fn sheets_are_imported_or_refused(rt: HostRuntime) -> Result<(), Miss> {
-    expect_transcripts(rt.alloc(), &[LINKED, DATED, REFUSED, SLOTS, INDEX, OTHER_WORDS])
+    expect_transcripts(
+        rt.alloc(),
+        &[LINKED, DATED, REFUSED, SLOTS, INDEX, OTHER_WORDS],
+    )
 }
 
 /// Puts a copy of a file in the place of another.

@@ -165,5 +165,8 @@ usage
 
 #[test]
 fn replies_are_written_or_refused(rt: HostRuntime) -> Result<(), Miss> {
-    expect_transcripts(rt.alloc(), &[TWICE, UNNUMBERED, REFUSED, FULL, COMPOSED, OTHER_WORDS])
+    expect_transcripts(
+        rt.alloc(),
+        &[TWICE, UNNUMBERED, REFUSED, FULL, COMPOSED, OTHER_WORDS],
+    )
 }

@@ -1,5 +1,7 @@
 //! Runs of the commands by which a caller gets his mail: `export` and `ack`.
-use example_runs::{CONTROL, Miss, Stage, expect_file, expect_transcript, expect_transcripts, played};
+use example_runs::{
+    CONTROL, Miss, Stage, expect_file, expect_transcript, expect_transcripts, played,
+};
 use memory_outside::MemoryHost;
 use std::alloc::Global;
 
@@ -433,7 +435,19 @@ usage
 
 #[test]
 fn mail_is_exported_or_refused(rt: HostRuntime) -> Result<(), Miss> {
-    expect_transcripts(rt.alloc(), &[OFFERS, FIVE, PRIVATE, MEMBERS, CUT_SHORT, LIMITS, REFUSED, OTHER_WORDS])
+    expect_transcripts(
+        rt.alloc(),
+        &[
+            OFFERS,
+            FIVE,
+            PRIVATE,
+            MEMBERS,
+            CUT_SHORT,
+            LIMITS,
+            REFUSED,
+            OTHER_WORDS,
+        ],
+    )
 }
 
 /// A subject of 30 bytes, which goes as a line before the text.

@@ -108,7 +108,11 @@ refused control id 5",
 
 #[test]
 fn a_changed_packet_is_read_or_refused(rt: HostRuntime) -> Result<(), Miss> {
-    expect_readings(rt.alloc(), "\n* packets\n* folders\n", &[LIST, SCAN, READ_MESSAGES, READ_CONTROL])
+    expect_readings(
+        rt.alloc(),
+        "\n* packets\n* folders\n",
+        &[LIST, SCAN, READ_MESSAGES, READ_CONTROL],
+    )
 }
 
 const INIT: Reading<'static> = Reading {
@@ -302,7 +306,11 @@ posted 1 refused 0
 
 #[test]
 fn a_changed_base_is_adopted_or_refused(rt: HostRuntime) -> Result<(), Miss> {
-    expect_readings(rt.alloc(), FOREIGN, &[ADOPT_HEADERS, ADOPT_TEXTS, ADOPT_INDEX])
+    expect_readings(
+        rt.alloc(),
+        FOREIGN,
+        &[ADOPT_HEADERS, ADOPT_TEXTS, ADOPT_INDEX],
+    )
 }
 
 const TOSS: Reading<'static> = Reading {

@@ -120,7 +120,11 @@ fn drafted(alloc: Global, place: u8, draft: &Message) -> Result<String, AllocErr
 /// The msgid and the replyid of a draft.
 fn ids(alloc: Global, draft: &Message) -> Result<String, AllocError> {
     let (msgid, replyid) = (draft.msgid.as_slice(), draft.replyid.as_slice());
-    format!(in alloc; "\"{}\" \"{}\"", msgid.escape_ascii(), replyid.escape_ascii())
+    format!(in alloc;
+        "\"{}\" \"{}\"",
+        msgid.escape_ascii(),
+        replyid.escape_ascii()
+    )
 }
 
 /// What a case asks of a draft: all of it, its ids, when it was written, or its place.
