@@ -1,10 +1,8 @@
 //! A base that is adopted by a board that it fills to its last byte.
-use super::filled::expect_on_filled;
-use example_runs::Miss;
 
 /// A base of five messages, each of which takes 128 bytes and its text, where 2,906 bytes are free. The texts have 2,779,
 /// 1,000, 1,651, 1,650 and no bytes, and end where .JDT does.
-const ADOPTED: &str = r#"
+pub const ADOPTED: &str = r#"
 * put front JAM\0\x01\0\0\0\x1A\0\0\0
 * add front 48 \0
 * put back \0\0\0\0\0\0\0\0\x02\0\0\0\x07\0\0\0Bob Ray\x03\0\0\0\x03\0\0\0All
@@ -47,8 +45,3 @@ board FULL
 ]]7 C7: 312 slots, 312 live
 0 users, 0 uploads, 34603008 bytes
 "#;
-
-#[test]
-fn a_base_fills_a_board_to_its_last_byte(rt: HostRuntime) -> Result<(), Miss> {
-    expect_on_filled(rt.alloc(), ADOPTED)
-}

@@ -1,5 +1,7 @@
 //! A board that is filled but for a few bytes, which messages of other tools then take.
+use super::adoptions::ADOPTED;
 use super::numbered::{play_numbered, played_numbered};
+use super::tosses::TOSSED;
 use example_runs::Miss;
 use std::alloc::Global;
 
@@ -23,7 +25,13 @@ board FULL
 "#;
 
 /// Plays a transcript on that board.
-pub fn expect_on_filled(alloc: Global, transcript: &str) -> Result<(), Miss> {
+fn expect_on_filled(alloc: Global, transcript: &str) -> Result<(), Miss> {
     let mut stage = played_numbered(alloc, FILLED)?;
     play_numbered(alloc, &mut stage, transcript)
+}
+
+#[test]
+fn other_tools_fill_a_board_to_its_last_byte(rt: HostRuntime) -> Result<(), Miss> {
+    expect_on_filled(rt.alloc(), ADOPTED)?;
+    expect_on_filled(rt.alloc(), TOSSED)
 }

@@ -185,11 +185,6 @@ const ROWS: &str = r#"0 0 0.0.TESTBBS free = none
 255 1 nowhere = none
 "#;
 
-#[test]
-fn each_message_of_a_board_is_given(rt: HostRuntime) -> Result<(), Miss> {
-    expect_rows_after(rt.alloc(), BOARD, ROWS)
-}
-
 /// A conference of 9,999 messages, of which the last but one is deleted.
 const FULL: &str = r#"
 * board B
@@ -207,6 +202,7 @@ const LAST_ROWS: &str =
 "#;
 
 #[test]
-fn the_last_messages_of_a_full_conference_are_given(rt: HostRuntime) -> Result<(), Miss> {
+fn each_message_of_a_board_is_given(rt: HostRuntime) -> Result<(), Miss> {
+    expect_rows_after(rt.alloc(), BOARD, ROWS)?;
     expect_rows_after(rt.alloc(), FULL, LAST_ROWS)
 }

@@ -1,10 +1,8 @@
 //! A packet that is tossed into a board that it fills to its last byte.
-use super::filled::expect_on_filled;
-use example_runs::Miss;
 
 /// A packet of five messages, each of which takes 137 bytes and its body, where 2,906 bytes are free. The bodies have
 /// 2,770, 1,000, 1,633, 1,632 and no bytes.
-const TOSSED: &str = r#"
+pub const TOSSED: &str = r#"
 * add five.pkt 18 \0
 * add five.pkt 1 \x02
 * add five.pkt 39 \0
@@ -44,8 +42,3 @@ board FULL
 ]]7 C7: 312 slots, 312 live
 0 users, 0 uploads, 34603008 bytes
 "#;
-
-#[test]
-fn a_packet_fills_a_board_to_its_last_byte(rt: HostRuntime) -> Result<(), Miss> {
-    expect_on_filled(rt.alloc(), TOSSED)
-}
