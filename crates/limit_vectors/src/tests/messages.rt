@@ -1,10 +1,11 @@
 //! Each message of a board, held, deleted and gone, and the msgids that the board generates.
-ghost use Rattle.std.specs.Prelude.{IfOk, IsFalse, IsTrue};
+ghost use Rattle.std.specs.Prelude.{false, IfOk, IsFalse, IsTrue};
+ghost use Rattle.door_outside.specs.Disk.{silent};
 ghost use Rattle.intent_journal.specs.Hosts.{IsSettled};
 ghost use Rattle.mail_board.specs.Held.{RestsOn};
 ghost use Rattle.memory_outside.specs.MemoryHost.{disk_of};
 
-use door_outside::Host;
+use door_outside::{DiskFault, FileId, Host, VoiceFault};
 use example_runs::{Miss, no_faults, played};
 use jam_records::Message;
 use mail_board::{Board, Loaded};
@@ -205,4 +206,103 @@ const LAST_ROWS: &str =
 fn each_message_of_a_board_is_given(rt: HostRuntime) -> Result<(), Miss> {
     expect_rows_after(rt.alloc(), BOARD, ROWS)?;
     expect_rows_after(rt.alloc(), FULL, LAST_ROWS)
+}
+
+/// A host that tells nothing, of which each read gives the front of this text.
+#[derive(Drop)]
+struct TextHost {
+    text: &'static [u8],
+}
+
+impl Host for TextHost {
+    ghost tells = { false };
+
+    ghost disk = { λ _. silent };
+
+    ghost disk_faults = { λ _. 0 };
+
+    ghost voice_faults = { λ _. 0 };
+
+    fn length(&mut self, _file: FileId) -> Result<u32, DiskFault> {
+        Ok(0)
+    }
+
+    fn read_at(&mut self, _file: FileId, _at: u32, buf: &mut [u8]) -> Result<usize, DiskFault> {
+        let count = buf.len().min(self.text.len());
+        buf[..count].copy_from_slice(&self.text[..count]);
+        Ok(count)
+    }
+
+    fn write_at(&mut self, _file: FileId, _at: u32, _bytes: &[u8]) -> Result<(), DiskFault> {
+        Ok(())
+    }
+
+    fn cut(&mut self, _file: FileId, _len: u32) -> Result<(), DiskFault> {
+        Ok(())
+    }
+
+    fn sync(&mut self, _file: FileId) -> Result<(), DiskFault> {
+        Ok(())
+    }
+
+    fn say(&mut self, _bytes: &[u8]) -> Result<(), VoiceFault> {
+        Ok(())
+    }
+}
+
+/// The message of a number in the first place of the board that the last run has synced, where another host gives its
+/// body.
+fn told_elsewhere(
+    alloc: Global,
+    last: &MemoryHost,
+    number: u32,
+    text: &'static [u8],
+) -> Result<String, AllocError> {
+    let mut host = synced(alloc, last)?;
+    match Board::load(alloc, &mut host) {
+        Ok(Loaded::Ready(board)) => message_text(alloc, &board, &mut TextHost { text }, 0, number),
+        _ => String::from_str(alloc, "there is no board"),
+    }
+}
+
+/// A number, what the host gives of each file, and the message. The first message has 11 bytes and the third 5, of which
+/// a body keeps no more than their number.
+const ELSEWHERE: [(u32, &[u8], &str); 6] = [
+    (
+        1,
+        b"Other text\r",
+        "[true, false, false, false] Bob Ray > All: Hello (0.1.TESTBBS) Other text\\r",
+    ),
+    (
+        3,
+        b"C\rDE\r",
+        "[true, false, false, false] Bob Ray > All: Own (mine) C\\rDE\\r",
+    ),
+    (
+        1,
+        b"Other text",
+        "Damaged(Damage { file: 3, item: 1, rule: Short })",
+    ),
+    (
+        1,
+        b"Other text?",
+        "Damaged(Damage { file: 3, item: 1, rule: Line })",
+    ),
+    (
+        3,
+        b"Other text\r",
+        "Damaged(Damage { file: 3, item: 3, rule: Line })",
+    ),
+    (4, b"", "none"),
+];
+
+#[test]
+fn a_body_is_read_from_the_host_at_hand(rt: HostRuntime) -> Result<(), Miss> {
+    let alloc = rt.alloc();
+    let stage = played(alloc, BOARD)?;
+    for (number, text, wanted) in ELSEWHERE {
+        let found = told_elsewhere(alloc, &stage.host, number, text)?;
+        expect_row(alloc, found.as_str(), wanted)?;
+    }
+    Ok(())
 }
