@@ -1,5 +1,6 @@
 -- The exits of `adopt` once the board is found.
 use Rattle.std.proofs.Common.{◌≡◌, ℕ, List, Option, Some, None, Result, Ok, Err, refl, sym, ◌∙◌, ap}
+use Rattle.board_commands.proofs.CauseLaws.{stops_by}
 use Rattle.board_commands.proofs.Exits.{shelf_fails, starved}
 use Rattle.board_commands.specs.Halts.{told, of_journal, of_shelf}
 use Rattle.board_commands.specs.Kept.{IsOutlined, unread}
@@ -14,8 +15,6 @@ use Rattle.door_outside.specs.Shelf as Shelf
 use Rattle.entry_runs.proofs.Commands.{works_same}
 use Rattle.entry_runs.specs.Door.{World}
 use Rattle.entry_runs.specs.Entry.{Changes, Finds, IsAt, Works}
-use Rattle.entry_runs.specs.Promise.{Counts, HasCauses, ended}
-use Rattle.entry_runs.specs.declared.status.Status.TheVariants as status
 use Rattle.intent_journal.specs.Recovered.{recovered}
 use Rattle.intent_journal.specs.declared.recovery.JournalError.{JournalError}
 use Rattle.intent_journal.specs.declared.recovery.JournalError.TheVariants.{OutOfMemory as Starved}
@@ -64,11 +63,8 @@ module _ (conference : ℕ) (prefix : List ℕ) {world : World State} {old mid :
   module _ (records : List Found) (read : Ok records ≡ base_of shelf prefix) where
     -- there is no memory for what becomes of the records
     pub unprepared : (e : BoardHalt) → MayAdopt conference place records b (Err e) → Works Stores (adopts conference prefix) unread world old mid later (told said (Err e))
-    unprepared board_halt.OutOfMemory may = works_same Stores (adopts conference prefix) same (starved (Turns conference prefix) at finds)
-    unprepared (board_halt.Refused why) may = absurd may
-    unprepared (board_halt.Damaged d) may = absurd may
-    unprepared board_halt.DiskFault may = absurd may
-    unprepared board_halt.ShelfFault may = absurd may
+    unprepared = stops_by (λ (e : BoardHalt). Works Stores (adopts conference prefix) unread world old mid later (told said (Err e)))
+        (λ why may. absurd may) (works_same Stores (adopts conference prefix) same (starved (Turns conference prefix) at finds))
 
     module _ (a : Adopting) (may : MayAdopt conference place records b (Ok a)) (change : TakesOver conference place records b a) where
       takes : (real : Board) → IsBoard real → AreAlike real b → Turns conference prefix shelf (Some real) (carried a.change real a.reply)
@@ -81,11 +77,3 @@ module _ (conference : ℕ) (prefix : List ℕ) {world : World State} {old mid :
       pub unadopted : {new : Disk} {T : Type 0} (error : JournalError) → ((r : Board) → Stores (Made r) (recovered mid.files) → Changes Stores {T = T} unread (Made r) (Made (changed a.change r)) mid new (Err error)) → (error ≡ Starved → Unchanged mid new)
           → Works Stores (adopts conference prefix) unread world old new later (told said (Err (of_journal error)))
       unadopted error changes still = works_same Stores (adopts conference prefix) same (unchanged_by (Turns conference prefix) at kept finds found b kept_is a.change a.reply takes said error changes still)
-
--- an adoption that finds no memory is no fault
-pub no_fault : (conference place : ℕ) (records : List Found) (b : Board) {old new : Counts} (e : BoardHalt) → MayAdopt conference place records b (Err e) → HasCauses old new status.OutOfMemory → HasCauses old new (ended (told said (Err e)))
-no_fault conference place records b board_halt.OutOfMemory may halted = halted
-no_fault conference place records b (board_halt.Refused why) may halted = absurd may
-no_fault conference place records b (board_halt.Damaged d) may halted = absurd may
-no_fault conference place records b board_halt.DiskFault may halted = absurd may
-no_fault conference place records b board_halt.ShelfFault may halted = absurd may

@@ -1,7 +1,7 @@
 -- What is known between two records of another tool's base, and what is found before its messages are posted.
 use Rattle.std.specs.Prelude.{◌≡◌, ℕ, List, Some, Result, Ok, Err, All, IsTrue}
+use Rattle.board_commands.specs.Halts.{StopsBy}
 use Rattle.board_commands.specs.declared.halt.BoardHalt.{BoardHalt}
-use Rattle.board_commands.specs.declared.halt.BoardHalt.TheVariants.{Refused, Damaged, DiskFault, ShelfFault, OutOfMemory}
 use Rattle.board_layout.specs.Board.{Board}
 use Rattle.jam_adopt.specs.declared.found.Found.{Found}
 use Rattle.jam_adopt.specs.declared.found.FoundVerdict.{FoundVerdict}
@@ -38,8 +38,4 @@ TakesOver conference place records b a = a.change ≡ Spread (adopted conference
 abbrev pub MayAdopt : ℕ → ℕ → List Found → Board → Result Adopting BoardHalt → Type 0
 MayAdopt conference place records b (Ok a) =
     Fits a.change b × (adopting conference place b records ≡ record { board = Some (changed a.change b); reply = done a.reply }) × IsPosting a.change
-MayAdopt conference place records b (Err OutOfMemory) = Unit {0}
-MayAdopt conference place records b (Err (Refused why)) = ⊥
-MayAdopt conference place records b (Err (Damaged d)) = ⊥
-MayAdopt conference place records b (Err DiskFault) = ⊥
-MayAdopt conference place records b (Err ShelfFault) = ⊥
+MayAdopt conference place records b (Err e) = StopsBy (λ why. ⊥) e

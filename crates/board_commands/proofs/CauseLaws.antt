@@ -1,12 +1,16 @@
 -- The counts of faults over a command, whose board was found and then changed by one call: none rose, or the one that
--- is answered.
-use Rattle.std.proofs.Common.{◌≡◌, ◌≢◌, ℕ, ◌≤◌, inl, inr, ⊎_elim, Err, refl, arith}
+-- is answered; and how a command stops without a fault.
+use Rattle.std.proofs.Common.{◌≡◌, ◌≢◌, ℕ, ◌≤◌, List, inl, inr, ⊎_elim, Err, refl, arith}
 use Rattle.std.specs.Prelude.{Result}
 use Rattle.door_outside.specs.Cause.{Rose}
-use Rattle.entry_runs.specs.Promise.{HasCauses, counts}
+use Rattle.entry_runs.specs.Promise.{Counts, HasCauses, counts, ended}
 use Rattle.entry_runs.specs.declared.status.Status.{Status}
 use Rattle.entry_runs.specs.declared.status.Status.TheVariants as status
 use Rattle.mail_board.specs.Causes.{HasFault}
+use Rattle.shelf_files.specs.declared.refusal.Refusal.{Refusal}
+use Rattle.board_commands.specs.Halts.{StopsBy, told}
+use Rattle.board_commands.specs.declared.halt.BoardHalt.{BoardHalt}
+use Rattle.board_commands.specs.declared.halt.BoardHalt.TheVariants.{Refused, Damaged, DiskFault, ShelfFault, OutOfMemory}
 
 -- the counts before, and after
 module _ {disk voice shelf disk_after voice_after shelf_after : ℕ} (voice_same : voice_after ≡ voice) where
@@ -53,3 +57,15 @@ module _ {disk voice shelf disk_after voice_after shelf_after : ℕ} (voice_same
 -- where this fault isn't answered, its count stays
 pub unraised : {T E : Type 0} {before now : ℕ} (fault : E) (result : Result T E) → HasFault fault before now result → (result ≡ Err fault → ⊥) → now ≡ before
 unraised fault result has never = ⊎_elim (λ is. absurd (never is)) (λ same. same) has.kept
+
+-- what holds where it is refused, and where memory ran out
+pub stops_by : {Why : Refusal → Type 0} (P : BoardHalt → Type 0) → ((why : Refusal) → Why why → P (Refused why)) → P OutOfMemory → (e : BoardHalt) → StopsBy Why e → P e
+stops_by P refused starved (Refused why) by = refused why by
+stops_by P refused starved OutOfMemory by = starved
+stops_by P refused starved (Damaged d) by = absurd by
+stops_by P refused starved DiskFault by = absurd by
+stops_by P refused starved ShelfFault by = absurd by
+
+-- neither is a fault
+pub no_fault : {Value : Type 0} (text : Value → List ℕ) (Why : Refusal → Type 0) {old new : Counts} (e : BoardHalt) → StopsBy Why e → HasCauses old new status.Done → HasCauses old new status.OutOfMemory → HasCauses old new (ended (told text (Err e)))
+no_fault text Why {old = old} {new = new} e by over halted = stops_by {Why = Why} (λ (h : BoardHalt). HasCauses old new (ended (told text (Err h)))) (λ why refused. over) halted e by

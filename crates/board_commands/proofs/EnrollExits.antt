@@ -4,8 +4,6 @@ use Rattle.door_outside.specs.Disk.{Disk, Unchanged}
 use Rattle.door_outside.specs.Shelf as Shelf
 use Rattle.entry_runs.specs.Door.{World}
 use Rattle.entry_runs.specs.Entry.{Changes, Finds, IsAt, Works}
-use Rattle.entry_runs.specs.Promise.{Counts, HasCauses, ended}
-use Rattle.entry_runs.specs.declared.status.Status.TheVariants as status
 use Rattle.intent_journal.specs.Recovered.{recovered}
 use Rattle.intent_journal.specs.declared.recovery.JournalError.{JournalError}
 use Rattle.intent_journal.specs.declared.recovery.JournalError.TheVariants.{OutOfMemory as Starved}
@@ -20,18 +18,16 @@ use Rattle.board_commands.specs.State.{State, Made, Stores, migrated, state_of}
 use Rattle.board_commands.specs.Turns.{Turn, refuses}
 use Rattle.board_commands.specs.declared.enrollment.Enrolling.{Enrolling}
 use Rattle.board_commands.specs.declared.halt.BoardHalt.{BoardHalt}
-use Rattle.board_commands.specs.declared.halt.BoardHalt.TheVariants.{Refused, Damaged, DiskFault, ShelfFault, OutOfMemory}
+use Rattle.board_commands.proofs.CauseLaws.{stops_by}
 use Rattle.board_commands.proofs.Exits.{answered, starved, turned, unturned}
 use Rattle.board_commands.proofs.LikeLaws.{real_stored}
 
 module _ (name flags conferences : List ℕ) {world : World State} {old mid : Disk} {shelf : Shelf.Files} (at : IsAt Stores unread world old shelf) (board : Option Board)
     (finds : Finds Stores unread world.state (migrated world.state) old mid (Ok (tt {0}))) (is : migrated world.state ≡ state_of board) where
   pub unprepared : (e : BoardHalt) → MayEnroll name flags conferences board (Err e) → Works Stores (enrolls name flags conferences) unread world old mid shelf (told enrolled_line (Err e))
-  unprepared (Refused why) may = answered (λ files. Enrolls name flags conferences) at {board = board} finds is (refuses why board) may refl
-  unprepared OutOfMemory may = starved (λ files. Enrolls name flags conferences) at finds
-  unprepared (Damaged d) may = absurd may
-  unprepared DiskFault may = absurd may
-  unprepared ShelfFault may = absurd may
+  unprepared = stops_by (λ (e : BoardHalt). Works Stores (enrolls name flags conferences) unread world old mid shelf (told enrolled_line (Err e)))
+      (λ why may. answered (λ files. Enrolls name flags conferences) at {board = board} finds is (refuses why board) may refl)
+      (starved (λ files. Enrolls name flags conferences) at finds)
 
   module _ (e : Enrolling) (may : MayEnroll name flags conferences board (Ok e)) where
     state_is : migrated world.state ≡ Made may.0
@@ -53,11 +49,3 @@ module _ (name flags conferences : List ℕ) {world : World State} {old mid : Di
     unfolding turn
     unenrolled {new} {T} error changes same = unturned (λ files. Enrolls name flags conferences) at {board = Some may.0} finds state_is turn may.3 enrolled_line error
         (subst (λ (s : State). Changes Stores {T = T} unread s (Made (changed e.change may.0)) mid new (Err error)) (sym state_is) (changes may.0 stored)) same
-
--- an enrolling that is refused, or finds no memory, is no fault
-pub no_fault : (name flags conferences : List ℕ) (board : Option Board) {old new : Counts} (e : BoardHalt) → MayEnroll name flags conferences board (Err e) → HasCauses old new status.Done → HasCauses old new status.OutOfMemory → HasCauses old new (ended (told enrolled_line (Err e)))
-no_fault name flags conferences board (Refused why) may over halted = over
-no_fault name flags conferences board OutOfMemory may over halted = halted
-no_fault name flags conferences board (Damaged d) may over halted = absurd may
-no_fault name flags conferences board DiskFault may over halted = absurd may
-no_fault name flags conferences board ShelfFault may over halted = absurd may

@@ -4,18 +4,14 @@ use Rattle.board_layout.specs.Board.{Board}
 use Rattle.mail_board.specs.Changes.{changed, Fits}
 use Rattle.shelf_files.specs.Halts.{done}
 use Rattle.board_commands.specs.Enroll.{Enrolls, enrolled_line}
+use Rattle.board_commands.specs.Halts.{StopsBy}
 use Rattle.board_commands.specs.Turns.{refuses}
 use Rattle.board_commands.specs.declared.enrollment.Enrolling.{Enrolling}
 use Rattle.board_commands.specs.declared.halt.BoardHalt.{BoardHalt}
-use Rattle.board_commands.specs.declared.halt.BoardHalt.TheVariants.{Refused, Damaged, DiskFault, ShelfFault, OutOfMemory}
 
 -- a change that fits and takes the turn, or the refusal, or memory ran out
 abbrev pub MayEnroll : List ℕ → List ℕ → List ℕ → Option Board → Result Enrolling BoardHalt → Type 0
 MayEnroll name flags conferences board (Ok e) =
     (b : Board) × (board ≡ Some b) × Fits e.change b
     × Enrolls name flags conferences (Some b) (record { board = Some (changed e.change b); reply = done (enrolled_line e.user) })
-MayEnroll name flags conferences board (Err (Refused why)) = Enrolls name flags conferences board (refuses why board)
-MayEnroll name flags conferences board (Err OutOfMemory) = Unit {0}
-MayEnroll name flags conferences board (Err (Damaged d)) = ⊥
-MayEnroll name flags conferences board (Err DiskFault) = ⊥
-MayEnroll name flags conferences board (Err ShelfFault) = ⊥
+MayEnroll name flags conferences board (Err e) = StopsBy (λ why. Enrolls name flags conferences board (refuses why board)) e

@@ -10,6 +10,7 @@ use Rattle.intent_journal.specs.declared.recovery.JournalError.TheVariants as jo
 use Rattle.shelf_files.specs.Halts.{done, refused}
 use Rattle.shelf_files.specs.declared.halt.Halt.{Halt}
 use Rattle.shelf_files.specs.declared.halt.Halt.TheVariants as halt
+use Rattle.shelf_files.specs.declared.refusal.Refusal.{Refusal}
 use Rattle.board_commands.specs.Damages.{damaged}
 use Rattle.board_commands.specs.declared.halt.BoardHalt.{BoardHalt}
 use Rattle.board_commands.specs.declared.halt.BoardHalt.TheVariants.{Refused, Damaged, DiskFault, ShelfFault, OutOfMemory}
@@ -22,6 +23,14 @@ told text (Err (Damaged d)) = Ok (damaged d)
 told text (Err DiskFault) = Err stop.DiskFault
 told text (Err ShelfFault) = Err stop.ShelfFault
 told text (Err OutOfMemory) = Err stop.OutOfMemory
+
+-- it is refused, and this holds of the refusal; or memory ran out
+abbrev pub StopsBy : (Refusal → Type 0) → BoardHalt → Type 0
+StopsBy Why (Refused why) = Why why
+StopsBy Why OutOfMemory = Unit {0}
+StopsBy Why (Damaged d) = ⊥
+StopsBy Why DiskFault = ⊥
+StopsBy Why ShelfFault = ⊥
 
 -- why a command isn't carried out where the board wasn't read
 abbrev pub of_read : ReadError → BoardHalt

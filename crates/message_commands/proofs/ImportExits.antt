@@ -1,5 +1,6 @@
 -- The exits of `import` once the place of the conference is known.
 use Rattle.std.proofs.Common.{◌≡◌, ℕ, List, Option, Some, None, Result, Ok, Err, refl, sym, ◌∙◌, subst}
+use Rattle.board_commands.proofs.CauseLaws.{stops_by}
 use Rattle.board_commands.proofs.Exits.{shelf_fails, starved}
 use Rattle.board_commands.specs.Halts.{told, of_journal, of_shelf}
 use Rattle.board_commands.specs.Kept.{IsOutlined, unread}
@@ -14,8 +15,6 @@ use Rattle.door_outside.specs.Shelf as Shelf
 use Rattle.entry_runs.proofs.Commands.{works_same}
 use Rattle.entry_runs.specs.Door.{World}
 use Rattle.entry_runs.specs.Entry.{Changes, Finds, IsAt, Works}
-use Rattle.entry_runs.specs.Promise.{Counts, HasCauses, ended}
-use Rattle.entry_runs.specs.declared.status.Status.TheVariants as status
 use Rattle.import_sheet.specs.declared.sheet.Sheet.{Sheet}
 use Rattle.intent_journal.specs.Recovered.{recovered}
 use Rattle.intent_journal.specs.declared.recovery.JournalError.{JournalError}
@@ -56,13 +55,11 @@ module _ (conference : ℕ) (file : List ℕ) (now : ℕ) {world : World State} 
   module _ (entries : List Sheet) (reads : SheetOf shelf file (Ok entries)) where
     -- the import is refused, or there is no memory for it
     pub unprepared : (e : BoardHalt) → MayImport conference now place entries b (Err e) → Works Stores (imports conference file now) unread world old mid later (told (imported_line conference) (Err e))
-    unprepared (board_halt.Refused why) may = works_same Stores (imports conference file now) same
+    unprepared = stops_by (λ (e : BoardHalt). Works Stores (imports conference file now) unread world old mid later (told (imported_line conference) (Err e)))
+        (λ why may. works_same Stores (imports conference file now) same
         (refused_on (Imports conference file now) at kept finds found (imported_line conference) b why (board_halt.Refused why) kept_is refl
-        (λ real valid alike. placed conference file now shelf real place (place_alike real b alike conference ∙ place_is) (Ok entries) reads (refuses why (Some real)) (sym (sheet_refused conference now place entries real b alike why may))))
-    unprepared board_halt.OutOfMemory may = works_same Stores (imports conference file now) same (starved (Imports conference file now) at finds)
-    unprepared (board_halt.Damaged d) may = absurd may
-    unprepared board_halt.DiskFault may = absurd may
-    unprepared board_halt.ShelfFault may = absurd may
+        (λ real valid alike. placed conference file now shelf real place (place_alike real b alike conference ∙ place_is) (Ok entries) reads (refuses why (Some real)) (sym (sheet_refused conference now place entries real b alike why may)))))
+        (works_same Stores (imports conference file now) same (starved (Imports conference file now) at finds))
 
     module _ (i : Importing) (may : MayImport conference now place entries b (Ok i)) where
       takes : (real : Board) → IsBoard real → AreAlike real b → Imports conference file now shelf (Some real) (carried i.change real (imported_line conference i.count))
@@ -78,12 +75,3 @@ module _ (conference : ℕ) (file : List ℕ) (now : ℕ) {world : World State} 
           → Works Stores (imports conference file now) unread world old new later (told (imported_line conference) (Err (of_journal error)))
       unimported error changes still = works_same Stores (imports conference file now) same
           (unchanged_by (Imports conference file now) at kept finds found b kept_is i.change (imported_line conference i.count) takes (imported_line conference) error changes still)
-
--- an import that is refused, or finds no memory, is no fault
-pub no_fault : (conference now place : ℕ) (entries : List Sheet) (b : Board) {old new : Counts} (e : BoardHalt) → MayImport conference now place entries b (Err e) → HasCauses old new status.Done → HasCauses old new status.OutOfMemory
-    → HasCauses old new (ended (told (imported_line conference) (Err e)))
-no_fault conference now place entries b (board_halt.Refused why) may over halted = over
-no_fault conference now place entries b board_halt.OutOfMemory may over halted = halted
-no_fault conference now place entries b (board_halt.Damaged d) may over halted = absurd may
-no_fault conference now place entries b board_halt.DiskFault may over halted = absurd may
-no_fault conference now place entries b board_halt.ShelfFault may over halted = absurd may

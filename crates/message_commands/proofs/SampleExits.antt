@@ -1,20 +1,19 @@
 -- The exits of `sample` once the board is found.
 use Rattle.std.proofs.Common.{◌≡◌, ℕ, Option, Some, Ok, Err, refl, sym}
+use Rattle.board_commands.proofs.CauseLaws.{stops_by}
 use Rattle.board_commands.proofs.Exits.{starved}
 use Rattle.board_commands.specs.Halts.{told, of_journal}
 use Rattle.board_commands.specs.Kept.{IsOutlined, unread}
 use Rattle.board_commands.specs.State.{State, Made, Stores, migrated}
 use Rattle.board_commands.specs.Turns.{Turn}
 use Rattle.board_commands.specs.declared.halt.BoardHalt.{BoardHalt}
-use Rattle.board_commands.specs.declared.halt.BoardHalt.TheVariants.{Refused, Damaged, DiskFault, ShelfFault, OutOfMemory}
+use Rattle.board_commands.specs.declared.halt.BoardHalt.TheVariants.{Refused}
 use Rattle.board_layout.specs.Board.{Board}
 use Rattle.board_layout.specs.Valid.{IsBoard}
 use Rattle.door_outside.specs.Disk.{Disk, Unchanged}
 use Rattle.door_outside.specs.Shelf as Shelf
 use Rattle.entry_runs.specs.Door.{World}
 use Rattle.entry_runs.specs.Entry.{Changes, Finds, IsAt, Works}
-use Rattle.entry_runs.specs.Promise.{Counts, HasCauses, ended}
-use Rattle.entry_runs.specs.declared.status.Status.TheVariants as status
 use Rattle.intent_journal.specs.Recovered.{recovered}
 use Rattle.intent_journal.specs.declared.recovery.JournalError.{JournalError}
 use Rattle.intent_journal.specs.declared.recovery.JournalError.TheVariants.{OutOfMemory as Starved}
@@ -35,11 +34,9 @@ module _ (seed count now : ℕ) {world : World State} {old mid : Disk} {shelf : 
     (found : IsOutlined (migrated world.state) kept) (b : Board) (kept_is : kept ≡ Some b) where
   -- it is refused, or there is no memory for it
   pub unprepared : (e : BoardHalt) → MaySample seed count now b (Err e) → Works Stores (samples seed count now) unread world old mid shelf (told sampled_line (Err e))
-  unprepared (Refused why) may = refused_on (Turns seed count now) at kept finds found sampled_line b why (Refused why) kept_is refl (λ real valid alike. sym (sample_refused seed count now real b alike why may))
-  unprepared OutOfMemory may = starved (Turns seed count now) at finds
-  unprepared (Damaged d) may = absurd may
-  unprepared DiskFault may = absurd may
-  unprepared ShelfFault may = absurd may
+  unprepared = stops_by (λ (e : BoardHalt). Works Stores (samples seed count now) unread world old mid shelf (told sampled_line (Err e)))
+      (λ why may. refused_on (Turns seed count now) at kept finds found sampled_line b why (Refused why) kept_is refl (λ real valid alike. sym (sample_refused seed count now real b alike why may)))
+      (starved (Turns seed count now) at finds)
 
   module _ (change : Change) (may : MaySample seed count now b (Ok change)) where
     takes : (real : Board) → IsBoard real → AreAlike real b → Turns seed count now shelf (Some real) (carried change real (sampled_line count))
@@ -51,11 +48,3 @@ module _ (seed count now : ℕ) {world : World State} {old mid : Disk} {shelf : 
     pub unappended : {new : Disk} {T : Type 0} (error : JournalError) → ((r : Board) → Stores (Made r) (recovered mid.files) → Changes Stores {T = T} unread (Made r) (Made (changed change r)) mid new (Err error)) → (error ≡ Starved → Unchanged mid new)
         → Works Stores (samples seed count now) unread world old new shelf (told sampled_line (Err (of_journal error)))
     unappended error changes still = unchanged_by (Turns seed count now) at kept finds found b kept_is change (sampled_line count) takes sampled_line error changes still
-
--- a sample that is refused, or finds no memory, is no fault
-pub no_fault : (seed count now : ℕ) (b : Board) {old new : Counts} (e : BoardHalt) → MaySample seed count now b (Err e) → HasCauses old new status.Done → HasCauses old new status.OutOfMemory → HasCauses old new (ended (told sampled_line (Err e)))
-no_fault seed count now b (Refused why) may over halted = over
-no_fault seed count now b OutOfMemory may over halted = halted
-no_fault seed count now b (Damaged d) may over halted = absurd may
-no_fault seed count now b DiskFault may over halted = absurd may
-no_fault seed count now b ShelfFault may over halted = absurd may

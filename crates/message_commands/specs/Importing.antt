@@ -1,8 +1,8 @@
 -- What is found before messages are imported.
 use Rattle.std.specs.Prelude.{◌≡◌, ℕ, List, Some, Result, Ok, Err}
+use Rattle.board_commands.specs.Halts.{StopsBy}
 use Rattle.board_commands.specs.Turns.{refuses}
 use Rattle.board_commands.specs.declared.halt.BoardHalt.{BoardHalt}
-use Rattle.board_commands.specs.declared.halt.BoardHalt.TheVariants.{Refused, Damaged, DiskFault, ShelfFault, OutOfMemory}
 use Rattle.board_layout.specs.Board.{Board}
 use Rattle.import_sheet.specs.declared.sheet.Sheet.{Sheet}
 use Rattle.mail_board.specs.Changes.{changed, Fits}
@@ -19,8 +19,4 @@ MayImport conference now place entries b (Ok i) =
     Fits i.change b
     × (sheet_turn conference now place b (Ok entries) ≡ record { board = Some (changed i.change b); reply = done (imported_line conference i.count) })
     × IsPosting i.change × (i.change ≡ Append place (imported_messages now place b entries))
-MayImport conference now place entries b (Err (Refused why)) = sheet_turn conference now place b (Ok entries) ≡ refuses why (Some b)
-MayImport conference now place entries b (Err OutOfMemory) = Unit {0}
-MayImport conference now place entries b (Err (Damaged d)) = ⊥
-MayImport conference now place entries b (Err DiskFault) = ⊥
-MayImport conference now place entries b (Err ShelfFault) = ⊥
+MayImport conference now place entries b (Err e) = StopsBy (λ why. sheet_turn conference now place b (Ok entries) ≡ refuses why (Some b)) e

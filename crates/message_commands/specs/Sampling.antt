@@ -1,8 +1,8 @@
 -- What is known between two messages of a sample, and what is found before it is appended.
 use Rattle.std.specs.Prelude.{◌≡◌, ℕ, ◌<◌, ◌*◌, length, slice_index, All, Some, Result, Ok, Err}
+use Rattle.board_commands.specs.Halts.{StopsBy}
 use Rattle.board_commands.specs.Turns.{refuses}
 use Rattle.board_commands.specs.declared.halt.BoardHalt.{BoardHalt}
-use Rattle.board_commands.specs.declared.halt.BoardHalt.TheVariants.{Refused, Damaged, DiskFault, ShelfFault, OutOfMemory}
 use Rattle.board_layout.specs.Board.{Board}
 use Rattle.jam_records.specs.declared.message.Message.{Message}
 use Rattle.mail_board.specs.Changes.{changed, Fits}
@@ -34,8 +34,4 @@ abbrev pub MaySample : ℕ → ℕ → ℕ → Board → Result Change BoardHalt
 MaySample seed count now b (Ok change) =
     Fits change b × (sample_turn seed count now (Some b) ≡ record { board = Some (changed change b); reply = done (sampled_line count) })
     × IsPosting change × (change ≡ Spread (sampled_posts seed now b count))
-MaySample seed count now b (Err (Refused why)) = sample_turn seed count now (Some b) ≡ refuses why (Some b)
-MaySample seed count now b (Err OutOfMemory) = Unit {0}
-MaySample seed count now b (Err (Damaged d)) = ⊥
-MaySample seed count now b (Err DiskFault) = ⊥
-MaySample seed count now b (Err ShelfFault) = ⊥
+MaySample seed count now b (Err e) = StopsBy (λ why. sample_turn seed count now (Some b) ≡ refuses why (Some b)) e

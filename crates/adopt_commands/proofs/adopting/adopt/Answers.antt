@@ -1,5 +1,6 @@
 use Rattle.std.proofs.Common.{rules, ◌≡◌, ℕ, List, Some, None, Err, refl, sym, ◌∙◌, ap, subst}
 use Rattle.std.specs.Prelude.{Result}
+use Rattle.board_commands.proofs.CauseLaws.{no_fault}
 use Rattle.board_commands.proofs.Exits.{unfound}
 use Rattle.board_commands.proofs.FindLaws.{same_host}
 use Rattle.board_commands.proofs.WriteLaws.{found_within}
@@ -16,7 +17,7 @@ use Rattle.mail_board.specs.Changes.{Fits}
 use Rattle.shelf_files.specs.declared.refusal.Refusal.TheVariants.{NoConference}
 use Rattle.message_commands.proofs.Exits.{refused_on, unmade_by}
 use Rattle.message_commands.proofs.PlaceAlike.{place_alike}
-use Rattle.adopt_commands.proofs.AdoptExits.{Turns, adopted, no_base, no_fault, said, unadopted, unplaced, unprepared}
+use Rattle.adopt_commands.proofs.AdoptExits.{Turns, adopted, no_base, said, unadopted, unplaced, unprepared}
 use Rattle.adopt_commands.proofs.AdoptBounds.{adopt_within}
 use Rattle.adopt_commands.specs.Adopt.{adopts}
 use Rattle.adopt_commands.proofs.adopting.adopt.Goals as goal
@@ -94,9 +95,10 @@ returns-in_err-adopting-clause-causes g c =
     let is : c.from_residual-in_err-adopting.result ≡ Err e = search rules in
     let old : Counts = counts (g.H.Host.disk_faults c.args.host.now) (g.H.Host.voice_faults c.args.host.now) (g.S.Shelf.faults c.args.shelf.now) in
     let new : Counts = counts (g.H.Host.disk_faults c.find.new.host) (g.H.Host.voice_faults c.find.new.host) (g.S.Shelf.faults c.base_in.new.shelf) in
+    let done : HasCauses old new status.Done = search rules in
     let starved : HasCauses old new status.OutOfMemory = search rules in
     subst (λ (r : Result (List ℕ) BoardHalt). HasCauses old new (ended (told said r))) (sym is)
-    (no_fault c.args.conference c.in_ok-place.place c.in_ok-records.records c.in_ok-board.board.now.board e c.in_err-adopting.ensures.may starved)
+    (no_fault said _ e c.in_err-adopting.ensures.may done starved)
 
 pub returns-in_err-find-clause-wrote : goal.returns-in_err-find-clause-wrote
 returns-in_err-find-clause-wrote g c tells shelf_tells closed = found_within (adopts c.args.conference c.args.prefix.now) (g.H.Host.disk c.args.host.now) (g.H.Host.disk c.find.new.host) (g.S.Shelf.files c.args.shelf.now) closed (c.find.ensures.wrote tells)

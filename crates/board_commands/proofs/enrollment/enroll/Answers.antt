@@ -11,7 +11,8 @@ use Rattle.board_commands.specs.Kept.{kept_board, unread}
 use Rattle.board_commands.specs.State.{Stores}
 use Rattle.board_commands.specs.declared.enrollment.Enrolled.{Enrolled}
 use Rattle.board_commands.specs.declared.halt.BoardHalt.{BoardHalt}
-use Rattle.board_commands.proofs.EnrollExits.{enrolled, no_fault, unenrolled, unprepared}
+use Rattle.board_commands.proofs.CauseLaws.{no_fault}
+use Rattle.board_commands.proofs.EnrollExits.{enrolled, unenrolled, unprepared}
 use Rattle.board_commands.proofs.Exits.{unfound}
 use Rattle.board_commands.proofs.FindLaws.{same_host}
 use Rattle.board_commands.proofs.LikeLaws.{own_like}
@@ -42,7 +43,7 @@ returns-in_err-enrolling-clause-causes g c shelf =
     let starved : HasCauses old new status.OutOfMemory = search rules in
     let may = c.in_err-enrolling.ensures (kept_board c.find.new.kept) (own_like c.find.new.kept c.find.ensures.sure) in
     subst (λ (r : Result Enrolled BoardHalt). HasCauses old new (ended (told enrolled_line r))) (sym is)
-    (no_fault c.args.name.now c.args.flags.now c.args.conferences.now (kept_board c.find.new.kept) e may done starved)
+    (no_fault enrolled_line _ e may done starved)
 
 pub make_change-requires-clause-board : goal.make_change-requires-clause-board
 make_change-requires-clause-board g c none =

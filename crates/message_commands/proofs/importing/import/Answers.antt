@@ -1,5 +1,6 @@
 use Rattle.std.proofs.Common.{rules, ◌≡◌, ℕ, Some, None, Err, refl, sym, ◌∙◌, ap, subst}
 use Rattle.std.specs.Prelude.{Result}
+use Rattle.board_commands.proofs.CauseLaws.{no_fault}
 use Rattle.board_commands.proofs.Exits.{unfound}
 use Rattle.board_commands.proofs.FindLaws.{same_host}
 use Rattle.board_commands.proofs.WriteLaws.{found_within}
@@ -15,7 +16,7 @@ use Rattle.entry_runs.specs.declared.status.Status.TheVariants as status
 use Rattle.mail_board.specs.Changes.{Fits}
 use Rattle.shelf_files.specs.declared.refusal.Refusal.TheVariants.{NoConference}
 use Rattle.message_commands.proofs.Exits.{refused_on, unmade_by}
-use Rattle.message_commands.proofs.ImportExits.{imported, no_fault, no_sheet, unimported, unplaced, unprepared}
+use Rattle.message_commands.proofs.ImportExits.{imported, no_sheet, unimported, unplaced, unprepared}
 use Rattle.message_commands.proofs.PlaceAlike.{place_alike}
 use Rattle.message_commands.proofs.PostBounds.{import_within}
 use Rattle.message_commands.specs.Import.{Imports, imported_line, imports}
@@ -97,7 +98,7 @@ returns-in_err-importing-clause-causes g c =
     let done : HasCauses old new status.Done = search rules in
     let starved : HasCauses old new status.OutOfMemory = search rules in
     subst (λ (r : Result ℕ BoardHalt). HasCauses old new (ended (told (imported_line c.args.conference) r))) (sym is)
-    (no_fault c.args.conference c.args.now c.in_ok-place.place c.in_ok-entries.entries c.in_ok-board.board.now.board e (c.in_err-importing.ensures c.args.conference) done starved)
+    (no_fault (imported_line c.args.conference) _ e (c.in_err-importing.ensures c.args.conference) done starved)
 
 pub returns-in_err-find-clause-wrote : goal.returns-in_err-find-clause-wrote
 returns-in_err-find-clause-wrote g c tells shelf_tells closed = found_within (imports c.args.conference c.args.file.now c.args.now) (g.H.Host.disk c.args.host.now) (g.H.Host.disk c.find.new.host) (g.S.Shelf.files c.args.shelf.now) closed (c.find.ensures.wrote tells)

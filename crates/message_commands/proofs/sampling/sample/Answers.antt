@@ -1,5 +1,6 @@
 use Rattle.std.proofs.Common.{rules, ◌≡◌, ℕ, Some, None, Err, refl, sym, ◌∙◌, ap, subst}
 use Rattle.std.specs.Prelude.{Result}
+use Rattle.board_commands.proofs.CauseLaws.{no_fault}
 use Rattle.board_commands.proofs.Exits.{unfound}
 use Rattle.board_commands.proofs.FindLaws.{same_host}
 use Rattle.board_commands.proofs.WriteLaws.{found_within}
@@ -15,7 +16,7 @@ use Rattle.entry_runs.specs.declared.status.Status.TheVariants as status
 use Rattle.mail_board.specs.Changes.{Fits}
 use Rattle.message_commands.proofs.Exits.{unmade_by}
 use Rattle.message_commands.proofs.PostBounds.{sample_within}
-use Rattle.message_commands.proofs.SampleExits.{Turns, appended, no_fault, unappended, unprepared}
+use Rattle.message_commands.proofs.SampleExits.{Turns, appended, unappended, unprepared}
 use Rattle.message_commands.specs.Sample.{sampled_line, samples}
 use Rattle.message_commands.proofs.sampling.sample.Goals as goal
 
@@ -73,7 +74,7 @@ returns-in_err-change-clause-causes g c shelf =
     let done : HasCauses old new status.Done = search rules in
     let starved : HasCauses old new status.OutOfMemory = search rules in
     subst (λ (r : Result ℕ BoardHalt). HasCauses old new (ended (told sampled_line r))) (sym is)
-    (no_fault c.args.seed c.args.count c.args.now c.in_ok-board.board.now.board e c.in_err-change.ensures done starved)
+    (no_fault sampled_line _ e c.in_err-change.ensures done starved)
 
 pub returns-in_err-find-clause-wrote : goal.returns-in_err-find-clause-wrote
 returns-in_err-find-clause-wrote g c tells closed shelf = found_within (samples c.args.seed c.args.count c.args.now) (g.H.Host.disk c.args.host.now) (g.H.Host.disk c.find.new.host) shelf closed (c.find.ensures.wrote tells)
