@@ -2,6 +2,7 @@
 ghost use Rattle.std.specs.Prelude.{◌≡◌, ◌≤◌, ◌++◌, codes, length, IfOk, IsTrue};
 ghost use Rattle.door_outside.specs.Name.{IsShelfName};
 ghost use Rattle.shelf_files.specs.Halts.{Comes, ShelfCauses};
+ghost use Rattle.shelf_files.specs.ShelfFile.{foreign_limit};
 ghost use Rattle.adopt_commands.specs.Adopting.{AreRight};
 ghost use Rattle.adopt_commands.specs.BaseFiles.{base_of, ending_of, foreign_halt};
 
@@ -33,7 +34,7 @@ fn ending_in<S: Shelf>(
 ) -> Result<Bytes, Halt>
     requires { IsShelfName (prefix.now ++ ending.now) }
     ensures file { IsTrue S.tells → Comes result (λ read. read ≡ ending_of (S.files shelf.old) prefix.now ending.now) }
-    ensures short { IfOk result (λ bytes. length bytes ≤ 16777216) }
+    ensures short { IfOk result (λ bytes. length bytes ≤ foreign_limit) }
     ensures unchanged { IsTrue S.tells → S.files shelf.new ≡ S.files shelf.old }
     ensures causes { ShelfCauses (S.faults shelf.old) (S.faults shelf.new) result }
 {

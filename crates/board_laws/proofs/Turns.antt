@@ -45,13 +45,13 @@ use Rattle.offered_packets.specs.Offered.{highs, offered}
 use Rattle.packet_verdicts.specs.Judged.{judged, refused_count}
 use Rattle.message_commands.specs.Sample.{sample_refusals, sampled_posts, sampling}
 use Rattle.setup_file.specs.declared.setup.Setup.{Setup}
-use Rattle.shelf_files.specs.ShelfFile.{file_of}
+use Rattle.shelf_files.specs.ShelfFile.{file_of, rep_limit}
 use Rattle.shelf_files.specs.Halts.{done}
 use Rattle.shelf_files.specs.declared.refusal.Refusal.{Refusal}
 use Rattle.shelf_files.specs.declared.refusal.Refusal.TheVariants.{NoMessage}
 use Rattle.sha2.specs.Sha256.{sha256}
 use Rattle.slot_changes.specs.Changed.{deleted}
-use Rattle.exchange_commands.specs.Upload.{UploadsFile, UploadsRead, rep_limit}
+use Rattle.exchange_commands.specs.Upload.{UploadsFile, UploadsRead}
 use Rattle.toss_commands.specs.Toss.{packet_turn}
 use Rattle.toss_commands.specs.Tossed.{tossed}
 

@@ -8,8 +8,8 @@ use Rattle.entry_runs.specs.declared.class.Class.TheVariants.{Done}
 use Rattle.mail_board.specs.Readers.{user_id}
 use Rattle.packet_verdicts.specs.declared.outcome.Outcome.{Outcome}
 use Rattle.sha2.specs.Sha256.{sha256}
-use Rattle.shelf_files.specs.ShelfFile.{file_of}
-use Rattle.exchange_commands.specs.Upload.{outcome_lines, rep_limit, tally}
+use Rattle.shelf_files.specs.ShelfFile.{file_of, rep_limit}
+use Rattle.exchange_commands.specs.Upload.{outcome_lines, tally}
 
 -- One reply tells what became of each message of a packet, and the other says again how many were posted and refused.
 pub record HasItsCounts (first again : List ℕ) : Type 0 where

@@ -10,10 +10,10 @@ use Rattle.door_upload.specs.Upload.{Again, Judged, Upload, UploadRefusal}
 use Rattle.door_upload.specs.declared.answer.Uploaded.{Uploaded}
 use Rattle.door_upload.specs.declared.answer.Uploaded.TheVariants as answer
 use Rattle.mail_board.specs.Readers.{user_id}
-use Rattle.shelf_files.specs.ShelfFile.{file_of}
+use Rattle.shelf_files.specs.ShelfFile.{file_of, rep_limit}
 use Rattle.shelf_files.specs.declared.refusal.Refusal.{Refusal}
 use Rattle.shelf_files.specs.declared.refusal.Refusal.TheVariants.{NotMade, NoUser}
-use Rattle.exchange_commands.specs.Upload.{Uploads, UploadsFile, UploadsRead, outcome_lines, rep_limit, refusal_of, tally, turn_of, uploaded_text}
+use Rattle.exchange_commands.specs.Upload.{Uploads, UploadsFile, UploadsRead, outcome_lines, refusal_of, tally, turn_of, uploaded_text}
 
 some_behind : (front back : List ℕ) → back ≢ [] → front ++ back ≢ []
 some_behind [] back some is = some is

@@ -14,10 +14,10 @@ use Rattle.intent_journal.specs.Recovered.{recovered}
 use Rattle.mail_board.specs.Held.{AreAlike}
 use Rattle.mail_board.specs.Readers.{user_id}
 use Rattle.mail_board.specs.Written.{KeepsBoundOf}
-use Rattle.shelf_files.specs.ShelfFile.{file_of}
+use Rattle.shelf_files.specs.ShelfFile.{file_of, rep_limit}
 use Rattle.shelf_files.specs.declared.refusal.Refusal.{Refusal}
 use Rattle.exchange_commands.proofs.UploadActs.{upload_turns}
-use Rattle.exchange_commands.specs.Upload.{Uploads, UploadsFile, UploadsRead, rep_limit, turn_of, uploads}
+use Rattle.exchange_commands.specs.Upload.{Uploads, UploadsFile, UploadsRead, turn_of, uploads}
 
 -- the turn leads to the board after the upload
 turn_board : (b : Board) (r : Result Upload UploadRefusal) → (turn_of b r).board ≡ Some (board_after b r)

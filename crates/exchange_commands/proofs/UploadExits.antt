@@ -32,12 +32,12 @@ use Rattle.mail_board.specs.Held.{BeforeOrNext, Rests}
 use Rattle.mail_board.specs.Readers.{user_id}
 use Rattle.packet_verdicts.specs.declared.outcome.Outcome.{Outcome}
 use Rattle.shelf_files.specs.Halts.{Comes, refused as says_refusal}
-use Rattle.shelf_files.specs.ShelfFile.{file_of}
+use Rattle.shelf_files.specs.ShelfFile.{file_of, rep_limit}
 use Rattle.shelf_files.specs.declared.halt.Halt.{Halt}
 use Rattle.shelf_files.specs.declared.halt.Halt.TheVariants as halt
 use Rattle.shelf_files.specs.declared.refusal.Refusal.{Refusal}
 use Rattle.shelf_files.specs.declared.refusal.Refusal.TheVariants.{NoUser}
-use Rattle.exchange_commands.specs.Upload.{Uploads, UploadsFile, UploadsRead, refusal_of, rep_limit, turn_of, uploaded_text, uploads}
+use Rattle.exchange_commands.specs.Upload.{Uploads, UploadsFile, UploadsRead, refusal_of, turn_of, uploaded_text, uploads}
 use Rattle.exchange_commands.specs.Uploading.{halted}
 
 -- what an upload to a board in no doubt left, by what the bytes come to

@@ -16,13 +16,9 @@ use Rattle.packet_verdicts.specs.Judged.{refused_count}
 use Rattle.packet_verdicts.specs.declared.outcome.Outcome.{Outcome}
 use Rattle.packet_verdicts.specs.declared.outcome.Outcome.TheVariants.{Posted, Refused}
 use Rattle.shelf_files.specs.Halts.{done}
-use Rattle.shelf_files.specs.ShelfFile.{file_of}
+use Rattle.shelf_files.specs.ShelfFile.{file_of, rep_limit}
 use Rattle.shelf_files.specs.declared.refusal.Refusal.{Refusal}
 use Rattle.shelf_files.specs.declared.refusal.Refusal.TheVariants as refusal
-
--- how many bytes a reply packet has at most
-abbrev pub rep_limit : ℕ
-rep_limit = 1048576
 
 -- ---- the reply
 -- what became of the message in a place, from 1

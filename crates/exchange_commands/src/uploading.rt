@@ -19,11 +19,8 @@ use board_commands::{BoardHalt, board_in, find, keep_board, take_board};
 use door_outside::{Host, Shelf, ShelfName};
 use door_upload::{UploadError, Uploaded};
 use mail_board::{Board, Loaded};
-use shelf_files::{Refusal, file_in};
+use shelf_files::{REP_LIMIT, Refusal, file_in};
 use std::alloc::Global;
-
-/// The most bytes of a reply packet.
-const REP_LIMIT: u32 = 1_048_576;
 
 /// Looks for the user of a name, ignoring ASCII case, refused where no user has it.
 fn look_for(board: &Board, name: &[u8]) -> Result<(), BoardHalt>

@@ -35,7 +35,6 @@ use Rattle.entry_runs.specs.Runs.{Stepped}
 use Rattle.exchange_commands.specs.Ack.{ack_turn}
 use Rattle.exchange_commands.specs.Export.{export_handing}
 use Rattle.exchange_commands.specs.Handing.{Handing, on_board_then_shelf}
-use Rattle.exchange_commands.specs.Upload as upload
 use Rattle.exchange_commands.specs.Upload.{Uploads, UploadsFile, UploadsRead}
 use Rattle.fts_packet.specs.Packet.{FtsReads}
 use Rattle.fts_packet.specs.declared.fault.FtsError.{FtsError}
@@ -81,7 +80,7 @@ use Rattle.rep_packet.specs.declared.fault.RepError.{RepError}
 use Rattle.rep_packet.specs.declared.fault.RepError.TheVariants as rep
 use Rattle.rep_packet.specs.declared.rep.Rep.{Rep}
 use Rattle.reply_commands.specs.Compose.{ComposeMakes, ConferenceIn, SheetMakes, composed_line}
-use Rattle.reply_commands.specs.RepFile.{DraftsFit, Enlarges, EnlargesRep, EnlargedBy, IsForBoard, RepFrom, RepIn, RepOf, no_replies, rep_limit, rep_refusal}
+use Rattle.reply_commands.specs.RepFile.{DraftsFit, Enlarges, EnlargesRep, EnlargedBy, IsForBoard, RepFrom, RepIn, RepOf, no_replies, rep_refusal}
 use Rattle.reply_commands.specs.Reply.{AnswerMakes, MessageIn, ReplyMakes, TextOf, reply_line}
 use Rattle.reply_commands.specs.Steps.{Then}
 use Rattle.reply_commands.specs.Writing.{added_in, with_rep, writes}
@@ -92,7 +91,7 @@ use Rattle.setup_file.specs.Reads.{SetupReads}
 use Rattle.setup_file.specs.declared.error.SetupRule.{SetupRule}
 use Rattle.setup_file.specs.declared.setup.Setup.{Setup}
 use Rattle.shelf_files.specs.Halts.{refused, replied}
-use Rattle.shelf_files.specs.ShelfFile.{ReadAs, file_limit, file_of, packet_limit}
+use Rattle.shelf_files.specs.ShelfFile.{ReadAs, file_limit, file_of, packet_limit, rep_limit}
 use Rattle.shelf_files.specs.Sheets.{SheetBreaks, SheetOf, sheet_refusal}
 use Rattle.shelf_files.specs.declared.refusal.Refusal.{Refusal}
 use Rattle.shelf_files.specs.declared.refusal.Refusal.TheVariants as refusal
@@ -341,7 +340,7 @@ some_upload name file now shelf (Some b) = by (user_id name b)
 
     by : (user : Option ℕ) → (turn : Turn) × UploadsFile file now shelf b user turn
     by None = (_, refl)
-    by (Some id) = read id (file_of shelf file upload.rep_limit)
+    by (Some id) = read id (file_of shelf file rep_limit)
 
 -- ---- entries
 -- a line for each command

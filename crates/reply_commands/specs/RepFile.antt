@@ -14,17 +14,13 @@ use Rattle.rep_packet.specs.Written.{IsRep, rep_text}
 use Rattle.rep_packet.specs.declared.fault.RepError.{RepError}
 use Rattle.rep_packet.specs.declared.fault.RepError.TheVariants as rep
 use Rattle.rep_packet.specs.declared.rep.Rep.{Rep}
-use Rattle.shelf_files.specs.ShelfFile.{ReadAs}
+use Rattle.shelf_files.specs.ShelfFile.{ReadAs, rep_limit}
 use Rattle.shelf_files.specs.declared.halt.Halt.{Halt}
 use Rattle.shelf_files.specs.declared.halt.Halt.TheVariants as halt
 use Rattle.shelf_files.specs.declared.refusal.Refusal.{Refusal}
 use Rattle.shelf_files.specs.declared.refusal.Refusal.TheVariants.{Broken, NoBoardId, OtherBoard, Text, TooLarge}
 use Rattle.reply_commands.specs.Steps.{Then}
 use Rattle.reply_commands.specs.declared.enlarging.Enlarged.{Enlarged}
-
--- the most bytes of a reply packet
-abbrev pub rep_limit : ℕ
-rep_limit = 1048576
 
 -- what a fault of a reply packet is refused as; want of memory is none
 abbrev pub rep_refusal : RepError → Refusal

@@ -5,12 +5,12 @@ ghost use Rattle.qwk_control.specs.Line.{IsId};
 ghost use Rattle.shelf_files.specs.Halts.{Comes, ShelfCauses};
 ghost use Rattle.reply_commands.specs.RepFile.{EnlargesRep, MayBeWritten};
 
-use crate::rep_file::{REP_LIMIT, rep_in};
+use crate::rep_file::rep_in;
 use door_outside::{Shelf, ShelfName};
 use offline_writer::add_drafts;
 use qwk_blocks::QwkMessages;
 use rep_packet::Rep;
-use shelf_files::{Halt, Refusal};
+use shelf_files::{Halt, REP_LIMIT, Refusal};
 use std::alloc::Global;
 
 /// A reply packet with drafts at its end.

@@ -3,17 +3,15 @@ ghost use Rattle.std.specs.Prelude.{◌≡◌, ◌≤◌, length, IsTrue, IfOk, 
 ghost use Rattle.qwk_control.specs.Line.{IsId};
 ghost use Rattle.rep_packet.specs.Written.{IsRep};
 ghost use Rattle.shelf_files.specs.Halts.{Comes, ShelfCauses};
+ghost use Rattle.shelf_files.specs.ShelfFile.{rep_limit};
 ghost use Rattle.reply_commands.specs.RepFile.{RepIn, RepOf, no_replies as no_replies_of, rep_halt};
 
 use byte_lists::Bytes;
 use door_outside::{FetchError, Fetched, Shelf, ShelfName, fetch_whole};
 use qwk_blocks::QwkMessages;
 use rep_packet::{Rep, RepError, read_rep};
-use shelf_files::{Halt, Refusal};
+use shelf_files::{Halt, REP_LIMIT, Refusal};
 use std::alloc::{AllocError, Global};
-
-/// The most bytes of a reply packet.
-pub(crate) const REP_LIMIT: u32 = 1_048_576;
 
 /// Why a command stops at a fault of a reply packet.
 fn halt_of(error: RepError) -> Halt
@@ -38,7 +36,7 @@ fn no_replies(alloc: Global, bbsid: &[u8]) -> Result<Rep, AllocError>
 
 /// The reply packet that bytes are, refused where they have a fault, or where it is for another board.
 fn rep_of(alloc: Global, bytes: &[u8], bbsid: &[u8]) -> Result<Rep, Halt>
-    requires { length bytes.now ≤ 1048576 }
+    requires { length bytes.now ≤ rep_limit }
     ensures rep { Comes result (RepIn bbsid.now bytes.now) }
     ensures writable { IfOk result IsRep }
     ensures no_fault { ¬ IsErrOf result Halt.ShelfFault }

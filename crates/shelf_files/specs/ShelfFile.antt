@@ -12,6 +12,10 @@ packet_limit = 41943040
 abbrev pub file_limit : ℕ
 file_limit = 4194304
 
+-- the most bytes of a reply packet
+abbrev pub rep_limit : ℕ
+rep_limit = 1048576
+
 -- the most bytes of each file of another tool's base
 abbrev pub foreign_limit : ℕ
 foreign_limit = 16777216

@@ -11,5 +11,5 @@ mod writing;
 pub use halt::Halt;
 pub use refusal::Refusal;
 pub use sheet_file::sheet_in;
-pub use shelf_file::{FILE_LIMIT, FOREIGN_LIMIT, PACKET_LIMIT, file_in};
+pub use shelf_file::{FILE_LIMIT, FOREIGN_LIMIT, PACKET_LIMIT, REP_LIMIT, file_in};
 pub use writing::write_file;

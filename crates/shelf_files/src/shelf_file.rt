@@ -14,6 +14,9 @@ pub const PACKET_LIMIT: u32 = 41_943_040;
 /// The most bytes of another file of the shelf that is read.
 pub const FILE_LIMIT: u32 = 4_194_304;
 
+/// The most bytes of a reply packet.
+pub const REP_LIMIT: u32 = 1_048_576;
+
 /// The most bytes of each file of another tool's base.
 pub const FOREIGN_LIMIT: u32 = 16_777_216;
 

@@ -20,12 +20,12 @@ use Rattle.entry_runs.specs.Entry.{Works}
 use Rattle.mail_board.specs.Held.{RestsOn}
 use Rattle.mail_board.specs.Readers.{user_id}
 use Rattle.mail_board.specs.declared.loading.Loaded.{Loaded}
-use Rattle.shelf_files.specs.ShelfFile.{file_of}
+use Rattle.shelf_files.specs.ShelfFile.{file_of, rep_limit}
 use Rattle.shelf_files.specs.declared.refusal.Refusal.TheVariants.{NotMade}
 use Rattle.exchange_commands.proofs.KeptUploads.{upload_kept, upload_sure}
 use Rattle.exchange_commands.proofs.UploadExits.{no_file, on_ok, out_of_memory, some_is, unknown, works}
 use Rattle.exchange_commands.proofs.UploadBounds.{upload_within}
-use Rattle.exchange_commands.specs.Upload.{Uploads, rep_limit, uploaded_text, uploads}
+use Rattle.exchange_commands.specs.Upload.{Uploads, uploaded_text, uploads}
 use Rattle.exchange_commands.proofs.uploading.upload.Goals as goal
 
 pub returns-in_err-find-clause-works : goal.returns-in_err-find-clause-works
