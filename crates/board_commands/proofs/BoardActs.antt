@@ -23,7 +23,7 @@ use Rattle.shelf_files.specs.declared.refusal.Refusal.TheVariants as refusal
 use Rattle.shelf_files.specs.ShelfFile.{file_of, file_limit}
 use Rattle.board_commands.specs.Check.{checked}
 use Rattle.board_commands.specs.Damages.{damaged}
-use Rattle.board_commands.specs.Enroll.{Enrolls, is_net, enroll_refusals, enroll_turn, enrolling, first_refusal}
+use Rattle.board_commands.specs.Enroll.{Enrolls, is_net_flag, enroll_refusals, enroll_turn, enrolling, first_refusal}
 use Rattle.board_commands.specs.Init.{Inits, BreaksSetup, made_of, SetupOf}
 use Rattle.board_commands.specs.State.{State, NotMade, Made, Old, Spoiled, IsSpoiled, migrated, state_of}
 use Rattle.board_commands.specs.Turns.{Turn, OnState, SaysDamage, on_board}
@@ -190,11 +190,11 @@ module _ (name : List ℕ) (net : Bool) (choice : Choice) where
 
 pub enroll_turns : (name flags conferences : List ℕ) → AreTurns (λ shelf. Enrolls name flags conferences)
 enroll_turns name flags conferences = record {
-  says = λ shelf board turn is none. enroll_says name (is_net flags) is.0 board (ap (λ (t : Turn). t.reply.text) (sym is.2) ∙ none);
-  refused = λ shelf board turn is class_is. ap (λ (t : Turn). t.board) is.2 ∙ enroll_keeps name (is_net flags) is.0 board (ap (λ (t : Turn). t.reply.class) (sym is.2) ∙ class_is);
-  undamaged = λ shelf board turn is class_is. enroll_sound name (is_net flags) is.0 board (ap (λ (t : Turn). t.reply.class) (sym is.2) ∙ class_is);
+  says = λ shelf board turn is none. enroll_says name (is_net_flag flags) is.0 board (ap (λ (t : Turn). t.reply.text) (sym is.2) ∙ none);
+  refused = λ shelf board turn is class_is. ap (λ (t : Turn). t.board) is.2 ∙ enroll_keeps name (is_net_flag flags) is.0 board (ap (λ (t : Turn). t.reply.class) (sym is.2) ∙ class_is);
+  undamaged = λ shelf board turn is class_is. enroll_sound name (is_net_flag flags) is.0 board (ap (λ (t : Turn). t.reply.class) (sym is.2) ∙ class_is);
   one_turn = λ shelf board one other first second.
-      first.2 ∙ (ap (λ (c : Choice). enroll_turn name (is_net flags) c board) (choice_unique conferences first.0 second.0 first.1 second.1) ∙ sym second.2);
+      first.2 ∙ (ap (λ (c : Choice). enroll_turn name (is_net_flag flags) c board) (choice_unique conferences first.0 second.0 first.1 second.1) ∙ sym second.2);
 }
 
 -- ---- init

@@ -19,7 +19,7 @@ use Rattle.setup_file.specs.Texts.{is_user_name}
 use Rattle.shelf_files.specs.Halts.{done}
 use Rattle.shelf_files.specs.declared.refusal.Refusal.{Refusal}
 use Rattle.shelf_files.specs.declared.refusal.Refusal.TheVariants.{NotMade, Name, DupUser, NoConference, Users, Size}
-use Rattle.board_commands.specs.Enroll.{enroll_refusals, enrolling, first_refusal, is_net, user_line, with_user}
+use Rattle.board_commands.specs.Enroll.{enroll_refusals, enrolling, first_refusal, is_net_flag, user_line, board_with_user}
 use Rattle.board_commands.specs.Enrolling.{MayEnroll}
 use Rattle.board_commands.specs.Kept.{AreLike}
 use Rattle.board_commands.specs.declared.enrollment.Enrolling.{Enrolling}
@@ -37,13 +37,13 @@ refusals_of name net choice l size =
     ∷ []
 
 module _ (name : List ℕ) (net : Bool) (choice : Choice) (a b : Board) (alike : AreAlike a b) where
-  with_alike : AreAlike (with_user name net choice a) (with_user name net choice b)
+  with_alike : AreAlike (board_with_user name net choice a) (board_with_user name net choice b)
   with_alike =
       changed_alike a b alike (Enroll name net (places_from choice 0 a.ledger.setup.conferences))
       ∙ ap (λ (l : Ledger). board_outline (enrolled name net (places_from choice 0 l.setup.conferences) b)) (alike_ledger a b alike)
 
   first_same : first_refusal (enroll_refusals name net choice a) ≡ first_refusal (enroll_refusals name net choice b)
-  first_same = λ i. first_refusal (refusals_of name net choice (alike_ledger a b alike i) (alike_size (with_user name net choice a) (with_user name net choice b) with_alike i))
+  first_same = λ i. first_refusal (refusals_of name net choice (alike_ledger a b alike i) (alike_size (board_with_user name net choice a) (board_with_user name net choice b) with_alike i))
 
 -- ---- what is found, for each board with the outline that is kept
 pub none_made : (name flags conferences : List ℕ) (choice : Choice) → ChoiceReads conferences choice → (kept : Option Board) → kept ≡ None → (board : Option Board) → AreLike board kept → MayEnroll name flags conferences board (Err (Refused NotMade))
@@ -51,24 +51,24 @@ none_made name flags conferences choice reads kept none None like = (choice, rea
 none_made name flags conferences choice reads kept none (Some b) like = absurd (subst (AreLike (Some b)) none like)
 
 module _ (name flags conferences : List ℕ) (choice : Choice) (reads : ChoiceReads conferences choice) (held : Board) (kept : Option Board) (here : kept ≡ Some held) where
-  pub refused_alike : (why : Refusal) → first_refusal (enroll_refusals name (is_net flags) choice held) ≡ Some why → (board : Option Board) → AreLike board kept → MayEnroll name flags conferences board (Err (Refused why))
+  pub refused_alike : (why : Refusal) → first_refusal (enroll_refusals name (is_net_flag flags) choice held) ≡ Some why → (board : Option Board) → AreLike board kept → MayEnroll name flags conferences board (Err (Refused why))
   refused_alike why is None like = absurd (subst (AreLike None) here like)
   refused_alike why is (Some b) like =
       let both = subst (AreLike (Some b)) here like in
-      (choice, reads, sym (ap (enrolling name (is_net flags) choice b) (first_same name (is_net flags) choice b held both.1 ∙ is)))
+      (choice, reads, sym (ap (enrolling name (is_net_flag flags) choice b) (first_same name (is_net_flag flags) choice b held both.1 ∙ is)))
 
-  pub may_alike : (e : Enrolling) → first_refusal (enroll_refusals name (is_net flags) choice held) ≡ None → e.change ≡ Enroll name (is_net flags) (places_from choice 0 held.ledger.setup.conferences)
+  pub may_alike : (e : Enrolling) → first_refusal (enroll_refusals name (is_net_flag flags) choice held) ≡ None → e.change ≡ Enroll name (is_net_flag flags) (places_from choice 0 held.ledger.setup.conferences)
       → e.user.id ≡ length held.ledger.users + 1 → e.user.name ≡ name → (board : Option Board) → AreLike board kept → MayEnroll name flags conferences board (Ok e)
   may_alike e none change id named None like = absurd (subst (AreLike None) here like)
   may_alike e none change id named (Some b) like =
       let both = subst (AreLike (Some b)) here like in
-      let still : first_refusal (enroll_refusals name (is_net flags) choice b) ≡ None = first_same name (is_net flags) choice b held both.1 ∙ none in
+      let still : first_refusal (enroll_refusals name (is_net_flag flags) choice b) ≡ None = first_same name (is_net_flag flags) choice b held both.1 ∙ none in
       let ledgers : held.ledger ≡ b.ledger = sym (alike_ledger b held both.1) in
-      let change_is : e.change ≡ Enroll name (is_net flags) (places_from choice 0 b.ledger.setup.conferences) =
-      change ∙ ap (λ (l : Ledger). Enroll name (is_net flags) (places_from choice 0 l.setup.conferences)) ledgers in
+      let change_is : e.change ≡ Enroll name (is_net_flag flags) (places_from choice 0 b.ledger.setup.conferences) =
+      change ∙ ap (λ (l : Ledger). Enroll name (is_net_flag flags) (places_from choice 0 l.setup.conferences)) ledgers in
       let id_is : e.user.id ≡ length b.ledger.users + 1 = id ∙ ap (λ (l : Ledger). length l.users + 1) ledgers in (
         b,
         refl,
-        subst (λ (x : Change). Fits x b) (sym change_is) (user_fits b name (is_net flags) choice conferences both.0 reads still),
-        (choice, reads, (λ i. record { board = Some (changed (change_is i) b); reply = done (user_line (id_is i) (named i)) }) ∙ sym (ap (enrolling name (is_net flags) choice b) still)),
+        subst (λ (x : Change). Fits x b) (sym change_is) (user_fits b name (is_net_flag flags) choice conferences both.0 reads still),
+        (choice, reads, (λ i. record { board = Some (changed (change_is i) b); reply = done (user_line (id_is i) (named i)) }) ∙ sym (ap (enrolling name (is_net_flag flags) choice b) still)),
       )

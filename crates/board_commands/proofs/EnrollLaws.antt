@@ -23,7 +23,7 @@ use Rattle.mail_board.specs.Readers.{user_id}
 use Rattle.setup_file.specs.Texts.{is_name_byte, has_bare_ends, is_user_name}
 use Rattle.shelf_files.specs.declared.refusal.Refusal.{Refusal}
 use Rattle.shelf_files.specs.declared.refusal.Refusal.TheVariants.{Name, DupUser, NoConference, Users, Size}
-use Rattle.board_commands.specs.Enroll.{enroll_refusals, first_refusal, with_user}
+use Rattle.board_commands.specs.Enroll.{enroll_refusals, first_refusal, board_with_user}
 
 -- ---- what size_after asks
 pub places_exist : (b : Board) (choice : Choice) → IsBoard b → places_from choice 0 b.ledger.setup.conferences < 2 ^ length b.conferences
@@ -64,12 +64,12 @@ no_position p f xs e = by (ltb (position_or_len p xs) (length xs)) refl e
     by true is none = absurd (cc none)
     by false is none = list_any_none p xs (λ k d within. fails_before_first p xs k d (omega (arith, within, ltb-false (position_or_len p xs) (length xs) is)))
 
-pub user_fits : (b : Board) (name : List ℕ) (net : Bool) (choice : Choice) (word : List ℕ) → IsBoard b → ChoiceReads word choice → first_refusal (enroll_refusals name net choice b) ≡ None → IsBoard (with_user name net choice b)
+pub user_fits : (b : Board) (name : List ℕ) (net : Bool) (choice : Choice) (word : List ℕ) → IsBoard b → ChoiceReads word choice → first_refusal (enroll_refusals name net choice b) ≡ None → IsBoard (board_with_user name net choice b)
 unfolding right_members
 user_fits b name net choice word ok reads none =
     let cs = b.ledger.setup.conferences in
     let members : ℕ = places_from choice 0 cs in
-    let size : ℕ = board_size (with_user name net choice b) in
+    let size : ℕ = board_size (board_with_user name net choice b) in
     let named = unrefused (not (is_user_name name)) Name _ none in
     let free = unrefused (is_some (user_id name b)) DupUser _ named.1 in
     let known = unrefused (has_unknown choice cs) NoConference _ free.1 in

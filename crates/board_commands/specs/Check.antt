@@ -16,11 +16,11 @@ abbrev pub conference_label : SetupConference → List ℕ
 conference_label named = decimal named.number ++ (codes " " ++ (named.name ++ codes ": "))
 
 -- how many slots there are, and how many live messages
-abbrev pub tally : ℕ → ℕ → List ℕ
-tally slots live = decimal slots ++ (codes " slots, " ++ (decimal live ++ codes " live\n"))
+abbrev pub slots_text : ℕ → ℕ → List ℕ
+slots_text slots live = decimal slots ++ (codes " slots, " ++ (decimal live ++ codes " live\n"))
 
 abbrev pub conference_line : SetupConference → ℕ → ℕ → List ℕ
-conference_line named slots live = conference_label named ++ tally slots live
+conference_line named slots live = conference_label named ++ slots_text slots live
 
 abbrev pub conference_lines : List SetupConference → List Conference → List ℕ
 conference_lines [] conferences = []
@@ -31,13 +31,13 @@ abbrev pub board_line : Board → List ℕ
 board_line b = codes "board " ++ (b.ledger.setup.bbsid ++ codes "\n")
 
 -- how many users and upload records there are, and how many bytes all data files have
-abbrev pub counts_line : Board → List ℕ
-counts_line b =
+abbrev pub board_counts : Board → List ℕ
+board_counts b =
     decimal (length b.ledger.users) ++ (codes " users, " ++ (decimal (length b.ledger.uploads) ++ (codes " uploads, "
     ++ (decimal (board_size b) ++ codes " bytes\n"))))
 
 abbrev pub report : Board → List ℕ
-report b = board_line b ++ (conference_lines b.ledger.setup.conferences b.conferences ++ counts_line b)
+report b = board_line b ++ (conference_lines b.ledger.setup.conferences b.conferences ++ board_counts b)
 
 abbrev pub checked : Option Board → Turn
 checked None = refuses NotMade None

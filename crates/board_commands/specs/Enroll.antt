@@ -23,12 +23,12 @@ first_refusal [] = None
 first_refusal (r ∷ refusals) = if r.0 then Some r.1 else first_refusal refusals
 
 -- `n`: the user may write net mail
-abbrev pub is_net : List ℕ → Bool
-is_net flags = bytes_eq flags (codes "n")
+abbrev pub is_net_flag : List ℕ → Bool
+is_net_flag flags = bytes_eq flags (codes "n")
 
 -- the board with the user, a member of the chosen conferences
-abbrev pub with_user : List ℕ → Bool → Choice → Board → Board
-with_user name net choice b = enrolled name net (places_from choice 0 b.ledger.setup.conferences) b
+abbrev pub board_with_user : List ℕ → Bool → Choice → Board → Board
+board_with_user name net choice b = enrolled name net (places_from choice 0 b.ledger.setup.conferences) b
 
 -- why a user isn't enrolled, in order
 abbrev pub enroll_refusals : List ℕ → Bool → Choice → Board → List (Bool × Refusal)
@@ -37,7 +37,7 @@ enroll_refusals name net choice b =
     ∷ (is_some (user_id name b), DupUser)
     ∷ (has_unknown choice b.ledger.setup.conferences, NoConference)
     ∷ (nat_le 500 (length b.ledger.users), Users)
-    ∷ (nat_lt board_limit (board_size (with_user name net choice b)), Size (board_size (with_user name net choice b)))
+    ∷ (nat_lt board_limit (board_size (board_with_user name net choice b)), Size (board_size (board_with_user name net choice b)))
     ∷ []
 
 -- the id and the name of a user
@@ -51,7 +51,7 @@ enrolled_line user = user_line user.id user.name
 abbrev pub enrolling : List ℕ → Bool → Choice → Board → Option Refusal → Turn
 enrolling name net choice b (Some why) = refuses why (Some b)
 enrolling name net choice b None = record {
-  board = Some (with_user name net choice b);
+  board = Some (board_with_user name net choice b);
   reply = done (user_line (length b.ledger.users + 1) name);
 }
 
@@ -61,7 +61,7 @@ enroll_turn name net choice (Some b) = enrolling name net choice b (first_refusa
 
 -- the words FLAGS and CONFS, and the turn
 abbrev pub Enrolls : List ℕ → List ℕ → List ℕ → Option Board → Turn → Type 0
-Enrolls name flags conferences board turn = (choice : Choice) × ChoiceReads conferences choice × (turn ≡ enroll_turn name (is_net flags) choice board)
+Enrolls name flags conferences board turn = (choice : Choice) × ChoiceReads conferences choice × (turn ≡ enroll_turn name (is_net_flag flags) choice board)
 
 abbrev pub enrolls : List ℕ → List ℕ → List ℕ → Act State
 enrolls name flags conferences = on_board (λ shelf. Enrolls name flags conferences)

@@ -1,7 +1,7 @@
 ghost use Rattle.std.specs.Prelude.{◌≡◌, IsTrue};
 ghost use Rattle.door_outside.specs.Cause.{HasCause};
 ghost use Rattle.entry_runs.specs.Saying.{Voiced};
-ghost use Rattle.board_commands.specs.Damages.{rule_word as word_of, damage_line};
+ghost use Rattle.board_commands.specs.Damages.{damage_word as word_of, damage_line};
 
 use door_outside::{Host, VoiceFault};
 use entry_runs::say_all;

@@ -9,7 +9,7 @@ ghost use Rattle.entry_runs.specs.Entry.{IsAt, Works};
 ghost use Rattle.entry_runs.specs.Promise.{counts, ended, HasCauses};
 ghost use Rattle.mail_board.specs.declared.change.Change.TheVariants.{Enroll};
 ghost use Rattle.board_commands.specs.Enrolling.{MayEnroll};
-ghost use Rattle.board_commands.specs.Enroll.{enroll_refusals, enrolled_line, enrolls, first_refusal, is_net as is_net_of};
+ghost use Rattle.board_commands.specs.Enroll.{enroll_refusals, enrolled_line, enrolls, first_refusal, is_net_flag as is_net_of};
 ghost use Rattle.board_commands.specs.Halts.{told};
 ghost use Rattle.board_commands.specs.Kept.{AreLike, AreSure, IsKept, IsRead, kept_board, unread};
 ghost use Rattle.board_commands.specs.State.{State, Stores};

@@ -1,5 +1,5 @@
 ghost use Rattle.std.specs.Prelude.{◌≡◌, ◌++◌, IfOk, OnOk};
-ghost use Rattle.board_commands.specs.Check.{report as report_of, board_line, conference_label, conference_lines, counts_line, tally};
+ghost use Rattle.board_commands.specs.Check.{report as report_of, board_line, conference_label, conference_lines, board_counts, slots_text};
 
 use board_ledger::Conference;
 use byte_lists::Bytes;
@@ -28,7 +28,7 @@ fn add_label(text: &mut Bytes, conference: &Conference) -> Result<(), AllocError
 
 /// Adds how many slots there are, and how many live messages.
 fn add_tally(text: &mut Bytes, slots: u32, live: u32) -> Result<(), AllocError>
-    ensures { OnOk result (text.new ≡ text.old ++ tally slots live) }
+    ensures { OnOk result (text.new ≡ text.old ++ slots_text slots live) }
 {
     add_decimal(text, u64::from(slots))?;
     text.add(b" slots, ")?;
@@ -51,7 +51,7 @@ fn add_conferences(text: &mut Bytes, board: &Board) -> Result<(), AllocError>
 
 /// Adds the line of the counts of users, upload records and bytes.
 fn add_counts(text: &mut Bytes, board: &Board) -> Result<(), AllocError>
-    ensures { OnOk result (text.new ≡ text.old ++ counts_line board.now.board) }
+    ensures { OnOk result (text.new ≡ text.old ++ board_counts board.now.board) }
 {
     add_decimal(text, u64::from(board.user_count()))?;
     text.add(b" users, ")?;

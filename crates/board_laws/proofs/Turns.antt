@@ -5,7 +5,7 @@ use Rattle.adopt_commands.specs.Adopt.{adopt_at, base_turn}
 use Rattle.adopt_commands.specs.Adopted.{adopted}
 use Rattle.adopt_commands.specs.BaseFiles.{base_of}
 use Rattle.board_changes.specs.Changed.{made}
-use Rattle.board_commands.specs.Enroll.{enroll_refusals, enrolling, first_refusal, is_net}
+use Rattle.board_commands.specs.Enroll.{enroll_refusals, enrolling, first_refusal, is_net_flag}
 use Rattle.board_commands.specs.Init.{made_of}
 use Rattle.board_commands.specs.State.{State, NotMade, Made, state_of}
 use Rattle.board_commands.specs.Turns.{Turn, refuses}
@@ -247,7 +247,7 @@ module _ (now : ℕ) (b : Board) (c : BoardCommand) (next : State) (class : Clas
 pub turn_on : (now : ℕ) (b : Board) (c : BoardCommand) (shelf : Files) (stepped : Stepped (World State)) → does now c (here (Made b) shelf) stepped → Turns now b c stepped.world.state stepped.class
 turn_on now b (command.Init file) shelf stepped (same, (turn, is, next, reply)) = inl (next ∙ ap (λ (t : Turn). state_of t.board) is)
 turn_on now b (command.Enroll name flags conferences) shelf stepped (same, (turn, (choice, reads, is), next, reply)) =
-    by_enroll now b (command.Enroll name flags conferences) stepped.world.state stepped.class name (is_net flags) choice (first_refusal (enroll_refusals name (is_net flags) choice b)) turn is next
+    by_enroll now b (command.Enroll name flags conferences) stepped.world.state stepped.class name (is_net_flag flags) choice (first_refusal (enroll_refusals name (is_net_flag flags) choice b)) turn is next
 turn_on now b command.Check shelf stepped (same, (turn, is, next, reply)) = inl (next ∙ ap (λ (t : Turn). state_of t.board) is)
 turn_on now b (command.Import conference file) shelf stepped (same, (turn, is, next, reply)) = by_place now b (command.Import conference file) stepped.world.state stepped.class conference file shelf (place_of conference b) turn is next
 turn_on now b (command.Adopt conference prefix) shelf stepped (same, (turn, is, next, reply)) =

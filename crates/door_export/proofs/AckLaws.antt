@@ -14,16 +14,16 @@ use Rattle.offer_changes.proofs.AcknowledgeLaws.{acknowledged_board}
 use Rattle.offer_changes.proofs.FitLaws.{offer_kept}
 use Rattle.offer_changes.specs.Changed.{acknowledged, offer_in}
 use Rattle.open_offers.specs.declared.offer.OpenOffer.{OpenOffer}
-use Rattle.door_export.specs.Ack.{NoPacket, NoUser, ack_as, ack_of, ack_offer, board_after}
+use Rattle.door_export.specs.Ack.{NoPacket, NoUser, ack_as, ack_of, ack_offer, after_ack}
 
-pub ack_board : (name : List ℕ) (packet now : ℕ) (b : Board) → now < 2 ^ 32 → IsBoard b → IsBoard (board_after b (ack_of name packet now b))
+pub ack_board : (name : List ℕ) (packet now : ℕ) (b : Board) → now < 2 ^ 32 → IsBoard b → IsBoard (after_ack b (ack_of name packet now b))
 ack_board name packet now b small ok = by_id (user_id name b)
   where
-    by_packet : (id : ℕ) (open_now : Bool) → IsBoard (board_after b (cond open_now (Ok (acknowledged id packet now b)) (Err (NoPacket (offer_of id b)))))
+    by_packet : (id : ℕ) (open_now : Bool) → IsBoard (after_ack b (cond open_now (Ok (acknowledged id packet now b)) (Err (NoPacket (offer_of id b)))))
     by_packet id true = acknowledged_board b id packet now small ok
     by_packet id false = ok
 
-    by_id : (o : Option ℕ) → IsBoard (board_after b (ack_as packet now b o))
+    by_id : (o : Option ℕ) → IsBoard (after_ack b (ack_as packet now b o))
     by_id None = ok
     by_id (Some id) = by_packet id (is_offered id packet b)
 

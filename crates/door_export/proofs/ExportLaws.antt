@@ -16,7 +16,7 @@ use Rattle.offer_changes.proofs.LedgerLaws.{user_was}
 use Rattle.offer_changes.proofs.UserLaws.{Alike, user_there}
 use Rattle.offered_packets.specs.Offered.{highs, offered}
 use Rattle.door_export.proofs.HighsFit.{offer_may}
-use Rattle.door_export.specs.Export.{ExportRefusal, NoUser, Limit, Packets, board_after, export_as, export_of, export_to, packet_to, unless_refused, user_refusal}
+use Rattle.door_export.specs.Export.{ExportRefusal, NoUser, Limit, Packets, after_export, export_as, export_of, export_to, packet_to, unless_refused, user_refusal}
 use Rattle.door_export.specs.Exporting.{KeepsOffer, LeavesAll, error_of, of_change, refusal_of}
 use Rattle.door_export.specs.declared.exporting.ExportError.{ExportError}
 
@@ -62,18 +62,18 @@ last_small b id u ok here =
     let alike : Alike u u = record { name = refl; members = refl } in
     (user_was b.ledger id u u (user_there b id u here) alike ok.ledger).last
 
-pub export_board : (name : List ℕ) (limit now : ℕ) (b : Board) → IsBoard b → IsBoard (board_after b (export_of name limit now b))
+pub export_board : (name : List ℕ) (limit now : ℕ) (b : Board) → IsBoard b → IsBoard (after_export b (export_of name limit now b))
 export_board name limit now b ok = by_id (user_id name b)
   where
-    by_refusal : (id : ℕ) (u : User) → user_of id b ≡ Some u → (why : Option ExportRefusal) → user_refusal limit u ≡ why → IsBoard (board_after b (unless_refused (packet_to limit now b id u) why))
+    by_refusal : (id : ℕ) (u : User) → user_of id b ≡ Some u → (why : Option ExportRefusal) → user_refusal limit u ≡ why → IsBoard (after_export b (unless_refused (packet_to limit now b id u) why))
     by_refusal id u here None none = (offer_may_be b id limit u ok here (may_export limit u (last_small b id u ok here) none)).1
     by_refusal id u here (Some why) is = ok
 
-    by_user : (id : ℕ) (o : Option User) → user_of id b ≡ o → IsBoard (board_after b (export_to limit now b id o))
+    by_user : (id : ℕ) (o : Option User) → user_of id b ≡ o → IsBoard (after_export b (export_to limit now b id o))
     by_user id None none = ok
     by_user id (Some u) here = by_refusal id u here (user_refusal limit u) refl
 
-    by_id : (o : Option ℕ) → IsBoard (board_after b (export_as limit now b o))
+    by_id : (o : Option ℕ) → IsBoard (after_export b (export_as limit now b o))
     by_id None = ok
     by_id (Some id) = by_user id (user_of id b) refl
 

@@ -23,6 +23,6 @@ ack_as packet now b (Some id) = ack_offer packet now b id
 abbrev pub ack_of : List ℕ → ℕ → ℕ → Board → Result Board AckRefusal
 ack_of name packet now b = ack_as packet now b (user_id name b)
 
-abbrev pub board_after : Board → Result Board AckRefusal → Board
-board_after b (Ok next) = next
-board_after b (Err why) = b
+abbrev pub after_ack : Board → Result Board AckRefusal → Board
+after_ack b (Ok next) = next
+after_ack b (Err why) = b

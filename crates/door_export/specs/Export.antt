@@ -68,6 +68,6 @@ abbrev pub export_of : List ℕ → ℕ → ℕ → Board → Result Handout Exp
 export_of name limit now b = export_as limit now b (user_id name b)
 
 -- the board after it
-abbrev pub board_after : Board → Result Handout ExportRefusal → Board
-board_after b (Ok p) = p.board
-board_after b (Err why) = b
+abbrev pub after_export : Board → Result Handout ExportRefusal → Board
+after_export b (Ok p) = p.board
+after_export b (Err why) = b

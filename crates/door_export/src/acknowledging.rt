@@ -8,7 +8,7 @@ ghost use Rattle.intent_journal.specs.Hosts.{IsSettled};
 ghost use Rattle.mail_board.specs.Causes.{HasFault};
 ghost use Rattle.mail_board.specs.Changes.{changed, Fits};
 ghost use Rattle.mail_board.specs.Held.{AreAlike, BeforeOrNext, Follows, Holds, Rests, RestsOn};
-ghost use Rattle.door_export.specs.Ack.{ack_of, board_after};
+ghost use Rattle.door_export.specs.Ack.{ack_of, after_ack};
 ghost use Rattle.door_export.specs.Acknowledging.{IsEarly, LeavesAll, refusal_in};
 
 use crate::reader::reader_of;
@@ -97,15 +97,15 @@ pub fn acknowledge<H: Host>(
     requires rests { IsTrue H.tells → IsFalse board.old.doubtful → RestsOn board.old.board (H.disk host.old) }
 
     // Whichever board the host holds, a crash at any moment leaves that board or the one after the acknowledgement.
-    ensures moments { IsTrue H.tells → IsFalse board.old.doubtful → (b : Boards.Board) → Holds b (H.disk host.old) → Between (H.disk host.old) (H.disk host.new) (BeforeOrNext (IsLayout b) (board_after b (ack_of user.now packet now b)) (H.disk host.old)) }
-    ensures now { IsTrue H.tells → IsFalse board.old.doubtful → (b : Boards.Board) → Holds b (H.disk host.old) → AllNow (H.disk host.new) (BeforeOrNext (IsLayout b) (board_after b (ack_of user.now packet now b)) (H.disk host.old)) }
+    ensures moments { IsTrue H.tells → IsFalse board.old.doubtful → (b : Boards.Board) → Holds b (H.disk host.old) → Between (H.disk host.old) (H.disk host.new) (BeforeOrNext (IsLayout b) (after_ack b (ack_of user.now packet now b)) (H.disk host.old)) }
+    ensures now { IsTrue H.tells → IsFalse board.old.doubtful → (b : Boards.Board) → Holds b (H.disk host.old) → AllNow (H.disk host.new) (BeforeOrNext (IsLayout b) (after_ack b (ack_of user.now packet now b)) (H.disk host.old)) }
     ensures settled { IsTrue H.tells → IsFalse board.old.doubtful → IsSettled (H.disk host.new) }
 
     ensures refused { refusal_in result ≡ result_err (ack_of user.now packet now board.old.board) }
     ensures doubt { (result ≡ Err AckError.Doubt) ↔ (IsOk (ack_of user.now packet now board.old.board) × IsTrue board.old.doubtful) }
     ensures unchanged { LeavesAll result → (board.new ≡ board.old) × (host.new ≡ host.old) }
-    ensures board { OnOk result (Follows (board_after board.old.board (ack_of user.now packet now board.old.board)) board.new) }
-    ensures next { OnOk result (IsTrue H.tells → (b : Boards.Board) → Holds b (H.disk host.old) → Rests (board_after b (ack_of user.now packet now b)) (H.disk host.new)) }
+    ensures board { OnOk result (Follows (after_ack board.old.board (ack_of user.now packet now board.old.board)) board.new) }
+    ensures next { OnOk result (IsTrue H.tells → (b : Boards.Board) → Holds b (H.disk host.old) → Rests (after_ack b (ack_of user.now packet now b)) (H.disk host.new)) }
     ensures rests { OnOk result (IsTrue H.tells → RestsOn board.new.board (H.disk host.new)) }
     ensures fault { IsErrOf result AckError.DiskFault → board.new ≡ record { board = board.old.board; doubtful = true } }
     ensures disk_cause { HasFault AckError.DiskFault (H.disk_faults host.old) (H.disk_faults host.new) result }

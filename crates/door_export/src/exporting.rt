@@ -15,7 +15,7 @@ ghost use Rattle.mail_board.specs.Changes.{changed, Fits};
 ghost use Rattle.mail_board.specs.Held.{BeforeOrNext, Follows, Holds, Rests, RestsOn};
 ghost use Rattle.offered_packets.specs.Offered.{offered as offered_of};
 ghost use Rattle.offered_packets.specs.Shown.{shown_all};
-ghost use Rattle.door_export.specs.Export.{board_after, export_of, user_refusal};
+ghost use Rattle.door_export.specs.Export.{after_export, export_of, user_refusal};
 ghost use Rattle.door_export.specs.Exporting.{error_of, AreLeft, AsksNothing, HasMessages, IsBefore, IsPreparedFor, KeepsOffer, LeavesAll, packet_of as packet_made, refusal_in};
 ghost use Rattle.door_export.specs.Folder.{folder_names, with_packet};
 ghost use Rattle.door_export.specs.declared.exporting.ExportError.TheVariants.{OutOfMemory};
@@ -192,7 +192,7 @@ fn prepared<H: Host>(
     ensures sure { OnOk result (IsFalse board.now.doubtful) }
     ensures fits { IfOk result (λ e. Fits e.change board.now.board) }
     ensures answer { IfOk result (λ e. option_map (λ p. p.answer) (result_ok (export_of name.now limit now board.now.board)) ≡ Some e.exported) }
-    ensures board { IfOk result (λ e. board_after board.now.board (export_of name.now limit now board.now.board) ≡ changed e.change board.now.board) }
+    ensures board { IfOk result (λ e. after_export board.now.board (export_of name.now limit now board.now.board) ≡ changed e.change board.now.board) }
     ensures packet { IsTrue H.tells → (b : Boards.Board) → Holds b (H.disk host.old) → IfOk result (λ e. Ok (packet_made e b) ≡ export_of name.now limit now b) }
     ensures asked { AsksNothing result → host.new ≡ host.old }
     ensures unchanged { IsTrue H.tells → Unchanged (H.disk host.old) (H.disk host.new) }
@@ -238,8 +238,8 @@ pub fn export<H: Host, S: Shelf>(
     requires rests { IsTrue H.tells → IsFalse board.old.doubtful → RestsOn board.old.board (H.disk host.old) }
 
     // Whichever board the host holds, a crash at any moment leaves that board or the one after the offer.
-    ensures moments { IsTrue H.tells → IsFalse board.old.doubtful → (b : Boards.Board) → Holds b (H.disk host.old) → Between (H.disk host.old) (H.disk host.new) (BeforeOrNext (IsLayout b) (board_after b (export_of user.now limit now b)) (H.disk host.old)) }
-    ensures now { IsTrue H.tells → IsFalse board.old.doubtful → (b : Boards.Board) → Holds b (H.disk host.old) → AllNow (H.disk host.new) (BeforeOrNext (IsLayout b) (board_after b (export_of user.now limit now b)) (H.disk host.old)) }
+    ensures moments { IsTrue H.tells → IsFalse board.old.doubtful → (b : Boards.Board) → Holds b (H.disk host.old) → Between (H.disk host.old) (H.disk host.new) (BeforeOrNext (IsLayout b) (after_export b (export_of user.now limit now b)) (H.disk host.old)) }
+    ensures now { IsTrue H.tells → IsFalse board.old.doubtful → (b : Boards.Board) → Holds b (H.disk host.old) → AllNow (H.disk host.new) (BeforeOrNext (IsLayout b) (after_export b (export_of user.now limit now b)) (H.disk host.old)) }
     ensures settled { IsTrue H.tells → IsFalse board.old.doubtful → IsSettled (H.disk host.new) }
 
     // What is refused, and what leaves all as it was.
@@ -256,8 +256,8 @@ pub fn export<H: Host, S: Shelf>(
     ensures others { IsTrue S.tells → IsErrOf result ExportError.ShelfFault → SameBut (folder_names folder.now) (S.files shelf.old) (S.files shelf.new) }
 
     // The offer, which a shelf fault leaves kept; and the host is the board's, unless that is doubtful.
-    ensures board { KeepsOffer result → Follows (board_after board.old.board (export_of user.now limit now board.old.board)) board.new }
-    ensures next { KeepsOffer result → IsTrue H.tells → (b : Boards.Board) → Holds b (H.disk host.old) → Rests (board_after b (export_of user.now limit now b)) (H.disk host.new) }
+    ensures board { KeepsOffer result → Follows (after_export board.old.board (export_of user.now limit now board.old.board)) board.new }
+    ensures next { KeepsOffer result → IsTrue H.tells → (b : Boards.Board) → Holds b (H.disk host.old) → Rests (after_export b (export_of user.now limit now b)) (H.disk host.new) }
     ensures rests { IsTrue H.tells → IsFalse board.old.doubtful → IsFalse board.new.doubtful → RestsOn board.new.board (H.disk host.new) }
 
     ensures disk_cause { HasFault ExportError.DiskFault (H.disk_faults host.old) (H.disk_faults host.new) result }

@@ -5,7 +5,7 @@ use Rattle.board_layout.specs.Board.{Board}
 use Rattle.board_layout.specs.Valid.{IsBoard}
 use Rattle.board_ledger.specs.declared.upload.Counts.{Counts}
 use Rattle.door_upload.proofs.OneUpload.{one_upload}
-use Rattle.door_upload.specs.Upload.{Again, Broken, Judged, NoBoardId, NoUser, OtherBoard, Size, Upload, UploadGives, UploadRefusal, Uploads, board_after}
+use Rattle.door_upload.specs.Upload.{Again, Broken, Judged, NoBoardId, NoUser, OtherBoard, Size, Upload, UploadGives, UploadRefusal, Uploads, after_upload}
 use Rattle.door_upload.specs.Uploading.{Answers, FindsIn, IsFound, IsKeptFrom, IsNew, LeavesAll, error_of, of_change}
 use Rattle.door_upload.specs.declared.answer.UploadError.{UploadError}
 use Rattle.door_upload.specs.declared.answer.UploadError.TheVariants as error
@@ -103,10 +103,10 @@ module _ (name bytes : List ℕ) (now : ℕ) (h : HeldBoard) where
         by (inl starved) = let one : e ≡ error.OutOfMemory = cc starved in subst (λ (x : UploadError). Answers h.doubtful r (Err x)) (sym one) (memory_answers h.doubtful r)
         by (inr (other, given, kept)) = subst (λ (x : Result Upload UploadRefusal). Answers h.doubtful x (Err e)) (one_upload name bytes now h.board other r given gives) (kept_answers h e other kept)
 
-    pub unprepared_valid : h.doubtful ≡ false → (r : Result Upload UploadRefusal) → UploadGives name bytes now h.board r → IsNew r → (e ≡ error.OutOfMemory) ⊎ IsBoard (board_after h.board r)
+    pub unprepared_valid : h.doubtful ≡ false → (r : Result Upload UploadRefusal) → UploadGives name bytes now h.board r → IsNew r → (e ≡ error.OutOfMemory) ⊎ IsBoard (after_upload h.board r)
     unprepared_valid certain r gives new = by finds
       where
-        by : FindsIn name bytes now h (Err e) → (e ≡ error.OutOfMemory) ⊎ IsBoard (board_after h.board r)
+        by : FindsIn name bytes now h (Err e) → (e ≡ error.OutOfMemory) ⊎ IsBoard (after_upload h.board r)
         by (inl starved) = inl (cc starved)
         by (inr (other, given, inl (why, is, same))) = absurd (subst IsNew (one_upload name bytes now h.board r other gives given ∙ is) new)
         by (inr (other, given, inr (fresh, doubt, same))) = absurd (cc (sym certain ∙ doubt))
@@ -135,8 +135,8 @@ module _ (name bytes : List ℕ) (now : ℕ) (h : HeldBoard) where
     pub again_answers : (r : Result Upload UploadRefusal) → UploadGives name bytes now h.board r → Answers h.doubtful r (Ok (answer.Again counts))
     again_answers r gives = subst (λ (x : Result Upload UploadRefusal). Answers h.doubtful x (Ok (answer.Again counts))) (again_is r gives) (inl refl)
 
-    pub again_board : (r : Result Upload UploadRefusal) → UploadGives name bytes now h.board r → h.board ≡ board_after h.board r
-    again_board r gives = ap (board_after h.board) (again_is r gives)
+    pub again_board : (r : Result Upload UploadRefusal) → UploadGives name bytes now h.board r → h.board ≡ after_upload h.board r
+    again_board r gives = ap (after_upload h.board) (again_is r gives)
 
     pub again_not_new : (r : Result Upload UploadRefusal) → UploadGives name bytes now h.board r → IsNew r → ⊥
     again_not_new r gives new = subst IsNew (sym (again_is r gives)) new
@@ -159,16 +159,16 @@ module _ (name bytes : List ℕ) (now : ℕ) (h : HeldBoard) where
     pub new_certain : h.doubtful ≡ false
     new_certain = (found_is (found.Judged change outcomes) finds given given_is).2.2
 
-    pub new_board : (r : Result Upload UploadRefusal) → UploadGives name bytes now h.board r → changed change h.board ≡ board_after h.board r
-    new_board r gives = ap (board_after h.board) (new_is r gives)
+    pub new_board : (r : Result Upload UploadRefusal) → UploadGives name bytes now h.board r → changed change h.board ≡ after_upload h.board r
+    new_board r gives = ap (after_upload h.board) (new_is r gives)
 
     -- what it writes
-    pub new_kept : (before now_wrote : ℕ) → WritesFew change h.board before now_wrote → (r : Result Upload UploadRefusal) → UploadGives name bytes now h.board r → KeepsBoundOf h.board (board_after h.board r) before now_wrote
+    pub new_kept : (before now_wrote : ℕ) → WritesFew change h.board before now_wrote → (r : Result Upload UploadRefusal) → UploadGives name bytes now h.board r → KeepsBoundOf h.board (after_upload h.board r) before now_wrote
     new_kept before now_wrote few r gives =
         let is = (found_is (found.Judged change outcomes) finds given given_is).2 in
         subst (λ (next : Board). KeepsBoundOf h.board next before now_wrote) (new_board r gives) (posting_keeps change h.board before now_wrote is.3 is.4 is.0 few)
 
-    pub new_valid : (r : Result Upload UploadRefusal) → UploadGives name bytes now h.board r → IsBoard (board_after h.board r)
+    pub new_valid : (r : Result Upload UploadRefusal) → UploadGives name bytes now h.board r → IsBoard (after_upload h.board r)
     new_valid r gives = subst IsBoard (new_board r gives) (fits_board change h.board new_fits)
 
     pub new_answers : (r : Result Upload UploadRefusal) → UploadGives name bytes now h.board r → Answers h.doubtful r (Ok (answer.Judged outcomes))

@@ -87,7 +87,7 @@ abbrev pub UploadGives : List ℕ → List ℕ → ℕ → Board → Result Uplo
 UploadGives name bytes now b result = UploadsAs (user_id name b) bytes now b result
 
 -- the board after it
-abbrev pub board_after : Board → Result Upload UploadRefusal → Board
-board_after b (Ok (Again counts)) = b
-board_after b (Ok (Judged next outcomes)) = next
-board_after b (Err why) = b
+abbrev pub after_upload : Board → Result Upload UploadRefusal → Board
+after_upload b (Ok (Again counts)) = b
+after_upload b (Ok (Judged next outcomes)) = next
+after_upload b (Err why) = b

@@ -10,7 +10,7 @@ ghost use Rattle.mail_board.specs.Causes.{HasFault};
 ghost use Rattle.mail_board.specs.Held.{BeforeOrNext, Follows, Holds, Rests, RestsOn};
 ghost use Rattle.mail_board.specs.Readers.{user_id};
 ghost use Rattle.mail_board.specs.Written.{KeepsBoundOf};
-ghost use Rattle.door_upload.specs.Upload.{UploadGives, board_after};
+ghost use Rattle.door_upload.specs.Upload.{UploadGives, after_upload};
 ghost use Rattle.door_upload.specs.Uploading.{Answers, IsNew, LeavesAll, OfEach};
 
 use crate::answer::{UploadError, Uploaded};
@@ -42,8 +42,8 @@ pub fn upload<H: Host>(
     requires rests { IsTrue H.tells → IsFalse board.old.doubtful → RestsOn board.old.board (H.disk host.old) }
 
     // Whichever board the host holds, a crash at any moment leaves that board or the one after the upload.
-    ensures moments { IsTrue H.tells → IsFalse board.old.doubtful → (b : Boards.Board) → Holds b (H.disk host.old) → (r : _) → UploadGives user.now bytes.now now b r → Between (H.disk host.old) (H.disk host.new) (BeforeOrNext (IsLayout b) (board_after b r) (H.disk host.old)) }
-    ensures now { IsTrue H.tells → IsFalse board.old.doubtful → (b : Boards.Board) → Holds b (H.disk host.old) → (r : _) → UploadGives user.now bytes.now now b r → AllNow (H.disk host.new) (BeforeOrNext (IsLayout b) (board_after b r) (H.disk host.old)) }
+    ensures moments { IsTrue H.tells → IsFalse board.old.doubtful → (b : Boards.Board) → Holds b (H.disk host.old) → (r : _) → UploadGives user.now bytes.now now b r → Between (H.disk host.old) (H.disk host.new) (BeforeOrNext (IsLayout b) (after_upload b r) (H.disk host.old)) }
+    ensures now { IsTrue H.tells → IsFalse board.old.doubtful → (b : Boards.Board) → Holds b (H.disk host.old) → (r : _) → UploadGives user.now bytes.now now b r → AllNow (H.disk host.new) (BeforeOrNext (IsLayout b) (after_upload b r) (H.disk host.old)) }
     ensures settled { IsTrue H.tells → IsFalse board.old.doubtful → IsSettled (H.disk host.new) }
 
     // What the bytes come to, and the answer to that.
@@ -52,15 +52,15 @@ pub fn upload<H: Host>(
     ensures answer { OfEach board.old (λ h. (r : _) → UploadGives user.now bytes.now now h.board r → Answers h.doubtful r result) }
     ensures undamaged { (damage : Damage) → ¬ (result ≡ Err (UploadError.Damaged damage)) }
     ensures unchanged { LeavesAll result → (board.new ≡ board.old) × (host.new ≡ host.old) }
-    ensures board { OnOk result (IsFalse board.old.doubtful → IsBoard board.old.board → (r : _) → UploadGives user.now bytes.now now board.old.board r → Follows (board_after board.old.board r) board.new) }
-    ensures next { OnOk result (IsTrue H.tells → IsFalse board.old.doubtful → (b : Boards.Board) → Holds b (H.disk host.old) → (r : _) → UploadGives user.now bytes.now now b r → Rests (board_after b r) (H.disk host.new)) }
+    ensures board { OnOk result (IsFalse board.old.doubtful → IsBoard board.old.board → (r : _) → UploadGives user.now bytes.now now board.old.board r → Follows (after_upload board.old.board r) board.new) }
+    ensures next { OnOk result (IsTrue H.tells → IsFalse board.old.doubtful → (b : Boards.Board) → Holds b (H.disk host.old) → (r : _) → UploadGives user.now bytes.now now b r → Rests (after_upload b r) (H.disk host.new)) }
     ensures rests { OnOk result (IsTrue H.tells → IsFalse board.old.doubtful → RestsOn board.new.board (H.disk host.new)) }
-    ensures valid { IsFalse board.old.doubtful → OfEach board.old (λ h. (r : _) → UploadGives user.now bytes.now now h.board r → IsNew r → IsErrOf result UploadError.OutOfMemory ⊎ IsBoard (board_after h.board r)) }
+    ensures valid { IsFalse board.old.doubtful → OfEach board.old (λ h. (r : _) → UploadGives user.now bytes.now now h.board r → IsNew r → IsErrOf result UploadError.OutOfMemory ⊎ IsBoard (after_upload h.board r)) }
     ensures fault { IsErrOf result UploadError.DiskFault → board.new ≡ record { board = board.old.board; doubtful = true } }
 
     // Whatever it answers, it writes fewer bytes than twice those by which it enlarges the data files, and 400 for each
     // message that it posts and once more.
-    ensures wrote { IsTrue H.tells → (r : _) → UploadGives user.now bytes.now now board.old.board r → KeepsBoundOf board.old.board (board_after board.old.board r) (H.disk host.old).wrote (H.disk host.new).wrote }
+    ensures wrote { IsTrue H.tells → (r : _) → UploadGives user.now bytes.now now board.old.board r → KeepsBoundOf board.old.board (after_upload board.old.board r) (H.disk host.old).wrote (H.disk host.new).wrote }
 
     ensures disk_cause { HasFault UploadError.DiskFault (H.disk_faults host.old) (H.disk_faults host.new) result }
     ensures voice { H.voice_faults host.new ≡ H.voice_faults host.old }

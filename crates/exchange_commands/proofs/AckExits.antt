@@ -12,7 +12,7 @@ use Rattle.board_layout.specs.Board.{Board}
 use Rattle.board_layout.specs.Layout.{IsLayout}
 use Rattle.board_layout.specs.Valid.{IsBoard}
 use Rattle.door_export.proofs.AckLaws.{ack_board}
-use Rattle.door_export.specs.Ack.{AckRefusal, ack_of, board_after}
+use Rattle.door_export.specs.Ack.{AckRefusal, ack_of, after_ack}
 use Rattle.door_export.specs.Ack as why
 use Rattle.door_export.specs.Acknowledging.{LeavesAll, refusal_in}
 use Rattle.door_export.specs.declared.acknowledging.AckError.{AckError}
@@ -27,7 +27,7 @@ use Rattle.intent_journal.specs.declared.recovery.JournalError.{JournalError}
 use Rattle.intent_journal.specs.declared.recovery.JournalError.TheVariants as journal
 use Rattle.mail_board.specs.Held.{BeforeOrNext, Rests}
 use Rattle.shelf_files.specs.Halts.{refused as says_refusal}
-use Rattle.exchange_commands.specs.Ack.{ack_turn, acknowledged_line, acknowledges, refusal_of, turn_of}
+use Rattle.exchange_commands.specs.Ack.{ack_turn, acknowledged_line, acknowledges, ack_refusal, turn_of}
 use Rattle.exchange_commands.specs.Acknowledging.{halted}
 
 abbrev turns : List ℕ → ℕ → ℕ → Files → Option Board → Turn → Type 0
@@ -35,38 +35,38 @@ turns name packet now files board turn = turn ≡ ack_turn name packet now board
 
 -- what an acknowledgement on a board left, by what it comes to
 pub record Leaves (b : Board) (mid new : Disk) (r : Result Board AckRefusal) (result : Result (Unit {0}) AckError) : Type 0 where
-  pub moments : Between mid new (BeforeOrNext (IsLayout b) (board_after b r) mid)
-  pub now_is : AllNow new (BeforeOrNext (IsLayout b) (board_after b r) mid)
+  pub moments : Between mid new (BeforeOrNext (IsLayout b) (after_ack b r) mid)
+  pub now_is : AllNow new (BeforeOrNext (IsLayout b) (after_ack b r) mid)
   pub settled : IsSettled new
   pub refused_is : refusal_in result ≡ result_err r
   pub certain : result ≢ Err Doubt
   pub same : LeavesAll result → Unchanged mid new
-  pub rests : OnOk result (Rests (board_after b r) new)
+  pub rests : OnOk result (Rests (after_ack b r) new)
 
 module _ (name : List ℕ) (packet now : ℕ) (small : now < 2 ^ 32) (b : Board) (ok : IsBoard b) where
-  next_board : (r : Result Board AckRefusal) → ack_of name packet now b ≡ r → IsBoard (board_after b r)
-  next_board r r_is = subst (λ (r : Result Board AckRefusal). IsBoard (board_after b r)) r_is (ack_board name packet now b small ok)
+  next_board : (r : Result Board AckRefusal) → ack_of name packet now b ≡ r → IsBoard (after_ack b r)
+  next_board r r_is = subst (λ (r : Result Board AckRefusal). IsBoard (after_ack b r)) r_is (ack_board name packet now b small ok)
 
   takes : (files : Files) (r : Result Board AckRefusal) → ack_of name packet now b ≡ r → turns name packet now files (Some b) (turn_of packet b r)
   takes files r r_is = sym (ap (turn_of packet b) r_is)
 
   module _ {world : World State} {old mid : Disk} {shelf : Files} (at : IsAt Stores unread world old shelf) (finds : Finds Stores unread world.state (migrated world.state) old mid (Ok (tt {0}))) (is : migrated world.state ≡ Made b) where
     changes : {new : Disk} (r : Result Board AckRefusal) → ack_of name packet now b ≡ r → (result : Result (Unit {0}) AckError) → Leaves b mid new r result
-        → {T E : Type 0} (part : Result T E) → OnOk part (Rests (board_after b r) new) → Changes Stores unread (migrated world.state) (Made (board_after b r)) mid new part
+        → {T E : Type 0} (part : Result T E) → OnOk part (Rests (after_ack b r) new) → Changes Stores unread (migrated world.state) (Made (after_ack b r)) mid new part
     changes {new} r r_is result leaves part rests =
-        subst (λ (s : State). Changes Stores unread s (Made (board_after b r)) mid new part) (sym is)
-        (changes_to (Made b) (IsLayout b) (λ files laid. (ok, laid)) (board_after b r) (next_board r r_is) part leaves.moments leaves.now_is leaves.settled rests)
+        subst (λ (s : State). Changes Stores unread s (Made (after_ack b r)) mid new part) (sym is)
+        (changes_to (Made b) (IsLayout b) (λ files laid. (ok, laid)) (after_ack b r) (next_board r r_is) part leaves.moments leaves.now_is leaves.settled rests)
 
     -- nothing was changed
     still : {new : Disk} → Unchanged mid new → Finds Stores unread world.state (migrated world.state) old new (Ok (tt {0}))
     still same = found_still Stores at.board (Ok (tt {0})) finds same (λ never. absurd (cc never))
 
-    refused : {new : Disk} → Unchanged mid new → (reason : AckRefusal) → ack_of name packet now b ≡ Err reason → Works Stores (acknowledges name packet now) unread world old new shelf (Ok (says_refusal (refusal_of reason)))
-    refused same reason r_is = answered (turns name packet now) at {board = Some b} (still same) is (refuses (refusal_of reason) (Some b)) (takes world.shelf (Err reason) r_is) refl
+    refused : {new : Disk} → Unchanged mid new → (reason : AckRefusal) → ack_of name packet now b ≡ Err reason → Works Stores (acknowledges name packet now) unread world old new shelf (Ok (says_refusal (ack_refusal reason)))
+    refused same reason r_is = answered (turns name packet now) at {board = Some b} (still same) is (refuses (ack_refusal reason) (Some b)) (takes world.shelf (Err reason) r_is) refl
 
     -- the refusal that was answered is the one that there is
     refused_as : {new : Disk} (reason other : AckRefusal) → Some reason ≡ Some other → ack_of name packet now b ≡ Err other → Unchanged mid new
-        → Works Stores (acknowledges name packet now) unread world old new shelf (Ok (says_refusal (refusal_of reason)))
+        → Works Stores (acknowledges name packet now) unread world old new shelf (Ok (says_refusal (ack_refusal reason)))
     refused_as reason other e r_is same =
         let one : other ≡ reason = cc in
         refused same reason (r_is ∙ ap Err one)

@@ -16,8 +16,8 @@ use Rattle.shelf_files.proofs.Replies.{some_refusal}
 use Rattle.shelf_files.specs.declared.refusal.Refusal.{Refusal}
 use Rattle.shelf_files.specs.declared.refusal.Refusal.TheVariants.{NotMade}
 use Rattle.exchange_commands.proofs.HandingActs.{AreHandings, keeps_handing, lawful_handing}
-use Rattle.exchange_commands.specs.Ack.{ack_turn, acknowledged_line, refusal_of as ack_refusal, turn_of}
-use Rattle.exchange_commands.specs.Export.{export_handing, exports, handing_of, packet_line, refusal_of}
+use Rattle.exchange_commands.specs.Ack.{ack_turn, acknowledged_line, ack_refusal, turn_of}
+use Rattle.exchange_commands.specs.Export.{export_handing, exports, handing_of, packet_line, export_refusal}
 use Rattle.exchange_commands.specs.Handing.{Handing, refuses}
 
 -- ---- export
@@ -43,7 +43,7 @@ refuses_is names why shelf board = record {
 
 module _ (name : List ℕ) (limit : ℕ) (folder : List ℕ) (now : ℕ) where
   handing_is : (shelf : Files) (b : Board) (r : Result Handout ExportRefusal) → IsHanding (folder_names folder) shelf (Some b) (handing_of folder shelf b r)
-  handing_is shelf b (Err why) = refuses_is (folder_names folder) (refusal_of why) shelf (Some b)
+  handing_is shelf b (Err why) = refuses_is (folder_names folder) (export_refusal why) shelf (Some b)
   handing_is shelf b (Ok p) = record {
     says = packet_said p.answer;
     refused_board = λ is. absurd (cc is);

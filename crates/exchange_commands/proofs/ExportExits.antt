@@ -10,7 +10,7 @@ use Rattle.board_layout.specs.Board.{Board}
 use Rattle.board_layout.specs.Layout.{IsLayout}
 use Rattle.board_layout.specs.Valid.{IsBoard}
 use Rattle.door_export.proofs.ExportLaws.{export_board}
-use Rattle.door_export.specs.Export.{ExportRefusal, Handout, board_after, export_of}
+use Rattle.door_export.specs.Export.{ExportRefusal, Handout, after_export, export_of}
 use Rattle.door_export.specs.Export as why
 use Rattle.door_export.specs.Exporting.{KeepsOffer, LeavesAll, refusal_in}
 use Rattle.door_export.specs.Folder.{folder_names, with_packet}
@@ -30,7 +30,7 @@ use Rattle.jam_records.specs.declared.damage.Damage.{Damage}
 use Rattle.mail_board.specs.Held.{BeforeOrNext, Rests}
 use Rattle.shelf_files.specs.Halts.{done, refused as says_refusal}
 use Rattle.exchange_commands.proofs.HandingExits.{answered, cut_short, handed, starved, unchanged}
-use Rattle.exchange_commands.specs.Export.{export_handing, exports, handing_of, packet_line, refusal_of}
+use Rattle.exchange_commands.specs.Export.{export_handing, exports, handing_of, packet_line, export_refusal}
 use Rattle.exchange_commands.specs.Exporting.{halted}
 use Rattle.exchange_commands.specs.Handing.{Handing, refuses}
 
@@ -39,8 +39,8 @@ hands name limit folder now files board h = h ≡ export_handing name limit fold
 
 -- what an export of a board left, by what it comes to
 pub record Leaves (b : Board) (folder : List ℕ) (mid new : Disk) (shelf later : Files) (r : Result Handout ExportRefusal) (result : Result Exported ExportError) : Type 0 where
-  pub moments : Between mid new (BeforeOrNext (IsLayout b) (board_after b r) mid)
-  pub now_is : AllNow new (BeforeOrNext (IsLayout b) (board_after b r) mid)
+  pub moments : Between mid new (BeforeOrNext (IsLayout b) (after_export b r) mid)
+  pub now_is : AllNow new (BeforeOrNext (IsLayout b) (after_export b r) mid)
   pub settled : IsSettled new
   pub refused_is : refusal_in result ≡ result_err r
   pub certain : result ≢ Err Doubt
@@ -50,31 +50,31 @@ pub record Leaves (b : Board) (folder : List ℕ) (mid new : Disk) (shelf later 
   pub files : OnOk result (Some later ≡ option_map (λ p. with_packet folder p.controls p.messages shelf) (result_ok r))
   pub others : IsErrOf result ShelfFault → SameBut (folder_names folder) shelf later
   pub fault : IsErrOf result DiskFault → later ≡ shelf
-  pub rests : KeepsOffer result → Rests (board_after b r) new
+  pub rests : KeepsOffer result → Rests (after_export b r) new
 
 module _ (name : List ℕ) (limit : ℕ) (folder : List ℕ) (now : ℕ) (b : Board) (ok : IsBoard b) where
-  next_board : (r : Result Handout ExportRefusal) → export_of name limit now b ≡ r → IsBoard (board_after b r)
-  next_board r r_is = subst (λ (r : Result Handout ExportRefusal). IsBoard (board_after b r)) r_is (export_board name limit now b ok)
+  next_board : (r : Result Handout ExportRefusal) → export_of name limit now b ≡ r → IsBoard (after_export b r)
+  next_board r r_is = subst (λ (r : Result Handout ExportRefusal). IsBoard (after_export b r)) r_is (export_board name limit now b ok)
 
   takes : (files : Files) (r : Result Handout ExportRefusal) → export_of name limit now b ≡ r → hands name limit folder now files (Some b) (handing_of folder files b r)
   takes files r r_is = sym (ap (handing_of folder files b) r_is)
 
   module _ {world : World State} {old mid : Disk} {shelf : Files} (at : IsAt Stores unread world old shelf) (finds : Finds Stores unread world.state (migrated world.state) old mid (Ok (tt {0}))) (is : migrated world.state ≡ Made b) where
     changes : {new : Disk} {later : Files} (r : Result Handout ExportRefusal) → export_of name limit now b ≡ r → (result : Result Exported ExportError) → Leaves b folder mid new shelf later r result
-        → {T E : Type 0} (part : Result T E) → OnOk part (Rests (board_after b r) new) → Changes Stores unread (migrated world.state) (Made (board_after b r)) mid new part
+        → {T E : Type 0} (part : Result T E) → OnOk part (Rests (after_export b r) new) → Changes Stores unread (migrated world.state) (Made (after_export b r)) mid new part
     changes {new} r r_is result leaves part rests =
-        subst (λ (s : State). Changes Stores unread s (Made (board_after b r)) mid new part) (sym is)
-        (changes_to (Made b) (IsLayout b) (λ files laid. (ok, laid)) (board_after b r) (next_board r r_is) part leaves.moments leaves.now_is leaves.settled rests)
+        subst (λ (s : State). Changes Stores unread s (Made (after_export b r)) mid new part) (sym is)
+        (changes_to (Made b) (IsLayout b) (λ files laid. (ok, laid)) (after_export b r) (next_board r r_is) part leaves.moments leaves.now_is leaves.settled rests)
 
     -- nothing was changed
     still : {new : Disk} → Unchanged mid new → Finds Stores unread world.state (migrated world.state) old new (Ok (tt {0}))
     still same = found_still Stores at.board (Ok (tt {0})) finds same (λ never. absurd (cc never))
 
     refused : {new : Disk} {later : Files} → Unchanged mid new × (later ≡ shelf) → (reason : ExportRefusal) → export_of name limit now b ≡ Err reason
-        → Works Stores (exports name limit folder now) unread world old new later (Ok (says_refusal (refusal_of reason)))
+        → Works Stores (exports name limit folder now) unread world old new later (Ok (says_refusal (export_refusal reason)))
     refused {new} same reason r_is =
-        subst (λ (f : Files). Works Stores (exports name limit folder now) unread world old new f (Ok (says_refusal (refusal_of reason)))) (sym same.1)
-        (answered (folder_names folder) (hands name limit folder now) at {board = Some b} (still same.0) is (refuses (refusal_of reason) world.shelf (Some b)) (takes world.shelf (Err reason) r_is) refl refl)
+        subst (λ (f : Files). Works Stores (exports name limit folder now) unread world old new f (Ok (says_refusal (export_refusal reason)))) (sym same.1)
+        (answered (folder_names folder) (hands name limit folder now) at {board = Some b} (still same.0) is (refuses (export_refusal reason) world.shelf (Some b)) (takes world.shelf (Err reason) r_is) refl refl)
 
     no_memory : {new : Disk} {later : Files} → Unchanged mid new × (later ≡ shelf) → Works Stores (exports name limit folder now) unread world old new later (Err stop.OutOfMemory)
     no_memory {new} same =
@@ -82,7 +82,7 @@ module _ (name : List ℕ) (limit : ℕ) (folder : List ℕ) (now : ℕ) (b : Bo
 
     -- the refusal that was answered is the one that there is
     refused_as : {new : Disk} {later : Files} (reason other : ExportRefusal) → Some reason ≡ Some other → export_of name limit now b ≡ Err other → Unchanged mid new × (later ≡ shelf)
-        → Works Stores (exports name limit folder now) unread world old new later (Ok (says_refusal (refusal_of reason)))
+        → Works Stores (exports name limit folder now) unread world old new later (Ok (says_refusal (export_refusal reason)))
     refused_as reason other e r_is same =
         let one : other ≡ reason = cc in
         refused same reason (r_is ∙ ap Err one)

@@ -5,7 +5,7 @@ use Rattle.board_commands.proofs.KeptLaws.{doubted, next_kept, next_sure, none_k
 use Rattle.board_commands.specs.Kept.{AreSure, IsKept, unless_doubtful}
 use Rattle.board_layout.specs.Valid.{IsBoard}
 use Rattle.door_outside.specs.Disk.{Disk}
-use Rattle.door_upload.specs.Upload.{Upload, UploadRefusal, board_after}
+use Rattle.door_upload.specs.Upload.{Upload, UploadRefusal, after_upload}
 use Rattle.door_upload.specs.Uploading.{LeavesAll}
 use Rattle.door_upload.specs.declared.answer.UploadError.{UploadError}
 use Rattle.door_upload.specs.declared.answer.UploadError.TheVariants.{NoUser, Broken, NoBoardId, OtherBoard, Uploads, Size, DiskFault, Doubt, Damaged, OutOfMemory}
@@ -29,26 +29,26 @@ early_or_fault OutOfMemory = inl tt
 -- the board before, the one that is held after it, and what the bytes come to
 module _ (before after : HeldBoard) (certain : before.doubtful ≡ false) (Gives : Result Upload UploadRefusal → Type 0) where
   -- where it was answered, they come to something
-  follows : (x : Uploaded) → (Ok x ≡ Err OutOfMemory) ⊎ ((r : Result Upload UploadRefusal) × Gives r) → ((r : Result Upload UploadRefusal) → Gives r → Follows (board_after before.board r) after)
-      → (r : Result Upload UploadRefusal) × Follows (board_after before.board r) after
+  follows : (x : Uploaded) → (Ok x ≡ Err OutOfMemory) ⊎ ((r : Result Upload UploadRefusal) × Gives r) → ((r : Result Upload UploadRefusal) → Gives r → Follows (after_upload before.board r) after)
+      → (r : Result Upload UploadRefusal) × Follows (after_upload before.board r) after
   follows x (inl starved) board = absurd (cc starved)
   follows x (inr (r, gives)) board = (r, board r gives)
 
-  pub upload_kept : (result : Result Uploaded UploadError) (disk : Disk) → (result ≡ Err OutOfMemory) ⊎ ((r : Result Upload UploadRefusal) × Gives r) → OnOk result ((r : Result Upload UploadRefusal) → Gives r → Follows (board_after before.board r) after)
+  pub upload_kept : (result : Result Uploaded UploadError) (disk : Disk) → (result ≡ Err OutOfMemory) ⊎ ((r : Result Upload UploadRefusal) × Gives r) → OnOk result ((r : Result Upload UploadRefusal) → Gives r → Follows (after_upload before.board r) after)
       → OnOk result (RestsOn after.board disk) → (LeavesAll result → after ≡ before) → (LeavesAll result → RestsOn before.board disk) → (IsErrOf result DiskFault → after ≡ doubted before) → IsSettled disk → IsKept (unless_doubtful after) disk
   upload_kept (Ok x) disk gives board rests same still fault settled =
       let made = follows x gives board in
-      next_kept before after certain (board_after before.board made.0) disk made.1 rests
+      next_kept before after certain (after_upload before.board made.0) disk made.1 rests
   upload_kept (Err e) disk gives board rests same still fault settled = ⊎_elim
       (λ early. same_kept before after certain disk (same early) (still early))
       (λ is. none_kept before after certain disk (fault (ap Err is)) settled)
       (early_or_fault e)
 
-  pub upload_sure : (result : Result Uploaded UploadError) → IsBoard before.board → (result ≡ Err OutOfMemory) ⊎ ((r : Result Upload UploadRefusal) × Gives r) → OnOk result ((r : Result Upload UploadRefusal) → Gives r → Follows (board_after before.board r) after)
+  pub upload_sure : (result : Result Uploaded UploadError) → IsBoard before.board → (result ≡ Err OutOfMemory) ⊎ ((r : Result Upload UploadRefusal) × Gives r) → OnOk result ((r : Result Upload UploadRefusal) → Gives r → Follows (after_upload before.board r) after)
       → (LeavesAll result → after ≡ before) → (IsErrOf result DiskFault → after ≡ doubted before) → AreSure (unless_doubtful after)
   upload_sure (Ok x) ok gives board same fault =
       let made = follows x gives board in
-      next_sure before after certain (board_after before.board made.0) made.1
+      next_sure before after certain (after_upload before.board made.0) made.1
   upload_sure (Err e) ok gives board same fault = ⊎_elim
       (λ early. same_sure before after certain (same early) ok)
       (λ is. none_sure before after certain (fault (ap Err is)))

@@ -13,7 +13,7 @@ use Rattle.mail_board.specs.Readers.{user_id}
 use Rattle.shelf_files.specs.ShelfFile.{file_of, rep_limit}
 use Rattle.shelf_files.specs.declared.refusal.Refusal.{Refusal}
 use Rattle.shelf_files.specs.declared.refusal.Refusal.TheVariants.{NotMade, NoUser}
-use Rattle.exchange_commands.specs.Upload.{Uploads, UploadsFile, UploadsRead, outcome_lines, refusal_of, tally, turn_of, uploaded_text}
+use Rattle.exchange_commands.specs.Upload.{Uploads, UploadsFile, UploadsRead, outcome_lines, upload_refusal, tally, turn_of, uploaded_text}
 
 some_behind : (front back : List ℕ) → back ≢ [] → front ++ back ≢ []
 some_behind [] back some is = some is
@@ -25,7 +25,7 @@ uploaded_some (answer.Again counts) is = absurd (cc is)
 uploaded_some (answer.Judged outcomes) is = some_behind (outcome_lines 1 outcomes) (tally outcomes) (λ none. cc none) is
 
 turned_is : (b : Board) (r : Result Upload UploadRefusal) → IsTurn (Some b) (turn_of b r)
-turned_is b (Err why) = refuses_is (refusal_of why) (Some b)
+turned_is b (Err why) = refuses_is (upload_refusal why) (Some b)
 turned_is b (Ok (Again counts)) = record { says = uploaded_some (answer.Again counts); refused = λ is. absurd (cc is); undamaged = λ is. absurd (cc is) }
 turned_is b (Ok (Judged next outcomes)) = record { says = uploaded_some (answer.Judged outcomes); refused = λ is. absurd (cc is); undamaged = λ is. absurd (cc is) }
 

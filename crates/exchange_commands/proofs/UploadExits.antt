@@ -14,7 +14,7 @@ use Rattle.board_layout.specs.Layout.{IsLayout}
 use Rattle.board_layout.specs.Valid.{IsBoard}
 use Rattle.door_outside.specs.Disk.{Disk, AllNow, Between, Unchanged}
 use Rattle.door_outside.specs.Shelf as Shelf
-use Rattle.door_upload.specs.Upload.{Upload, UploadRefusal, UploadsFor, board_after}
+use Rattle.door_upload.specs.Upload.{Upload, UploadRefusal, UploadsFor, after_upload}
 use Rattle.door_upload.specs.Upload as upload
 use Rattle.door_upload.specs.Uploading.{Answers, IsNew, LeavesAll, error_of}
 use Rattle.door_upload.specs.declared.answer.UploadError.{UploadError}
@@ -37,18 +37,18 @@ use Rattle.shelf_files.specs.declared.halt.Halt.{Halt}
 use Rattle.shelf_files.specs.declared.halt.Halt.TheVariants as halt
 use Rattle.shelf_files.specs.declared.refusal.Refusal.{Refusal}
 use Rattle.shelf_files.specs.declared.refusal.Refusal.TheVariants.{NoUser}
-use Rattle.exchange_commands.specs.Upload.{Uploads, UploadsFile, UploadsRead, refusal_of, turn_of, uploaded_text, uploads}
+use Rattle.exchange_commands.specs.Upload.{Uploads, UploadsFile, UploadsRead, upload_refusal, turn_of, uploaded_text, uploads}
 use Rattle.exchange_commands.specs.Uploading.{halted}
 
 -- what an upload to a board in no doubt left, by what the bytes come to
 pub record Leaves (b : Board) (mid new : Disk) (r : Result Upload UploadRefusal) (result : Result Uploaded UploadError) : Type 0 where
-  pub moments : Between mid new (BeforeOrNext (IsLayout b) (board_after b r) mid)
-  pub now_is : AllNow new (BeforeOrNext (IsLayout b) (board_after b r) mid)
+  pub moments : Between mid new (BeforeOrNext (IsLayout b) (after_upload b r) mid)
+  pub now_is : AllNow new (BeforeOrNext (IsLayout b) (after_upload b r) mid)
   pub settled : IsSettled new
   pub answers : Answers false r result
   pub same : LeavesAll result → Unchanged mid new
-  pub rests : OnOk result (Rests (board_after b r) new)
-  pub valid : IsNew r → IsErrOf result OutOfMemory ⊎ IsBoard (board_after b r)
+  pub rests : OnOk result (Rests (after_upload b r) new)
+  pub valid : IsNew r → IsErrOf result OutOfMemory ⊎ IsBoard (after_upload b r)
 
 -- what an answer has with it
 pub on_ok : {T E P Q : Type 0} (result : Result T E) → (P → Q) → OnOk result P → OnOk result Q
@@ -60,7 +60,7 @@ some_is None some = absurd (cc some)
 some_is (Some n) some = (n, refl)
 
 -- a refusal is told as one, and leaves all
-refused_told : (why : UploadRefusal) → told uploaded_text (halted (Err (error_of why))) ≡ Ok (says_refusal (refusal_of why))
+refused_told : (why : UploadRefusal) → told uploaded_text (halted (Err (error_of why))) ≡ Ok (says_refusal (upload_refusal why))
 refused_told upload.NoUser = refl
 refused_told (upload.Broken fault) = refl
 refused_told upload.NoBoardId = refl

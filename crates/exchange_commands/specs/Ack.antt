@@ -15,14 +15,14 @@ abbrev pub acknowledged_line : ℕ → List ℕ
 acknowledged_line packet = codes "acknowledged " ++ (decimal packet ++ codes "\n")
 
 -- the refusal of the command
-abbrev pub refusal_of : AckRefusal → Refusal
-refusal_of why.NoUser = NoUser
-refusal_of (why.NoPacket offer) = NoPacket offer
+abbrev pub ack_refusal : AckRefusal → Refusal
+ack_refusal why.NoUser = NoUser
+ack_refusal (why.NoPacket offer) = NoPacket offer
 
 -- the packet is acknowledged, unless that is refused
 abbrev pub turn_of : ℕ → Board → Result Board AckRefusal → Turn
 turn_of packet b (Ok next) = record { board = Some next; reply = done (acknowledged_line packet) }
-turn_of packet b (Err refusal) = refuses (refusal_of refusal) (Some b)
+turn_of packet b (Err refusal) = refuses (ack_refusal refusal) (Some b)
 
 abbrev pub ack_turn : List ℕ → ℕ → ℕ → Option Board → Turn
 ack_turn name packet now None = refuses NotMade None

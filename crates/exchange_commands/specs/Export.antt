@@ -18,10 +18,10 @@ abbrev pub packet_line : Exported → List ℕ
 packet_line e = codes "packet " ++ (decimal e.packet ++ (codes ": " ++ (decimal e.count ++ codes " messages\n")))
 
 -- the refusal of the command
-abbrev pub refusal_of : ExportRefusal → Refusal
-refusal_of why.NoUser = NoUser
-refusal_of why.Limit = Limit
-refusal_of why.Packets = Packets
+abbrev pub export_refusal : ExportRefusal → Refusal
+export_refusal why.NoUser = NoUser
+export_refusal why.Limit = Limit
+export_refusal why.Packets = Packets
 
 -- the packet is handed out into the folder, unless it is refused
 abbrev pub handing_of : List ℕ → Files → Board → Result Handout ExportRefusal → Handing
@@ -30,7 +30,7 @@ handing_of folder shelf b (Ok p) = record {
   shelf = with_packet folder p.controls p.messages shelf;
   reply = done (packet_line p.answer);
 }
-handing_of folder shelf b (Err refusal) = refuses (refusal_of refusal) shelf (Some b)
+handing_of folder shelf b (Err refusal) = refuses (export_refusal refusal) shelf (Some b)
 
 abbrev pub export_handing : List ℕ → ℕ → List ℕ → ℕ → Files → Option Board → Handing
 export_handing name limit folder now shelf None = refuses NotMade shelf None

@@ -41,19 +41,19 @@ uploaded_text (Judged outcomes) = outcome_lines 1 outcomes ++ tally outcomes
 
 -- ---- the turn
 -- the refusal of the command
-abbrev pub refusal_of : UploadRefusal → Refusal
-refusal_of upload.NoUser = refusal.NoUser
-refusal_of (upload.Broken fault) = refusal.Broken fault
-refusal_of upload.NoBoardId = refusal.NoBoardId
-refusal_of upload.OtherBoard = refusal.OtherBoard
-refusal_of upload.Uploads = refusal.Uploads
-refusal_of (upload.Size bytes) = refusal.Size bytes
+abbrev pub upload_refusal : UploadRefusal → Refusal
+upload_refusal upload.NoUser = refusal.NoUser
+upload_refusal (upload.Broken fault) = refusal.Broken fault
+upload_refusal upload.NoBoardId = refusal.NoBoardId
+upload_refusal upload.OtherBoard = refusal.OtherBoard
+upload_refusal upload.Uploads = refusal.Uploads
+upload_refusal (upload.Size bytes) = refusal.Size bytes
 
 -- the packet is taken in, or was before, unless that is refused
 abbrev pub turn_of : Board → Result Upload UploadRefusal → Turn
 turn_of b (Ok (upload.Again counts)) = record { board = Some b; reply = done (uploaded_text (Again counts)) }
 turn_of b (Ok (upload.Judged next outcomes)) = record { board = Some next; reply = done (uploaded_text (Judged outcomes)) }
-turn_of b (Err why) = refuses (refusal_of why) (Some b)
+turn_of b (Err why) = refuses (upload_refusal why) (Some b)
 
 -- the bytes of the file, or why there are none
 abbrev pub UploadsRead : ℕ → ℕ → Board → Result (List ℕ) Refusal → Turn → Type 0

@@ -8,7 +8,7 @@ use Rattle.std.specs.Str.Lines.{lines}
 use Rattle.adopt_commands.specs.Adopt.{adopt_turn}
 use Rattle.board_commands.specs.Check.{checked}
 use Rattle.board_commands.specs.Damages.{damaged}
-use Rattle.board_commands.specs.Enroll.{Enrolls, enroll_turn, is_net}
+use Rattle.board_commands.specs.Enroll.{Enrolls, enroll_turn, is_net_flag}
 use Rattle.board_commands.specs.Init.{BreaksSetup, Inits, SetupOf}
 use Rattle.board_commands.specs.State.{State, NotMade, Made, Old, Spoiled, Stores, state_of}
 use Rattle.board_commands.specs.Turns.{Turn, on_board}
@@ -352,7 +352,7 @@ outcome_of now (Run (command.Batch file)) can state shelf has = absurd can
 outcome_of now (Run command.Check) can state shelf has = some_turn (λ shelf board turn. turn ≡ checked board) (λ shelf board. (checked board, refl)) state shelf has
 outcome_of now (Run (command.Compose folder conference sheet rep)) can state shelf has =
     some_write rep (ComposeMakes folder conference sheet rep now) (composed_line rep) (some_composed folder conference sheet rep now) (here state shelf)
-outcome_of now (Run (command.Enroll name flags conferences)) can state shelf has = some_turn (λ shelf. Enrolls name flags conferences) (λ shelf board. (enroll_turn name (is_net flags) can.0 board, (can.0, can.1, refl))) state shelf has
+outcome_of now (Run (command.Enroll name flags conferences)) can state shelf has = some_turn (λ shelf. Enrolls name flags conferences) (λ shelf board. (enroll_turn name (is_net_flag flags) can.0 board, (can.0, can.1, refl))) state shelf has
 outcome_of now (Run (command.Export user limit folder)) can state shelf has =
     some_handing (folder_names folder) (λ shelf board handing. handing ≡ export_handing user limit folder now shelf board) (λ shelf board. (export_handing user limit folder now shelf board, refl)) state shelf has
 outcome_of now (Run (command.Import conference file)) can state shelf has = some_turn (Imports conference file now) (some_import conference file now) state shelf has

@@ -18,7 +18,7 @@ use Rattle.jam_layout.specs.Fields.{is_text}
 use Rattle.jam_layout.specs.Marks.{is_net}
 use Rattle.jam_records.specs.declared.message.Kind.{Kind}
 use Rattle.jam_records.specs.declared.message.Message.{Message}
-use Rattle.shelf_files.specs.Sheets.{AreEntries}
+use Rattle.shelf_files.specs.Sheets.{AreSheets}
 use Rattle.slot_changes.proofs.ValueLaws.{tested_holds}
 use Rattle.slot_changes.specs.Values.{IsTyped, MayHold, has_right_texts, is_empty_or, is_right_body}
 use Rattle.message_commands.specs.Import.{imported_message}
@@ -131,7 +131,7 @@ all_hold kind now all (entry ∷ entries) are typed =
     let others : List Message = map (imported_message kind now) entries in
     All-cons (MayHold kind) m others (entry_holds kind now entry (entry_fits are.1 entry are.5) (All-head IsTyped m others typed)) (all_hold kind now are.2 entries are.6 (All-tail IsTyped m others typed))
 
-pub entries_hold : (kind : Kind) (now : ℕ) (entries : List Sheet) → AreEntries entries → All IsTyped (map (imported_message kind now) entries) → All (MayHold kind) (map (imported_message kind now) entries)
+pub entries_hold : (kind : Kind) (now : ℕ) (entries : List Sheet) → AreSheets entries → All IsTyped (map (imported_message kind now) entries) → All (MayHold kind) (map (imported_message kind now) entries)
 entries_hold kind now entries read typed = all_hold kind now (lines read.0) entries read.2 typed
 
 -- one entry more is moved

@@ -11,7 +11,7 @@ use Rattle.import_sheet.specs.declared.sheet.Sheet.{Sheet}
 use Rattle.jam_records.specs.declared.message.Message.{Message}
 use Rattle.mail_board.specs.Changes.{Fits}
 use Rattle.mail_board.specs.declared.change.Change.TheVariants.{Append}
-use Rattle.shelf_files.specs.Sheets.{AreEntries}
+use Rattle.shelf_files.specs.Sheets.{AreSheets}
 use Rattle.shelf_files.specs.declared.refusal.Refusal.{Refusal}
 use Rattle.shelf_files.specs.declared.refusal.Refusal.TheVariants.{Slots, Size}
 use Rattle.slot_changes.specs.Changed.{appended}
@@ -52,7 +52,7 @@ short_files place b messages none =
 
 module _ (now place : ℕ) (b : Board) (entries : List Sheet) (messages : List Message) (made : messages ≡ imported_messages now place b entries) where
   -- ---- the change
-  module _ (ok : IsBoard b) (within : place < length b.conferences) (read : AreEntries entries) (typed : All IsTyped messages) (few : SlotsTold place b messages None) where
+  module _ (ok : IsBoard b) (within : place < length b.conferences) (read : AreSheets entries) (typed : All IsTyped messages) (few : SlotsTold place b messages None) where
     may : All (MayHold (kind_of place b)) messages
     may = subst (All (MayHold (kind_of place b))) (sym made) (entries_hold (kind_of place b) now entries read (subst (All IsTyped) made typed))
 

@@ -28,7 +28,7 @@ use Rattle.message_commands.proofs.DrawLaws.{drawn_below}
 use Rattle.message_commands.proofs.LastSlots.{last_kept, last_posted}
 use Rattle.message_commands.proofs.SampleLists.{next_post, no_msgids, place_within, posts_count}
 use Rattle.message_commands.specs.Draws.{draws_of}
-use Rattle.message_commands.specs.Sample.{last_msgid, line_of, recipient_name, repeated, sampled_posts, subject_of}
+use Rattle.message_commands.specs.Sample.{last_msgid, body_line, recipient_name, repeated, sampled_posts, subject_of}
 use Rattle.setup_file.specs.Texts.{has_bare_ends, is_name_byte, is_user_name}
 use Rattle.setup_file.specs.declared.conference.Conference.{Conference as SetupConference}
 use Rattle.slot_changes.proofs.ValueLaws.{tested_holds}
@@ -127,10 +127,10 @@ subject_text number few =
 abbrev line_start : ℕ → ℕ → List ℕ
 line_start seed number = codes "Line " ++ (decimal number ++ (codes " of seed " ++ decimal seed))
 
-line_ended : (seed number : ℕ) → line_of seed number ≡ line_start seed number ++ 13 ∷ []
+line_ended : (seed number : ℕ) → body_line seed number ≡ line_start seed number ++ 13 ∷ []
 line_ended seed number = simp append_assoc
 
-line_short : (seed number : ℕ) → seed < 2 ^ 32 → number ≤ 5000 → length (line_of seed number) ≤ 64
+line_short : (seed number : ℕ) → seed < 2 ^ 32 → number ≤ 5000 → length (body_line seed number) ≤ 64
 line_short seed number small few =
     let a = length-decimal-le 4 number (omega arith) (omega (arith, few)) (omega (arith, few)) in
     let d = length-decimal-le 10 seed (omega arith) (omega (arith, small)) (omega (arith, small)) in
@@ -169,9 +169,9 @@ unfolding is_right_body Ends
 body_right body short (inl none) = or_left (eqb (length body) 0) _ (eq-eqb (length body) 0 none)
 body_right body short (inr last) = or_right (eqb (length body) 0) _ (and_from (leb (length body) 16384) (eqb (get_or body (length body - 1) 0) 13) (le-leb (length body) 16384 short) (eq-eqb (get_or body (length body - 1) 0) 13 last))
 
-body_is : (seed number lines : ℕ) → seed < 2 ^ 32 → number ≤ 5000 → lines ≤ 8 → is_right_body (repeated (line_of seed number) lines) ≡ true
+body_is : (seed number lines : ℕ) → seed < 2 ^ 32 → number ≤ 5000 → lines ≤ 8 → is_right_body (repeated (body_line seed number) lines) ≡ true
 body_is seed number lines small few short =
-    body_right (repeated (line_of seed number) lines) (let whole = lines_short (line_of seed number) lines (line_short seed number small few) in omega (arith, whole, short)) (lines_end (line_of seed number) (line_start seed number) lines (line_ended seed number))
+    body_right (repeated (body_line seed number) lines) (let whole = lines_short (body_line seed number) lines (line_short seed number small few) in omega (arith, whole, short)) (lines_end (body_line seed number) (line_start seed number) lines (line_ended seed number))
 
 -- ---- the message
 private_enough : (net : Bool) → (net || not net) ≡ true

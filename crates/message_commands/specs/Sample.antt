@@ -38,8 +38,8 @@ abbrev pub subject_of : ℕ → List ℕ
 subject_of number = codes "Sample " ++ decimal number
 
 -- a line of the message of a number, as it is stored
-abbrev pub line_of : ℕ → ℕ → List ℕ
-line_of seed number = codes "Line " ++ (decimal number ++ (codes " of seed " ++ (decimal seed ++ 0x0D ∷ [])))
+abbrev pub body_line : ℕ → ℕ → List ℕ
+body_line seed number = codes "Line " ++ (decimal number ++ (codes " of seed " ++ (decimal seed ++ 0x0D ∷ [])))
 
 -- a line so many times
 abbrev pub repeated : List ℕ → ℕ → List ℕ
@@ -56,7 +56,7 @@ sampled_message seed now number d b = record {
   replyid = replyid_of d b;
   origin = [];
   destination = [];
-  body = repeated (line_of seed number) d.lines;
+  body = repeated (body_line seed number) d.lines;
   written = 1000000000 + number;
   received = 0;
   processed = now;

@@ -10,7 +10,7 @@ ghost use Rattle.entry_runs.specs.Door.{World};
 ghost use Rattle.entry_runs.specs.Entry.{IsAt, Works};
 ghost use Rattle.entry_runs.specs.Promise.{counts, ended, HasCauses};
 ghost use Rattle.intent_journal.specs.Journal.{IsClosed};
-ghost use Rattle.shelf_files.specs.Sheets.{AreEntries};
+ghost use Rattle.shelf_files.specs.Sheets.{AreSheets};
 ghost use Rattle.shelf_files.specs.declared.refusal.Refusal.TheVariants.{Slots};
 ghost use Rattle.message_commands.specs.Import.{imported_line, imports, slot_count};
 ghost use Rattle.message_commands.specs.Importing.{MayImport};
@@ -58,7 +58,7 @@ fn prepared(
 ) -> Result<Importing, BoardHalt>
     requires board { IsBoard board.now.board }
     requires place { place < length board.now.board.conferences }
-    requires read { AreEntries entries }
+    requires read { AreSheets entries }
     ensures { (conference : ℕ) → MayImport conference now place entries board.now.board result }
 {
     let messages = messages_of(alloc, kind_in(board, place), now, entries)?;

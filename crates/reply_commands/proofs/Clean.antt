@@ -26,7 +26,7 @@ use Rattle.qwk_blocks.specs.declared.message.Header.{Header}
 use Rattle.qwk_blocks.specs.declared.message.QwkMessage.{QwkMessage}
 use Rattle.qwk_control.specs.Line.{IsId}
 use Rattle.qwk_control.specs.declared.control.Control.{Control}
-use Rattle.shelf_files.specs.Sheets.{AreEntries}
+use Rattle.shelf_files.specs.Sheets.{AreSheets}
 
 -- ---- messages of a packet
 number_fits : (field : List ℕ) (number : Option ℕ) → HasNumber 2 7 field number → unwrap_or number 0 ≤ 99999999
@@ -86,7 +86,7 @@ all_clean conference all [] are = All-nil (λ (entry : Sheet). IsClean (entry_en
 all_clean conference all (entry ∷ entries) are =
     All-cons (λ (e : Sheet). IsClean (entry_envelope conference e)) entry entries (entry_clean conference are.1 entry are.5) (all_clean conference are.2 entries are.6)
 
-pub entries_clean : (conference : ℕ) (entries : List Sheet) → AreEntries entries → All (λ entry. IsClean (entry_envelope conference entry)) entries
+pub entries_clean : (conference : ℕ) (entries : List Sheet) → AreSheets entries → All (λ entry. IsClean (entry_envelope conference entry)) entries
 entries_clean conference entries read = all_clean conference (lines read.0) entries read.2
 
 -- each entry has a line of its own at least
@@ -103,5 +103,5 @@ few_entries all (entry ∷ entries) are =
       length-append are.5.headers ([] ∷ (are.5.body ++ (46 ∷ []) ∷ [])),
     )
 
-pub entries_few : (entries : List Sheet) → AreEntries entries → length entries < 4294967295
+pub entries_few : (entries : List Sheet) → AreSheets entries → length entries < 4294967295
 entries_few entries read = omega (arith, few_entries (lines read.0) entries read.2, lines_numbered read.0 (omega (arith, read.1)))

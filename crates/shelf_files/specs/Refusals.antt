@@ -47,9 +47,9 @@ setup_word setup.Many = codes "many"
 setup_word setup.Missing = codes "missing"
 
 -- the line that names the open packet with the greatest number, if one is open
-abbrev pub packet_line : Option ℕ → List ℕ
-packet_line None = line_of (codes "nopacket ") (codes "none")
-packet_line (Some packet) = line_of (codes "nopacket ") (decimal packet)
+abbrev pub nopacket_line : Option ℕ → List ℕ
+nopacket_line None = line_of (codes "nopacket ") (codes "none")
+nopacket_line (Some packet) = line_of (codes "nopacket ") (decimal packet)
 
 -- one line for each refusal
 abbrev pub refusal_line : Refusal → List ℕ
@@ -74,7 +74,7 @@ refusal_line Users = line_of (codes "users") []
 refusal_line NoUser = line_of (codes "nouser") []
 refusal_line Limit = line_of (codes "limit") []
 refusal_line Packets = line_of (codes "packets") []
-refusal_line (NoPacket packet) = packet_line packet
+refusal_line (NoPacket packet) = nopacket_line packet
 refusal_line Uploads = line_of (codes "uploads 100000") []
 refusal_line Count = line_of (codes "count") []
 refusal_line (Setup line rule) = ruled_line (codes "setup ") line (setup_word rule)

@@ -32,5 +32,5 @@ abbrev pub SheetOf : Files → List ℕ → Result (List Sheet) Refusal → Type
 SheetOf shelf name read = ReadAs SheetReads SheetBreaks sheet_refusal (file_of shelf name file_limit) read
 
 -- what was read of the bytes of some file
-abbrev pub AreEntries : List Sheet → Type 0
-AreEntries entries = (bytes : List ℕ) × (length bytes ≤ file_limit) × SheetReads bytes entries
+abbrev pub AreSheets : List Sheet → Type 0
+AreSheets entries = (bytes : List ℕ) × (length bytes ≤ file_limit) × SheetReads bytes entries

@@ -1,5 +1,5 @@
 ghost use Rattle.std.specs.Prelude.{◌≡◌};
-ghost use Rattle.shelf_files.specs.Refusals.{packet_line, said_line, setup_word as setup_word_of};
+ghost use Rattle.shelf_files.specs.Refusals.{nopacket_line, said_line, setup_word as setup_word_of};
 
 use crate::said::Said;
 use door_outside::{Host, ShelfName, VoiceFault};
@@ -92,7 +92,7 @@ fn setup_word(rule: SetupRule) -> &'static [u8]
 
 /// What is said of the open packet with the greatest number, or that none is open.
 fn packet_said(packet: Option<u32>) -> Said<'static>
-    ensures { said_line result ≡ packet_line packet }
+    ensures { said_line result ≡ nopacket_line packet }
 {
     match packet {
         None => Said::Name(b"nopacket ", b"none"),

@@ -1,7 +1,7 @@
 //! The sheet under a name.
 ghost use Rattle.std.specs.Prelude.{◌≡◌, IsTrue, IfOk};
 ghost use Rattle.shelf_files.specs.Halts.{Comes, ShelfCauses};
-ghost use Rattle.shelf_files.specs.Sheets.{SheetOf, AreEntries, sheet_halt};
+ghost use Rattle.shelf_files.specs.Sheets.{SheetOf, AreSheets, sheet_halt};
 
 use crate::halt::Halt;
 use crate::refusal::Refusal;
@@ -23,7 +23,7 @@ fn halt_of(error: SheetError) -> Halt
 /// The entries of the sheet under a name, refused where it isn't there, is too long or has a fault.
 pub fn sheet_in<S: Shelf>(alloc: Global, shelf: &mut S, name: &ShelfName) -> Result<Sheets, Halt>
     ensures sheet { IsTrue S.tells → Comes result (SheetOf (S.files shelf.old) name.now) }
-    ensures read { IfOk result AreEntries }
+    ensures read { IfOk result AreSheets }
     ensures unchanged { IsTrue S.tells → S.files shelf.new ≡ S.files shelf.old }
     ensures causes { ShelfCauses (S.faults shelf.old) (S.faults shelf.new) result }
 {

@@ -4,7 +4,7 @@ use Rattle.command_words.specs.Choice.{ChoiceReads, places_from}
 use Rattle.command_words.specs.declared.choice.Choice.{Choice}
 use Rattle.mail_board.specs.declared.change.Change.TheVariants.{Enroll}
 use Rattle.mail_board.specs.declared.loading.Loaded.TheVariants.{Ready}
-use Rattle.board_commands.specs.Enroll.{enroll_refusals, first_refusal, is_net}
+use Rattle.board_commands.specs.Enroll.{enroll_refusals, first_refusal, is_net_flag}
 use Rattle.board_commands.specs.Kept.{kept_board}
 use Rattle.board_commands.proofs.EnrollAlike.{may_alike, none_made, refused_alike}
 use Rattle.board_commands.proofs.enrollment.prepared.Goals as goal
@@ -29,7 +29,7 @@ returns c board like =
     let choice : Choice = c.in-Some.choice in
     let here : c.args.kept.now ≡ Some (Ready c.in-Some-Ready.board) = search rules in
     let reads : ChoiceReads c.args.conferences.now choice = search rules in
-    let none : first_refusal (enroll_refusals c.args.name.now (is_net c.args.flags.now) choice held) ≡ None =
+    let none : first_refusal (enroll_refusals c.args.name.now (is_net_flag c.args.flags.now) choice held) ≡ None =
     ap (λ (n : Bool). first_refusal (enroll_refusals c.args.name.now n choice held)) (sym c.is_net-net.ensures) ∙ (sym c.refusal_of.ensures ∙ c.in_default-refusal_of.is) in
     may_alike c.args.name.now c.args.flags.now c.args.conferences.now choice reads held (kept_board c.args.kept.now) (ap kept_board here)
     (record { change = c.in_ok-change.change; user = record { id = c.user_count.result + 1; name = c.in_ok-from_slice.field-0 } }) none

@@ -3,7 +3,7 @@ use Rattle.std.proofs.lemmas.List.{append-nil, drop_all}
 use Rattle.entry_runs.proofs.Running.{next_entry}
 use Rattle.board_layout.specs.Board.{Board}
 use Rattle.setup_file.specs.declared.conference.Conference.{Conference as SetupConference}
-use Rattle.board_commands.specs.Check.{conference_lines, tally}
+use Rattle.board_commands.specs.Check.{conference_lines, slots_text}
 use Rattle.board_commands.proofs.ReportLaws.{lines_more, place_within}
 use Rattle.board_commands.proofs.report.add_conferences.Goals as goal
 
@@ -27,7 +27,7 @@ loop-place-preserved c =
     let live : ℕ = c.live_count.result in
     let rest : List ℕ = conference_lines (drop (place + 1) named) (drop (place + 1) b.conferences) in
     record {
-      lines = ap (λ (text : List ℕ). text ++ rest) (c.in_ok-add_tally.ensures ∙ ap (λ (text : List ℕ). text ++ tally slots live) c.in_ok-add_label.ensures)
+      lines = ap (λ (text : List ℕ). text ++ rest) (c.in_ok-add_tally.ensures ∙ ap (λ (text : List ℕ). text ++ slots_text slots live) c.in_ok-add_label.ensures)
           ∙ (lines_more named b.conferences place slots live one c.loop-place.text next (place_within b place c.setup.ensures.valid below) c.slot_count.ensures c.live_count.ensures
           ∙ c.loop-place.invariant.lines);
       all = c.loop-place.invariant.all;

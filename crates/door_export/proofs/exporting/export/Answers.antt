@@ -8,13 +8,13 @@ use Rattle.mail_board.specs.Held.{BeforeOrNext, Follows, HeldBoard, Rests, Rests
 use Rattle.mail_board.specs.declared.change.ChangeError.{ChangeError}
 use Rattle.door_export.proofs.ExportLaws.{kept_never, undone, undone_sure}
 use Rattle.door_export.proofs.FetchLaws.{behind_moments, behind_now, fetched_now}
-use Rattle.door_export.specs.Export.{board_after, export_of}
+use Rattle.door_export.specs.Export.{after_export, export_of}
 use Rattle.door_export.specs.Exporting.{of_change}
 use Rattle.door_export.proofs.exporting.export.Goals as goal
 
 pub returns-in_err-exporting-clause-now : goal.returns-in_err-exporting-clause-now
 returns-in_err-exporting-clause-now g c = λ tells certain b holds.
-    fetched_now b (board_after b (export_of c.args.user.now c.args.limit c.args.now b)) (g.H.Host.disk c.args.host.now) (g.H.Host.disk c.prepared.new.host) holds (c.prepared.ensures.unchanged tells)
+    fetched_now b (after_export b (export_of c.args.user.now c.args.limit c.args.now b)) (g.H.Host.disk c.args.host.now) (g.H.Host.disk c.prepared.new.host) holds (c.prepared.ensures.unchanged tells)
 
 pub returns-in_err-exporting-clause-rests : goal.returns-in_err-exporting-clause-rests
 returns-in_err-exporting-clause-rests g c = λ tells certain still.
@@ -22,7 +22,7 @@ returns-in_err-exporting-clause-rests g c = λ tells certain still.
 
 pub returns-in_err-names-clause-now : goal.returns-in_err-names-clause-now
 returns-in_err-names-clause-now g c = λ tells certain b holds.
-    fetched_now b (board_after b (export_of c.args.user.now c.args.limit c.args.now b)) (g.H.Host.disk c.args.host.now) (g.H.Host.disk c.prepared.new.host) holds (c.prepared.ensures.unchanged tells)
+    fetched_now b (after_export b (export_of c.args.user.now c.args.limit c.args.now b)) (g.H.Host.disk c.args.host.now) (g.H.Host.disk c.prepared.new.host) holds (c.prepared.ensures.unchanged tells)
 
 pub returns-in_err-names-clause-rests : goal.returns-in_err-names-clause-rests
 returns-in_err-names-clause-rests g c = λ tells certain still.
@@ -38,7 +38,7 @@ returns-in_err-change-clause-moments g c = λ tells certain b holds.
     let mid = g.H.Host.disk c.prepared.new.host in
     let new = g.H.Host.disk c.change.new.host in
     let same = c.prepared.ensures.unchanged tells in
-    let next = ap (board_after b) (c.in_ok-exporting.ensures.packet tells b holds) in
+    let next = ap (after_export b) (c.in_ok-exporting.ensures.packet tells b holds) in
     subst (λ (n : Board). Between old new (BeforeOrNext (IsLayout b) n old)) next
     (behind_moments b (changed c.in_ok-exporting.exporting.change b) old mid new same (c.change.ensures.moments tells certain b (holds_still b old mid same holds)))
 
@@ -48,7 +48,7 @@ returns-in_err-change-clause-now g c = λ tells certain b holds.
     let mid = g.H.Host.disk c.prepared.new.host in
     let new = g.H.Host.disk c.change.new.host in
     let same = c.prepared.ensures.unchanged tells in
-    let next = ap (board_after b) (c.in_ok-exporting.ensures.packet tells b holds) in
+    let next = ap (after_export b) (c.in_ok-exporting.ensures.packet tells b holds) in
     subst (λ (n : Board). AllNow new (BeforeOrNext (IsLayout b) n old)) next
     (behind_now b (changed c.in_ok-exporting.exporting.change b) old mid new same (c.change.ensures.now tells certain b (holds_still b old mid same holds)))
 
@@ -58,7 +58,7 @@ returns-in-Ok-clause-moments g c = λ tells certain b holds.
     let mid = g.H.Host.disk c.prepared.new.host in
     let new = g.H.Host.disk c.change.new.host in
     let same = c.prepared.ensures.unchanged tells in
-    let next = ap (board_after b) (c.in_ok-exporting.ensures.packet tells b holds) in
+    let next = ap (after_export b) (c.in_ok-exporting.ensures.packet tells b holds) in
     subst (λ (n : Board). Between old new (BeforeOrNext (IsLayout b) n old)) next
     (behind_moments b (changed c.in_ok-exporting.exporting.change b) old mid new same (c.change.ensures.moments tells certain b (holds_still b old mid same holds)))
 
@@ -68,7 +68,7 @@ returns-in-Ok-clause-now g c = λ tells certain b holds.
     let mid = g.H.Host.disk c.prepared.new.host in
     let new = g.H.Host.disk c.change.new.host in
     let same = c.prepared.ensures.unchanged tells in
-    let next = ap (board_after b) (c.in_ok-exporting.ensures.packet tells b holds) in
+    let next = ap (after_export b) (c.in_ok-exporting.ensures.packet tells b holds) in
     subst (λ (n : Board). AllNow new (BeforeOrNext (IsLayout b) n old)) next
     (behind_now b (changed c.in_ok-exporting.exporting.change b) old mid new same (c.change.ensures.now tells certain b (holds_still b old mid same holds)))
 
@@ -78,7 +78,7 @@ returns-clause-moments g c = λ tells certain b holds.
     let mid = g.H.Host.disk c.prepared.new.host in
     let new = g.H.Host.disk c.change.new.host in
     let same = c.prepared.ensures.unchanged tells in
-    let next = ap (board_after b) (c.in_ok-exporting.ensures.packet tells b holds) in
+    let next = ap (after_export b) (c.in_ok-exporting.ensures.packet tells b holds) in
     subst (λ (n : Board). Between old new (BeforeOrNext (IsLayout b) n old)) next
     (behind_moments b (changed c.in_ok-exporting.exporting.change b) old mid new same (c.change.ensures.moments tells certain b (holds_still b old mid same holds)))
 
@@ -88,7 +88,7 @@ returns-clause-now g c = λ tells certain b holds.
     let mid = g.H.Host.disk c.prepared.new.host in
     let new = g.H.Host.disk c.change.new.host in
     let same = c.prepared.ensures.unchanged tells in
-    let next = ap (board_after b) (c.in_ok-exporting.ensures.packet tells b holds) in
+    let next = ap (after_export b) (c.in_ok-exporting.ensures.packet tells b holds) in
     subst (λ (n : Board). AllNow new (BeforeOrNext (IsLayout b) n old)) next
     (behind_now b (changed c.in_ok-exporting.exporting.change b) old mid new same (c.change.ensures.now tells certain b (holds_still b old mid same holds)))
 
@@ -100,7 +100,7 @@ pub returns-in-Ok-clause-next : goal.returns-in-Ok-clause-next
 returns-in-Ok-clause-next g c = λ kept tells b holds.
     let old = g.H.Host.disk c.args.host.now in
     let mid = g.H.Host.disk c.prepared.new.host in
-    let next = ap (board_after b) (c.in_ok-exporting.ensures.packet tells b holds) in
+    let next = ap (after_export b) (c.in_ok-exporting.ensures.packet tells b holds) in
     subst (λ (n : Board). Rests n (g.H.Host.disk c.change.new.host)) next (c.in_ok-change.ensures.next tells b (holds_still b old mid (c.prepared.ensures.unchanged tells) holds))
 
 pub returns-clause-board : goal.returns-clause-board
@@ -111,7 +111,7 @@ pub returns-clause-next : goal.returns-clause-next
 returns-clause-next g c = λ kept tells b holds.
     let old = g.H.Host.disk c.args.host.now in
     let mid = g.H.Host.disk c.prepared.new.host in
-    let next = ap (board_after b) (c.in_ok-exporting.ensures.packet tells b holds) in
+    let next = ap (after_export b) (c.in_ok-exporting.ensures.packet tells b holds) in
     subst (λ (n : Board). Rests n (g.H.Host.disk c.change.new.host)) next (c.in_ok-change.ensures.next tells b (holds_still b old mid (c.prepared.ensures.unchanged tells) holds))
 
 pub returns-in_err-change-clause-unchanged : goal.returns-in_err-change-clause-unchanged

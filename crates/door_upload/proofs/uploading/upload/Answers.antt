@@ -4,7 +4,7 @@ use Rattle.board_layout.specs.Layout.{IsLayout}
 use Rattle.board_layout.specs.Outlines.{board_outline}
 use Rattle.door_outside.specs.Disk.{AllNow, Between}
 use Rattle.door_upload.proofs.AnswerLaws.{again_answers, again_board, again_not_new, change_undamaged, new_answers, new_board, new_certain, new_kept, new_valid, unchanged_answers, unprepared_answers, unprepared_undamaged, unprepared_valid}
-use Rattle.door_upload.specs.Upload.{board_after}
+use Rattle.door_upload.specs.Upload.{after_upload}
 use Rattle.door_upload.specs.Uploading.{Answers, FindsIn, of_change}
 use Rattle.door_upload.specs.declared.answer.UploadError.TheVariants.{Damaged}
 use Rattle.door_upload.specs.declared.preparing.Uploading.{Uploading}
@@ -20,7 +20,7 @@ use Rattle.door_upload.proofs.uploading.upload.Goals as goal
 -- ---- nothing was found to be done
 pub returns-in_err-counts-clause-now : goal.returns-in_err-counts-clause-now
 returns-in_err-counts-clause-now g c = λ tells certain b holds r gives.
-    calm_now (IsLayout b) (layout_moves b) (board_after b r) (g.H.Host.disk c.args.host.now) holds.1.calm holds.1.files
+    calm_now (IsLayout b) (layout_moves b) (after_upload b r) (g.H.Host.disk c.args.host.now) holds.1.calm holds.1.files
 
 pub returns-in_err-counts-clause-answer : goal.returns-in_err-counts-clause-answer
 returns-in_err-counts-clause-answer g c = λ b ok alike r gives.
@@ -41,7 +41,7 @@ returns-in_err-counts-clause-valid g c = λ certain b ok alike r gives new.
 -- ---- it was sent before
 pub returns-in-Again-clause-now : goal.returns-in-Again-clause-now
 returns-in-Again-clause-now g c = λ tells certain b holds r gives.
-    calm_now (IsLayout b) (layout_moves b) (board_after b r) (g.H.Host.disk c.args.host.now) holds.1.calm holds.1.files
+    calm_now (IsLayout b) (layout_moves b) (after_upload b r) (g.H.Host.disk c.args.host.now) holds.1.calm holds.1.files
 
 pub returns-in-Again-clause-answer : goal.returns-in-Again-clause-answer
 returns-in-Again-clause-answer g c = λ b ok alike r gives.
@@ -138,10 +138,10 @@ returns-in_ok-change-in-Judged-clause-valid g c = λ certain b ok alike r gives 
     inr (new_valid c.args.user.now c.args.bytes.now c.args.now (record { board = b; doubtful = c.args.board.now.doubtful }) c.in-Judged.change c.in-Judged.outcomes finds r gives)
 
 pub returns-in_err-counts-clause-wrote : goal.returns-in_err-counts-clause-wrote
-returns-in_err-counts-clause-wrote g c = λ tells r gives. none_keeps c.args.board.now.board (board_after c.args.board.now.board r) (g.H.Host.disk c.args.host.now).wrote
+returns-in_err-counts-clause-wrote g c = λ tells r gives. none_keeps c.args.board.now.board (after_upload c.args.board.now.board r) (g.H.Host.disk c.args.host.now).wrote
 
 pub returns-in-Again-clause-wrote : goal.returns-in-Again-clause-wrote
-returns-in-Again-clause-wrote g c = λ tells r gives. none_keeps c.args.board.now.board (board_after c.args.board.now.board r) (g.H.Host.disk c.args.host.now).wrote
+returns-in-Again-clause-wrote g c = λ tells r gives. none_keeps c.args.board.now.board (after_upload c.args.board.now.board r) (g.H.Host.disk c.args.host.now).wrote
 
 pub returns-in_err-change-in-Judged-clause-wrote : goal.returns-in_err-change-in-Judged-clause-wrote
 returns-in_err-change-in-Judged-clause-wrote g c = λ tells r gives.

@@ -19,7 +19,7 @@ use Rattle.shelf_files.specs.declared.refusal.Refusal.TheVariants.{NotMade}
 use Rattle.board_commands.proofs.Exits.{answered, unfound}
 use Rattle.board_commands.specs.Turns.{refuses}
 use Rattle.door_export.proofs.ExportAlike.{ack_alike}
-use Rattle.door_export.specs.Ack.{ack_of, board_after}
+use Rattle.door_export.specs.Ack.{ack_of, after_ack}
 use Rattle.door_export.specs.declared.acknowledging.AckError.TheVariants.{DiskFault}
 use Rattle.exchange_commands.proofs.AckExits.{works}
 use Rattle.exchange_commands.proofs.Causes.{ack_causes}
@@ -77,7 +77,7 @@ returns-clause-kept g c tells =
     let rests = subst (λ (kept : Option Loaded). IsKept kept (g.H.Host.disk c.find.new.host)) here (c.in_ok-find.ensures.kept tells) in
     let gives = c.acknowledge-acknowledged.ensures in
     subst (λ (kept : Option Loaded). IsKept kept (g.H.Host.disk c.acknowledge-acknowledged.new.host)) (sym c.keep_board.ensures)
-    (ack_kept held c.acknowledge-acknowledged.new.board (board_after held.board (ack_of c.args.user.now c.args.packet c.args.now held.board)) certain.1 c.acknowledge-acknowledged.result
+    (ack_kept held c.acknowledge-acknowledged.new.board (after_ack held.board (ack_of c.args.user.now c.args.packet c.args.now held.board)) certain.1 c.acknowledge-acknowledged.result
     (g.H.Host.disk c.acknowledge-acknowledged.new.host) gives.board (once_told _ c.acknowledge-acknowledged.result gives.rests tells) (λ early. (gives.unchanged early).0)
     (λ early. subst (λ host. RestsOn held.board (g.H.Host.disk host)) (sym (gives.unchanged early).1) rests) gives.fault (gives.settled tells certain.1))
 
@@ -88,7 +88,7 @@ returns-clause-sure g c =
     let certain = subst AreSure here c.in_ok-find.ensures.sure in
     let gives = c.acknowledge-acknowledged.ensures in
     subst AreSure (sym c.keep_board.ensures)
-    (ack_sure held c.acknowledge-acknowledged.new.board (board_after held.board (ack_of c.args.user.now c.args.packet c.args.now held.board)) certain.1 c.acknowledge-acknowledged.result certain.0
+    (ack_sure held c.acknowledge-acknowledged.new.board (after_ack held.board (ack_of c.args.user.now c.args.packet c.args.now held.board)) certain.1 c.acknowledge-acknowledged.result certain.0
     gives.board (λ early. (gives.unchanged early).0) gives.fault)
 
 pub returns-clause-causes : goal.returns-clause-causes

@@ -14,7 +14,7 @@ use Rattle.mail_board.specs.Held.{RestsOn}
 use Rattle.mail_board.specs.declared.loading.Loaded.{Loaded}
 use Rattle.shelf_files.specs.declared.refusal.Refusal.TheVariants.{NotMade}
 use Rattle.door_export.proofs.ExportAlike.{answer_alike, refused_alike}
-use Rattle.door_export.specs.Export.{board_after, export_of}
+use Rattle.door_export.specs.Export.{after_export, export_of}
 use Rattle.door_export.specs.Folder.{folder_names}
 use Rattle.door_export.specs.declared.exporting.ExportError.TheVariants.{DiskFault}
 use Rattle.door_export.specs.declared.exporting.Exported.{Exported}
@@ -87,7 +87,7 @@ returns-clause-sure g c =
     let certain = subst AreSure here c.in_ok-find.ensures.sure in
     let gives = c.export-exported.ensures in
     subst AreSure (sym c.keep_board.ensures)
-    (export_sure held c.export-exported.new.board (board_after held.board (export_of c.args.user.now c.args.limit c.args.now held.board)) certain.1 c.export-exported.result certain.0
+    (export_sure held c.export-exported.new.board (after_export held.board (export_of c.args.user.now c.args.limit c.args.now held.board)) certain.1 c.export-exported.result certain.0
     gives.board (λ early. (gives.unchanged early).0.board) (λ is. elim (gives.fault is).0 [ inl left ↦ inl left.board | inr doubted ↦ inr doubted ]))
 
 pub returns-clause-causes : goal.returns-clause-causes
