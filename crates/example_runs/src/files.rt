@@ -22,7 +22,7 @@ pub fn put(shelf: &mut MemoryShelf, alloc: Global, name: &str, file: &[u8]) -> R
 pub fn file_of(alloc: Global, shelf: &MemoryShelf, name: &str) -> Result<Bytes, Miss> {
     let key = name_of(alloc, name)?;
     let Some(file) = shelf.get(&key) else {
-        return Err(Miss::file(alloc, name)?);
+        return Err(Miss::no_file(alloc, name)?);
     };
     Ok(Bytes::from_slice(alloc, file)?)
 }
@@ -54,6 +54,16 @@ pub(crate) fn add_copies(
     Ok(())
 }
 
+/// The first place in which two texts differ, or where the shorter ends.
+fn first_difference(file: &[u8], wanted: &[u8]) -> usize {
+    for (place, (found, byte)) in file.iter().zip(wanted.iter()).enumerate() {
+        if found != byte {
+            return place;
+        }
+    }
+    file.len().min(wanted.len())
+}
+
 /// Looks whether a file has these bytes.
 pub fn expect_file(
     alloc: Global,
@@ -62,8 +72,12 @@ pub fn expect_file(
     wanted: &[u8],
 ) -> Result<(), Miss> {
     let key = name_of(alloc, name)?;
-    if shelf.get(&key) != Some(wanted) {
-        return Err(Miss::file(alloc, name)?);
+    let Some(file) = shelf.get(&key) else {
+        return Err(Miss::no_file(alloc, name)?);
+    };
+    if file != wanted {
+        let place = first_difference(file, wanted);
+        return Err(Miss::file(alloc, name, place, file, wanted)?);
     }
     Ok(())
 }
@@ -76,8 +90,11 @@ pub(crate) fn expect_file_length(
     length: usize,
 ) -> Result<(), Miss> {
     let key = name_of(alloc, name)?;
-    match shelf.get(&key) {
-        Some(file) if file.len() == length => Ok(()),
-        _ => Err(Miss::file(alloc, name)?),
+    let Some(file) = shelf.get(&key) else {
+        return Err(Miss::no_file(alloc, name)?);
+    };
+    if file.len() != length {
+        return Err(Miss::length(alloc, name, file.len(), length)?);
     }
+    Ok(())
 }

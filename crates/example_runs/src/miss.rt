@@ -25,10 +25,25 @@ pub enum Miss {
     Starved {
         line: String,
     },
-    /// A file of the shelf isn't there, or has other bytes.
-    #[error("the file {name} differs")]
+    /// A file of the shelf isn't there.
+    #[error("there is no file {name}")]
+    NoFile {
+        name: String,
+    },
+    /// A file of the shelf has another byte in a place, or ends there, or goes on.
+    #[error("the file {name} has {found:?} in place of {wanted:?} at byte {place}")]
     File {
         name: String,
+        place: usize,
+        found: Option<u8>,
+        wanted: Option<u8>,
+    },
+    /// A file of the shelf has more or fewer bytes than were wanted.
+    #[error("the file {name} has {length} bytes in place of {wanted}")]
+    Length {
+        name: String,
+        length: usize,
+        wanted: usize,
     },
     /// A data file of the board has other bytes from a place on, or ends elsewhere.
     #[error("the data file {file:?} differs from byte {place} on")]
@@ -105,9 +120,41 @@ impl Miss {
         Ok(Miss::NoTranscript { text })
     }
 
-    /// A file of the shelf differs.
-    pub(crate) fn file(alloc: Global, name: &str) -> Result<Miss, AllocError> {
+    /// A file of the shelf isn't there.
+    pub(crate) fn no_file(alloc: Global, name: &str) -> Result<Miss, AllocError> {
         let name = String::from_str(alloc, name)?;
-        Ok(Miss::File { name })
+        Ok(Miss::NoFile { name })
+    }
+
+    /// A file of the shelf differs from what was wanted in a place, the first one.
+    pub(crate) fn file(
+        alloc: Global,
+        name: &str,
+        place: usize,
+        file: &[u8],
+        wanted: &[u8],
+    ) -> Result<Miss, AllocError> {
+        let name = String::from_str(alloc, name)?;
+        Ok(Miss::File {
+            name,
+            place,
+            found: file.get(place).copied(),
+            wanted: wanted.get(place).copied(),
+        })
+    }
+
+    /// A file of the shelf has more or fewer bytes than were wanted.
+    pub(crate) fn length(
+        alloc: Global,
+        name: &str,
+        length: usize,
+        wanted: usize,
+    ) -> Result<Miss, AllocError> {
+        let name = String::from_str(alloc, name)?;
+        Ok(Miss::Length {
+            name,
+            length,
+            wanted,
+        })
     }
 }
