@@ -1,5 +1,5 @@
-//! The rules of lists, lines, words and numbers in texts, and the worked examples of what a sysop writes, as tests: setup
-//! files, sheets, and the words of commands.
+//! The rules of lists, lines, words and numbers in texts, and the worked examples of what a sysop and a caller write and
+//! read, as tests: setup files, sheets and the words of commands; packets, replies and entries.
 #![tactic(auto)]
 
 #[cfg(test)]

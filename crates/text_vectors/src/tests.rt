@@ -1,7 +1,10 @@
 mod fields;
 mod lines;
 mod lists;
+mod packets;
+mod reading;
 mod setups;
 mod sheets;
 mod shown;
 mod words;
+mod writing;

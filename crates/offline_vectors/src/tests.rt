@@ -1,3 +1,0 @@
-mod packets;
-mod reading;
-mod writing;
