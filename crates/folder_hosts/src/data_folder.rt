@@ -2,11 +2,11 @@
 ghost use Rattle.std.specs.Prelude.{◌≡◌, ℕ, ◌<◌, ◌≤◌, ◌^◌, length, IfOk};
 
 use crate::boot::{boot_id, keep_id, kept_id};
-use crate::data_path::data_path;
+use crate::data_paths::data_path;
 use crate::opening::{
     make_folder, open_found, open_locked, open_or_make, sync_names, sync_own_name,
 };
-use crate::placement::Placement;
+use crate::placements::Placement;
 use crate::transfer::{WriterAt, read_full, write_full};
 use crate::trouble::Trouble;
 use door_outside::FileId;

@@ -1,6 +1,6 @@
-use crate::data_path::data_path;
-use crate::moment::unix_seconds;
-use crate::placement::Placement;
+//! What a run finds at its start: the moment, the paths of its files, and how its folders lie to each other.
+use folder_hosts::{Placement, data_path, unix_seconds};
+use std::alloc::{AllocError, Global};
 use std::fs;
 use std::io::{self, ErrorKind};
 use std::os::unix::fs::symlink;
@@ -27,22 +27,22 @@ impl Clock for Standing {
     }
 }
 
-#[test]
-fn a_moment_has_32_bits(rt: HostRuntime) {
-    let cases = [
-        (None, 0),
-        (Some(0), 0),
-        (Some(1_000_000_000), 1_000_000_000),
-        (Some(4_294_967_295), 4_294_967_295),
-        (Some(4_294_967_296), 4_294_967_295),
-    ];
-    for (seconds, moment) in cases {
-        assert_eq!(rt; unix_seconds(&Standing { seconds }), moment);
-    }
+/// The moment that such a clock gives.
+fn moment(seconds: Option<u64>) -> u32 {
+    unix_seconds(&Standing { seconds })
 }
 
 #[test]
-fn files_have_their_names(rt: HostRuntime) -> Result<(), Fail> {
+fn a_moment_has_32_bits(rt: HostRuntime) {
+    let unread = moment(None) == 0;
+    let last = moment(Some(4_294_967_295)) == 4_294_967_295;
+    let later = moment(Some(4_294_967_296)) == 4_294_967_295;
+    let others = moment(Some(0)) == 0 && moment(Some(1_000_000_000)) == 1_000_000_000;
+    assert!(rt; unread && last && later && others);
+}
+
+/// Whether the files of some numbers have these paths.
+fn are_paths(alloc: Global) -> Result<bool, AllocError> {
     let paths = [
         (0, "board/LEDGER.DAT"),
         (1, "board/JOURNAL.DAT"),
@@ -54,8 +54,17 @@ fn files_have_their_names(rt: HostRuntime) -> Result<(), Fail> {
         (257, "board/C63.JLR"),
     ];
     for (number, path) in paths {
-        assert_eq!(rt; data_path(rt.alloc(), "board", number)?.as_str(), path);
+        let found = data_path(alloc, "board", number)?;
+        if found.as_str() != path {
+            return Ok(false);
+        }
     }
+    Ok(true)
+}
+
+#[test]
+fn files_have_their_names(rt: HostRuntime) -> Result<(), Fail> {
+    assert!(rt; are_paths(rt.alloc())?);
     Ok(())
 }
 
@@ -122,17 +131,21 @@ const PLACES: [(&str, &str, Placement); 22] = [
     ),
 ];
 
+/// Looks how each DATA and SHELF lie to each other.
+fn expect_places(rt: &HostRuntime) -> Result<(), Fail> {
+    for (data, shelf, placement) in PLACES {
+        if Placement::of(rt, data, shelf)? != placement {
+            return Err(Fail::from(data));
+        }
+    }
+    Ok(())
+}
+
 #[test]
 fn folders_lie_apart_or_share_files(rt: HostRuntime) -> Result<(), Fail> {
     let top = "qwkdoor_test_places";
     make_places(&rt, top)?;
-    for (data, shelf, placement) in PLACES {
-        assert_eq!(rt;
-            Placement::of(&rt, data, shelf)?,
-            placement,
-            "{data} {shelf}"
-        );
-    }
+    expect_places(&rt)?;
     fs::remove_dir_all(&rt, top)?;
     Ok(())
 }

@@ -1,4 +1,5 @@
-use crate::transfer::{WriterAt, read_full, write_full};
+//! System calls that move fewer bytes than asked, or are interrupted.
+use folder_hosts::{WriterAt, read_full, write_full};
 use std::cell::Cell;
 use std::io::{self, ErrorKind};
 use std::os::unix::fs::FileExt;
@@ -44,16 +45,24 @@ impl FileExt for Choppy {
     }
 }
 
+/// Whether all up to the file's end is read.
+fn is_read(file: &Choppy) -> bool {
+    let mut buf = [b'-'; 8];
+    matches!(read_full(file, 1, &mut buf), Ok(4)) && buf == *b"bcde----"
+}
+
+/// Whether all is written that the file has room for.
+fn is_written(file: &Choppy) -> bool {
+    write_full(&mut WriterAt::new(file, 2), b"xyz").is_ok()
+        && file.written.get() == *b"\0\0xyz"
+        && write_full(&mut WriterAt::new(file, 3), b"xyz").is_err()
+}
+
 #[test]
 fn short_and_interrupted_calls_go_on(rt: HostRuntime) {
     let file = Choppy {
         turn: Cell::new(0),
         written: Cell::new([0; 5]),
     };
-    let mut buf = [b'-'; 8];
-    assert!(rt; matches!(read_full(&file, 1, &mut buf), Ok(4)));
-    assert!(rt; buf == *b"bcde----");
-    assert!(rt; write_full(&mut WriterAt::new(&file, 2), b"xyz").is_ok());
-    assert!(rt; file.written.get() == *b"\0\0xyz");
-    assert!(rt; write_full(&mut WriterAt::new(&file, 3), b"xyz").is_err());
+    assert!(rt; is_read(&file) && is_written(&file));
 }

@@ -1,3 +1,0 @@
-mod host;
-mod short_calls;
-mod start;
