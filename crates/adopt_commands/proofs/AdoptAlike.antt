@@ -1,52 +1,37 @@
 -- What becomes of another tool's records is the same on boards with one outline.
-use Rattle.std.proofs.Common.{◌≡◌, ℕ, ◌+◌, ◌||◌, cond, List, [], ◌∷◌, ◌++◌, length, Some, refl, sym, ap, ◌∙◌}
-use Rattle.std.specs.Prelude.{codes, fold, nat_le, nat_lt}
+use Rattle.std.proofs.Common.{◌≡◌, ℕ, ◌+◌, cond, List, [], ◌∷◌, ◌++◌, length, Some, refl, sym, ap, ◌∙◌}
+use Rattle.std.specs.Prelude.{codes, fold}
 use Rattle.board_commands.specs.Turns.{Turn}
-use Rattle.board_layout.proofs.OneOutline.{alike_size}
 use Rattle.board_layout.specs.Board.{Board}
-use Rattle.board_layout.specs.Valid.{board_limit}
 use Rattle.jam_adopt.specs.RuleWord.{foreign_word}
 use Rattle.jam_adopt.specs.declared.found.Found.{Found}
 use Rattle.jam_adopt.specs.declared.found.FoundVerdict.{FoundVerdict}
 use Rattle.jam_adopt.specs.declared.found.FoundVerdict.TheVariants.{Taken, Refused}
 use Rattle.jam_records.specs.declared.message.Kind.{Kind}
 use Rattle.jam_records.specs.declared.message.Message.{Message}
-use Rattle.mail_board.proofs.EachNext.{changed_alike}
 use Rattle.mail_board.specs.Changes.{changed}
 use Rattle.mail_board.specs.Held.{AreAlike}
 use Rattle.mail_board.specs.declared.change.Change.{Change}
 use Rattle.mail_board.specs.declared.change.Change.TheVariants.{Spread}
+use Rattle.mail_intake.proofs.RoomAlike.{count_alike, full_alike}
 use Rattle.mail_intake.specs.Lines.{intake_text, posted_line, refused_line}
 use Rattle.mail_intake.specs.Room.{is_full}
 use Rattle.message_commands.proofs.Exits.{carried}
 use Rattle.message_commands.proofs.PlaceAlike.{kind_alike}
-use Rattle.offered_packets.proofs.OutlineLaws.{outline_count}
 use Rattle.offered_packets.specs.Sees.{slots_in}
 use Rattle.post_changes.specs.Posted.{spread}
 use Rattle.shelf_files.specs.Halts.{done}
 use Rattle.adopt_commands.specs.Adopt.{adopting}
 use Rattle.adopt_commands.specs.Adopted.{adopted, adopted_as, adopted_next, kept_in, post_of}
 
--- ---- room behind posts
-slots_alike : (a b : Board) → AreAlike a b → (place : ℕ) → length (slots_in a place) ≡ length (slots_in b place)
-slots_alike a b alike place = sym (outline_count a place) ∙ (ap (λ (o : Board). length (slots_in o place)) alike ∙ outline_count b place)
-
 module _ (a b : Board) (alike : AreAlike a b) where
-  count_alike : (posts : List (ℕ × Message)) (place : ℕ) → length (slots_in (spread posts a) place) ≡ length (slots_in (spread posts b) place)
-  count_alike posts place = slots_alike (spread posts a) (spread posts b) (changed_alike a b alike (Spread posts)) place
-
-  pub full_alike : (posts : List (ℕ × Message)) (post : ℕ × Message) → is_full a posts post ≡ is_full b posts post
-  full_alike posts post =
-      let more : List (ℕ × Message) = posts ++ post ∷ [] in
-      λ i. nat_le 9999 (count_alike posts post.0 i) || nat_lt board_limit (alike_size (spread more a) (spread more b) (changed_alike a b alike (Spread more)) i)
-
   -- ---- one record more
   module _ (conference place : ℕ) where
     taken_alike : (so_far : List ℕ × List (ℕ × Message)) (at : ℕ) (m : Message) → adopted_as conference place a so_far at (Taken m) ≡ adopted_as conference place b so_far at (Taken m)
     taken_alike so_far at m =
         let post : post_of place a m ≡ post_of place b m = ap (λ (kind : Kind). (place, kept_in kind m)) (kind_alike a b alike place) in
-        (λ i. cond (is_full a so_far.1 (post i)) (so_far.0 ++ refused_line at (codes "full"), so_far.1) (so_far.0 ++ posted_line at conference (count_alike so_far.1 place i + 1), so_far.1 ++ post i ∷ []))
-        ∙ ap (λ full. cond full (so_far.0 ++ refused_line at (codes "full"), so_far.1) (so_far.0 ++ posted_line at conference (length (slots_in (spread so_far.1 b) place) + 1), so_far.1 ++ post_of place b m ∷ [])) (full_alike so_far.1 (post_of place b m))
+        (λ i. cond (is_full a so_far.1 (post i)) (so_far.0 ++ refused_line at (codes "full"), so_far.1) (so_far.0 ++ posted_line at conference (count_alike a b alike so_far.1 place i + 1), so_far.1 ++ post i ∷ []))
+        ∙ ap (λ full. cond full (so_far.0 ++ refused_line at (codes "full"), so_far.1) (so_far.0 ++ posted_line at conference (length (slots_in (spread so_far.1 b) place) + 1), so_far.1 ++ post_of place b m ∷ [])) (full_alike a b alike so_far.1 (post_of place b m))
 
     next_as : (so_far : List ℕ × List (ℕ × Message)) (at : ℕ) (verdict : FoundVerdict) → adopted_as conference place a so_far at verdict ≡ adopted_as conference place b so_far at verdict
     next_as so_far at (Refused rule) = refl

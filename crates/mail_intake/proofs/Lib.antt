@@ -1,1 +1,2 @@
 pub mod TallyLaws
+pub mod RoomAlike

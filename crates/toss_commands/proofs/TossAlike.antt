@@ -1,12 +1,11 @@
 -- What becomes of the messages of a packet is the same on boards with one outline.
 use Rattle.std.proofs.Common.{◌≡◌, ℕ, ◌+◌, ◌||◌, ◌&&◌, cond, List, [], ◌∷◌, ◌++◌, length, map, Option, Some, None, refl, sym, ap, ◌∙◌}
-use Rattle.std.specs.Prelude.{◌==◌, not, nat_le, nat_lt}
+use Rattle.std.specs.Prelude.{◌==◌, not}
 use Rattle.std.specs.List.{list_any}
 use Rattle.board_commands.specs.Turns.{Turn}
-use Rattle.board_layout.proofs.OneOutline.{alike_ledger, alike_size}
+use Rattle.board_layout.proofs.OneOutline.{alike_ledger}
 use Rattle.board_layout.specs.Board.{Board}
 use Rattle.board_layout.specs.Outlines.{board_outline}
-use Rattle.board_layout.specs.Valid.{board_limit}
 use Rattle.board_ledger.specs.declared.ledger.Ledger.{Ledger}
 use Rattle.fts_packet.specs.Tossed.{toss_verdict}
 use Rattle.fts_packet.specs.declared.packet.FtsMessage.{FtsMessage}
@@ -24,11 +23,11 @@ use Rattle.mail_board.specs.Changes.{changed}
 use Rattle.mail_board.specs.Held.{AreAlike}
 use Rattle.mail_board.specs.declared.change.Change.{Change}
 use Rattle.mail_board.specs.declared.change.Change.TheVariants.{Spread}
+use Rattle.mail_intake.proofs.RoomAlike.{count_alike, full_alike}
 use Rattle.mail_intake.specs.Lines.{intake_text, posted_line}
-use Rattle.mail_intake.specs.Room.{is_full}
 use Rattle.message_commands.proofs.Exits.{carried}
 use Rattle.message_commands.proofs.PlaceAlike.{bare}
-use Rattle.offered_packets.proofs.OutlineLaws.{outline_count, outline_slots}
+use Rattle.offered_packets.proofs.OutlineLaws.{outline_slots}
 use Rattle.offered_packets.specs.Sees.{slots_in}
 use Rattle.post_changes.specs.Posted.{spread}
 use Rattle.shelf_files.specs.Halts.{done}
@@ -51,27 +50,13 @@ ids_outline b place id = sym (ap (list_any (has_msgid id)) (outline_slots b plac
 ids_alike : (a b : Board) → AreAlike a b → (place : ℕ) (id : List ℕ) → list_any (has_msgid id) (slots_in a place) ≡ list_any (has_msgid id) (slots_in b place)
 ids_alike a b alike place id = ids_outline a place id ∙ (ap (λ (o : Board). list_any (has_msgid id) (slots_in o place)) alike ∙ sym (ids_outline b place id))
 
-slots_alike : (a b : Board) → AreAlike a b → (place : ℕ) → length (slots_in a place) ≡ length (slots_in b place)
-slots_alike a b alike place = sym (outline_count a place) ∙ (ap (λ (o : Board). length (slots_in o place)) alike ∙ outline_count b place)
-
 module _ (a b : Board) (alike : AreAlike a b) where
   -- ---- the last two rules behind posts
-  posts_alike : (posts : List (ℕ × Message)) → AreAlike (spread posts a) (spread posts b)
-  posts_alike posts = changed_alike a b alike (Spread posts)
-
-  count_alike : (posts : List (ℕ × Message)) (place : ℕ) → length (slots_in (spread posts a) place) ≡ length (slots_in (spread posts b) place)
-  count_alike posts place = slots_alike (spread posts a) (spread posts b) (posts_alike posts) place
-
   dupe_alike : (posts : List (ℕ × Message)) (post : ℕ × Message) → is_dupe a posts post ≡ is_dupe b posts post
-  dupe_alike posts post = ap (λ known. not (length post.1.msgid == 0) && known) (ids_alike (spread posts a) (spread posts b) (posts_alike posts) post.0 post.1.msgid)
-
-  full_alike : (posts : List (ℕ × Message)) (post : ℕ × Message) → is_full a posts post ≡ is_full b posts post
-  full_alike posts post =
-      let more : List (ℕ × Message) = posts ++ post ∷ [] in
-      λ i. nat_le 9999 (count_alike posts post.0 i) || nat_lt board_limit (alike_size (spread more a) (spread more b) (posts_alike more) i)
+  dupe_alike posts post = ap (λ known. not (length post.1.msgid == 0) && known) (ids_alike (spread posts a) (spread posts b) (changed_alike a b alike (Spread posts)) post.0 post.1.msgid)
 
   rule_alike : (posts : List (ℕ × Message)) (post : ℕ × Message) → last_rule a posts post ≡ last_rule b posts post
-  rule_alike posts post = λ i. cond (dupe_alike posts post i) (Some Dupe) (cond (full_alike posts post i) (Some Full) None)
+  rule_alike posts post = λ i. cond (dupe_alike posts post i) (Some Dupe) (cond (full_alike a b alike posts post i) (Some Full) None)
 
   -- ---- one message more
   number_alike : (place : ℕ) → number_at place a ≡ number_at place b
@@ -79,7 +64,7 @@ module _ (a b : Board) (alike : AreAlike a b) where
 
   post_alike : (at : ℕ) (so_far : List ℕ × List (ℕ × Message)) (post : ℕ × Message) (rule : Option TossRule) → posted_as a at so_far post rule ≡ posted_as b at so_far post rule
   post_alike at so_far post (Some rule) = refl
-  post_alike at so_far post None = λ i. (so_far.0 ++ posted_line at (number_alike post.0 i) (count_alike so_far.1 post.0 i + 1), so_far.1 ++ post ∷ [])
+  post_alike at so_far post None = λ i. (so_far.0 ++ posted_line at (number_alike post.0 i) (count_alike a b alike so_far.1 post.0 i + 1), so_far.1 ++ post ∷ [])
 
   draft_alike : (at : ℕ) (so_far : List ℕ × List (ℕ × Message)) (draft : TossDraft) → tossed_as a at so_far draft ≡ tossed_as b at so_far draft
   draft_alike at so_far (Refused rule) = refl
