@@ -14,7 +14,7 @@ use Rattle.jam_layout.specs.Layout.{files_size}
 use Rattle.jam_layout.specs.declared.files.BaseFiles.{BaseFiles}
 
 -- an intent asks the same of patches for files of the same size
-suits_alike : (place : ℕ) (a b : BaseFiles) (patches : List Patch) → files_size a ≡ files_size b → SuitsIntent place a patches → SuitsIntent place b patches
+pub suits_alike : (place : ℕ) (a b : BaseFiles) (patches : List Patch) → files_size a ≡ files_size b → SuitsIntent place a patches → SuitsIntent place b patches
 suits_alike place a b patches size suits = record {
   within = suits.within;
   once = suits.once;

@@ -1,7 +1,7 @@
 -- The change of each board with one outline: that of one conference, and that of one place more.
 use Rattle.std.proofs.Common.{◌≡◌, ℕ, ◌+◌, List, ◌++◌, length, Some, None, Option, sym, ap, ◌∙◌, subst}
 use Rattle.std.specs.Prelude.{IsSomeAnd, option_map, slice_get}
-use Rattle.board_changes.proofs.EachBase.{each_shape, each_suits, each_turns}
+use Rattle.board_changes.proofs.EachBase.{each_shape, each_suits, each_turns, suits_alike}
 use Rattle.board_changes.proofs.LeadLaws.{leads_next}
 use Rattle.board_changes.proofs.OneBase.{base_leads}
 use Rattle.board_changes.proofs.PlaceSteps.{step_gathered}
@@ -9,7 +9,7 @@ use Rattle.board_changes.specs.Change.{Changes, Leads}
 use Rattle.board_changes.specs.Changed.{base_at, with_base}
 use Rattle.board_changes.specs.Gathered.{Gathered}
 use Rattle.board_changes.specs.Outlined.{ChangesEach, GatheredEach, KeepsEach, LeadsEach, MadeBy, with_changed}
-use Rattle.board_layout.proofs.OneOutline.{alike_base, alike_places}
+use Rattle.board_layout.proofs.OneOutline.{alike_base, alike_base_size, alike_places}
 use Rattle.board_layout.specs.Board.{Board}
 use Rattle.board_layout.specs.Layout.{IsLayout, base_files, files_in}
 use Rattle.board_layout.specs.Outlines.{board_outline}
@@ -34,7 +34,7 @@ keeps_as old change other same each = record { valid = λ b valid alike. subst I
 module _ (old : Board) (place : ℕ) (base : Contents) (f : Contents → Contents) (change : BaseChange) (here : base_at place old ≡ Some base) (changes : Changes base change)
     (made : MadeBy f change base) (keeps : KeepsEach old (with_changed place f)) where
   suits : SuitsIntent base.shape.place (files_in (f base)) change.patches
-  suits = subst (λ (c : Contents). SuitsIntent base.shape.place (files_in c) change.patches) made.base changes.intent
+  suits = suits_alike base.shape.place (files_in change.base) (files_in (f base)) change.patches (alike_base_size change.base (f base) made.base) changes.intent
 
   stays : (f base).shape ≡ base.shape
   stays = ap (λ (c : Contents). c.shape) (sym made.base) ∙ changes.shape
@@ -46,11 +46,10 @@ module _ (old : Board) (place : ℕ) (base : Contents) (f : Contents → Content
       let own : BaseChange = record { base = f other; patches = change.patches } in
       let own_changes : Changes other own = record {
         shape = each_shape base f change.patches made.each other there.2 stays;
-        files = each_turns base f change.patches made.each other there.2;
         intent = each_suits base f change.patches made.each other there.2 suits;
       } in
       let next : IsBoard (with_base place (Some (f other)) b) = subst (λ (o : Option Contents). IsBoard (with_base place (option_map f o) b)) there.1 (keeps.valid b valid alike) in
-      subst (λ (o : Option Contents). Leads (IsLayout b) (with_base place (option_map f o) b) change.patches) (sym there.1) (base_leads b place other own valid there.1 own_changes next)
+      subst (λ (o : Option Contents). Leads (IsLayout b) (with_base place (option_map f o) b) change.patches) (sym there.1) (base_leads b place other own valid there.1 own_changes (each_turns base f change.patches made.each other there.2) next)
 
   pub base_leads_each : LeadsEach old (with_changed place f) change.patches
   base_leads_each = record { leads = leads_one }

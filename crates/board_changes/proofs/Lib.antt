@@ -14,3 +14,4 @@ pub mod NextLaws
 pub mod UserSizes
 pub mod EachMember
 pub mod FitLaws
+pub mod BaseOutlines

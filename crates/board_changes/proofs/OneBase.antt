@@ -1,18 +1,23 @@
 -- A board with one base in place of another: what it is made of, its files, and the patches that make them.
-use Rattle.std.proofs.Common.{◌≡◌, ◌≢◌, ℕ, zero, suc, ◌+◌, ◌-◌, ◌<◌, ◌≤◌, List, [], ◌∷◌, ◌++◌, length, map, set, replicate, true, leb, refl, sym, ap, ◌∙◌, subst, arith}
+use Rattle.std.proofs.Common.{◌≡◌, ◌≢◌, ℕ, zero, suc, ◌+◌, ◌*◌, ◌-◌, ◌^◌, ◌<◌, ◌≤◌, List, [], ◌∷◌, ◌++◌, length, map, set, replicate, true, leb, refl, sym, ap, ◌∙◌, subst, arith}
 use Rattle.std.specs.Prelude.{All, IsSomeAnd, sum_by, slice_get, Option, Some, None}
 use Rattle.std.specs.List.{AllZip}
 use Rattle.std.proofs.lemmas.Bool.{and_parts, and_from, leb-true, le-leb}
 use Rattle.std.proofs.lemmas.List.{map-set, get_or-set_other, length-map, length-replicate, length-set}
 use Rattle.std.proofs.lemmas.List.Elements.{All-nil, All-cons, All-set, All-weaker}
-use Rattle.std.proofs.lemmas.List.Sums.{sum_by-set}
+use Rattle.std.proofs.lemmas.List.Sums.{get_or-le-sum_by, sum_by-set}
 use Rattle.std.proofs.lemmas.Option.{get_or_from_slice_get, slice_get_within}
 use Rattle.board_changes.specs.Change.{Changes, Leads}
 use Rattle.board_changes.specs.Changed.{base_at, with_base}
 use Rattle.board_changes.specs.Gathered.{at_place, Gathered, Joins}
-use Rattle.board_changes.proofs.GatherLaws.{gathered_kept, gathered_more, gathered_rest, joins_more}
+use Rattle.door_outside.specs.File.{journal_file}
+use Rattle.intent_journal.specs.Journal.{patches_text}
+use Rattle.intent_journal.specs.Patches.{bytes_of, file_of, place_of}
+use Rattle.intent_journal.specs.declared.patch.Patch.{Patch}
+use Rattle.board_changes.proofs.GatherLaws.{gathered_kept, gathered_more, gathered_rest}
+use Rattle.board_changes.proofs.JoinLaws.{journal_length}
 use Rattle.board_changes.proofs.LeadLaws.{leads_next, places_count}
-use Rattle.board_changes.proofs.MemberLaws.{files_at, files_count, member_fits, place_at, place_small}
+use Rattle.board_changes.proofs.MemberLaws.{files_at, files_count, place_at, place_small}
 use Rattle.board_layout.proofs.BasePlaces.{IsBase, layouts_in, zipped}
 use Rattle.board_layout.proofs.RenewedBases.{contents_are, last_new, none_new}
 use Rattle.board_layout.proofs.SizeLaws.{size_in}
@@ -23,9 +28,10 @@ use Rattle.board_layout.specs.Valid.{IsBoard, board_limit, highs_fit, offers_fit
 use Rattle.board_ledger.specs.Ledger.{ledger_text}
 use Rattle.open_offers.specs.declared.offer.OpenOffer.{OpenOffer}
 use Rattle.board_ledger.specs.declared.user.User.{User}
-use Rattle.jam_base.specs.Change.{SuitsIntent, Turns}
+use Rattle.jam_base.specs.Change.{IsOfPlace, SuitsIntent, Turns}
 use Rattle.jam_base.specs.Contents.{Contents}
 use Rattle.jam_base.specs.declared.change.BaseChange.{BaseChange}
+use Rattle.jam_layout.specs.Layout.{files_size}
 use Rattle.jam_layout.specs.Valid.{IsConference}
 use Rattle.jam_layout.specs.declared.conference.Conference.{Conference}
 use Rattle.jam_layout.specs.declared.files.BaseFiles.{BaseFiles}
@@ -178,7 +184,37 @@ pub changed_there : (o : Option Contents) (change : BaseChange) → IsSomeAnd o 
 changed_there None change is = absurd is
 changed_there (Some old) change is = (old, refl, is)
 
+-- ---- what an intent asks of the patches
+limit_spelled : (n text : ℕ) → n ≤ board_limit → 5 * text ≤ 5 * (4 * 11) + 6 * n → 13 + text ≤ 41943040
+limit_spelled n text small short = omega (arith, small, short)
+
+suits_joins : (place : ℕ) (new : BaseFiles) (patches : List Patch) → SuitsIntent place new patches → files_size new ≤ board_limit → Joins [] patches
+suits_joins place new patches suits small = record {
+  no_journal = All-weaker (λ (p : Patch). IsOfPlace place (file_of p)) (λ (p : Patch). file_of p ≢ journal_file) (λ p within e. omega (arith, within.0, e)) patches suits.within;
+  once = suits.once;
+  ends = All-weaker (λ (p : Patch). place_of p + length (bytes_of p) ≤ files_size new) (λ (p : Patch). place_of p + length (bytes_of p) < 2 ^ 31) (λ p most. omega (arith, most, small)) patches suits.ends;
+  fits = let most = limit_spelled (files_size new) (length (patches_text patches)) small suits.short in omega (arith, journal_length patches, most);
+}
+
 module _ (b : Board) (place : ℕ) (old : Contents) (change : BaseChange) (ok : IsBoard b) (here : base_at place b ≡ Some old) (changes : Changes old change) (next : IsBoard (with_base place (Some change.base) b)) where
+  base_small : files_size (files_in change.base) ≤ board_limit
+  base_small =
+      let bases : List Contents = set (contents_of b) place change.base in
+      let same = size_in b.ledger bases (shapes_stay b place old change.base ok here changes.shape) in
+      let there = new_there b place old change.base ok here changes.shape in
+      let part = get_or-le-sum_by base_size bases place change.base (slice_get_within bases place change.base there) in
+      let small = next.small in
+      omega (arith, same, part, ap base_size (get_or_from_slice_get bases place change.base change.base there), small)
+
+  pub base_joins : Joins [] change.patches
+  base_joins = suits_joins old.shape.place (files_in change.base) change.patches changes.intent base_small
+
+  pub base_becomes : renewed (contents_of b) (replicate place None ++ Some change.base ∷ []) ≡ contents_of (with_base place (Some change.base) b)
+  base_becomes = renewed_only (contents_of b) place change.base ∙ sym (contents_next b place old change.base ok here changes.shape)
+
+-- ---- the files, where the patches make those of the new base
+module _ (b : Board) (place : ℕ) (old : Contents) (change : BaseChange) (ok : IsBoard b) (here : base_at place b ≡ Some old) (changes : Changes old change) (moved : Turns old.shape.place (files_in old) (files_in change.base) change.patches)
+    (next : IsBoard (with_base place (Some change.base) b)) where
   small : place < 64
   small = place_small b place old ok here
 
@@ -202,7 +238,7 @@ module _ (b : Board) (place : ℕ) (old : Contents) (change : BaseChange) (ok : 
   turns : Turns place (at_place (base_files b) place) (at_place (base_files (with_base place (Some change.base) b)) place) change.patches
   turns =
       subst (λ (k : ℕ). Turns k (at_place (base_files b) place) (at_place (base_files (with_base place (Some change.base) b)) place) change.patches) (place_at b place old here)
-      (subst (λ (f : BaseFiles). Turns old.shape.place (at_place (base_files b) place) f change.patches) (sym new_is) (subst (λ (f : BaseFiles). Turns old.shape.place f (files_in change.base) change.patches) (sym old_is) changes.files))
+      (subst (λ (f : BaseFiles). Turns old.shape.place (at_place (base_files b) place) f change.patches) (sym new_is) (subst (λ (f : BaseFiles). Turns old.shape.place f (files_in change.base) change.patches) (sym old_is) moved))
 
   suits : SuitsIntent place (at_place (base_files (with_base place (Some change.base) b)) place) change.patches
   suits =
@@ -218,9 +254,6 @@ module _ (b : Board) (place : ℕ) (old : Contents) (change : BaseChange) (ok : 
       let so_far = gathered_rest (IsLayout b) (ledger_text b.ledger) (base_files b) (base_files (with_base place (Some change.base) b)) [] 0 place none (omega (arith, small)) (omega (arith, within)) (λ k low high. stay k (λ e. omega (arith, e, high))) in
       subst (λ (k : ℕ). Gathered (IsLayout b) (ledger_text b.ledger) (base_files b) (base_files (with_base place (Some change.base) b)) k []) (omega arith) so_far
 
-  pub base_joins : Joins [] change.patches
-  base_joins = joins_more (IsLayout b) (ledger_text b.ledger) (base_files b) (base_files (with_base place (Some change.base) b)) place [] change.patches before small within turns suits (member_fits (with_base place (Some change.base) b) next)
-
   pub base_leads : Leads (IsLayout b) (with_base place (Some change.base) b) change.patches
   base_leads =
       let files : List BaseFiles = base_files (with_base place (Some change.base) b) in
@@ -233,6 +266,3 @@ module _ (b : Board) (place : ℕ) (old : Contents) (change : BaseChange) (ok : 
       let all = gathered_rest (IsLayout b) (ledger_text b.ledger) (base_files b) files change.patches (place + 1) n first (omega (arith, places, old_count, new_count, many, within)) (omega (arith, places, old_count, new_count, within)) (λ k low high. stay k (λ e. omega (arith, e, low))) in
       let end : place + 1 + n ≡ length b.conferences = omega (arith, places, old_count, new_count, within) in
       leads_next b (with_base place (Some change.base) b) change.patches ok next refl (subst (λ (k : ℕ). Gathered (IsLayout b) (ledger_text b.ledger) (base_files b) files k change.patches) end all)
-
-  pub base_becomes : renewed (contents_of b) (replicate place None ++ Some change.base ∷ []) ≡ contents_of (with_base place (Some change.base) b)
-  base_becomes = renewed_only (contents_of b) place change.base ∙ sym (contents_next b place old change.base ok here changes.shape)

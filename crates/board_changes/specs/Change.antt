@@ -6,7 +6,7 @@ use Rattle.board_layout.specs.Board.{Board}
 use Rattle.board_layout.specs.Layout.{IsLayout, files_in}
 use Rattle.board_layout.specs.Renewed.{contents_of, renewed}
 use Rattle.board_changes.specs.declared.change.BoardChange.{BoardChange}
-use Rattle.jam_base.specs.Change.{Turns, SuitsIntent}
+use Rattle.jam_base.specs.Change.{SuitsIntent}
 use Rattle.jam_base.specs.Contents.{Contents}
 use Rattle.jam_base.specs.declared.change.BaseChange.{BaseChange}
 
@@ -15,15 +15,12 @@ pub record Leads (P : Files → Type 0) (next : Board) (patches : List Patch) : 
   pub starts : (files : Files) → P files → IsTrue (are_within patches files)
   pub files : (files : Files) → P files → IsLayout next (patched patches files)
 
--- The new ledger, where there is one, and the new bases in place of the old ones make the next board of this one, and
--- the intent its files.
+-- The new ledger, where there is one, and the new bases in place of the old ones make the next board of this one.
 pub record Becomes (old next : Board) (change : BoardChange) : Type 0 where
   pub ledger : unwrap_or change.ledger old.ledger ≡ next.ledger
   pub bases : renewed (contents_of old) change.bases ≡ contents_of next
-  pub intent : Leads (IsLayout old) next change.intent
 
--- The change of a base leaves its shape, makes the files of the new base of those of this one, and suits an intent.
+-- The change of a base leaves its shape, and suits an intent.
 pub record Changes (old : Contents) (change : BaseChange) : Type 0 where
   pub shape : change.base.shape ≡ old.shape
-  pub files : Turns old.shape.place (files_in old) (files_in change.base) change.patches
   pub intent : SuitsIntent old.shape.place (files_in change.base) change.patches

@@ -23,9 +23,9 @@ pub record ChangesEach (old : Contents) (change : Contents → Contents) (patche
   pub files : TurnsEach old change patches
   pub outline : (base : Contents) → outlined base ≡ outlined old → outlined (change base) ≡ outlined (change old)
 
--- the change of this base is what another makes of it, and so it is of each base with its outline
+-- the change of this base has the outline of what another makes of it, and so it is of each base with its outline
 pub record MadeBy (change : Contents → Contents) (made : BaseChange) (old : Contents) : Type 0 where
-  pub base : made.base ≡ change old
+  pub base : outlined made.base ≡ outlined (change old)
   pub each : ChangesEach old change made.patches
 
 -- whatever valid board has the outline of this one: what the change makes of it is valid

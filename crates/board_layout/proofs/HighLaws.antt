@@ -1,6 +1,7 @@
 -- No high of an open offer is above the count of slots of its conference.
-use Rattle.std.proofs.Common.{◌≡◌, inl, inr, ℕ, ◌+◌, not, min, true, false, List, [], ◌∷◌, length, drop, Ok, refl, ap, ◌∙◌, arith, length-drop}
+use Rattle.std.proofs.Common.{◌≡◌, inl, inr, ℕ, ◌+◌, not, min, Bool, true, false, List, [], ◌∷◌, length, map, drop, Ok, refl, ap, ◌∙◌, arith, length-drop}
 use Rattle.std.specs.Prelude.{All, IsTrue}
+use Rattle.std.specs.List.{list_all}
 use Rattle.std.proofs.lemmas.Bool.{cases_lt, not-false}
 use Rattle.std.proofs.lemmas.List.{length-map}
 use Rattle.std.proofs.lemmas.List.Elements.{All-nil, All-cons, All-drop}
@@ -9,7 +10,9 @@ use Rattle.damage_rules.specs.Rules.{Rules, by_rules, ◌>>=◌}
 use Rattle.damage_rules.proofs.KeptRules.{bind_ok, rules_kept, kept_rules}
 use Rattle.door_outside.specs.File.{ledger_file}
 use Rattle.jam_base.specs.Contents.{Contents}
+use Rattle.jam_layout.specs.Outlines.{outline}
 use Rattle.jam_layout.specs.declared.conference.Conference.{Conference}
+use Rattle.board_layout.proofs.OutlineLaws.{highs_outline}
 use Rattle.jam_records.specs.declared.damage.DamageRule.TheVariants.{High}
 use Rattle.board_layout.specs.Board.{conferences_in}
 use Rattle.board_layout.specs.Damage.{highs_of}
@@ -56,3 +59,10 @@ highs_done bases highs n all = elim (cases_lt (length bases) (length highs)) [
   | inl fewer ↦ no_conferences (conferences_in (drop n bases)) (drop n highs) (omega (arith, length-map (drop n bases) (λ (x : Contents). x.conference), length-drop n bases))
   | inr others ↦ no_highs (conferences_in (drop n bases)) (drop n highs) (omega (arith, length-drop n highs))
 ]
+
+-- ---- outlines have the counts of slots of their conferences
+pub highs_alike : (conferences : List Conference) (item : ℕ) (users : List User) → highs_of (map outline conferences) item users ≡ highs_of conferences item users
+highs_alike conferences item [] = refl
+highs_alike conferences item (u ∷ users) =
+    let fits : offers_fit (map outline conferences) u.offers ≡ offers_fit conferences u.offers = ap (λ (fit : List ℕ → Bool). list_all (λ o. fit o.highs) u.offers) (λ i highs. highs_outline conferences highs i) in
+    λ i. by_rules ledger_file item ((High, not (fits i)) ∷ []) (tt {0}) >>= λ one. highs_alike conferences (item + 1) users i

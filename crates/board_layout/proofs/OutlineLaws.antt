@@ -5,7 +5,9 @@ use Rattle.std.specs.List.{AllZip, fold, list_all}
 use Rattle.std.proofs.lemmas.List.{length-map, length-replicate}
 use Rattle.std.proofs.lemmas.List.Sums.{sum_by-cons}
 use Rattle.std.proofs.lemmas.Option.{slice_get-map}
-use Rattle.board_layout.specs.Board.{Board, shapes_of}
+use Rattle.std.proofs.lemmas.List.Elements.{All-head, All-tail}
+use Rattle.board_ledger.specs.declared.ledger.Ledger.{Ledger}
+use Rattle.board_layout.specs.Board.{Board, board_with, conferences_in, shapes_of}
 use Rattle.board_layout.specs.Layout.{base_size, board_size, layouts}
 use Rattle.board_layout.specs.Lookups.{held_in, pointer_at}
 use Rattle.board_layout.specs.Outlines.{board_outline}
@@ -90,6 +92,13 @@ conferences_again (c ∷ conferences) = λ i. conference_again c i ∷ conferenc
 pub base_again : (base : Contents) → outlined (outlined base) ≡ outlined base
 base_again base = ap (λ (c : Conference). record base { conference = c }) (conference_again base.conference)
 
+-- a base that has the outline of a conference
+pub own_outlined : (base : Contents) (whole : Conference) → base.conference ≡ outline whole → outlined base ≡ base
+own_outlined base whole is = λ i. record base { conference = (ap outline is ∙ (conference_again whole ∙ sym is)) i }
+
+pub own_conference : (base : Contents) (whole : Conference) → base.conference ≡ outline whole → IsConference base.shape whole → IsConference base.shape base.conference
+own_conference base whole is ok = subst (IsConference base.shape) (sym is) (conference_outline base.shape whole ok)
+
 pub outline_again : (b : Board) → board_outline (board_outline b) ≡ board_outline b
 outline_again b = ap (λ (conferences : List Conference). record b { conferences = conferences }) (conferences_again b.conferences)
 
@@ -148,3 +157,13 @@ live_from (s ∷ slots) n =
 
 pub outline_live : (slots : List Slot) → live_count (map slot_outline slots) ≡ live_count slots
 outline_live slots = live_from slots 0
+
+-- ---- bases of outlines make a board that is its own
+own_conferences : (bases : List Contents) → All (λ base. outlined base ≡ base) bases → map outline (conferences_in bases) ≡ conferences_in bases
+own_conferences [] all = refl
+own_conferences (base ∷ bases) all =
+    let first : outlined base ≡ base = All-head (λ (k : Contents). outlined k ≡ k) base bases all in
+    λ i. (first i).conference ∷ own_conferences bases (All-tail (λ (k : Contents). outlined k ≡ k) base bases all) i
+
+pub own_board : (l : Ledger) (bases : List Contents) → All (λ base. outlined base ≡ base) bases → board_outline (board_with l bases) ≡ board_with l bases
+own_board l bases all = λ i. record { ledger = l; conferences = own_conferences bases all i }

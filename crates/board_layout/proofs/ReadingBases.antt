@@ -1,6 +1,7 @@
 -- A loop over the conferences of a ledger: those that were read, and those that are left.
-use Rattle.std.proofs.Common.{◌≡◌, ℕ, ◌+◌, ◌<◌, Bool, List, [], ◌∷◌, ◌++◌, length, map, drop, get_or, Option, Result, Ok, Err, refl, sym, ap, ◌∙◌, subst, arith, append_assoc}
+use Rattle.std.proofs.Common.{◌≡◌, ℕ, ◌+◌, ◌<◌, Bool, true, List, [], ◌∷◌, ◌++◌, length, map, drop, get_or, Option, Result, Ok, Err, refl, sym, ap, ◌∙◌, subst, arith, append_assoc}
 use Rattle.std.specs.Prelude.{All, IsTrue}
+use Rattle.std.specs.List.{AllZip}
 use Rattle.std.proofs.lemmas.List.{append-nil, map-append, length-map, length_push, drop_more}
 use Rattle.std.proofs.lemmas.List.Elements.{All-nil, All-push}
 use Rattle.board_ledger.specs.declared.ledger.Ledger.{Ledger}
@@ -9,7 +10,9 @@ use Rattle.damage_rules.proofs.KeptRules.{with_front, one_more, one_fails}
 use Rattle.intent_journal.specs.Patches.{Files}
 use Rattle.jam_base.specs.Change.{files_of_place}
 use Rattle.jam_base.specs.Contents.{Contents}
+use Rattle.jam_base.specs.Outlined.{outlined}
 use Rattle.jam_layout.specs.Layout.{conference_of}
+use Rattle.jam_layout.specs.Outlines.{outline}
 use Rattle.jam_layout.specs.Valid.{IsConference}
 use Rattle.jam_layout.specs.declared.conference.Conference.{Conference}
 use Rattle.jam_layout.specs.declared.files.BaseFiles.{BaseFiles}
@@ -18,8 +21,9 @@ use Rattle.jam_records.specs.declared.damage.Damage.{Damage}
 use Rattle.setup_file.specs.declared.conference.Conference.{Conference as SetupConference}
 use Rattle.board_layout.specs.Board.{conferences_in, shape_of, shapes_from, shapes_in, shapes_of}
 use Rattle.board_layout.specs.Damage.{conferences_of}
-use Rattle.board_layout.specs.Layout.{files_in, AreAt}
-use Rattle.board_layout.proofs.BasePlaces.{IsBase, one_more_at}
+use Rattle.board_layout.specs.Layout.{files_in, layouts, AreAt}
+use Rattle.board_layout.specs.Rules.{AreOutlinesOf, IsOutlineOf, ReadSo}
+use Rattle.board_layout.proofs.BasePlaces.{IsBase, layouts_in, one_more_at, zipped}
 
 -- these bases were read, and the conferences from this place on are left
 pub record BasesRead (tells : Bool) (l : Ledger) (place : ℕ) (left : List SetupConference) (files : Files) (bases : List Contents) : Type 0 where
@@ -76,3 +80,44 @@ module _ (tells : Bool) (l : Ledger) (place : ℕ) (files : Files) (bases : List
 
   pub conferences_done : IsTrue tells → conferences_of (shapes_of l) files ≡ Ok (conferences_in bases)
   conferences_done told = sym (so_far.read told) ∙ ap (λ (xs : List Conference). Ok xs) (append-nil (conferences_in bases))
+
+-- ---- the conferences that were read, whole, of which the bases are the outlines
+pub record WholesRead (l : Ledger) (place : ℕ) (left : List SetupConference) (files : Files) (bases : List Contents) : Type 0 where
+  pub wholes : List Contents
+  pub alike : map outlined wholes ≡ bases
+  pub so_far : BasesRead true l place left files wholes
+
+pub wholes_none : (l : Ledger) (files : Files) → WholesRead l 0 l.setup.conferences files []
+wholes_none l files = record { wholes = []; alike = refl; so_far = bases_none true l files }
+
+module _ (l : Ledger) (place : ℕ) (c : SetupConference) (left : List SetupConference) (files : Files) (bases : List Contents) (so : WholesRead l place (c ∷ left) files bases) where
+  pub wholes_more : (b : Contents) → b.shape ≡ shape_of l place c.kind → ReadSo (IsOutlineOf (files_of_place place files)) b (conference_of (shape_of l place c.kind) (files_of_place place files)) → WholesRead l (place + 1) left files (bases ++ b ∷ [])
+  wholes_more b shape read =
+      let k : Contents = record { shape = b.shape; conference = read.whole } in
+      let own : outlined k ≡ b = λ i. record { shape = b.shape; conference = sym read.holds.alike i } in
+      record {
+        wholes = so.wholes ++ k ∷ [];
+        alike = map-append outlined so.wholes (k ∷ []) ∙ (λ i. so.alike i ++ own i ∷ []);
+        so_far = bases_more true l place c left files so.wholes so.so_far k shape read.holds.valid (λ told. read.is_read) (λ told. read.holds.stored);
+      }
+
+  pub wholes_fail : (e : Option Damage) → Stops e (conference_of (shape_of l place c.kind) (files_of_place place files)) → Stops e (conferences_of (shapes_of l) files)
+  wholes_fail e failed = bases_fail true l place c left files so.wholes so.so_far e (λ told. failed) refl
+
+conferences_outlined : (wholes : List Contents) → conferences_in (map outlined wholes) ≡ map outline (conferences_in wholes)
+conferences_outlined [] = refl
+conferences_outlined (k ∷ wholes) = ap (λ (cs : List Conference). outline k.conference ∷ cs) (conferences_outlined wholes)
+
+pub wholes_done : (l : Ledger) (place : ℕ) (files : Files) (bases : List Contents) → WholesRead l place [] files bases → ReadSo (AreOutlinesOf (shapes_of l) files) bases (conferences_of (shapes_of l) files)
+wholes_done l place files bases so =
+    let shapes : shapes_in so.wholes ≡ shapes_of l = shapes_done true l place files so.wholes so.so_far in
+    let same : layouts (shapes_of l) (conferences_in so.wholes) ≡ map files_in so.wholes = ap (λ (ss : List Shape). layouts ss (conferences_in so.wholes)) (sym shapes) ∙ layouts_in so.wholes in
+    record {
+      whole = conferences_in so.wholes;
+      is_read = conferences_done true l place files so.wholes so.so_far refl;
+      holds = record {
+        alike = sym (ap conferences_in so.alike) ∙ conferences_outlined so.wholes;
+        valid = subst (λ (ss : List Shape). AllZip IsConference ss (conferences_in so.wholes)) shapes (zipped so.wholes so.so_far.conferences);
+        stored = subst (λ (xs : List BaseFiles). AreAt 0 xs files) (sym same) (so.so_far.layout refl);
+      };
+    }

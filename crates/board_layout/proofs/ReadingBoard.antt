@@ -1,6 +1,6 @@
 -- What the data files are read as, where they aren't empty.
 use Rattle.std.proofs.Common.{◌≡◌, ◌≤◌, ◌<◌, Bool, ltb, eqb, true, false, [], ◌∷◌, Option, Some, None, Result, Ok, Err, sym, ap, ◌∙◌, subst}
-use Rattle.std.proofs.lemmas.Bool.{cond-false, le-ltb, lt-ltb, ne_eqb}
+use Rattle.std.proofs.lemmas.Bool.{cond-false, cond-true, eq-eqb, le-ltb, lt-ltb, ne_eqb}
 use Rattle.damage_rules.specs.Rules.{by_rules, ◌>>=◌, Stops}
 use Rattle.door_outside.specs.File.{ledger_file}
 use Rattle.intent_journal.specs.Patches.{Files}
@@ -16,6 +16,9 @@ by_size files long e = ap (λ (b : Bool). by_rules ledger_file 0 ((Size, b) ∷ 
 
 some_bytes : (files : Files) → (data_size files ≡ 0 → ⊥) → board_in files ≡ some_board (board_of files)
 some_bytes files some = cond-false (eqb (data_size files) 0) (Ok None) (some_board (board_of files)) (ne_eqb (data_size files) 0 some)
+
+pub no_bytes : (files : Files) → data_size files ≡ 0 → board_in files ≡ Ok None
+no_bytes files none = cond-true (eqb (data_size files) 0) (Ok None) (some_board (board_of files)) (eq-eqb (data_size files) 0 none)
 
 some_fails : (e : Option Damage) (read : Result Board Damage) → Stops e read → Stops e (some_board read)
 some_fails None read h = tt

@@ -1,12 +1,12 @@
 // Reading the conferences of a ledger.
-ghost use Rattle.std.specs.Prelude.{◌≡◌, ◌<◌, All, IfOk, IsTrue, map};
+ghost use Rattle.std.specs.Prelude.{◌≡◌, ◌<◌, All, IfOk, IsTrue};
 ghost use Rattle.board_ledger.specs.Valid.{IsLedger};
-ghost use Rattle.board_layout.specs.Board.{conferences_in, shape_of, shapes_in, shapes_of};
+ghost use Rattle.board_layout.specs.Board.{shape_of, shapes_in, shapes_of};
 ghost use Rattle.board_layout.specs.Damage.{conferences_of};
-ghost use Rattle.board_layout.specs.Layout.{AreAt, files_in};
-ghost use Rattle.board_layout.specs.Rules.{Gives, HasReadCause};
+ghost use Rattle.board_layout.specs.Rules.{AreOutlinesOf, GivesSo, HasReadCause, IsOutlineOf};
 ghost use Rattle.door_outside.specs.Disk.{Unchanged};
 ghost use Rattle.jam_base.specs.Change.{files_of_place};
+ghost use Rattle.jam_base.specs.Outlined.{outlined};
 ghost use Rattle.jam_layout.specs.Layout.{conference_of};
 ghost use Rattle.jam_layout.specs.Valid.{IsConference};
 
@@ -32,9 +32,9 @@ fn read_place<H: Host>(
     requires place { place < 64 }
     ensures shape { IfOk result (λ base. base.shape ≡ shape_of ledger.now place kind) }
     ensures conference { IfOk result (λ base. IsConference base.shape base.conference) }
+    ensures outline { IfOk result (λ base. outlined base ≡ base) }
     ensures unchanged { IsTrue H.tells → Unchanged (H.disk host.old) (H.disk host.new) }
-    ensures gives { IsTrue H.tells → Gives (λ base. base.conference) result (conference_of (shape_of ledger.now place kind) (files_of_place place (H.disk host.old).files)) }
-    ensures layout { IsTrue H.tells → IfOk result (λ base. files_of_place place (H.disk host.old).files ≡ files_in base) }
+    ensures gives { IsTrue H.tells → GivesSo (IsOutlineOf (files_of_place place (H.disk host.old).files)) result (conference_of (shape_of ledger.now place kind) (files_of_place place (H.disk host.old).files)) }
     ensures cause { HasReadCause (H.disk_faults host.old) (H.disk_faults host.new) result }
     ensures voice { H.voice_faults host.new ≡ H.voice_faults host.old }
 {
@@ -52,9 +52,9 @@ pub(crate) fn read_bases<H: Host>(
     requires { IsLedger ledger.now }
     ensures shapes { IfOk result (λ bases. shapes_in bases ≡ shapes_of ledger.now) }
     ensures conferences { IfOk result (All (λ base. IsConference base.shape base.conference)) }
+    ensures outlines { IfOk result (All (λ base. outlined base ≡ base)) }
     ensures unchanged { IsTrue H.tells → Unchanged (H.disk host.old) (H.disk host.new) }
-    ensures gives { IsTrue H.tells → Gives conferences_in result (conferences_of (shapes_of ledger.now) (H.disk host.old).files) }
-    ensures layout { IsTrue H.tells → IfOk result (λ bases. AreAt 0 (map files_in bases) (H.disk host.old).files) }
+    ensures gives { IsTrue H.tells → GivesSo (AreOutlinesOf (shapes_of ledger.now) (H.disk host.old).files) result (conferences_of (shapes_of ledger.now) (H.disk host.old).files) }
     ensures cause { HasReadCause (H.disk_faults host.old) (H.disk_faults host.new) result }
     ensures voice { H.voice_faults host.new ≡ H.voice_faults host.old }
 {

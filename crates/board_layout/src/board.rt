@@ -2,6 +2,7 @@ ghost use Rattle.std.specs.Prelude.{◌≡◌, ◌≤◌, ◌<◌, ◌^◌, map,
 ghost use Rattle.std.specs.Option.{option_copied, option_map};
 ghost use Rattle.board_layout.specs.Board.{board_with, conferences_in, shapes_in, shapes_of};
 ghost use Rattle.board_layout.specs.Layout.{base_size, board_size};
+ghost use Rattle.board_layout.specs.Outlines.{board_outline};
 ghost use Rattle.board_layout.specs.Renewed.{contents_of, renewed};
 ghost use Rattle.board_layout.specs.Valid.{IsBoard};
 
@@ -16,7 +17,8 @@ pub const BOARD_LIMIT: u64 = 34_603_008;
 /// Conferences, by place from 0.
 pub type Bases = List<Base>;
 
-/// A valid board as its files hold it. Contracts see it as a `Board`.
+/// The outline of a valid board: all that its files hold but the bodies of its messages. Contracts see it as a `Board`,
+/// which is its own outline.
 #[derive(Debug, Drop)]
 pub struct StoredBoard {
     /// Its setup, when it was made, its users and its upload records.
@@ -28,13 +30,14 @@ pub struct StoredBoard {
 impl Model for StoredBoard {
     ghost use Rattle.std.specs.Prelude.{◌≡◌};
     ghost use Rattle.board_layout.specs.Board.{Board, board_with, shapes_in, shapes_of};
+    ghost use Rattle.board_layout.specs.Outlines.{board_outline};
     ghost use Rattle.board_layout.specs.Valid.{IsBoard};
 
     ghost Value = { Board };
 
     ghost view = { λ s. board_with s.ledger s.bases.items };
 
-    ghost invariant = { λ s. IsBoard (board_with s.ledger s.bases.items) × (shapes_in s.bases.items ≡ shapes_of s.ledger) };
+    ghost invariant = { λ s. IsBoard (board_with s.ledger s.bases.items) × (shapes_in s.bases.items ≡ shapes_of s.ledger) × (board_outline (board_with s.ledger s.bases.items) ≡ board_with s.ledger s.bases.items) };
 }
 
 /// How many bytes the files of bases have together.
@@ -73,10 +76,11 @@ fn renew_bases(olds: &mut [Base], mut news: Vec<Option<Base>>)
 }
 
 impl StoredBoard {
-    /// The board of a ledger and its conferences, in order of the setup.
+    /// The board of a ledger and its conferences, in order of the setup, which is its own outline.
     pub fn new(ledger: Ledger, bases: Bases) -> StoredBoard
         requires board { IsBoard (board_with ledger bases) }
         requires shapes { shapes_in bases ≡ shapes_of ledger }
+        requires outline { board_outline (board_with ledger bases) ≡ board_with ledger bases }
         ensures { result ≡ board_with ledger bases }
     {
         StoredBoard {
@@ -89,6 +93,7 @@ impl StoredBoard {
     pub fn ledger(&self) -> &Ledger
         ensures ledger { result.now ≡ self.now.ledger }
         ensures board { IsBoard self.now }
+        ensures outline { board_outline self.now ≡ self.now }
     {
         &self.ledger
     }
@@ -99,6 +104,7 @@ impl StoredBoard {
         ensures conferences { conferences_in result.now ≡ self.now.conferences }
         ensures shapes { shapes_in result.now ≡ shapes_of self.now.ledger }
         ensures board { IsBoard self.now }
+        ensures outline { board_outline self.now ≡ self.now }
     {
         self.bases.as_slice()
     }
@@ -116,6 +122,7 @@ impl StoredBoard {
     pub fn renew(&mut self, ledger: Option<Ledger>, bases: List<Option<Base>>)
         requires board { IsBoard (board_with (unwrap_or ledger self.old.ledger) (renewed (contents_of self.old) bases)) }
         requires shapes { shapes_in (renewed (contents_of self.old) bases) ≡ shapes_of (unwrap_or ledger self.old.ledger) }
+        requires outline { board_outline (board_with (unwrap_or ledger self.old.ledger) (renewed (contents_of self.old) bases)) ≡ board_with (unwrap_or ledger self.old.ledger) (renewed (contents_of self.old) bases) }
         ensures { self.new ≡ board_with (unwrap_or ledger self.old.ledger) (renewed (contents_of self.old) bases) }
     {
         renew_bases(&mut self.bases, bases.into_vec());

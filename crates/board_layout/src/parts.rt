@@ -5,6 +5,7 @@ ghost use Rattle.board_layout.specs.Layout.{base_size, board_size};
 ghost use Rattle.board_layout.specs.Valid.{board_limit, offers_fit};
 ghost use Rattle.board_ledger.specs.Ledger.{ledger_text};
 ghost use Rattle.board_ledger.specs.Valid.{IsLedger};
+ghost use Rattle.jam_base.specs.Outlined.{outlined};
 ghost use Rattle.jam_layout.specs.Valid.{IsConference};
 
 use crate::board::{BOARD_LIMIT, Bases, StoredBoard};
@@ -43,6 +44,7 @@ pub(crate) fn board_of_parts(ledger: Ledger, bases: Bases) -> Option<StoredBoard
     requires ledger { IsLedger ledger }
     requires shapes { shapes_in bases ≡ shapes_of ledger }
     requires conferences { All (λ base. IsConference base.shape base.conference) bases }
+    requires outlines { All (λ base. outlined base ≡ base) bases }
     requires highs { All (λ u. IsTrue (offers_fit (conferences_in bases) u.offers)) ledger.users }
     ensures { MatchOption result (board_limit < board_size (board_with ledger bases)) (λ board. board ≡ board_with ledger bases) }
 {

@@ -2,13 +2,14 @@
 ghost use Rattle.std.specs.Prelude.{◌≡◌, ◌≤◌, All, IfOk, IsTrue};
 ghost use Rattle.board_ledger.specs.Ledger.{ledger_of, stored_text};
 ghost use Rattle.board_ledger.specs.Valid.{IsLedger, IsStored};
-ghost use Rattle.board_layout.specs.Board.{board_with, conferences_in, shapes_in, shapes_of};
+ghost use Rattle.board_layout.specs.Board.{conferences_in, shapes_in, shapes_of};
 ghost use Rattle.board_layout.specs.Damage.{board_in, parts_behind, parts_of, size_limit as limit_of};
-ghost use Rattle.board_layout.specs.Layout.{HasPlaces, data_size as size_of_data};
-ghost use Rattle.board_layout.specs.Rules.{Gives, HasReadCause, IsLaidOut, IsLaidOutAs, board_found};
+ghost use Rattle.board_layout.specs.Layout.{data_size as size_of_data};
+ghost use Rattle.board_layout.specs.Rules.{AreFoundOf, ArePartsOf, Gives, GivesSo, HasReadCause, IsFoundOf};
 ghost use Rattle.board_layout.specs.Valid.{offers_fit};
 ghost use Rattle.door_outside.specs.Disk.{Unchanged};
 ghost use Rattle.door_outside.specs.File.{ledger_file};
+ghost use Rattle.jam_base.specs.Outlined.{outlined};
 ghost use Rattle.jam_layout.specs.Valid.{IsConference};
 
 use crate::bases::read_bases;
@@ -26,7 +27,7 @@ use door_outside::{FileId, Host};
 use jam_records::DamageRule;
 use std::alloc::Global;
 
-/// A board that the data files are read as.
+/// The outline of a board that the data files are read as.
 #[derive(Debug, Drop)]
 pub struct FoundBoard {
     /// Whether their ledger is of version 1.
@@ -64,10 +65,10 @@ fn read_conferences<H: Host>(
     requires { IsLedger ledger.now }
     ensures shapes { IfOk result (λ bases. shapes_in bases ≡ shapes_of ledger.now) }
     ensures conferences { IfOk result (All (λ base. IsConference base.shape base.conference)) }
+    ensures outlines { IfOk result (All (λ base. outlined base ≡ base)) }
     ensures highs { IfOk result (λ bases. All (λ u. IsTrue (offers_fit (conferences_in bases) u.offers)) ledger.now.users) }
     ensures unchanged { IsTrue H.tells → Unchanged (H.disk host.old) (H.disk host.new) }
-    ensures gives { IsTrue H.tells → Gives (λ bases. board_with ledger.now bases) result (parts_behind ledger.now (H.disk host.old).files) }
-    ensures places { IsTrue H.tells → IfOk result (λ bases. HasPlaces (board_with ledger.now bases) (H.disk host.old).files) }
+    ensures gives { IsTrue H.tells → GivesSo (ArePartsOf ledger.now (H.disk host.old).files) result (parts_behind ledger.now (H.disk host.old).files) }
     ensures cause { HasReadCause (H.disk_faults host.old) (H.disk_faults host.new) result }
     ensures voice { H.voice_faults host.new ≡ H.voice_faults host.old }
 {
@@ -86,8 +87,7 @@ fn read_conferences<H: Host>(
 fn read_parts<H: Host>(alloc: Global, host: &mut H) -> Result<FoundBoard, ReadError>
     requires { IsTrue H.tells → size_of_data (H.disk host.old).files ≤ limit_of ((H.disk host.old).files ledger_file) }
     ensures unchanged { IsTrue H.tells → Unchanged (H.disk host.old) (H.disk host.new) }
-    ensures gives { IsTrue H.tells → Gives (λ found. found.board) result (parts_of (H.disk host.old).files) }
-    ensures layout { IsTrue H.tells → IfOk result (λ found. IsLaidOutAs found.is_old found.board (H.disk host.old).files) }
+    ensures gives { IsTrue H.tells → GivesSo (IsFoundOf (H.disk host.old).files) result (parts_of (H.disk host.old).files) }
     ensures cause { HasReadCause (H.disk_faults host.old) (H.disk_faults host.new) result }
     ensures voice { H.voice_faults host.new ≡ H.voice_faults host.old }
 {
@@ -102,16 +102,15 @@ fn read_parts<H: Host>(alloc: Global, host: &mut H) -> Result<FoundBoard, ReadEr
     }
 }
 
-/// The board whose layout the data files are, with the ledger in version 1 or 2, or None where all of them are
-/// empty.
+/// The outline of the board whose layout the data files are, with the ledger in version 1 or 2, or None where all of
+/// them are empty.
 ///
 /// `Damaged` comes where they are neither, with the first rule that they break: the size of all files, the
 /// ledger, the four files of each place, and then the highs of the users' open offers. `DiskFault` comes only where
 /// the host's count of disk faults rose. `OutOfMemory` comes where there is no memory; it hides no fault.
 pub fn read_board<H: Host>(alloc: Global, host: &mut H) -> Result<Option<FoundBoard>, ReadError>
     ensures unchanged { IsTrue H.tells → Unchanged (H.disk host.old) (H.disk host.new) }
-    ensures gives { IsTrue H.tells → Gives board_found result (board_in (H.disk host.old).files) }
-    ensures layout { IsTrue H.tells → IfOk result (λ found. IsLaidOut found (H.disk host.old).files) }
+    ensures gives { IsTrue H.tells → GivesSo (AreFoundOf (H.disk host.old).files) result (board_in (H.disk host.old).files) }
     ensures cause { HasReadCause (H.disk_faults host.old) (H.disk_faults host.new) result }
     ensures voice { H.voice_faults host.new ≡ H.voice_faults host.old }
 {

@@ -25,3 +25,5 @@ pub mod ReceivedLoop
 pub mod DueRange
 pub mod OutlineTurns
 pub mod OutlineChanges
+pub mod EndOutlines
+pub mod BareLookups

@@ -24,7 +24,8 @@ use Rattle.jam_base.specs.declared.change.BaseChange.{BaseChange}
 use Rattle.jam_base.specs.declared.receipt.Receipt.{Receipt}
 use Rattle.jam_base.proofs.AppendPuts.{helds, all_slots_are}
 use Rattle.jam_base.proofs.MarkedSlots.{deleted_files, received_files}
-use Rattle.jam_base.proofs.OutlineTurns.{IsBlind, turns_each}
+use Rattle.jam_base.proofs.ChangeClauses.{both_ok}
+use Rattle.jam_base.proofs.OutlineTurns.{IsBlind, each, turns_each}
 use Rattle.jam_base.proofs.SlotChanges.{live_above, live_within}
 
 abbrev files_in : Contents → BaseFiles
@@ -46,12 +47,12 @@ pub pointed_blind : (old : Contents) (user number : ℕ) → IsBlind old (with_p
 pointed_blind old user number = blind_marks old (with_pointer user number) (λ base. refl) (λ base e. refl)
 
 -- ---- messages more
-all_outlined : (slots : List Slot) (messages : List Message) → map slot_outline (slots_with_all slots messages) ≡ slots_with_all (map slot_outline slots) (map message_outline messages)
+pub all_outlined : (slots : List Slot) (messages : List Message) → map slot_outline (slots_with_all slots messages) ≡ slots_with_all (map slot_outline slots) (map message_outline messages)
 all_outlined slots [] = refl
 all_outlined slots (m ∷ messages) =
     all_outlined (slots ++ Held m ∷ []) messages ∙ ap (λ (xs : List Slot). slots_with_all xs (map message_outline messages)) (map-append slot_outline slots (Held m ∷ []))
 
-appended_outline : (messages : List Message) (base : Contents) → outlined (with_messages messages base) ≡ with_messages (map message_outline messages) (outlined base)
+pub appended_outline : (messages : List Message) (base : Contents) → outlined (with_messages messages base) ≡ with_messages (map message_outline messages) (outlined base)
 appended_outline [] base = refl
 appended_outline (m ∷ messages) base = ap (λ (xs : List Slot). with_slots xs (outlined base)) (all_outlined base.conference.slots (m ∷ messages))
 
@@ -155,13 +156,14 @@ acknowledged_blind old user name upto now =
     (λ base e. received_bodies name (receipt_to user upto now base) base)
 
 -- ---- as functions answer
+-- a base whose slots are an outline is one
+pub own_outline : (base : Contents) → map slot_outline base.conference.slots ≡ base.conference.slots → outlined base ≡ base
+own_outline base same = λ i. record base { conference = record base.conference { slots = same i } }
+
 module _ {E : Type 0} (old : Contents) (made : Contents) (r : Result BaseChange E) (base : IfOk r (λ change. change.base ≡ made)) (turns : IfOk r (λ change. Turns old.shape.place (files_in old) (files_in change.base) change.patches))
     (longer : IfOk r (λ change. Lengthens old.shape.place (files_in old) (files_in change.base) change.patches)) where
   pub joined_each : (user : ℕ) (name : List ℕ) → made ≡ with_reader user name old → IfOk r (λ change. TurnsEach old (with_reader user name) change.patches)
   joined_each user name is = turns_each old (with_reader user name) (with_reader user name) [] (joined_blind old user name) made r is base turns longer
-
-  pub appended_each : (messages : List Message) → made ≡ with_messages messages old → IfOk r (λ change. TurnsEach old (with_messages messages) change.patches)
-  appended_each messages is = turns_each old (with_messages messages) (with_messages (map message_outline messages)) (flat_map body_piece (helds messages)) (appended_blind old messages) made r is base turns longer
 
   pub killed_each : (number : ℕ) → has_live number old.conference.slots ≡ true → made ≡ with_deleted number old → IfOk r (λ change. TurnsEach old (with_deleted number) change.patches)
   killed_each number live is = turns_each old (with_deleted number) (with_deleted number) [] (killed_blind old number live) made r is base turns longer
@@ -175,6 +177,13 @@ module _ {E : Type 0} (old : Contents) (made : Contents) (r : Result BaseChange 
   pub acknowledged_each : (user : ℕ) (name : List ℕ) (upto now : ℕ) → made ≡ with_acknowledged user name upto now old → IfOk r (λ change. TurnsEach old (with_acknowledged user name upto now) change.patches)
   acknowledged_each user name upto now is =
       turns_each old (with_acknowledged user name upto now) (with_acknowledged user name upto now) [] (acknowledged_blind old user name upto now) made r is base turns longer
+
+-- messages more, of which the bodies aren't in the base
+pub appended_each : {E : Type 0} (old : Contents) (messages : List Message) (r : Result BaseChange E) → IfOk r (λ change. Turns old.shape.place (files_in old) (files_in (with_messages messages old)) change.patches)
+    → IfOk r (λ change. Lengthens old.shape.place (files_in old) (files_in (with_messages messages old)) change.patches) → IfOk r (λ change. TurnsEach old (with_messages messages) change.patches)
+appended_each old messages r turns longer =
+    both_ok (λ (change : BaseChange). Turns old.shape.place (files_in old) (files_in (with_messages messages old)) change.patches) (λ (change : BaseChange). Lengthens old.shape.place (files_in old) (files_in (with_messages messages old)) change.patches) (λ (change : BaseChange). TurnsEach old (with_messages messages) change.patches) r
+    (λ change t l. each old (with_messages messages) (with_messages (map message_outline messages)) (flat_map body_piece (helds messages)) (appended_blind old messages) change.patches t l) turns longer
 
 -- where there is no message more, and where none is due
 pub no_messages : (messages : List Message) (old : Contents) → (length messages == 0) ≡ true → old ≡ with_messages messages old

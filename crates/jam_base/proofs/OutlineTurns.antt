@@ -122,7 +122,7 @@ pub record IsBlind (old : Contents) (change other : Contents → Contents) (more
   pub bodies : (base : Contents) → outlined base ≡ outlined old → (files_in (change base)).jdt ≡ (files_in base).jdt ++ more
 
 module _ (old : Contents) (change other : Contents → Contents) (more : List ℕ) (blind : IsBlind old change other more) where
-  each : (patches : List Patch) → Turns old.shape.place (files_in old) (files_in (change old)) patches → Lengthens old.shape.place (files_in old) (files_in (change old)) patches → TurnsEach old change patches
+  pub each : (patches : List Patch) → Turns old.shape.place (files_in old) (files_in (change old)) patches → Lengthens old.shape.place (files_in old) (files_in (change old)) patches → TurnsEach old change patches
   each patches turns longer = record {
     turns = λ base e.
         let next : outlined (change base) ≡ outlined (change old) = blind.outline base e ∙ (ap other e ∙ sym (blind.outline old refl)) in

@@ -1,5 +1,5 @@
 -- What `fresh` and `joined` make is a conference of its shape.
-use Rattle.std.proofs.Common.{◌≡◌, ℕ, ◌+◌, ◌≤◌, ◌<◌, List, [], ◌∷◌, ◌++◌, length, sym, ap, ◌∙◌, subst, arith, length-append}
+use Rattle.std.proofs.Common.{◌≡◌, ℕ, ◌+◌, ◌≤◌, ◌<◌, List, [], ◌∷◌, ◌++◌, length, sym, ap, ◌∙◌, subst, arith, length-append, map}
 use Rattle.std.specs.Prelude.{All, replicate}
 use Rattle.std.proofs.Math.ListN.{length-replicate}
 use Rattle.std.proofs.lemmas.List.{get_or-replicate}
@@ -7,6 +7,7 @@ use Rattle.std.proofs.lemmas.List.Elements.{All-drop, All-append, All-cons, All-
 use Rattle.jam_records.specs.declared.message.Slot.{Slot}
 use Rattle.jam_base.specs.Contents.{Contents, no_slots, with_reader}
 use Rattle.jam_layout.specs.Messages.{IsSlot}
+use Rattle.jam_layout.specs.Outlines.{outline, slot_outline}
 use Rattle.jam_layout.specs.Valid.{Rise, IsShape, IsConference}
 use Rattle.jam_layout.specs.declared.conference.Conference.{Conference}
 use Rattle.jam_layout.specs.declared.reader.Reader.{Reader}
@@ -32,9 +33,9 @@ fresh_is shape = record {
   pointers = record { all = length-replicate {A = ℕ} (length shape.readers) 0; within = zeros_within 0 (length shape.readers) };
 }
 
-pub fresh_base : (shape : Shape) (made : Contents) (slots : List Slot) (pointers : List ℕ) → slots ≡ [] → pointers ≡ (no_slots shape).pointers → made ≡ record { shape = shape; conference = record { counter = 0; slots = slots; pointers = pointers } }
+pub fresh_base : (shape : Shape) (made : Contents) (slots : List Slot) (pointers : List ℕ) → slots ≡ [] → pointers ≡ (no_slots shape).pointers → made ≡ record { shape = shape; conference = outline (record { counter = 0; slots = slots; pointers = pointers }) }
     → made ≡ record { shape = shape; conference = no_slots shape }
-fresh_base shape made slots pointers none zeros is = is ∙ (λ i. record { shape = shape; conference = record { counter = 0; slots = none i; pointers = zeros i } })
+fresh_base shape made slots pointers none zeros is = is ∙ (λ i. record { shape = shape; conference = record { counter = 0; slots = map slot_outline (none i); pointers = zeros i } })
 
 pub fresh_made : (shape : Shape) (slots : List Slot) (pointers : List ℕ) → slots ≡ [] → pointers ≡ (no_slots shape).pointers → IsConference shape (record { counter = 0; slots = slots; pointers = pointers })
 fresh_made shape slots pointers none zeros =

@@ -1,5 +1,5 @@
 -- The loop over slots that marks messages received.
-use Rattle.std.proofs.Common.{◌≡◌, ℕ, suc, ◌+◌, ◌-◌, ◌<◌, ◌≤◌, List, [], ◌∷◌, ◌++◌, length, take, drop, get_or, sym, ap, ◌∙◌, arith, append_assoc, append-nil, length-append, length-take}
+use Rattle.std.proofs.Common.{◌≡◌, ℕ, zero, suc, ◌+◌, ◌-◌, ◌<◌, ◌≤◌, List, [], ◌∷◌, ◌++◌, length, take, drop, get_or, refl, sym, ap, ◌∙◌, arith, append_assoc, append-nil, length-append, length-take}
 use Rattle.std.proofs.Math.ListN.{set}
 use Rattle.std.proofs.lemmas.List.{drop_all, drop_more, take_all, take_more, length-drop, set-append_right, get_or-append_right}
 use Rattle.jam_records.specs.declared.message.Slot.{Slot}
@@ -45,3 +45,9 @@ received_more name r slots place new next within is so_far =
 pub received_end : (name : List ℕ) (r : Receipt) (slots : List Slot) (place : ℕ) (new : List Slot) → length slots ≤ place → ReceivedSoFar name r slots place new → new ≡ slots_received name r 1 slots
 received_end name r slots place new none so_far =
     so_far.so_far ∙ ((λ i. slots_received name r 1 (take_all place slots none i) ++ drop_all place slots none i) ∙ append-nil (slots_received name r 1 slots))
+
+-- an item put where it is
+pub set_item : {X : Type 0} (xs : List X) (place : ℕ) (d : X) → set xs place (get_or xs place d) ≡ xs
+set_item [] place d = refl
+set_item (x ∷ xs) zero d = refl
+set_item (x ∷ xs) (suc place) d = λ i. x ∷ set_item xs place d i

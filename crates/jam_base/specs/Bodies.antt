@@ -1,4 +1,4 @@
--- Where the bodies of messages stand in .JDT, and what a change does to them.
+-- Where the bodies stand in .JDT, and what a change does to them.
 use Rattle.std.specs.Prelude.{◌≡◌, ℕ, ◌-◌, List, ◌++◌, length, take, drop, sum_by, Option, Some, None}
 use Rattle.intent_journal.specs.Patches.{Files, patched}
 use Rattle.intent_journal.specs.declared.patch.Patch.{Patch}
@@ -10,14 +10,18 @@ use Rattle.jam_records.specs.declared.message.Slot.TheVariants.{Gone, Held}
 use Rattle.jam_base.specs.Slots.{numbered}
 use Rattle.jam_base.specs.declared.span.Span.{Span}
 
--- where the body of what a slot holds stands, if it begins here
-abbrev pub span_at : ℕ → Slot → Option Span
-span_at begin Gone = None
-span_at begin (Held message) = Some (record { at = begin; len = length message.body })
+-- where in .JDT the body of the message of a number begins: behind those before it
+abbrev pub body_begin : ℕ → List Slot → ℕ
+body_begin number slots = sum_by body_size (take (number - 1) slots)
 
--- where the body of the message of a number stands, behind those of the slots before it
+-- the place and the length of the body of what a slot holds
+abbrev pub span_at : ℕ → Slot → Option Span
+span_at at Gone = None
+span_at at (Held message) = Some (record { at = at; len = length message.body })
+
+-- that of the message of a number, where a slot of the number holds one
 abbrev pub body_span : ℕ → List Slot → Option Span
-body_span number slots = span_at (sum_by body_size (take (number - 1) slots)) (numbered slots number)
+body_span number slots = span_at (body_begin number slots) (numbered slots number)
 
 -- Whatever bytes .JDT holds, where they are as many as the old one's: the patches leave them, and put behind them what
 -- the new one has behind the old one, so that .JDT is lengthened, and nothing else is done to it.

@@ -25,10 +25,13 @@ marks_text kind number m = u32s_text (m.received ∷ m.processed ∷ number ∷ 
 abbrev pub marks_put : Kind → ℕ → ℕ → ℕ → Message → Patch
 marks_put kind place at number m = Put (jhr_file place) (at + 40) (marks_text kind number m)
 
--- the message of a number marked deleted
+-- the message of a number marked deleted, whose header stands at a place
+abbrev pub delete_put : Kind → ℕ → ℕ → ℕ → Slot → List Patch
+delete_put kind place at number Gone = []
+delete_put kind place at number (Held m) = marks_put kind place at number (record m { deleted = true }) ∷ []
+
 abbrev pub delete_puts : Kind → ℕ → List Slot → ℕ → Slot → List Patch
-delete_puts kind place slots number Gone = []
-delete_puts kind place slots number (Held m) = marks_put kind place (header_place slots number) number (record m { deleted = true }) ∷ []
+delete_puts kind place slots number s = delete_put kind place (header_place slots number) number s
 
 -- the messages that are due marked read, from the slot of a number on, whose header stands or would stand at a place
 abbrev pub receive_put : Kind → ℕ → List ℕ → Receipt → ℕ → ℕ → Slot → List Patch

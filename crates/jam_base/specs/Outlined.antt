@@ -1,8 +1,13 @@
--- A change of all bases with one outline: the patches are the same, whatever the bodies are.
+-- A base is kept as an outline: what is read of it, and a change of all bases with one outline, whose patches are the same,
+-- whatever the bodies are.
 use Rattle.std.specs.Prelude.{◌≡◌, List}
 use Rattle.intent_journal.specs.declared.patch.Patch.{Patch}
 use Rattle.jam_layout.specs.Layout.{layout}
 use Rattle.jam_layout.specs.Outlines.{outline}
+use Rattle.jam_layout.specs.Valid.{IsConference}
+use Rattle.jam_layout.specs.declared.conference.Conference.{Conference}
+use Rattle.jam_layout.specs.declared.files.BaseFiles.{BaseFiles}
+use Rattle.jam_layout.specs.declared.shape.Shape.{Shape}
 use Rattle.jam_base.specs.Change.{Turns}
 use Rattle.jam_base.specs.Contents.{Contents}
 
@@ -13,3 +18,11 @@ outlined base = record base { conference = outline base.conference }
 -- Whatever base has the outline of this one: of its four files the patches make those of what the change makes of it.
 pub record TurnsEach (old : Contents) (change : Contents → Contents) (patches : List Patch) : Type 0 where
   pub turns : (base : Contents) → outlined base ≡ outlined old → Turns old.shape.place (layout base.shape base.conference) (layout (change base).shape (change base).conference) patches
+
+-- The base is of the shape, and has the outline of the conference of that shape whose layout the files are.
+pub record IsReadOf (shape : Shape) (files : BaseFiles) (base : Contents) : Type 0 where
+  pub whole : Conference
+  pub shaped : base.shape ≡ shape
+  pub alike : base.conference ≡ outline whole
+  pub valid : IsConference shape whole
+  pub stored : files ≡ layout shape whole

@@ -50,14 +50,22 @@ abbrev pub last_headers : Shape → ℕ → Conference → Patch
 last_headers shape count c =
     Put (jhr_file shape.place) (1024 + sum_by slot_header (take count c.slots)) (headers_text shape.kind (sum_by body_size (take count c.slots)) (last_entries count c))
 
+-- these are bodies, which aren't kept with the slots
+abbrev pub bodies_put : ℕ → ℕ → Conference → List ℕ → Patch
+bodies_put place count c bodies = Put (jdt_file place) (sum_by body_size (take count c.slots)) bodies
+
 abbrev pub last_bodies : ℕ → ℕ → Conference → Patch
-last_bodies place count c = Put (jdt_file place) (sum_by body_size (take count c.slots)) (flat_map body_piece (drop count c.slots))
+last_bodies place count c = bodies_put place count c (flat_map body_piece (drop count c.slots))
 
 abbrev pub last_records : ℕ → ℕ → Conference → Patch
 last_records place count c = Put (jdx_file place) (8 * count) (index_records (1024 + sum_by slot_header (take count c.slots)) (drop count c.slots))
 
+-- all three, where these are the bodies
+abbrev pub end_puts : Shape → ℕ → Conference → List ℕ → List Patch
+end_puts shape count c bodies = last_headers shape count c ∷ bodies_put shape.place count c bodies ∷ last_records shape.place count c ∷ []
+
 abbrev pub last_puts : Shape → ℕ → Conference → List Patch
-last_puts shape count c = last_headers shape count c ∷ last_bodies shape.place count c ∷ last_records shape.place count c ∷ []
+last_puts shape count c = end_puts shape count c (flat_map body_piece (drop count c.slots))
 
 -- messages more, behind the old slots
 abbrev pub append_puts : Shape → List Slot → List Message → Conference → List Patch

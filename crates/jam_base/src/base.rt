@@ -1,18 +1,20 @@
-ghost use Rattle.std.specs.Prelude.{◌≡◌, ◌↔◌, ◌+◌, ◌-◌, ◌*◌, ◌^◌, ◌≤◌, ◌<◌, ◌==◌, ℕ, [], length, slice_get, slice_set, All, None, IfOk, IsSome, IsTrue, if◌then◌else◌};
+ghost use Rattle.std.specs.Prelude.{◌≡◌, ◌↔◌, ◌+◌, ◌-◌, ◌*◌, ◌^◌, ◌≤◌, ◌<◌, ◌==◌, ℕ, [], length, map, take, slice_get, slice_index_or, slice_set, sum_by, All, None, IfOk, IsSome, IsTrue, if◌then◌else◌};
 ghost use Rattle.std.specs.Option.{option_copied};
 ghost use Rattle.jam_threads.specs.Children.{original};
 ghost use Rattle.jam_layout.specs.Layout.{layout, files_size};
-ghost use Rattle.jam_base.specs.Bodies.{Lengthens};
+ghost use Rattle.jam_base.specs.Bodies.{body_span as span_of, Lengthens};
 ghost use Rattle.jam_base.specs.Change.{Turns, SuitsIntent};
-ghost use Rattle.jam_base.specs.Outlined.{TurnsEach};
+ghost use Rattle.jam_base.specs.Outlined.{outlined, TurnsEach};
 ghost use Rattle.jam_base.specs.Contents.{reader_place, pointer_of, no_slots, with_reader, with_slots, with_messages as with_messages_of, with_deleted as with_deleted_of, with_received, with_pointer};
-ghost use Rattle.jam_base.specs.Puts.{counts_put, last_headers as last_headers_of, last_bodies as last_bodies_of, last_records as last_records_of, link_puts, Costs};
+ghost use Rattle.jam_base.specs.Puts.{counts_put, last_headers as last_headers_of, bodies_put, last_records as last_records_of, link_puts, Costs};
 ghost use Rattle.jam_base.specs.Slots.{has_live as has_live_of, numbered, slots_with_all};
 ghost use Rattle.jam_base.specs.MarkPuts.{delete_puts, receive_puts};
 ghost use Rattle.intent_journal.specs.Patches.{byte_count};
 ghost use Rattle.jam_threads.specs.Threading.{AreThreads};
 ghost use Rattle.jam_threads.specs.declared.threads.Threads.{Threads as ThreadsOf};
 ghost use Rattle.jam_layout.specs.Messages.{IsMessage};
+ghost use Rattle.jam_layout.specs.Outlines.{outline, slot_bare};
+ghost use Rattle.jam_layout.specs.Bodies.{body_size};
 ghost use Rattle.jam_layout.specs.Conference.{live_count};
 ghost use Rattle.jam_layout.specs.Valid.{IsShape, IsConference};
 ghost use Rattle.jam_layout.specs.declared.files.BaseFiles.{BaseFiles};
@@ -25,22 +27,24 @@ use crate::pointers::{moved, no_pointers};
 use crate::receipt::{Receipt, any_due, slots_received};
 use crate::refusal::{AppendRefusal, KillRefusal};
 use crate::slots::{has_live, with_deleted, with_messages};
+use crate::span::Span;
 use byte_lists::{Bytes, Duplicate};
 use door_outside::FileId;
 use intent_journal::{Patch, Patches};
 use jam_layout::{Conference, Reader, Shape};
 use jam_records::{Message, Messages, Slot, Slots};
-use jam_threads::{Threads, links};
+use jam_threads::Threads;
 use jam_writing::{
-    write_files, write_jlr, write_last_bodies, write_last_headers, write_last_records, write_reader,
+    write_bodies, write_first, write_jlr, write_last_headers, write_last_records, write_reader,
 };
 use shared_lists::{Shared, SharedList};
 use shared_slots::SharedSlots;
 use std::alloc::{AllocError, Global};
 use std::marker::Model;
 
-/// A conference and its shape. The base before a change and the one after it share what the change leaves. Contracts
-/// see the two as `Contents`.
+/// A conference and its shape, without the bodies of its messages: they stand in .JDT, and how long they are is kept. The
+/// base before a change and the one after it share what the change leaves. Contracts see the two as `Contents`, whose
+/// conference is an outline.
 #[derive(Debug, Drop)]
 pub struct Base {
     shape: Shared<Shape>,
@@ -64,7 +68,7 @@ impl Model for Base {
 }
 
 impl Base {
-    /// The base of this shape and conference.
+    /// The base of this shape and of the outline of this conference.
     pub(crate) fn linked(
         alloc: Global,
         shape: &Shape,
@@ -72,7 +76,7 @@ impl Base {
     ) -> Result<Base, AllocError>
         requires shape { IsShape shape.now }
         requires conference { IsConference shape.now conference }
-        ensures { IfOk result (λ base. base ≡ record { shape = shape.now; conference = conference }) }
+        ensures { IfOk result (λ base. base ≡ record { shape = shape.now; conference = outline conference }) }
     {
         let threads = Threads::of(alloc, &conference.slots)?;
         let slots = SharedSlots::from_slots(alloc, conference.slots)?;
@@ -91,7 +95,9 @@ impl Base {
         ensures same { result.now ≡ self.now.shape }
         ensures is_shape { IsShape self.now.shape }
         ensures is_conference { IsConference self.now.shape self.now.conference }
+        ensures outline { outlined self.now ≡ self.now }
     {
+        let _count = self.slots.len();
         self.shape.get()
     }
 
@@ -99,7 +105,9 @@ impl Base {
     pub(crate) fn slots(&self) -> &SharedSlots
         ensures same { result.now ≡ self.now.conference.slots }
         ensures is_conference { IsConference self.now.shape self.now.conference }
+        ensures outline { outlined self.now ≡ self.now }
     {
+        let _count = self.slots.len();
         &self.slots
     }
 
@@ -292,16 +300,16 @@ impl Base {
         Ok(Patch::Put { file, at, bytes })
     }
 
-    /// The patch of the bodies behind so many slots.
-    pub(crate) fn last_bodies(&self, alloc: Global, count: usize) -> Result<Patch, AllocError>
+    /// The patch of these bodies, which stand behind those of so many slots.
+    pub(crate) fn added_bodies(&self, count: usize, bodies: Bytes) -> Patch
         requires { count ≤ length self.now.conference.slots }
-        ensures { IfOk result (λ patch. patch ≡ last_bodies_of self.now.shape.place count self.now.conference) }
+        ensures { result ≡ bodies_put self.now.shape.place count self.now.conference bodies }
     {
-        let slots = &self.slots;
-        let at = slots.body_place(count);
-        let bytes = write_last_bodies(alloc, slots, count)?;
-        let file = FileId::jdt(self.place());
-        Ok(Patch::Put { file, at, bytes })
+        Patch::Put {
+            file: FileId::jdt(self.place()),
+            at: self.slots.body_place(count),
+            bytes: bodies,
+        }
     }
 
     /// The patch of the index records behind so many slots.
@@ -332,8 +340,7 @@ impl Base {
             slots: Slots::new(alloc),
             pointers: no_pointers(alloc, shape.readers.len())?,
         };
-        let links = links(alloc, &conference.slots)?;
-        let files = write_files(alloc, shape, &conference, &links)?;
+        let files = write_first(alloc, shape, conference.pointers.as_slice())?;
         let base = Base::linked(alloc, shape, conference)?;
         BaseChange::of_files(alloc, base, files)
     }
@@ -367,10 +374,8 @@ impl Base {
     /// is no memory.
     pub fn appended(&self, alloc: Global, messages: &Messages) -> Result<BaseChange, AppendRefusal>
         requires { All (IsMessage self.now.shape.kind) messages.now }
-        ensures base { IfOk result (λ change. change.base ≡ with_messages_of messages.now self.now) }
+        ensures base { IfOk result (λ change. change.base ≡ outlined (with_messages_of messages.now self.now)) }
         ensures costs { IfOk result (λ change. Costs (length messages.now) (layout self.now.shape self.now.conference) (layout change.base.shape change.base.conference) change.patches) }
-        ensures files { IfOk result (λ change. Turns self.now.shape.place (layout self.now.shape self.now.conference) (layout change.base.shape change.base.conference) change.patches) }
-        ensures bodies { IfOk result (λ change. Lengthens self.now.shape.place (layout self.now.shape self.now.conference) (layout change.base.shape change.base.conference) change.patches) }
         ensures each { IfOk result (λ change. TurnsEach self.now (with_messages_of messages.now) change.patches) }
         ensures intent { IfOk result (λ change. SuitsIntent self.now.shape.place (layout change.base.shape change.base.conference) change.patches) }
         ensures slots { (s : ℕ) → (result ≡ Err (AppendRefusal.Slots s)) ↔ ((s ≡ length self.now.conference.slots + length messages.now) × (9999 < s)) }
@@ -389,21 +394,20 @@ impl Base {
     pub fn extended(&self, alloc: Global, messages: Messages) -> Result<BaseChange, AllocError>
         requires messages { All (IsMessage self.now.shape.kind) messages }
         requires few { length self.now.conference.slots + length messages ≤ 9999 }
-        ensures base { IfOk result (λ change. change.base ≡ with_messages_of messages self.now) }
+        ensures base { IfOk result (λ change. change.base ≡ outlined (with_messages_of messages self.now)) }
         ensures costs { IfOk result (λ change. Costs (length messages) (layout self.now.shape self.now.conference) (layout change.base.shape change.base.conference) change.patches) }
-        ensures files { IfOk result (λ change. Turns self.now.shape.place (layout self.now.shape self.now.conference) (layout change.base.shape change.base.conference) change.patches) }
-        ensures bodies { IfOk result (λ change. Lengthens self.now.shape.place (layout self.now.shape self.now.conference) (layout change.base.shape change.base.conference) change.patches) }
         ensures each { IfOk result (λ change. TurnsEach self.now (with_messages_of messages) change.patches) }
         ensures intent { IfOk result (λ change. SuitsIntent self.now.shape.place (layout change.base.shape change.base.conference) change.patches) }
     {
+        let old = self.slots();
         if messages.as_slice().is_empty() {
             return self.unchanged(alloc);
         }
-        let old = self.slots();
         let (threads, links) = self.threaded(alloc, messages.as_slice())?;
+        let bodies = write_bodies(alloc, messages.as_slice())?;
         let slots = with_messages(alloc, old, messages)?;
         let base = self.with_threads(alloc, slots, threads)?;
-        BaseChange::of_appended(alloc, base, old.len(), links)
+        BaseChange::of_appended(alloc, base, old.len(), links, bodies)
     }
 
     /// The base with the message of a number marked deleted. Its patches make its files of those of this base.
@@ -521,14 +525,38 @@ impl Base {
         messages + 8 * count as u64 + self.jlr_size()
     }
 
-    /// The slot of a message number, from 1, or None where there is none.
+    /// The slot of a message number, from 1, with an empty body, or None where there is none.
     pub fn slot(&self, number: u32) -> Option<&Slot>
-        ensures { option_copied result ≡ if number == 0 then None else slice_get self.now.conference.slots (number - 1) }
+        ensures { option_copied result ≡ if number == 0 then None else slice_get (map slot_bare self.now.conference.slots) (number - 1) }
     {
         if number == 0 {
             return None;
         }
         self.slots.get(number as usize - 1)
+    }
+
+    /// Where in .JDT the body of the message of a number stands, or None where no slot of that number holds one. It takes
+    /// no memory.
+    pub fn body_span(&self, number: u32) -> Option<Span>
+        ensures { result ≡ span_of number self.now.conference.slots }
+    {
+        match self.slot(number) {
+            Some(Slot::Held(_)) => Some(self.span(number as usize - 1)),
+            Some(Slot::Gone) => None,
+            None => None,
+        }
+    }
+
+    /// Where in .JDT the body of the slot in a place from 0 stands, or would stand.
+    fn span(&self, place: usize) -> Span
+        requires { place < length self.now.conference.slots }
+        ensures at { result.at ≡ sum_by body_size (take place self.now.conference.slots) }
+        ensures len { result.len ≡ body_size (slice_index_or self.now.conference.slots place Slot.Gone) }
+    {
+        Span {
+            at: self.slots.body_place(place),
+            len: self.slots.body_length(place),
+        }
     }
 
     /// The number of the message that this one answers, or 0 where it answers none that is there or no slot

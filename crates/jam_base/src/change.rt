@@ -2,7 +2,7 @@ ghost use Rattle.std.specs.Prelude.{◌≡◌, ◌≤◌, [], ◌∷◌, ◌++�
 ghost use Rattle.jam_layout.specs.Layout.{layout};
 ghost use Rattle.jam_base.specs.Change.{whole_files};
 ghost use Rattle.jam_base.specs.MarkPuts.{pointer_patch as pointer_patch_of, record_patch as record_patch_of};
-ghost use Rattle.jam_base.specs.Puts.{counts_put, last_puts};
+ghost use Rattle.jam_base.specs.Puts.{counts_put, end_puts};
 
 use crate::base::Base;
 use crate::pointers::{pointer_patch, record_patch};
@@ -75,19 +75,20 @@ impl BaseChange {
         Ok(BaseChange { base, patches })
     }
 
-    /// The change to this base that writes what the slots behind so many others add to its files, and these
-    /// patches of links before.
+    /// The change to this base that writes what the slots behind so many others add to its files, of which these are the
+    /// bodies, and these patches of links before.
     pub(crate) fn of_appended(
         alloc: Global,
         base: Base,
         count: usize,
         links: Patches,
+        bodies: Bytes,
     ) -> Result<BaseChange, AllocError>
         requires { count ≤ length base.conference.slots }
         ensures base { IfOk result (λ change. change.base ≡ base) }
-        ensures patches { IfOk result (λ change. change.patches ≡ links ++ (counts_put base.shape.place base.conference ∷ last_puts base.shape count base.conference)) }
+        ensures patches { IfOk result (λ change. change.patches ≡ links ++ (counts_put base.shape.place base.conference ∷ end_puts base.shape count base.conference bodies)) }
     {
-        let patches = ends_of(alloc, &base, count, links)?;
+        let patches = ends_of(alloc, &base, count, links, bodies)?;
         Ok(BaseChange { base, patches })
     }
 
@@ -137,15 +138,22 @@ fn pointed_of(
     Ok(patches)
 }
 
-/// These patches, and behind them those of a base's counts and of what the slots behind so many others add.
-fn ends_of(alloc: Global, base: &Base, count: usize, before: Patches) -> Result<Patches, AllocError>
+/// These patches, and behind them those of a base's counts and of what the slots behind so many others add, of which
+/// these are the bodies.
+fn ends_of(
+    alloc: Global,
+    base: &Base,
+    count: usize,
+    before: Patches,
+    bodies: Bytes,
+) -> Result<Patches, AllocError>
     requires { count ≤ length base.now.conference.slots }
-    ensures { IfOk result (λ patches. patches ≡ before ++ (counts_put base.now.shape.place base.now.conference ∷ last_puts base.now.shape count base.now.conference)) }
+    ensures { IfOk result (λ patches. patches ≡ before ++ (counts_put base.now.shape.place base.now.conference ∷ end_puts base.now.shape count base.now.conference bodies)) }
 {
     let mut patches = before;
     patches.add(base.counts(alloc)?)?;
     patches.add(base.last_headers(alloc, count)?)?;
-    patches.add(base.last_bodies(alloc, count)?)?;
+    patches.add(base.added_bodies(count, bodies))?;
     patches.add(base.last_records(alloc, count)?)?;
     Ok(patches)
 }

@@ -1,4 +1,4 @@
-//! One conference over its four JAM files: read exactly where they are its layout, and changed with them.
+//! One conference over its four JAM files, without its bodies: read exactly where they are its layout, and changed with them.
 #![tactic(auto)]
 
 mod acknowledged;

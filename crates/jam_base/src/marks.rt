@@ -1,6 +1,6 @@
 // Patches of the marks of messages in their headers.
 ghost use Rattle.std.specs.Prelude.{◌≡◌, ◌+◌, ◌≤◌, ◌<◌, ◌++◌, ◌^◌, length, IfOk, OnOk};
-ghost use Rattle.jam_base.specs.MarkPuts.{marks_text, marks_put, delete_puts, receive_put, receive_puts};
+ghost use Rattle.jam_base.specs.MarkPuts.{marks_text, marks_put, delete_put, delete_puts, receive_put, receive_puts};
 ghost use Rattle.jam_base.specs.Slots.{numbered};
 
 use crate::numbers::four_numbers;
@@ -62,6 +62,31 @@ fn marks_patch(
     })
 }
 
+/// The patches that mark the message deleted that a slot of a number holds. Its header stands at a place in .JHR.
+fn deletion_of(
+    alloc: Global,
+    place: u8,
+    at: u32,
+    kind: Kind,
+    number: u32,
+    slot: &Slot,
+) -> Result<Patches, AllocError>
+    requires place { place < 64 }
+    requires at { at < 2 ^ 31 }
+    ensures { IfOk result (λ patches. patches ≡ delete_put kind place at number slot.now) }
+{
+    let mut patches = Patches::new(alloc);
+    if let Slot::Held(message) = slot {
+        let mark = Mark {
+            received: message.received,
+            seen: message.seen,
+            deleted: true,
+        };
+        patches.add(marks_patch(alloc, place, at, kind, number, message, mark)?)?;
+    }
+    Ok(patches)
+}
+
 /// The patches that mark the message of a number deleted.
 pub fn delete_patches(
     alloc: Global,
@@ -75,18 +100,9 @@ pub fn delete_patches(
     requires within { number ≤ length slots.now }
     ensures { IfOk result (λ patches. patches ≡ delete_puts kind place slots.now number (numbered slots.now number)) }
 {
-    let mut patches = Patches::new(alloc);
     let index = number as usize - 1;
     let at = slots.header_place(index);
-    if let Slot::Held(message) = slots.at(index) {
-        let mark = Mark {
-            received: message.received,
-            seen: message.seen,
-            deleted: true,
-        };
-        patches.add(marks_patch(alloc, place, at, kind, number, message, mark)?)?;
-    }
-    Ok(patches)
+    deletion_of(alloc, place, at, kind, number, slots.at(index))
 }
 
 /// Adds the patch that marks the message of a number read, where it is due. Its header stands at a place in

@@ -1,15 +1,17 @@
 ghost use Rattle.std.specs.Prelude.{◌≡◌, ◌<◌, ◌^◌, length, IfOk, Some, Err, Ok};
 ghost use Rattle.jam_records.specs.declared.damage.Damage.{Damage};
 ghost use Rattle.jam_layout.specs.Layout.{layout, base_damage};
+ghost use Rattle.jam_layout.specs.Outlines.{outline};
 ghost use Rattle.jam_layout.specs.Rules.{UnlessMemory};
 ghost use Rattle.jam_layout.specs.Valid.{IsShape, IsConference};
 ghost use Rattle.jam_layout.specs.declared.conference.Conference.{Conference};
+ghost use Rattle.jam_base.specs.Outlined.{IsReadOf};
 
 use crate::base::Base;
 use jam_layout::{BaseError, BaseFiles, Shape, read_conference};
 use std::alloc::Global;
 
-/// The conference whose layout the files are (JAM message base proposal, revision 1). Each file has fewer
+/// The outline of the conference whose layout the files are (JAM message base proposal, revision 1). Each file has fewer
 /// than 2^31 bytes, the shape's place is at most 63, and the ids of its readers rise.
 ///
 /// `Damaged` comes where the files are the layout of no conference of that shape, with the first rule that
@@ -20,8 +22,8 @@ pub fn read_base(alloc: Global, files: &BaseFiles, shape: &Shape) -> Result<Base
     requires jdt { length files.now.jdt < 2 ^ 31 }
     requires jdx { length files.now.jdx < 2 ^ 31 }
     requires jlr { length files.now.jlr < 2 ^ 31 }
-    ensures ok { IfOk result (λ b. (b.shape ≡ shape.now) × IsConference shape.now b.conference × (files.now ≡ layout shape.now b.conference)) }
-    ensures only_ok { (c : Conference) → IsConference shape.now c → files.now ≡ layout shape.now c → UnlessMemory result (Ok (record { shape = shape.now; conference = c })) }
+    ensures ok { IfOk result (IsReadOf shape.now files.now) }
+    ensures only_ok { (c : Conference) → IsConference shape.now c → files.now ≡ layout shape.now c → UnlessMemory result (Ok (record { shape = shape.now; conference = outline c })) }
     ensures damaged { (d : Damage) → result ≡ Err (BaseError.Damaged d) → base_damage shape.now files.now ≡ Some d }
     ensures only_damaged { (d : Damage) → base_damage shape.now files.now ≡ Some d → UnlessMemory result (Err (BaseError.Damaged d)) }
 {

@@ -52,6 +52,15 @@ fn has_due(name: &[u8], receipt: Receipt, number: u32, slot: &Slot) -> bool
     }
 }
 
+/// Whether the slot in a place from 0 holds such a message.
+fn has_due_in(name: &[u8], receipt: Receipt, place: usize, slots: &SharedSlots) -> bool
+    requires place { place < length slots.now }
+    requires few { length slots.now ≤ 9999 }
+    ensures { result ≡ has_due_of name.now receipt (place + 1) (slice_index_or slots.now place Slot.Gone) }
+{
+    has_due(name, receipt, place as u32 + 1, slots.at(place))
+}
+
 /// Whether one of the slots holds such a message.
 pub fn any_due(name: &[u8], receipt: Receipt, slots: &SharedSlots) -> bool
     ensures { result ≡ any_due_of name.now receipt 1 slots.now }
@@ -60,7 +69,7 @@ pub fn any_due(name: &[u8], receipt: Receipt, slots: &SharedSlots) -> bool
     let first = receipt.start(count);
     let last = receipt.end(count);
     for place in first..last {
-        if has_due(name, receipt, place as u32 + 1, slots.at(place)) {
+        if has_due_in(name, receipt, place, slots) {
             return true;
         }
     }

@@ -1,7 +1,9 @@
 // The slots of a conference after a change of them.
-ghost use Rattle.std.specs.Prelude.{◌≡◌, ◌+◌, ◌≤◌, ◌<◌, ◌==◌, ◌^◌, length, sum_by, IfOk};
+ghost use Rattle.std.specs.Prelude.{◌≡◌, ◌+◌, ◌≤◌, ◌<◌, ◌==◌, ◌^◌, length, map, sum_by, IfOk};
+ghost use Rattle.jam_layout.specs.Conference.{is_live as is_live_of};
 ghost use Rattle.jam_layout.specs.Sizes.{slot_header};
 ghost use Rattle.jam_layout.specs.Bodies.{body_size};
+ghost use Rattle.jam_layout.specs.Outlines.{message_outline};
 ghost use Rattle.jam_base.specs.Slots.{slots_with_all, has_live as has_live_of, slot_deleted, slots_deleted};
 
 use byte_lists::Duplicate;
@@ -9,22 +11,32 @@ use jam_records::{Messages, Slot};
 use shared_slots::SharedSlots;
 use std::alloc::{AllocError, Global};
 
-/// The slots with these messages at the end.
+/// The slots with the outlines of these messages at the end.
 pub fn with_messages(
     alloc: Global,
     slots: &SharedSlots,
     messages: Messages,
 ) -> Result<SharedSlots, AllocError>
-    requires few { length (slots_with_all slots.now messages) ≤ 9999 }
-    requires headers { 1024 + sum_by slot_header (slots_with_all slots.now messages) < 2 ^ 31 }
-    requires bodies { sum_by body_size (slots_with_all slots.now messages) < 2 ^ 31 }
-    ensures { IfOk result (λ new. new ≡ slots_with_all slots.now messages) }
+    requires few { length (slots_with_all slots.now (map message_outline messages)) ≤ 9999 }
+    requires headers { 1024 + sum_by slot_header (slots_with_all slots.now (map message_outline messages)) < 2 ^ 31 }
+    requires bodies { sum_by body_size (slots_with_all slots.now (map message_outline messages)) < 2 ^ 31 }
+    ensures { IfOk result (λ new. new ≡ slots_with_all slots.now (map message_outline messages)) }
 {
     let mut longer = slots.copy(alloc)?;
     for message in messages.into_vec() {
         longer = longer.with_slot(alloc, Slot::Held(message))?;
     }
     Ok(longer)
+}
+
+/// Whether a slot holds a message that isn't deleted.
+fn is_live(slot: &Slot) -> bool
+    ensures { result ≡ is_live_of slot.now }
+{
+    match slot {
+        Slot::Gone => false,
+        Slot::Held(message) => !message.deleted,
+    }
 }
 
 /// Whether a message number is that of a message that isn't deleted.
@@ -35,8 +47,7 @@ pub fn has_live(number: u32, slots: &SharedSlots) -> bool
         return false;
     }
     match slots.get(number as usize - 1) {
-        Some(Slot::Held(message)) => !message.deleted,
-        Some(Slot::Gone) => false,
+        Some(slot) => is_live(slot),
         None => false,
     }
 }

@@ -3,3 +3,4 @@ pub mod WritingLoops
 pub mod SubfieldList
 pub mod LastReadLoop
 pub mod SlotShapes
+pub mod EntryTexts

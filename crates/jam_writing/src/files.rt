@@ -1,35 +1,37 @@
-ghost use Rattle.std.specs.Prelude.{◌≡◌, IfOk};
-ghost use Rattle.jam_threads.specs.Links.{AreLinks};
+ghost use Rattle.std.specs.Prelude.{◌≡◌, [], IfOk};
 ghost use Rattle.jam_layout.specs.Layout.{layout};
-ghost use Rattle.jam_layout.specs.Valid.{IsConference};
 
-use crate::jdt::write_jdt;
-use crate::jdx::write_jdx;
-use crate::jhr::write_jhr;
 use crate::jlr::write_jlr;
-use jam_layout::{BaseFiles, Conference, Shape};
-use jam_threads::Links;
+use byte_lists::Bytes;
+use jam_layout::{BaseFiles, Shape};
+use jam_records::{BaseHeader, write_base_header};
 use std::alloc::{AllocError, Global};
 
-/// The four files of a conference of this shape (JAM message base proposal, revision 1). The links are those
-/// of its slots.
+/// The header of a base without messages that never changed.
+fn first_header(created: u32) -> BaseHeader
+    ensures { result ≡ record { created = created; mod_counter = 0; active = 0; password_crc = 0xFFFF_FFFF; base_number = 1 } }
+{
+    BaseHeader {
+        created,
+        mod_counter: 0,
+        active: 0,
+        password_crc: 0xFFFF_FFFF,
+        base_number: 1,
+    }
+}
+
+/// The four files of a conference of this shape that has no slots and never changed (JAM message base proposal, revision
+/// 1), whose readers have these pointers.
 ///
 /// The error comes where there is no memory.
-pub fn write_files(
-    alloc: Global,
-    shape: &Shape,
-    conference: &Conference,
-    links: &Links,
-) -> Result<BaseFiles, AllocError>
-    requires conference { IsConference shape.now conference.now }
-    requires links { AreLinks conference.now.slots links.now }
-    ensures { IfOk result (λ files. files ≡ layout shape.now conference.now) }
+pub fn write_first(alloc: Global, shape: &Shape, pointers: &[u32]) -> Result<BaseFiles, AllocError>
+    ensures { IfOk result (λ files. files ≡ layout shape.now (record { counter = 0; slots = []; pointers = pointers.now })) }
 {
-    let pointers = conference.pointers.as_slice();
+    let header = write_base_header(&first_header(shape.created));
     Ok(BaseFiles {
-        jhr: write_jhr(alloc, shape, conference, links)?,
-        jdt: write_jdt(alloc, conference)?,
-        jdx: write_jdx(alloc, conference)?,
+        jhr: Bytes::from_slice(alloc, &header)?,
+        jdt: Bytes::new(alloc),
+        jdx: Bytes::new(alloc),
         jlr: write_jlr(alloc, &shape.readers, pointers)?,
     })
 }

@@ -2,7 +2,6 @@ ghost use Rattle.std.specs.Prelude.{◌≡◌, ◌++◌, ◌<◌, ◌^◌, lengt
 ghost use Rattle.jam_records.specs.Subfields.{subfields_text};
 ghost use Rattle.jam_layout.specs.Fields.{subfields_of};
 ghost use Rattle.jam_layout.specs.Headers.{entry_text, header_size, marks_in, message_header};
-ghost use Rattle.jam_writing.specs.Pieces.{entry_with};
 
 use crate::message_subfields::subfields;
 use byte_lists::Bytes;
@@ -27,19 +26,19 @@ fn marks(message: &Message) -> Marks
     }
 }
 
-/// The header of a message, whose subfields have this length.
+/// The header of a message, whose subfields and whose body have these lengths.
 #[tactic(auto, unfolding(jam_layout::specs::Headers::message_header))]
 fn header(
     kind: Kind,
     number: u32,
     offset: u32,
+    text_len: u32,
     link: Link,
     message: &Message,
     subfield_len: u32,
 ) -> MessageHeader
-    requires subfields { subfield_len ≡ length (subfields_text (subfields_of message.now)) }
-    requires body { length message.now.body < 2 ^ 31 }
-    ensures { result ≡ message_header kind offset (entry_with number link message.now) }
+    requires { subfield_len ≡ length (subfields_text (subfields_of message.now)) }
+    ensures { result ≡ message_header kind offset (record { number = number; text_len = text_len; link = link; message = message.now }) }
 {
     MessageHeader {
         subfield_len,
@@ -56,14 +55,15 @@ fn header(
         attribute: marks(message).attribute(kind),
         attribute2: 0,
         offset,
-        text_len: message.body.as_slice().len() as u32,
+        text_len,
         password_crc: NO_PASSWORD,
         cost: 0,
     }
 }
 
-/// Adds the header of a message with its subfields (JAM message base proposal, revision 1, .JHR). Its number
-/// is from 1, its body begins at the offset in .JDT, in bytes. Header and body have fewer than 2^31 bytes each.
+/// Adds the header of a message with its subfields (JAM message base proposal, revision 1, .JHR). Its number is from 1,
+/// its body begins at the offset in .JDT and has so many bytes, whatever body is at hand. The header has fewer than 2^31
+/// bytes.
 ///
 /// The error comes where there is no memory. The bytes may then have a part of it more.
 #[tactic(auto, unfolding(jam_layout::specs::Headers::header_size))]
@@ -73,16 +73,16 @@ pub fn add_header(
     kind: Kind,
     number: u32,
     offset: u32,
+    text_len: u32,
     link: Link,
     message: &Message,
 ) -> Result<(), AllocError>
-    requires header { header_size message.now < 2 ^ 31 }
-    requires body { length message.now.body < 2 ^ 31 }
-    ensures { OnOk result (jhr.new ≡ jhr.old ++ entry_text kind offset (entry_with number link message.now)) }
+    requires { header_size message.now < 2 ^ 31 }
+    ensures { OnOk result (jhr.new ≡ jhr.old ++ entry_text kind offset (record { number = number; text_len = text_len; link = link; message = message.now })) }
 {
     let fields = write_subfields(alloc, &subfields(alloc, message)?)?;
     let len = fields.as_slice().len() as u32;
-    let header = header(kind, number, offset, link, message, len);
+    let header = header(kind, number, offset, text_len, link, message, len);
     jhr.add(&write_message_header(&header))?;
     jhr.add(fields.as_slice())
 }

@@ -1,15 +1,13 @@
-ghost use Rattle.std.specs.Prelude.{◌≡◌, ◌+◌, ◌++◌, ◌<◌, ◌^◌, sum_by, IfOk, OnOk};
-ghost use Rattle.jam_layout.specs.Index.{index_records, no_pair, pair_of};
-ghost use Rattle.jam_layout.specs.Layout.{layout};
+ghost use Rattle.std.specs.Prelude.{◌≡◌, ◌+◌, ◌++◌, ◌<◌, ◌^◌, IfOk, OnOk};
+ghost use Rattle.jam_layout.specs.Index.{no_pair, pair_of};
 ghost use Rattle.jam_layout.specs.Sizes.{slot_header};
-ghost use Rattle.jam_layout.specs.declared.shape.Shape.{Shape};
 ghost use Rattle.jam_writing.specs.Pieces.{index_piece};
 
 use byte_lists::Bytes;
-use jam_layout::{Conference, header_size};
+use jam_layout::header_size;
 use jam_records::{IndexRecord, Message, Slot, write_index};
 use name_crc::name_crc;
-use std::alloc::{AllocError, Global};
+use std::alloc::AllocError;
 
 /// The record of a number that no message has.
 const NO_MESSAGE: IndexRecord = IndexRecord {
@@ -44,28 +42,4 @@ pub(crate) fn add_slot(jdx: &mut Bytes, at: u32, slot: &Slot) -> Result<u32, All
             Ok(at + header_size(message))
         }
     }
-}
-
-/// The records of slots, of which the first held one has its header at place 1024.
-fn records(alloc: Global, slots: &[Slot]) -> Result<Bytes, AllocError>
-    requires { 1024 + sum_by slot_header slots.now < 2 ^ 31 }
-    ensures { IfOk result (λ jdx. jdx ≡ index_records 1024 slots.now) }
-{
-    let mut jdx = Bytes::new(alloc);
-    let mut at = 1024;
-    for slot in slots {
-        at = add_slot(&mut jdx, at, slot)?;
-    }
-    Ok(jdx)
-}
-
-/// The bytes of .JDX: a record for each slot. The headers of its messages, with that of the base, have fewer
-/// than 2^31 bytes, as those of each conference do.
-///
-/// The error comes where there is no memory.
-pub fn write_jdx(alloc: Global, conference: &Conference) -> Result<Bytes, AllocError>
-    requires { 1024 + sum_by slot_header conference.now.slots < 2 ^ 31 }
-    ensures { IfOk result (λ jdx. (shape : Shape) → jdx ≡ (layout shape conference.now).jdx) }
-{
-    records(alloc, conference.slots.as_slice())
 }

@@ -1,15 +1,13 @@
 // What the slots from a place on, from 0, give to the files of their conference.
 ghost use Rattle.std.specs.Prelude.{◌≡◌, ◌+◌, ◌≤◌, ◌<◌, ◌^◌, length, take, drop, sum_by, IfOk};
-ghost use Rattle.std.specs.List.{flat_map};
 ghost use Rattle.jam_threads.specs.Links.{link_of};
 ghost use Rattle.jam_threads.specs.Threading.{AreThreads};
 ghost use Rattle.jam_layout.specs.Headers.{headers_text};
 ghost use Rattle.jam_layout.specs.Index.{index_records};
 ghost use Rattle.jam_layout.specs.Layout.{entries_of};
 ghost use Rattle.jam_layout.specs.Sizes.{slot_header};
-ghost use Rattle.jam_writing.specs.Pieces.{body_piece, body_size};
+ghost use Rattle.jam_writing.specs.Pieces.{body_size};
 
-use crate::jdt::add_slot as add_body;
 use crate::jdx::add_slot as add_record;
 use crate::jhr::add_slot as add_slot_header;
 use byte_lists::Bytes;
@@ -43,25 +41,9 @@ pub fn write_last_headers(
     for place in from..slots.len() {
         let link = threads.link(place);
         let number = place as u32 + 1;
-        at = add_slot_header(alloc, &mut text, kind, number, at, link, slots.at(place))?;
-    }
-    Ok(text)
-}
-
-/// The bodies of the messages from a place on.
-///
-/// The error comes where there is no memory.
-pub fn write_last_bodies(
-    alloc: Global,
-    slots: &SharedSlots,
-    from: usize,
-) -> Result<Bytes, AllocError>
-    requires { from ≤ length slots.now }
-    ensures { IfOk result (λ text. text ≡ flat_map body_piece (drop from slots.now)) }
-{
-    let mut text = Bytes::new(alloc);
-    for place in from..slots.len() {
-        add_body(&mut text, slots.at(place))?;
+        let length = slots.body_length(place);
+        let slot = slots.at(place);
+        at = add_slot_header(alloc, &mut text, kind, number, at, length, link, slot)?;
     }
     Ok(text)
 }

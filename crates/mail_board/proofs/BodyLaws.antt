@@ -13,22 +13,23 @@ use Rattle.board_layout.proofs.OutlineLaws.{held_outline, outline_numbered}
 use Rattle.board_layout.specs.Layout.{files_in}
 use Rattle.board_layout.specs.Lookups.{held_in}
 use Rattle.door_outside.specs.Disk.{read_into}
+use Rattle.jam_base.proofs.BareLookups.{bare_at, found_or_gone, is_gone, looked_up}
 use Rattle.jam_base.proofs.SlotChanges.{numbered_is}
-use Rattle.jam_base.specs.Bodies.{body_span, span_at}
+use Rattle.jam_base.specs.Bodies.{body_begin, body_span, span_at}
 use Rattle.jam_base.specs.Contents.{Contents}
 use Rattle.jam_base.specs.Outlined.{outlined}
 use Rattle.jam_base.specs.Slots.{numbered}
 use Rattle.jam_base.specs.declared.span.Span.{Span}
 use Rattle.jam_layout.specs.Bodies.{body_piece, body_size, message_with}
 use Rattle.jam_layout.specs.Messages.{IsBody, IsSlot}
-use Rattle.jam_layout.specs.Outlines.{line_ends, message_outline, slot_outline}
+use Rattle.jam_layout.specs.Outlines.{line_ends, message_outline, slot_bare, slot_outline}
 use Rattle.jam_layout.specs.Valid.{IsConference}
 use Rattle.jam_records.specs.declared.message.Message.{Message}
 use Rattle.jam_records.specs.declared.message.Slot.{Slot}
 use Rattle.jam_records.specs.declared.message.Slot.TheVariants.{Gone, Held}
 use Rattle.jam_threads.specs.Links.{link_of}
 use Rattle.jam_writing.proofs.PieceLaws.{bodies_are}
-use Rattle.mail_board.specs.Bodies.{body_begin, one_held, span_text, HasBodies}
+use Rattle.mail_board.specs.Bodies.{one_held, span_text, HasBodies}
 
 -- ---- sums over the slots before one
 module _ (size : Slot → ℕ) (slots : List Slot) (before : ℕ) (within : before < length slots) where
@@ -95,7 +96,26 @@ stands (s ∷ slots) (suc place) m there =
       ap (λ (n : ℕ). take (length m.body) (drop n (body_piece s ++ rest))) begin ∙ (ap (take (length m.body)) (drop-append-add (body_piece s) rest (sum_by body_size (take place slots))) ∙ others.1),
     )
 
--- the slot of a number that stands for a message
+-- ---- slots without bodies
+-- no slot of a number holds a message where none is found
+pub none_numbered : (number : ℕ) (slots : List Slot) → None ≡ bare_at number slots → numbered slots number ≡ Gone
+none_numbered number slots none = is_gone (numbered slots number) (sym (ap found_or_gone none ∙ looked_up number slots))
+
+-- the message that a slot holds, of which this one is all but the body
+pub record Whole (s : Slot) (m : Message) : Type 0 where
+  pub message : Message
+  pub there : Some message ≡ held_in s
+  pub bare : m ≡ message_with message []
+
+pub whole_of : (s : Slot) (m : Message) → Some m ≡ held_in (slot_bare s) → Whole s m
+whole_of Gone m is = absurd (none_some m (sym is))
+whole_of (Held x) m is = record { message = x; there = refl; bare = some_is m (message_with x []) is }
+
+pub none_whole : (s : Slot) → None ≡ held_in (slot_bare s) → None ≡ held_in s
+none_whole Gone none = refl
+none_whole (Held x) none = absurd (none_some (message_with x []) none)
+
+-- ---- the slot of a number that stands for a message
 one_slot : (s : Slot) (m : Message) → held_in s ≡ Some m → s ≡ Held m
 one_slot Gone m e = absurd (none_some m e)
 one_slot (Held x) m e = ap Held (some_is x m e)

@@ -61,7 +61,7 @@ killed_same number x y same = by (has_live number y.conference.slots) refl
         ∙ (same ∙ sym (ap outlined (cond-false (has_live number y.conference.slots) (with_deleted number y) y is)))
 
 -- ---- an offer
-offer_outline : (id : ℕ) (highs : List ℕ) (o : Option User) (b : Board) → board_outline (for_user (offered_to id highs) o b) ≡ for_user (offered_to id highs) o (board_outline b)
+pub offer_outline : (id : ℕ) (highs : List ℕ) (o : Option User) (b : Board) → board_outline (for_user (offered_to id highs) o b) ≡ for_user (offered_to id highs) o (board_outline b)
 offer_outline id highs None b = refl
 offer_outline id highs (Some u) b = refl
 

@@ -1,8 +1,10 @@
--- An acknowledgement of boards with one outline: it gives boards with one outline, and bases that are valid.
+-- An acknowledgement of boards with one outline: it gives boards with one outline, and bases that are valid. Of a board that
+-- is its own outline it gives one that is its own.
 use Rattle.std.proofs.Common.{◌≡◌, ℕ, ◌+◌, Bool, true, false, cond, List, [], ◌∷◌, map, Option, Some, None, refl, sym, ap, ◌∙◌, subst}
 use Rattle.std.specs.Prelude.{All, option_map, unwrap_or}
 use Rattle.std.specs.List.{AllZip}
 use Rattle.std.proofs.lemmas.List.Elements.{All-nil, All-cons, All-head, All-tail}
+use Rattle.board_changes.proofs.BaseOutlines.{own_bases}
 use Rattle.board_changes.proofs.OneBase.{are_bases, shapes_back}
 use Rattle.board_layout.proofs.BasePlaces.{IsBase, zipped}
 use Rattle.board_layout.proofs.OneOutline.{alike_ledger, alike_user, alike_valid, conference_back}
@@ -50,15 +52,14 @@ module _ (id : ℕ) (name : List ℕ) (now : ℕ) where
   read_same high x y same = read_outline high x ∙ (ap (read_up_to id name now high) same ∙ sym (read_outline high y))
 
   -- ---- all bases
+  all_read_outline : (bases : List Contents) (highs : List ℕ) → map outlined (all_read id name now bases highs) ≡ all_read id name now (map outlined bases) highs
+  all_read_outline [] highs = refl
+  all_read_outline (base ∷ bases) [] = refl
+  all_read_outline (base ∷ bases) (high ∷ highs) = λ i. read_outline high base i ∷ all_read_outline bases highs i
+
   all_read_same : (xs ys : List Contents) (highs : List ℕ) → map outlined xs ≡ map outlined ys → map outlined (all_read id name now xs highs) ≡ map outlined (all_read id name now ys highs)
-  all_read_same [] [] highs same = refl
-  all_read_same [] (y ∷ ys) highs same = absurd (cc)
-  all_read_same (x ∷ xs) [] highs same = absurd (cc)
-  all_read_same (x ∷ xs) (y ∷ ys) [] same = same
-  all_read_same (x ∷ xs) (y ∷ ys) (high ∷ highs) same =
-      let here = read_same high x y (head_is (outlined x) (outlined y) (map outlined xs) (map outlined ys) same) in
-      let others = all_read_same xs ys highs (tail_is (outlined x) (outlined y) (map outlined xs) (map outlined ys) same) in
-      λ i. here i ∷ others i
+  all_read_same xs ys highs same =
+      all_read_outline xs highs ∙ (ap (λ (bases : List Contents). all_read id name now bases highs) same ∙ sym (all_read_outline ys highs))
 
 -- ---- bodies stay
 body_kept : (name : List ℕ) (r : Receipt) (n : ℕ) (s : Slot) → HasBody s → HasBody (slot_received name r n s)
@@ -170,3 +171,23 @@ module _ (a b : Board) (alike : AreAlike a b) (id packet now : ℕ) where
     acknowledged_valid was next =
         alike_valid (acknowledged id packet now a) (acknowledged id packet now b) acknowledged_alike next
         (valid_user was (user_of id a) refl (sym (alike_user a b alike id)) (subst (λ (o : Option User). IsBoard (for_user (read_by id packet now) o b)) (sym (alike_user a b alike id)) next))
+
+-- ---- a board that is its own outline
+module _ (b : Board) (own : board_outline b ≡ b) (id packet now : ℕ) where
+  own_offer : (u : User) (o : OpenOffer) → board_outline (read_offer id now u o b) ≡ read_offer id now u o b
+  own_offer u o =
+      let bases : List Contents = all_read id u.name now (contents_of b) o.highs in
+      let same : map outlined bases ≡ bases =
+      all_read_outline id u.name now (contents_of b) o.highs ∙ ap (λ (xs : List Contents). all_read id u.name now xs o.highs) (own_bases b own) in
+      ap (λ (cs : List Conference). record { ledger = (read_offer id now u o b).ledger; conferences = cs }) (conferences_outline bases ∙ ap conferences_in same)
+
+  own_found : (u : User) (found : Option OpenOffer) → board_outline (unwrap_or (option_map (λ o. read_offer id now u o b) found) b) ≡ unwrap_or (option_map (λ o. read_offer id now u o b) found) b
+  own_found u None = own
+  own_found u (Some o) = own_offer u o
+
+  own_user : (o : Option User) → board_outline (for_user (read_by id packet now) o b) ≡ for_user (read_by id packet now) o b
+  own_user None = own
+  own_user (Some u) = own_found u (offer_in packet u.offers)
+
+  pub acknowledged_own : board_outline (acknowledged id packet now b) ≡ acknowledged id packet now b
+  acknowledged_own = own_user (user_of id b)

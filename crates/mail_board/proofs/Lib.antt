@@ -5,6 +5,7 @@ pub mod NextLaws
 pub mod EachBases
 pub mod EachRead
 pub mod EachNext
+pub mod OwnNext
 pub mod EachBound
 pub mod OneHost
 pub mod LoadLaws

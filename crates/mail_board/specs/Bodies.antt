@@ -3,14 +3,9 @@ use Rattle.std.specs.Prelude.{◌≡◌, ℕ, ◌+◌, ◌-◌, List, take, drop
 use Rattle.board_layout.specs.Layout.{files_in}
 use Rattle.jam_base.specs.Contents.{Contents}
 use Rattle.jam_base.specs.Outlined.{outlined}
-use Rattle.jam_layout.specs.Bodies.{body_size}
 use Rattle.jam_layout.specs.Valid.{IsConference}
 use Rattle.jam_records.specs.declared.message.Slot.{Slot}
 use Rattle.jam_records.specs.declared.message.Slot.TheVariants.{Gone, Held}
-
--- where in .JDT the body of the message of a number begins: behind those before it
-abbrev pub body_begin : ℕ → List Slot → ℕ
-body_begin number slots = sum_by body_size (take (number - 1) slots)
 
 -- how many messages a slot holds
 abbrev pub one_held : Slot → ℕ

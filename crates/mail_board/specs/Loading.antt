@@ -11,11 +11,13 @@ use Rattle.board_layout.specs.Damage.{board_in}
 use Rattle.board_layout.specs.Layout.{AreEmpty, IsLayout}
 use Rattle.board_layout.specs.OldLayout.{IsOldLayout}
 use Rattle.board_layout.specs.Outlines.{board_outline}
+use Rattle.board_layout.specs.Rules.{IsFoundOf}
 use Rattle.board_layout.specs.Valid.{IsBoard}
 use Rattle.board_layout.specs.declared.error.ReadError.{ReadError}
 use Rattle.board_layout.specs.declared.error.ReadError.TheVariants.{Damaged, DiskFault, OutOfMemory}
+use Rattle.board_layout.specs.declared.read.FoundBoard.{FoundBoard}
 use Rattle.jam_records.specs.declared.damage.Damage.{Damage}
-use Rattle.mail_board.specs.Held.{StandsFor}
+use Rattle.mail_board.specs.Held.{AreAlike, StandsFor}
 use Rattle.mail_board.specs.declared.loading.Loaded.{Loaded}
 use Rattle.mail_board.specs.declared.loading.Loaded.TheVariants.{NotMade, Ready}
 
@@ -48,6 +50,16 @@ pub record AreOld (files : Files) : Type 0 where
   pub board : Board
   pub valid : IsBoard board
   pub layout : IsOldLayout board files
+
+-- so they are of a board with the outline of this one
+pub record StandsOld (held : Board) (files : Files) : Type 0 where
+  pub old : AreOld files
+  pub alike : AreAlike old.board held
+
+-- what was found is the outline of a valid board, and the files are its layout, in version 1 where it is said to be old
+pub record StandsFound (found : FoundBoard) (files : Files) : Type 0 where
+  pub whole : Board
+  pub holds : IsFoundOf files found whole
 
 -- the old files are the layout of a valid board in version 1, and the new ones in version 2
 pub record IsMigration (old new : Files) : Type 0 where

@@ -1,5 +1,5 @@
 // The bodies of messages, which the host holds.
-ghost use Rattle.std.specs.Prelude.{◌≡◌, ◌+◌, ◌-◌, ◌≤◌, ◌<◌, ◌==◌, ◌^◌, ◌||◌, length, slice_index, Err, Some, IfOk, IsTrue};
+ghost use Rattle.std.specs.Prelude.{◌≡◌, ◌+◌, ◌-◌, ◌≤◌, ◌<◌, ◌==◌, ◌^◌, ◌||◌, length, option_map, slice_index, Err, Some, IfOk, IsTrue};
 ghost use Rattle.board_layout.specs.Lookups.{held_in};
 ghost use Rattle.board_layout.specs.Rules.{HasReadCause};
 ghost use Rattle.door_outside.specs.Disk.{Unchanged};
@@ -8,7 +8,7 @@ ghost use Rattle.jam_base.specs.Contents.{Contents};
 ghost use Rattle.jam_base.specs.Slots.{numbered};
 ghost use Rattle.jam_layout.specs.Bodies.{message_with};
 ghost use Rattle.jam_layout.specs.Messages.{IsBody};
-ghost use Rattle.jam_layout.specs.Outlines.{message_outline};
+ghost use Rattle.jam_layout.specs.Outlines.{message_outline, slot_bare};
 ghost use Rattle.jam_layout.specs.Valid.{IsConference};
 ghost use Rattle.jam_records.specs.declared.damage.Damage as Damages;
 ghost use Rattle.mail_board.specs.Bodies.{one_held, record_number as record_of, span_text, HasBodies};
@@ -109,7 +109,7 @@ fn with_body(alloc: Global, message: &Message, body: Bytes) -> Result<Message, A
     Ok(copy)
 }
 
-/// The message of a number in the base of a place, of which all but the body is known: the body is read from .JDT of the
+/// The message of a number in the base of a place, of which this is all but the body: the body is read from .JDT of the
 /// host, whose files have those of a base with the outline of this one. Nothing of the host changes.
 ///
 /// `DiskFault` comes only where the host's count of disk faults rose. `Damaged` never comes from a host that tells its
@@ -124,9 +124,9 @@ pub(crate) fn fetched<H: Host>(
 ) -> Result<Message, ReadError>
     requires base { IsConference base.now.shape base.now.conference }
     requires place { place < 64 }
-    requires there { Some message.now ≡ held_in (numbered base.now.conference.slots number) }
+    requires there { Some message.now ≡ held_in (slot_bare (numbered base.now.conference.slots number)) }
     ensures message { IsTrue H.tells → (other : Contents) → HasBodies base.now other ((H.disk host.old).files (jdt_file place)) → IfOk result (λ found. Some found ≡ held_in (numbered other.conference.slots number)) }
-    ensures outline { IfOk result (λ found. message_outline found ≡ message_outline message.now) }
+    ensures outline { IfOk result (λ found. Some (message_outline found) ≡ option_map message_outline (held_in (numbered base.now.conference.slots number))) }
     ensures undamaged { IsTrue H.tells → (other : Contents) → HasBodies base.now other ((H.disk host.old).files (jdt_file place)) → (damage : Damages.Damage) → ¬ (result ≡ Err (ReadError.Damaged damage)) }
     ensures unchanged { IsTrue H.tells → Unchanged (H.disk host.old) (H.disk host.new) }
     ensures cause { HasReadCause (H.disk_faults host.old) (H.disk_faults host.new) result }

@@ -3,6 +3,7 @@ ghost use Rattle.board_changes.specs.Change.{Becomes};
 ghost use Rattle.board_changes.specs.Outlined.{LeadsEach};
 ghost use Rattle.board_layout.specs.Board as Boards;
 ghost use Rattle.board_layout.specs.Layout.{IsLayout};
+ghost use Rattle.board_layout.specs.Outlines.{board_outline};
 ghost use Rattle.board_layout.specs.Valid.{IsBoard};
 ghost use Rattle.door_outside.specs.Disk.{Disk, AllNow, Between};
 ghost use Rattle.intent_journal.specs.Hosts.{IsSettled};
@@ -117,12 +118,13 @@ impl From<AllocError> for ChangeError {
     }
 }
 
-/// What a change that fits makes of a board, which is valid, and so of each board with its outline.
+/// What a change that fits makes of a board, which is valid and its own outline, and so of each board with that outline.
 fn next_of(alloc: Global, stored: &StoredBoard, change: &Change) -> Result<BoardChange, AllocError>
     requires { Fits change.now stored.now }
-    ensures becomes { IfOk result (λ next. Becomes stored.now (changed change.now stored.now) next) }
+    ensures becomes { IfOk result (λ next. Becomes stored.now (board_outline (changed change.now stored.now)) next) }
     ensures each { IfOk result (λ next. LeadsEach stored.now (changed change.now) next.intent) }
     ensures board { IsBoard stored.now }
+    ensures outline { board_outline stored.now ≡ stored.now }
     ensures costs { IfOk result (λ next. PutsFew change.now stored.now next.intent) }
 {
     let _ledger = stored.ledger();

@@ -1,6 +1,6 @@
 ghost use Rattle.std.specs.Prelude.{◌≡◌, ◌+◌, ◌≤◌, IfOk, IsErrOf, IsTrue};
 ghost use Rattle.board_layout.specs.Damage.{board_in};
-ghost use Rattle.board_layout.specs.Rules.{board_found, Gives, HasReadCause, IsLaidOut};
+ghost use Rattle.board_layout.specs.Rules.{AreFoundOf, Gives, GivesSo, HasReadCause};
 ghost use Rattle.door_outside.specs.Disk.{Disk, AllNow, Between, as_read};
 ghost use Rattle.intent_journal.specs.Hosts.{IsCalm, IsFirm, IsSettled};
 ghost use Rattle.intent_journal.specs.Journal.{intent_of};
@@ -34,7 +34,8 @@ fn of_recovery(error: JournalError) -> ReadError
     }
 }
 
-/// Recovers, carrying out what a crash left, and then reads the board of the files as they stand. It migrates nothing.
+/// Recovers, carrying out what a crash left, and then reads the outline of the board of the files as they stand. It migrates
+/// nothing.
 fn recover_board<H: Host>(alloc: Global, host: &mut H) -> Result<Option<FoundBoard>, ReadError>
     requires { IsTrue H.tells → IsSettled (H.disk host.old) }
     ensures moments { IsTrue H.tells → Between (H.disk host.old) (H.disk host.new) (Back (H.disk host.old)) }
@@ -44,8 +45,7 @@ fn recover_board<H: Host>(alloc: Global, host: &mut H) -> Result<Option<FoundBoa
     ensures firm { IsErrOf result ReadError.OutOfMemory → IsTrue H.tells → IsFirm (H.disk host.new) }
     ensures calm { IsTold result → IsTrue H.tells → IsCalm (H.disk host.new) }
     ensures done { IsTold result → IsTrue H.tells → data_files (H.disk host.new).files ≡ recovered (H.disk host.old).files }
-    ensures gives { IsTrue H.tells → Gives board_found result (board_in (recovered (H.disk host.old).files)) }
-    ensures layout { IsTrue H.tells → IfOk result (λ found. IsLaidOut found (H.disk host.new).files) }
+    ensures gives { IsTrue H.tells → GivesSo (AreFoundOf (H.disk host.new).files) result (board_in (recovered (H.disk host.old).files)) }
     ensures wrote { IsTrue H.tells → (H.disk host.new).wrote ≤ (H.disk host.old).wrote + byte_count (intent_of (H.disk host.old).files) + 1 }
     ensures cause { HasReadCause (H.disk_faults host.old) (H.disk_faults host.new) result }
     ensures voice { H.voice_faults host.new ≡ H.voice_faults host.old }
@@ -62,7 +62,7 @@ impl Board {
     /// version, with the first rule that they break. `DiskFault` comes only where the host's count of disk faults rose.
     /// `OutOfMemory` comes before the first write of a migration, and hides no fault. Where damage and want of memory
     /// meet, either may be answered.
-    #[tactic(auto, using(crate::proofs::LoadLaws::stops_outlined, crate::proofs::LoadLaws::none_outlined, crate::proofs::LoadLaws::some_outlined, crate::proofs::LoadLaws::own_stands))]
+    #[tactic(auto, using(crate::proofs::LoadLaws::stops_outlined))]
     pub fn load<H: Host>(alloc: Global, host: &mut H) -> Result<Loaded, ReadError>
         requires { IsTrue H.tells → IsSettled (H.disk host.old) }
 

@@ -1,14 +1,11 @@
 // The messages of a board, and the msgids that it generates.
 ghost use Rattle.std.specs.Prelude.{◌≡◌, ◌<◌, Err, length, option_map, IfOk, IsFalse, IsTrue};
-ghost use Rattle.std.specs.Option.{option_copied};
 ghost use Rattle.board_layout.specs.Board as Boards;
 ghost use Rattle.board_layout.specs.Rules.{HasReadCause};
 ghost use Rattle.door_outside.specs.Disk.{Disk, Unchanged};
-ghost use Rattle.jam_base.specs.Slots.{numbered};
 ghost use Rattle.jam_layout.specs.Outlines.{message_outline};
 ghost use Rattle.jam_records.specs.declared.damage.Damage.{Damage};
 ghost use Rattle.mail_board.specs.Held.{Holds, RestsOn};
-ghost use Rattle.board_layout.specs.Lookups.{held_in};
 ghost use Rattle.mail_board.specs.Readers.{message_at};
 ghost use Rattle.slot_changes.specs.Msgids.{msgid_in};
 
@@ -17,21 +14,10 @@ use crate::bodies::fetched;
 use board_layout::ReadError;
 use byte_lists::Bytes;
 use door_outside::Host;
-use jam_base::Base;
-use jam_records::{Message, Slot};
+use jam_records::Message;
+use offered_packets::message_of;
 use slot_changes::msgid_of;
 use std::alloc::{AllocError, Global};
-
-/// The message of a number in a base, or None where no slot of that number holds one.
-fn held(base: &Base, number: u32) -> Option<&Message>
-    ensures { option_copied result ≡ held_in (numbered base.now.conference.slots number) }
-{
-    match base.slot(number) {
-        Some(Slot::Held(message)) => Some(message),
-        Some(Slot::Gone) => None,
-        None => None,
-    }
-}
 
 impl Board {
     /// The msgid that is generated for a message number in a place: `CONFERENCE.NUMBER.BBSID`. The place is there.
@@ -73,7 +59,7 @@ impl Board {
         let Some(base) = self.stored.bases().get(usize::from(place)) else {
             return Ok(None);
         };
-        match held(base, number) {
+        match message_of(base, number) {
             Some(message) => {
                 let found = fetched(alloc, host, base, place, number, message)?;
                 Ok(Some(found))

@@ -1,12 +1,10 @@
 // A board in files of version 1, brought to version 2.
 ghost use Rattle.std.specs.Prelude.{◌≡◌, OnOk, IsErrOf, IsFalse, IsTrue};
-ghost use Rattle.board_layout.specs.OldLayout.{IsOldLayout};
-ghost use Rattle.board_layout.specs.Rules.{IsLaidOutAs};
 ghost use Rattle.door_outside.specs.Disk.{Disk, AllNow, Between};
 ghost use Rattle.intent_journal.specs.Hosts.{IsCalm, IsSettled};
 ghost use Rattle.mail_board.specs.Causes.{HasFault};
-ghost use Rattle.mail_board.specs.Held.{Rests};
-ghost use Rattle.mail_board.specs.Loading.{Opens};
+ghost use Rattle.mail_board.specs.Held.{RestsOn};
+ghost use Rattle.mail_board.specs.Loading.{Opens, StandsFound, StandsOld};
 
 use board_changes::ledger_intent;
 use board_layout::{FoundBoard, StoredBoard};
@@ -14,18 +12,19 @@ use door_outside::Host;
 use intent_journal::{JournalError, commit};
 use std::alloc::Global;
 
-/// Writes the ledger of a board in version 2, whole or not at all. All memory is taken before the first write.
+/// Writes the ledger of a board in version 2, whole or not at all, where the files are those of a board with its outline.
+/// All memory is taken before the first write.
 fn write_ledger<H: Host>(
     alloc: Global,
     host: &mut H,
     board: &StoredBoard,
 ) -> Result<(), JournalError>
     requires calm { IsTrue H.tells → IsCalm (H.disk host.old) }
-    requires layout { IsTrue H.tells → IsOldLayout board.now (H.disk host.old).files }
+    requires stands { IsTrue H.tells → StandsOld board.now (H.disk host.old).files }
     ensures moments { IsTrue H.tells → Between (H.disk host.old) (H.disk host.new) (Opens (H.disk host.old)) }
     ensures now { IsTrue H.tells → AllNow (H.disk host.new) (Opens (H.disk host.old)) }
     ensures settled { IsTrue H.tells → IsSettled (H.disk host.new) }
-    ensures rests { OnOk result (IsTrue H.tells → Rests board.now (H.disk host.new)) }
+    ensures rests { OnOk result (IsTrue H.tells → RestsOn board.now (H.disk host.new)) }
     ensures unchanged { IsErrOf result JournalError.OutOfMemory → host.new ≡ host.old }
     ensures cause { HasFault JournalError.DiskFault (H.disk_faults host.old) (H.disk_faults host.new) result }
     ensures voice { H.voice_faults host.new ≡ H.voice_faults host.old }
@@ -42,14 +41,14 @@ fn write_ledger<H: Host>(
 /// leaves the files of either version, which the next load finds.
 pub fn migrate<H: Host>(alloc: Global, host: &mut H, found: &FoundBoard) -> Result<(), JournalError>
     requires calm { IsTrue H.tells → IsCalm (H.disk host.old) }
-    requires layout { IsTrue H.tells → IsLaidOutAs found.now.is_old found.now.board (H.disk host.old).files }
+    requires stands { IsTrue H.tells → StandsFound found.now (H.disk host.old).files }
 
     // A crash at any moment leaves what recovers to the same files, or to these migrated.
     ensures moments { IsTrue H.tells → Between (H.disk host.old) (H.disk host.new) (Opens (H.disk host.old)) }
     ensures now { IsTrue H.tells → AllNow (H.disk host.new) (Opens (H.disk host.old)) }
     ensures settled { IsTrue H.tells → IsSettled (H.disk host.new) }
 
-    ensures rests { OnOk result (IsTrue H.tells → Rests found.now.board (H.disk host.new)) }
+    ensures rests { OnOk result (IsTrue H.tells → RestsOn found.now.board (H.disk host.new)) }
     ensures unchanged { IsErrOf result JournalError.OutOfMemory → host.new ≡ host.old }
     ensures same { IsFalse found.now.is_old → host.new ≡ host.old }
     ensures cause { HasFault JournalError.DiskFault (H.disk_faults host.old) (H.disk_faults host.new) result }

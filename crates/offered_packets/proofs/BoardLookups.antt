@@ -1,10 +1,9 @@
 -- What stands in a place of a board.
-use Rattle.std.proofs.Common.{◌≡◌, ℕ, zero, suc, ◌-◌, ◌<◌, ◌≤◌, false, cond, eqb, List, [], ◌∷◌, length, get_or, take, refl, sym, ap, ◌∙◌, inl, inr, arith, Bor}
+use Rattle.std.proofs.Common.{◌≡◌, ℕ, zero, suc, ◌-◌, ◌<◌, ◌≤◌, List, [], ◌∷◌, length, get_or, take, refl, sym, ap, ◌∙◌, arith, Bor}
 use Rattle.std.specs.Prelude.{Option, Some, None, option_map, option_copied, unwrap_or, slice_get, Contains, IfSome, IfNone}
 use Rattle.std.specs.List.{AllZip}
-use Rattle.std.proofs.lemmas.Bool.{cases_lt, cases_eq, cond-true, cond-false, eq-eqb, ne_eqb}
-use Rattle.std.proofs.lemmas.List.{length-map, get_or_past}
-use Rattle.std.proofs.lemmas.Option.{slice_get-map, slice_get_past, slice_get_within, slice_get-get_or, get_or_from_slice_get, none-some}
+use Rattle.std.proofs.lemmas.List.{length-map}
+use Rattle.std.proofs.lemmas.Option.{slice_get-map, slice_get_past, slice_get_within, get_or_from_slice_get, none-some}
 use Rattle.board_layout.specs.Board.{Board, conferences_in, shapes_of}
 use Rattle.board_layout.specs.Valid.{IsBoard}
 use Rattle.board_layout.proofs.BasePlaces.{shapes_count}
@@ -13,13 +12,10 @@ use Rattle.jam_layout.specs.Valid.{IsConference}
 use Rattle.jam_layout.specs.declared.conference.Conference.{Conference}
 use Rattle.jam_layout.specs.declared.shape.Shape.{Shape}
 use Rattle.jam_records.specs.declared.message.Slot.{Slot}
-use Rattle.jam_records.specs.declared.message.Slot.TheVariants.{Gone}
-use Rattle.jam_base.specs.Slots.{numbered}
 use Rattle.jam_threads.specs.Children.{original, slot_original}
 use Rattle.board_ledger.specs.declared.user.User.{User}
 use Rattle.setup_file.specs.Valid.{numbers_of}
 use Rattle.setup_file.specs.declared.conference.Conference.{Conference as SetupConference}
-use Rattle.board_layout.specs.Lookups.{held_in}
 use Rattle.offered_packets.specs.Sees.{slots_in}
 
 conferences_count : (shapes : List Shape) (conferences : List Conference) → AllZip IsConference shapes conferences → length shapes ≡ length conferences
@@ -73,19 +69,6 @@ found_place b bases place (Some base) ok e is = base_place b bases place base.no
 pub found_none : (b : Board) (bases : List Contents) (place : ℕ) (found : Option (Bor Contents)) → conferences_in bases ≡ b.conferences → option_copied found ≡ slice_get bases place → IfNone found (slots_in b place ≡ [])
 found_none b bases place None e is = no_slots b bases place e (sym is)
 found_none b bases place (Some base) e is = tt
-
--- a slot that isn't there holds nothing
-pub none_held : (slots : List Slot) (number : ℕ) → None ≡ cond (eqb number 0) None (slice_get slots (number - 1)) → None ≡ held_in (numbered slots number)
-none_held slots number e = elim (cases_eq number 0) [
-  | inl none ↦ ap held_in (sym (cond-true (eqb number 0) Gone (get_or slots (number - 1) Gone) (eq-eqb number 0 none)))
-  | inr some ↦
-      let test : eqb number 0 ≡ false = ne_eqb number 0 some in
-      let missing : None ≡ slice_get slots (number - 1) = e ∙ cond-false (eqb number 0) None (slice_get slots (number - 1)) test in
-      elim (cases_lt (number - 1) (length slots)) [
-        | inl within ↦ absurd (none-some (get_or slots (number - 1) Gone) (missing ∙ slice_get-get_or slots (number - 1) Gone within))
-        | inr past ↦ ap held_in (sym (cond-false (eqb number 0) Gone (get_or slots (number - 1) Gone) test ∙ get_or_past slots (number - 1) Gone past))
-      ]
-]
 
 -- past the last conference the number is 0
 pub none_number : (conferences : List SetupConference) (place : ℕ) → None ≡ slice_get conferences place → 0 ≡ get_or (numbers_of conferences) place 0

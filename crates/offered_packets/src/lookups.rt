@@ -4,6 +4,7 @@ ghost use Rattle.std.specs.Option.{option_copied};
 ghost use Rattle.board_layout.specs.Renewed.{contents_of};
 ghost use Rattle.board_layout.specs.Valid.{IsBoard};
 ghost use Rattle.jam_base.specs.Slots.{numbered};
+ghost use Rattle.jam_layout.specs.Outlines.{slot_bare};
 ghost use Rattle.board_layout.specs.Lookups.{user_of, held_in};
 ghost use Rattle.offered_packets.specs.Sees.{slots_in};
 
@@ -51,9 +52,9 @@ pub fn base_at(board: &StoredBoard, place: u8) -> Option<&Base>
     base_in(board.bases(), place)
 }
 
-/// The message of a number, from 1, or None where no slot of it holds one.
+/// The message of a number, from 1, with an empty body, or None where no slot of it holds one.
 pub fn message_of(base: &Base, number: u32) -> Option<&Message>
-    ensures { option_copied result ≡ held_in (numbered base.now.conference.slots number) }
+    ensures { option_copied result ≡ held_in (slot_bare (numbered base.now.conference.slots number)) }
 {
     match base.slot(number) {
         Some(Slot::Held(message)) => Some(message),

@@ -11,10 +11,11 @@ use Rattle.board_ledger.specs.declared.ledger.Ledger.{Ledger}
 use Rattle.board_ledger.specs.declared.user.User.{User}
 use Rattle.jam_base.specs.Slots.{numbered}
 use Rattle.jam_layout.specs.Conference.{is_live}
+use Rattle.jam_layout.specs.Outlines.{slot_bare}
 use Rattle.jam_records.specs.declared.message.Message.{Message}
 use Rattle.jam_records.specs.declared.message.Slot.{Slot}
 use Rattle.jam_records.specs.declared.message.Slot.TheVariants.{Gone, Held}
-use Rattle.offered_packets.specs.Sees.{slots_in, message_at, is_allowed, may_see, sees}
+use Rattle.offered_packets.specs.Sees.{slots_in, is_allowed, may_see, sees}
 use Rattle.post_changes.specs.Posted.{posts_in, spread}
 use Rattle.packet_verdicts.specs.Views.{msgid_at, nobody, reply_at, user_with}
 use Rattle.packet_verdicts.proofs.Spreading.{spread_slots}
@@ -60,9 +61,16 @@ pub reply_unseen : (b : Board) (id place number : ℕ) → sees b id place numbe
 unfolding reply_at
 reply_unseen b id place number ne = sym (ap (λ (t : Bool). cond t (msgid_at b place number) []) ne)
 
-pub reply_is : (b : Board) (id place number : ℕ) (o : Option Message) → sees b id place number ≡ true → o ≡ message_at b place number → unwrap_or (option_map (λ (m : Message). m.msgid) o) [] ≡ reply_at b id place number
+-- a message has its msgid without its body
+bare_msgid : (s : Slot) → unwrap_or (option_map (λ (m : Message). m.msgid) (held_in (slot_bare s))) [] ≡ unwrap_or (option_map (λ (m : Message). m.msgid) (held_in s)) []
+bare_msgid Gone = refl
+bare_msgid (Held m) = refl
+
+pub reply_is : (b : Board) (id place number : ℕ) (o : Option Message) → sees b id place number ≡ true → o ≡ held_in (slot_bare (numbered (slots_in b place) number)) → unwrap_or (option_map (λ (m : Message). m.msgid) o) [] ≡ reply_at b id place number
 unfolding reply_at
-reply_is b id place number o sure found = ap (λ (p : Option Message). unwrap_or (option_map (λ (m : Message). m.msgid) p) []) found ∙ sym (ap (λ (t : Bool). cond t (msgid_at b place number) []) sure)
+reply_is b id place number o sure found =
+    ap (λ (p : Option Message). unwrap_or (option_map (λ (m : Message). m.msgid) p) []) found
+    ∙ (bare_msgid (numbered (slots_in b place) number) ∙ sym (ap (λ (t : Bool). cond t (msgid_at b place number) []) sure))
 
 -- ---- a draft
 pub identified_at : (msgid : ℕ → List ℕ) (n k : ℕ) (messages : List Message) (m : Message) → slice_get messages k ≡ Some m → slice_get (all_identified msgid n messages) k ≡ Some (identified (msgid (n + k)) m)

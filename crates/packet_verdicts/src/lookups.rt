@@ -1,9 +1,11 @@
 // What is looked up in a board for a message.
 ghost use Rattle.std.specs.Prelude.{◌≡◌, ◌<◌, ◌≤◌, ◌==◌, Some, length, position, slice_get, IfSome, IsSome};
 ghost use Rattle.std.specs.Option.{option_copied};
-ghost use Rattle.board_layout.specs.Lookups.{user_of as user_with_id};
+ghost use Rattle.board_layout.specs.Lookups.{held_in, user_of as user_with_id};
 ghost use Rattle.board_layout.specs.Valid.{IsBoard};
-ghost use Rattle.offered_packets.specs.Sees.{slots_in, message_at as message_of_number};
+ghost use Rattle.jam_base.specs.Slots.{numbered};
+ghost use Rattle.jam_layout.specs.Outlines.{slot_bare};
+ghost use Rattle.offered_packets.specs.Sees.{slots_in};
 ghost use Rattle.packet_verdicts.specs.Views.{place_of as place_in};
 
 use board_layout::StoredBoard;
@@ -69,9 +71,9 @@ pub(crate) fn kept_count(board: &StoredBoard, place: u8) -> u32
     }
 }
 
-/// The message of a number in a place of the board, or None where no slot of it holds one.
+/// The message of a number in a place of the board, with an empty body, or None where no slot of it holds one.
 pub(crate) fn message_at(board: &StoredBoard, place: u8, number: u32) -> Option<&Message>
-    ensures { option_copied result ≡ message_of_number board.now place number }
+    ensures { option_copied result ≡ held_in (slot_bare (numbered (slots_in board.now place) number)) }
 {
     message_of(base_at(board, place)?, number)
 }

@@ -11,6 +11,7 @@ use Rattle.board_layout.specs.Board.{Board, shapes_of}
 use Rattle.board_layout.specs.Layout.{base_size}
 use Rattle.board_layout.specs.Renewed.{contents, contents_of}
 use Rattle.jam_base.specs.Contents.{Contents, with_messages}
+use Rattle.jam_base.specs.Outlined.{outlined}
 use Rattle.jam_layout.specs.Messages.{IsMessage}
 use Rattle.jam_layout.specs.declared.conference.Conference.{Conference}
 use Rattle.jam_layout.specs.declared.shape.Shape.{Shape}
@@ -118,5 +119,5 @@ module _ (b : Board) (posts : List (ℕ × Message)) (place : ℕ) (base : Conte
   pub none_posted : (copies : List Message) → copies ≡ all_identified (msgid_in place b) (length base.conference.slots + 1) (posts_in place posts) → copies ≡ [] → base ≡ posted_in b posts place base
   none_posted copies are none = ap (λ (ms : List Message). with_messages ms base) (sym none ∙ are)
 
-  pub some_posted : (copies : List Message) (made : Contents) → copies ≡ all_identified (msgid_in place b) (length base.conference.slots + 1) (posts_in place posts) → made ≡ with_messages copies base → made ≡ posted_in b posts place base
-  some_posted copies made are is = is ∙ ap (λ (ms : List Message). with_messages ms base) are
+  pub some_posted : (copies : List Message) (made : Contents) → copies ≡ all_identified (msgid_in place b) (length base.conference.slots + 1) (posts_in place posts) → made ≡ outlined (with_messages copies base) → made ≡ outlined (posted_in b posts place base)
+  some_posted copies made are is = is ∙ ap (λ (ms : List Message). outlined (with_messages ms base)) are

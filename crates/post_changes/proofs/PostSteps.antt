@@ -2,8 +2,9 @@
 use Rattle.std.proofs.Common.{◌≡◌, inl, inr, ◌+◌, ◌<◌, ◌≤◌, ◌==◌, cond, ℕ, [], ◌∷◌, ◌++◌, List, length, length-append, take, slice_get, Some, Option, refl, sym, ap, ◌∙◌, subst, arith}
 use Rattle.std.specs.Prelude.{IfSome, count_by, nat_lt, option_map, sum_by, unwrap_or}
 use Rattle.std.proofs.lemmas.Bool.{cases_order, cond-false, cond-true, eq-eqb, le-ltb, lt-ltb, ne_eqb}
-use Rattle.std.proofs.lemmas.List.{take_all, take_more}
+use Rattle.std.proofs.lemmas.List.{length-map, take_all, take_more}
 use Rattle.std.proofs.lemmas.List.Sums.{count_by-le-length, sum_by-append, sum_by-cons}
+use Rattle.board_changes.proofs.EachBase.{suits_alike}
 use Rattle.board_changes.proofs.EachBoard.{gathered_leads, step_each}
 use Rattle.board_changes.proofs.LeadLaws.{places_count}
 use Rattle.board_changes.proofs.MemberLaws.{files_at, files_count, place_known, renewed_pushed}
@@ -16,8 +17,10 @@ use Rattle.board_changes.specs.Spending.{Spends, SpendsHere}
 use Rattle.offer_changes.specs.Steps.{base_after, patches_of}
 use Rattle.board_changes.specs.declared.change.BoardChange.{BoardChange}
 use Rattle.board_layout.proofs.BasePlaces.{shapes_count}
+use Rattle.board_layout.proofs.OutlineLaws.{base_size_outline, outline_base, outline_contents}
 use Rattle.board_layout.specs.Board.{Board, shapes_of}
-use Rattle.board_layout.specs.Layout.{base_files, board_size, files_in, no_base}
+use Rattle.board_layout.specs.Layout.{base_files, base_size, board_size, files_in, no_base}
+use Rattle.board_layout.specs.Outlines.{board_outline}
 use Rattle.board_layout.specs.Renewed.{contents_of, renewed}
 use Rattle.board_layout.specs.Valid.{IsBoard}
 use Rattle.board_ledger.specs.Ledger.{ledger_text}
@@ -27,6 +30,7 @@ use Rattle.intent_journal.specs.declared.patch.Patch.{Patch}
 use Rattle.jam_base.proofs.PutBounds.{count_append}
 use Rattle.jam_base.specs.Change.{SuitsIntent}
 use Rattle.jam_base.specs.Contents.{Contents}
+use Rattle.jam_base.specs.Outlined.{outlined}
 use Rattle.jam_base.specs.declared.change.BaseChange.{BaseChange}
 use Rattle.jam_layout.specs.Layout.{files_size}
 use Rattle.jam_layout.specs.declared.files.BaseFiles.{BaseFiles}
@@ -90,7 +94,7 @@ pub posting_begun : (b : Board) (posts : List (ℕ × Message)) (change : BoardC
 posting_begun b posts change shapes next none gathered spent = record {
   shapes = shapes;
   next = next;
-  bases = ap (renewed (take 0 (contents_of b))) none ∙ none_yet (contents_of b) (contents_of (posted_with (next_ledger b change) posts b));
+  bases = ap (renewed (take 0 (contents_of b))) none ∙ none_yet (contents_of b) (contents_of (board_outline (posted_with (next_ledger b change) posts b)));
   counted = ap length none;
   gathered = gathered;
   spent = spent;
@@ -98,19 +102,24 @@ posting_begun b posts change shapes next none gathered spent = record {
 
 -- ---- one place more
 module _ (b : Board) (posts : List (ℕ × Message)) (place : ℕ) (base : Contents) (change : BoardChange) (made : Option BaseChange) (ok : IsBoard b) (here : slice_get (contents_of b) place ≡ Some base)
-    (is : base_after base made ≡ posted_in b posts place base) (changes : IfSome made (Changes base)) (each : ChangesEach base (posted_in b posts place) (patches_of made)) (so_far : Posting b posts place change) where
+    (is : base_after base made ≡ outlined (posted_in b posts place base)) (changes : IfSome made (Changes base)) (each : ChangesEach base (posted_in b posts place) (patches_of made)) (so_far : Posting b posts place change) where
   abbrev next : Board
   next = posted_with (next_ledger b change) posts b
 
-  there : slice_get (contents_of next) place ≡ Some (base_after base made)
-  there = base_posted b posts (next_ledger b change) ok so_far.shapes place base here ∙ ap Some (sym is)
+  there : slice_get (contents_of next) place ≡ Some (posted_in b posts place base)
+  there = base_posted b posts (next_ledger b change) ok so_far.shapes place base here
+
+  there_outlined : slice_get (contents_of (board_outline next)) place ≡ Some (base_after base made)
+  there_outlined = outline_base next place ∙ (ap (option_map outlined) there ∙ ap Some (sym is))
 
   suits : SuitsIntent base.shape.place (files_in (posted_in b posts place base)) (patches_of made)
-  suits = change_suits base (posted_in b posts place base) made changes is
+  suits =
+      suits_alike base.shape.place (files_in (outlined (posted_in b posts place base))) (files_in (posted_in b posts place base)) (patches_of made) (base_size_outline (posted_in b posts place base))
+      (change_suits base (outlined (posted_in b posts place base)) made changes is)
 
   pub post_joins : IfSome made (λ c. Joins change.intent c.patches)
   post_joins = change_joins change.intent made
-      (step_joins b next place base (posted_in b posts place base) change.intent (patches_of made) ok so_far.next here (there ∙ ap Some is) (so_far.gathered.gathered b ok refl) (each.files.turns base refl) suits)
+      (step_joins b next place base (posted_in b posts place base) change.intent (patches_of made) ok so_far.next here there (so_far.gathered.gathered b ok refl) (each.files.turns base refl) suits)
 
   spent_more : SpendsHere (length (posts_in place posts)) (files_in base) (files_in (base_after base made)) (patches_of made) → SpentSoFar b posts (place + 1) (next_ledger b change) (change.intent ++ patches_of made)
   spent_more costs =
@@ -124,7 +133,9 @@ module _ (b : Board) (posts : List (ℕ × Message)) (place : ℕ) (base : Conte
           posts_more,
           count_append change.intent (patches_of made),
           size_more b place base ok here,
-          size_more next place (base_after base made) so_far.next there,
+          size_more next place (posted_in b posts place base) so_far.next there,
+          ap base_size is,
+          base_size_outline (posted_in b posts place base),
         );
       }
 
@@ -132,7 +143,7 @@ module _ (b : Board) (posts : List (ℕ × Message)) (place : ℕ) (base : Conte
   one_more new costs same = record {
     shapes = so_far.shapes;
     next = so_far.next;
-    bases = renewed_pushed (contents_of b) (contents_of next) change.bases place base new so_far.bases so_far.counted here (there ∙ ap (λ (o : Option Contents). Some (unwrap_or o base)) (sym same));
+    bases = renewed_pushed (contents_of b) (contents_of (board_outline next)) change.bases place base new so_far.bases so_far.counted here (there_outlined ∙ ap (λ (o : Option Contents). Some (unwrap_or o base)) (sym same));
     counted = omega (arith, length-append change.bases (new ∷ []), so_far.counted);
     gathered = step_each b (posted_with (next_ledger b change) posts) place base (posted_in b posts place) change.intent (patches_of made) here (posted_keeps b posts (next_ledger b change) ok so_far.shapes so_far.next)
         (λ other valid alike one at. posted_at b posts (next_ledger b change) ok so_far.shapes other valid alike place one at) each suits so_far.gathered;
@@ -152,14 +163,13 @@ posts_lead b posts count change ok all posting =
     gathered_leads b (posted_with l posts) change.intent (posted_keeps b posts l ok posting.shapes posting.next) (λ other alike. shapes_places l other.ledger (other_shapes b posts l ok posting.shapes other alike))
     (subst (λ (k : ℕ). GatheredEach b (posted_with l posts) k change.intent) end posting.gathered)
 
-pub posts_become : (b : Board) (posts : List (ℕ × Message)) (count : ℕ) (change : BoardChange) → IsBoard b → count ≡ length (contents_of b) → Posting b posts count change → Becomes b (posted_with (next_ledger b change) posts b) change
+pub posts_become : (b : Board) (posts : List (ℕ × Message)) (count : ℕ) (change : BoardChange) → IsBoard b → count ≡ length (contents_of b) → Posting b posts count change → Becomes b (board_outline (posted_with (next_ledger b change) posts b)) change
 posts_become b posts count change ok all posting =
     let next : Board = posted_with (next_ledger b change) posts b in
     record {
       ledger = refl;
       bases = ap (λ (xs : List Contents). renewed xs change.bases) (sym (take_all count (contents_of b) (omega (arith, all))))
-          ∙ (posting.bases ∙ take_all count (contents_of next) (omega (arith, all, contents_count b posts (next_ledger b change) ok posting.shapes)));
-      intent = (posts_lead b posts count change ok all posting).leads b ok refl;
+          ∙ (posting.bases ∙ take_all count (contents_of (board_outline next)) (omega (arith, all, contents_count b posts (next_ledger b change) ok posting.shapes, ap length (outline_contents next), length-map (contents_of next) outlined)));
     }
 
 -- the size of all data files

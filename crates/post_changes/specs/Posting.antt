@@ -4,6 +4,7 @@ use Rattle.board_changes.specs.Outlined.{GatheredEach}
 use Rattle.board_changes.specs.declared.change.BoardChange.{BoardChange}
 use Rattle.board_layout.specs.Board.{Board, shapes_of}
 use Rattle.board_layout.specs.Layout.{base_files}
+use Rattle.board_layout.specs.Outlines.{board_outline}
 use Rattle.board_layout.specs.Renewed.{contents_of, renewed}
 use Rattle.board_layout.specs.Valid.{IsBoard}
 use Rattle.board_ledger.specs.Ledger.{ledger_text}
@@ -36,7 +37,7 @@ next_ledger b change = unwrap_or change.ledger b.ledger
 pub record Posting (b : Board) (posts : List (ℕ × Message)) (count : ℕ) (change : BoardChange) : Type 0 where
   pub shapes : shapes_of (next_ledger b change) ≡ shapes_of b.ledger
   pub next : IsBoard (posted_with (next_ledger b change) posts b)
-  pub bases : renewed (take count (contents_of b)) change.bases ≡ take count (contents_of (posted_with (next_ledger b change) posts b))
+  pub bases : renewed (take count (contents_of b)) change.bases ≡ take count (contents_of (board_outline (posted_with (next_ledger b change) posts b)))
   pub counted : length change.bases ≡ count
   pub gathered : GatheredEach b (posted_with (next_ledger b change) posts) count change.intent
   pub spent : SpentSoFar b posts count (next_ledger b change) change.intent

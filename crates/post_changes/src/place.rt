@@ -4,6 +4,7 @@ ghost use Rattle.board_changes.specs.Change.{Changes};
 ghost use Rattle.board_changes.specs.Changed.{base_at};
 ghost use Rattle.board_changes.specs.Outlined.{ChangesEach};
 ghost use Rattle.board_changes.specs.Spending.{SpendsHere};
+ghost use Rattle.jam_base.specs.Outlined.{outlined};
 ghost use Rattle.jam_layout.specs.Valid.{IsConference};
 ghost use Rattle.offer_changes.specs.Steps.{base_after, patches_of};
 ghost use Rattle.board_layout.specs.Layout.{files_in};
@@ -51,7 +52,7 @@ pub(crate) fn place_posted(
 ) -> Result<Option<BaseChange>, AllocError>
     requires base { base_at place board.now ≡ Some base.now }
     requires next { IsConference (posted_in board.now posts.now place base.now).shape (posted_in board.now posts.now place base.now).conference }
-    ensures base { IfOk result (λ change. base_after base.now change ≡ posted_in board.now posts.now place base.now) }
+    ensures base { IfOk result (λ change. base_after base.now change ≡ outlined (posted_in board.now posts.now place base.now)) }
     ensures changes { IfOk result (λ change. IfSome change (Changes base.now)) }
     ensures each { IfOk result (λ change. ChangesEach base.now (posted_in board.now posts.now place) (patches_of change)) }
     ensures costs { IfOk result (λ change. SpendsHere (length (posts_in place posts.now)) (files_in base.now) (files_in (base_after base.now change)) (patches_of change)) }

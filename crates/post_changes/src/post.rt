@@ -4,6 +4,7 @@ ghost use Rattle.board_changes.specs.Changed.{base_at};
 ghost use Rattle.board_changes.specs.Outlined.{GatheredEach, LeadsEach};
 ghost use Rattle.board_changes.specs.Spending.{Spends};
 ghost use Rattle.board_layout.specs.Board.{shapes_of};
+ghost use Rattle.board_layout.specs.Outlines.{board_outline};
 ghost use Rattle.board_layout.specs.Valid.{IsBoard};
 ghost use Rattle.post_changes.specs.Posted.{ArePlaced, posted_with, spread as spread_of};
 ghost use Rattle.post_changes.specs.Posting.{Posting, SpentSoFar, next_ledger};
@@ -55,7 +56,7 @@ fn add_bases(
     change: &mut BoardChange,
 ) -> Result<(), AllocError>
     requires { Posting board.now posts.now 0 change.old }
-    ensures becomes { OnOk result (Becomes board.now (posted_with (next_ledger board.now change.old) posts.now board.now) change.new) }
+    ensures becomes { OnOk result (Becomes board.now (board_outline (posted_with (next_ledger board.now change.old) posts.now board.now)) change.new) }
     ensures each { OnOk result (LeadsEach board.now (posted_with (next_ledger board.now change.old) posts.now) change.new.intent) }
     ensures costs { OnOk result (Spends (length posts.now) board.now (posted_with (next_ledger board.now change.old) posts.now board.now) change.new.intent) }
 {
@@ -78,7 +79,7 @@ pub(crate) fn posted(
     requires next { IsBoard (posted_with (unwrap_or ledger board.now.ledger) posts.now board.now) }
     requires gathered { GatheredEach board.now (posted_with (unwrap_or ledger board.now.ledger) posts.now) 0 intent }
     requires spent { SpentSoFar board.now posts.now 0 (unwrap_or ledger board.now.ledger) intent }
-    ensures becomes { IfOk result (Becomes board.now (posted_with (unwrap_or ledger board.now.ledger) posts.now board.now)) }
+    ensures becomes { IfOk result (Becomes board.now (board_outline (posted_with (unwrap_or ledger board.now.ledger) posts.now board.now))) }
     ensures each { IfOk result (λ change. LeadsEach board.now (posted_with (unwrap_or ledger board.now.ledger) posts.now) change.intent) }
     ensures costs { IfOk result (λ change. Spends (length posts.now) board.now (posted_with (unwrap_or ledger board.now.ledger) posts.now board.now) change.intent) }
 {
@@ -100,7 +101,7 @@ pub(crate) fn posted(
 pub fn spread(alloc: Global, board: &StoredBoard, posts: &Posts) -> Result<BoardChange, AllocError>
     requires places { ArePlaced posts.now board.now }
     requires next { IsBoard (spread_of posts.now board.now) }
-    ensures becomes { IfOk result (Becomes board.now (spread_of posts.now board.now)) }
+    ensures becomes { IfOk result (Becomes board.now (board_outline (spread_of posts.now board.now))) }
     ensures each { IfOk result (λ change. LeadsEach board.now (spread_of posts.now) change.intent) }
     ensures costs { IfOk result (λ change. Spends (length posts.now) board.now (spread_of posts.now board.now) change.intent) }
 {

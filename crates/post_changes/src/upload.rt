@@ -2,6 +2,7 @@ ghost use Rattle.std.specs.Prelude.{◌≡◌, length, IfOk};
 ghost use Rattle.board_changes.specs.Change.{Becomes};
 ghost use Rattle.board_changes.specs.Outlined.{LeadsEach};
 ghost use Rattle.board_changes.specs.Spending.{Spends};
+ghost use Rattle.board_layout.specs.Outlines.{board_outline};
 ghost use Rattle.board_layout.specs.Valid.{IsBoard};
 ghost use Rattle.board_ledger.specs.UploadPuts.{upload_puts};
 ghost use Rattle.board_ledger.specs.Valid.{IsLedger};
@@ -44,7 +45,7 @@ pub fn uploaded(
 ) -> Result<BoardChange, AllocError>
     requires places { ArePlaced posts.now board.now }
     requires next { IsBoard (uploaded_of user digest.now refused posts.now board.now) }
-    ensures becomes { IfOk result (Becomes board.now (uploaded_of user digest.now refused posts.now board.now)) }
+    ensures becomes { IfOk result (Becomes board.now (board_outline (uploaded_of user digest.now refused posts.now board.now))) }
     ensures each { IfOk result (λ change. LeadsEach board.now (uploaded_of user digest.now refused posts.now) change.intent) }
     ensures costs { IfOk result (λ change. Spends (length posts.now) board.now (uploaded_of user digest.now refused posts.now board.now) change.intent) }
 {

@@ -1,11 +1,14 @@
 // What a slot has in the files of its conference.
-ghost use Rattle.std.specs.Prelude.{◌≡◌, ◌<◌, ◌^◌};
+ghost use Rattle.std.specs.Prelude.{◌≡◌, ◌<◌, ◌^◌, []};
 ghost use Rattle.jam_layout.specs.Sizes.{slot_header};
-ghost use Rattle.jam_layout.specs.Bodies.{body_size};
+ghost use Rattle.jam_layout.specs.Bodies.{body_size, message_with};
+ghost use Rattle.jam_layout.specs.Outlines.{slot_bare};
 ghost use Rattle.shared_slots.specs.Kept.{one_live};
 
+use byte_lists::Bytes;
 use jam_layout::header_size;
-use jam_records::Slot;
+use jam_records::{Message, Slot};
+use std::alloc::Global;
 
 /// How many bytes the header of what a slot holds has, with its subfields.
 pub fn header_length(slot: &Slot) -> u32
@@ -36,5 +39,24 @@ pub(crate) fn live_in(slot: &Slot) -> u32
     match slot {
         Slot::Gone => 0,
         Slot::Held(message) => u32::from(!message.deleted),
+    }
+}
+
+/// A message without its body, which is dropped.
+fn bare(alloc: Global, message: Message) -> Message
+    ensures { result ≡ message_with message [] }
+{
+    let mut bare = message;
+    bare.body = Bytes::new(alloc);
+    bare
+}
+
+/// A slot without the body of what it holds, which is dropped.
+pub(crate) fn without_body(alloc: Global, slot: Slot) -> Slot
+    ensures { result ≡ slot_bare slot }
+{
+    match slot {
+        Slot::Gone => Slot::Gone,
+        Slot::Held(message) => Slot::Held(bare(alloc, message)),
     }
 }

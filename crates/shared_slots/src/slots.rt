@@ -1,10 +1,12 @@
-ghost use Rattle.std.specs.Prelude.{◌≡◌, ◌+◌, ◌≤◌, ◌<◌, ◌^◌, [], ◌∷◌, ◌++◌, length, take, sum_by, slice_get, slice_index_or, slice_set, IfOk};
+ghost use Rattle.std.specs.Prelude.{◌≡◌, ◌+◌, ◌≤◌, ◌<◌, ◌^◌, [], ◌∷◌, ◌++◌, length, map, take, sum_by, slice_get, slice_index_or, slice_set, IfOk};
 ghost use Rattle.std.specs.Option.{option_copied};
 ghost use Rattle.jam_layout.specs.Conference.{live_count};
 ghost use Rattle.jam_layout.specs.Sizes.{slot_header};
 ghost use Rattle.jam_layout.specs.Bodies.{body_size};
+ghost use Rattle.jam_layout.specs.Outlines.{slot_bare, slot_outline};
+ghost use Rattle.shared_slots.specs.Kept.{slot_as_long};
 
-use crate::sizes::{body_length, header_length, live_in};
+use crate::sizes::{body_length, header_length, live_in, without_body};
 use byte_lists::Duplicate;
 use jam_records::{Slot, Slots};
 use shared_lists::{Shared, SharedList};
@@ -12,10 +14,11 @@ use std::alloc::{AllocError, Global};
 use std::marker::Model;
 
 /// The slots of a conference, at most 9,999, whose copies share them, with what a change of one slot would else go
-/// over all for. Their headers with that of the base have fewer than 2^31 bytes, and so have their bodies. Contracts
-/// see the slots in order.
+/// over all for. No bodies of messages are kept, but how long they are: contracts see the outline of the slots, in order.
+/// Their headers with that of the base have fewer than 2^31 bytes, and so have their bodies.
 #[derive(Debug, Drop)]
 pub struct SharedSlots {
+    /// Each with an empty body, where it holds a message.
     slots: SharedList<Shared<Slot>>,
     /// Where in .JHR the header of each slot stands or would stand, and where the last ends.
     headers: SharedList<u32>,
@@ -28,13 +31,13 @@ pub struct SharedSlots {
 impl Model for SharedSlots {
     ghost use Rattle.std.specs.Prelude.{List};
     ghost use Rattle.jam_records.specs.declared.message.Slot.{Slot};
-    ghost use Rattle.shared_slots.specs.Kept.{AreKept};
+    ghost use Rattle.shared_slots.specs.Kept.{slots_between, AreKept};
 
     ghost Value = { List Slot };
 
-    ghost view = { λ s. s.slots };
+    ghost view = { λ s. slots_between s.bodies s.slots };
 
-    ghost invariant = { λ s. AreKept s.slots s.headers s.bodies s.live };
+    ghost invariant = { λ s. AreKept (slots_between s.bodies s.slots) s.slots s.headers s.bodies s.live };
 }
 
 /// A list of one number.
@@ -61,14 +64,14 @@ impl SharedSlots {
         })
     }
 
-    /// These slots, which are moved.
+    /// The outline of these slots, which are moved.
     ///
     /// The error comes where there is no memory.
     pub fn from_slots(alloc: Global, slots: Slots) -> Result<SharedSlots, AllocError>
         requires few { length slots ≤ 9999 }
         requires headers { 1024 + sum_by slot_header slots < 2 ^ 31 }
         requires bodies { sum_by body_size slots < 2 ^ 31 }
-        ensures { IfOk result (λ shared. shared ≡ slots) }
+        ensures { IfOk result (λ shared. shared ≡ map slot_outline slots) }
     {
         let mut shared = SharedSlots::new(alloc)?;
         for slot in slots.into_vec() {
@@ -81,13 +84,14 @@ impl SharedSlots {
     pub fn len(&self) -> usize
         ensures count { result ≡ length self.now }
         ensures few { length self.now ≤ 9999 }
+        ensures outline { map slot_outline self.now ≡ self.now }
     {
         self.slots.len()
     }
 
-    /// The slot in a place from 0, or None past the last.
+    /// The slot in a place from 0, with an empty body, or None past the last.
     pub fn get(&self, place: usize) -> Option<&Slot>
-        ensures { option_copied result ≡ slice_get self.now place }
+        ensures { option_copied result ≡ slice_get (map slot_bare self.now) place }
     {
         match self.slots.get(place) {
             None => None,
@@ -95,10 +99,10 @@ impl SharedSlots {
         }
     }
 
-    /// The slot in a place from 0.
+    /// The slot in a place from 0, with an empty body.
     pub fn at(&self, place: usize) -> &Slot
         requires { place < length self.now }
-        ensures { result.now ≡ slice_index_or self.now place result.now }
+        ensures { result.now ≡ slice_index_or (map slot_bare self.now) place result.now }
     {
         self.slots.at(place).get()
     }
@@ -132,14 +136,23 @@ impl SharedSlots {
         *self.bodies.at(place)
     }
 
-    /// The slots with one more at the end.
+    /// How many bytes the body of the slot in a place from 0 has.
+    pub fn body_length(&self, place: usize) -> u32
+        requires { place < length self.now }
+        ensures { result ≡ body_size (slice_index_or self.now place Slot.Gone) }
+    {
+        let _count = self.len();
+        self.body_place(place + 1) - self.body_place(place)
+    }
+
+    /// The slots with the outline of one more at the end.
     ///
     /// The error comes where there is no memory.
     pub fn with_slot(self, alloc: Global, slot: Slot) -> Result<SharedSlots, AllocError>
         requires few { length self < 9999 }
         requires headers { 1024 + (sum_by slot_header self + slot_header slot) < 2 ^ 31 }
         requires bodies { sum_by body_size self + body_size slot < 2 ^ 31 }
-        ensures { IfOk result (λ more. more ≡ self ++ slot ∷ []) }
+        ensures { IfOk result (λ more. more ≡ self ++ slot_outline slot ∷ []) }
     {
         let count = self.len();
         let header = self.header_place(count) + header_length(&slot);
@@ -148,7 +161,7 @@ impl SharedSlots {
         let mut slots = self.slots;
         let mut headers = self.headers;
         let mut bodies = self.bodies;
-        slots.add(alloc, Shared::new(alloc, slot)?)?;
+        slots.add(alloc, Shared::new(alloc, without_body(alloc, slot))?)?;
         headers.add(alloc, header)?;
         bodies.add(alloc, body)?;
         Ok(SharedSlots {
@@ -159,7 +172,7 @@ impl SharedSlots {
         })
     }
 
-    /// The slots with another in a place from 0, whose header and body are as long as those of the one before.
+    /// The slots with another in a place from 0, whose header is as long as that of the one before, and whose body stays.
     ///
     /// The error comes where there is no memory.
     pub fn replaced(
@@ -170,12 +183,12 @@ impl SharedSlots {
     ) -> Result<SharedSlots, AllocError>
         requires within { place < length self }
         requires header { slot_header slot ≡ slot_header (slice_index_or self place slot) }
-        requires body { body_size slot ≡ body_size (slice_index_or self place slot) }
-        ensures { IfOk result (λ new. new ≡ slice_set self place slot) }
+        requires body { body_size (slot_as_long (slice_index_or self place slot) slot) ≡ body_size (slice_index_or self place slot) }
+        ensures { IfOk result (λ new. new ≡ slice_set self place (slot_as_long (slice_index_or self place slot) slot)) }
     {
         let live = self.live + live_in(&slot) - live_in(self.at(place));
         let mut slots = self.slots;
-        slots.set(alloc, place, Shared::new(alloc, slot)?)?;
+        slots.set(alloc, place, Shared::new(alloc, without_body(alloc, slot))?)?;
         Ok(SharedSlots {
             slots,
             headers: self.headers,

@@ -10,13 +10,16 @@ use Rattle.board_changes.specs.Changed.{base_at, with_base}
 use Rattle.board_changes.specs.Spending.{Spends}
 use Rattle.board_layout.specs.Board.{Board}
 use Rattle.board_layout.specs.Layout.{board_size, files_in}
+use Rattle.board_layout.proofs.OutlineLaws.{outline_size}
+use Rattle.board_layout.specs.Outlines.{board_outline}
 use Rattle.board_layout.specs.Valid.{IsBoard, board_limit}
 use Rattle.board_ledger.specs.declared.ledger.Ledger.{Ledger}
 use Rattle.intent_journal.specs.Patches.{byte_count}
 use Rattle.intent_journal.specs.declared.patch.Patch.{Patch}
 use Rattle.jam_base.proofs.SlotChanges.{appended_is, length_all}
-use Rattle.jam_base.specs.Change.{SuitsIntent, Turns}
+use Rattle.jam_base.specs.Change.{SuitsIntent}
 use Rattle.jam_base.specs.Contents.{Contents, with_messages}
+use Rattle.jam_base.specs.Outlined.{outlined}
 use Rattle.jam_base.specs.Puts.{Costs}
 use Rattle.jam_base.specs.Slots.{slots_with_all}
 use Rattle.jam_base.specs.declared.change.BaseChange.{BaseChange}
@@ -59,9 +62,8 @@ messages_are base (m ∷ messages) ok =
     let all : All (IsSlot base.shape.kind) (slots ++ behind) = subst (All (IsSlot base.shape.kind)) (all_at_end slots (m ∷ messages)) ok.slots in
     held_all base.shape.kind (m ∷ messages) (subst (All (IsSlot base.shape.kind)) (drop_at slots behind (length slots) refl) (All-drop (IsSlot base.shape.kind) (length slots) (slots ++ behind) all))
 
-pub changes : (base : Contents) (messages : List Message) (change : BaseChange) → change.base ≡ with_messages messages base → Turns base.shape.place (files_in base) (files_in change.base) change.patches → SuitsIntent base.shape.place (files_in change.base) change.patches
-    → Changes base change
-changes base messages change is files intent = record { shape = ap (λ (c : Contents). c.shape) is ∙ shape_stays base messages; files = files; intent = intent }
+pub changes : (base : Contents) (messages : List Message) (change : BaseChange) → change.base ≡ outlined (with_messages messages base) → SuitsIntent base.shape.place (files_in change.base) change.patches → Changes base change
+changes base messages change is intent = record { shape = ap (λ (c : Contents). c.shape) is ∙ shape_stays base messages; intent = intent }
 
 -- ---- the board
 -- the number of a conference that the setup has
@@ -77,13 +79,13 @@ copies_are b place c base bbsid ledger count items messages copies is id same sl
     made ∙ (λ i. all_identified (generated (named b place c is i) (own i)) (slots i + 1) (all i))
 
 -- how much it puts
-pub appended_spends : (b : Board) (place : ℕ) (messages copies : List Message) (base : Contents) (change : BaseChange) (intent : List Patch) → IsBoard b → base_at place b ≡ Some base → change.base ≡ with_messages copies base → length copies ≡ length messages
-    → Costs (length copies) (files_in base) (files_in change.base) change.patches → intent ≡ change.patches → with_base place (Some change.base) b ≡ appended place messages b → Spends (length messages) b (appended place messages b) intent
+pub appended_spends : (b : Board) (place : ℕ) (messages copies : List Message) (base : Contents) (change : BaseChange) (intent : List Patch) → IsBoard b → base_at place b ≡ Some base → change.base ≡ outlined (with_messages copies base) → length copies ≡ length messages
+    → Costs (length copies) (files_in base) (files_in change.base) change.patches → intent ≡ change.patches → with_base place (Some change.base) b ≡ board_outline (appended place messages b) → Spends (length messages) b (appended place messages b) intent
 appended_spends b place messages copies base change intent ok here is many costs same next =
     let grows = size_next b place base change.base ok here (ap (λ (c : Contents). c.shape) is ∙ shape_stays base copies) in
     record {
       few = omega (arith, costs.few, many, ap (length {A = Patch}) same);
-      grown = omega (arith, costs.short, many, ap byte_count same, grows, ap board_size next);
+      grown = omega (arith, costs.short, many, ap byte_count same, grows, ap board_size next, outline_size (appended place messages b));
     }
 
 module _ (b : Board) (place : ℕ) (messages : List Message) (base : Contents) (ok : IsBoard b) (here : base_at place b ≡ Some base) where

@@ -6,7 +6,7 @@ use Rattle.board_changes.proofs.EachBoard.{keeps_as, leads_as}
 use Rattle.board_changes.specs.Changed.{base_at, with_base}
 use Rattle.board_changes.specs.Outlined.{ChangesEach, KeepsEach, LeadsEach, MadeBy, with_changed}
 use Rattle.board_layout.proofs.OneOutline.{alike_base, alike_count, alike_ledger, alike_size}
-use Rattle.board_layout.proofs.OutlineLaws.{outline_has_live}
+use Rattle.board_layout.proofs.OutlineLaws.{base_again, outline_has_live}
 use Rattle.board_layout.specs.Board.{Board}
 use Rattle.board_layout.specs.Outlines.{board_outline}
 use Rattle.board_layout.specs.Valid.{IsBoard}
@@ -55,7 +55,7 @@ pub deleted_made : (b : Board) (place number : ℕ) (base : Contents) (change : 
 deleted_made b place number base change here has is each =
     let live = live_there b place number base here has in
     subst (λ (o : Option Contents). IsSomeAnd o (MadeBy (with_killed number) change)) (sym here)
-    (record { base = is ∙ sym (killed_is base number live); each = killed_each base number live change.patches each })
+    (record { base = ap outlined (is ∙ sym (killed_is base number live)); each = killed_each base number live change.patches each })
 
 pub deleted_keeps : (b : Board) (place number : ℕ) (base : Contents) → base_at place b ≡ Some base → HasMessage place number b → KeepsEach b (deleted place number)
 deleted_keeps b place number base here has = record {
@@ -118,14 +118,14 @@ module _ (b : Board) (place : ℕ) (messages : List Message) (base : Contents) (
   same_boards other alike =
       ap (λ (msgid : ℕ → List ℕ). with_base place (option_map (with_identified msgid messages) (base_at place other)) other) (sym (msgids_alike other b place alike))
 
-  pub appended_leads : (change : BaseChange) (copies : List Message) (intent : List Patch) → IsBoard (appended place messages b) → change.base ≡ with_messages copies base → copies ≡ all_identified (msgid_in place b) (length base.conference.slots + 1) messages
+  pub appended_leads : (change : BaseChange) (copies : List Message) (intent : List Patch) → IsBoard (appended place messages b) → change.base ≡ outlined (with_messages copies base) → copies ≡ all_identified (msgid_in place b) (length base.conference.slots + 1) messages
       → TurnsEach base (with_messages copies) change.patches
       → ((f : Contents → Contents) → IsSomeAnd (base_at place b) (MadeBy f change) → KeepsEach b (with_changed place f) → LeadsEach b (with_changed place f) intent) → LeadsEach b (appended place messages) intent
   appended_leads change copies intent next is are each leads =
       let f : Contents → Contents = with_identified (msgid_in place b) messages in
       let turns = subst (λ (ms : List Message). TurnsEach base (with_messages ms) change.patches) are each in
       let own : MadeBy f change base = record {
-        base = is ∙ ap (λ (ms : List Message). with_messages ms base) are;
+        base = ap outlined is ∙ (base_again (with_messages copies base) ∙ ap (λ (ms : List Message). outlined (with_messages ms base)) are);
         each = identified_each base (msgid_in place b) messages change.patches turns;
       } in
       let keeps : KeepsEach b (with_changed place f) = keeps_as b (appended place messages) (with_changed place f) (λ other alike. sym (same_boards other alike)) (appended_keeps next) in

@@ -2,6 +2,7 @@ ghost use Rattle.std.specs.Prelude.{◌≡◌, ◌<◌, ◌≤◌, ◌+◌, leng
 ghost use Rattle.board_changes.specs.Change.{Becomes};
 ghost use Rattle.board_changes.specs.Outlined.{LeadsEach};
 ghost use Rattle.board_changes.specs.Spending.{Spends};
+ghost use Rattle.board_layout.specs.Outlines.{board_outline};
 ghost use Rattle.board_layout.specs.Valid.{IsBoard};
 ghost use Rattle.slot_changes.specs.Changed.{appended as appended_of};
 ghost use Rattle.slot_changes.specs.Msgids.{generated as generated_of, identified as identified_of, all_identified as all_identified_of};
@@ -68,7 +69,7 @@ pub fn appended(
 ) -> Result<BoardChange, AllocError>
     requires place { place < length board.now.conferences }
     requires next { IsBoard (appended_of place messages.now board.now) }
-    ensures becomes { IfOk result (λ change. Becomes board.now (appended_of place messages.now board.now) change) }
+    ensures becomes { IfOk result (λ change. Becomes board.now (board_outline (appended_of place messages.now board.now)) change) }
     ensures each { IfOk result (λ change. LeadsEach board.now (appended_of place messages.now) change.intent) }
     ensures costs { IfOk result (λ change. Spends (length messages.now) board.now (appended_of place messages.now board.now) change.intent) }
 {

@@ -1,6 +1,7 @@
 ghost use Rattle.std.specs.Prelude.{◌≡◌, ◌↔◌, ◌<◌, ◌≤◌, ◌+◌, length, IsTrue};
 ghost use Rattle.board_layout.specs.Valid.{IsBoard};
 ghost use Rattle.jam_base.specs.Slots.{has_live};
+ghost use Rattle.jam_layout.specs.Conference.{is_live as is_live_of};
 ghost use Rattle.slot_changes.specs.Changed.{appended as appended_of, deleted as deleted_of, HasMessage};
 
 use crate::place::{base_of, conference_of};
@@ -43,13 +44,22 @@ pub fn fits_messages(board: &StoredBoard, place: u8, messages: &Messages) -> boo
     usize::from(place) < board.bases().len() && fits_in_place(board, place, messages)
 }
 
+/// Whether a slot holds a message that isn't deleted.
+fn is_live(slot: &Slot) -> bool
+    ensures { result ≡ is_live_of slot.now }
+{
+    match slot {
+        Slot::Gone => false,
+        Slot::Held(message) => !message.deleted,
+    }
+}
+
 /// Whether a message number of a base is that of a message that isn't deleted.
-fn is_live(base: &Base, number: u32) -> bool
+fn has_message(base: &Base, number: u32) -> bool
     ensures { result ≡ has_live number base.now.conference.slots }
 {
     match base.slot(number) {
-        Some(Slot::Held(message)) => !message.deleted,
-        Some(Slot::Gone) => false,
+        Some(slot) => is_live(slot),
         None => false,
     }
 }
@@ -59,5 +69,5 @@ fn is_live(base: &Base, number: u32) -> bool
 pub fn fits_deletion(board: &StoredBoard, place: u8, number: u32) -> bool
     ensures { IsTrue result ↔ (HasMessage place number board.now × IsBoard (deleted_of place number board.now)) }
 {
-    usize::from(place) < board.bases().len() && is_live(base_of(board, place), number)
+    usize::from(place) < board.bases().len() && has_message(base_of(board, place), number)
 }

@@ -1,6 +1,7 @@
 // What stands in a place of a board.
 ghost use Rattle.std.specs.Prelude.{◌≡◌, ◌<◌, Some, length, slice_get};
 ghost use Rattle.board_changes.specs.Changed.{base_at};
+ghost use Rattle.board_layout.specs.Outlines.{board_outline};
 ghost use Rattle.board_layout.specs.Valid.{IsBoard};
 
 use board_layout::StoredBoard;
@@ -12,6 +13,7 @@ pub(crate) fn base_of(board: &StoredBoard, place: u8) -> &Base
     requires { place < length board.now.conferences }
     ensures base { base_at place board.now ≡ Some result.now }
     ensures board { IsBoard board.now }
+    ensures outline { board_outline board.now ≡ board.now }
 {
     match board.bases().get(usize::from(place)) {
         Some(base) => base,

@@ -1,11 +1,9 @@
-use Rattle.std.proofs.Common.{Some, refl, sym, ap, ◌∙◌, subst}
-use Rattle.board_changes.specs.Change.{Leads}
-use Rattle.board_changes.specs.Changed.{base_at, with_base}
+use Rattle.std.proofs.Common.{refl, sym, ap, ◌∙◌, subst}
+use Rattle.board_changes.specs.Changed.{base_at}
 use Rattle.board_changes.specs.Outlined.{LeadsEach, with_changed}
 use Rattle.board_changes.proofs.EachBoard.{leads_there}
-use Rattle.board_changes.proofs.OneBase.{changed_there, base_joins, base_leads, base_becomes}
+use Rattle.board_changes.proofs.OneBase.{changed_there, base_joins, base_becomes}
 use Rattle.board_layout.specs.Board.{Board}
-use Rattle.board_layout.specs.Layout.{IsLayout}
 use Rattle.board_layout.specs.Renewed.{contents_of, renewed}
 use Rattle.board_changes.proofs.base.with_base.Goals as goal
 
@@ -22,7 +20,6 @@ returns-clause-becomes c =
     record {
       ledger = refl;
       bases = ap (renewed (contents_of b)) c.in_ok-bases.ensures ∙ base_becomes b c.args.place there.0 c.args.change c.ledger-ledger.ensures.board there.1 there.2 c.requires.next;
-      intent = subst (Leads (IsLayout b) (with_base c.args.place (Some c.args.change.base) b)) (sym c.in_ok-intent.ensures) (base_leads b c.args.place there.0 c.args.change c.ledger-ledger.ensures.board there.1 there.2 c.requires.next);
     }
 
 pub returns-clause-each : goal.returns-clause-each

@@ -1,4 +1,4 @@
-use Rattle.std.proofs.Common.{refl, sym, ap, ◌∙◌, subst}
+use Rattle.std.proofs.Common.{sym, ap, ◌∙◌, subst}
 use Rattle.board_changes.specs.Changed.{with_user}
 use Rattle.board_changes.proofs.EachMember.{member_begun, member_leads}
 use Rattle.board_layout.specs.Board.{Board}
@@ -17,12 +17,9 @@ joined_bases-requires-clause-gathered c =
 
 pub returns-clause-becomes : goal.returns-clause-becomes
 returns-clause-becomes c =
-    let b : Board = c.args.board.now in
-    let each = member_leads b c.args.user.now c.joined_bases.new.intent c.requires c.in_ok-bases.ensures.gathers in
     record {
       ledger = c.in_ok-next.ensures ∙ (λ i. with_user (c.in_ok-duplicate.ensures i) (c.ledger-ledger.ensures.ledger i));
       bases = c.in_ok-bases.ensures.bases;
-      intent = each.leads b c.ledger-ledger.ensures.board refl;
     }
 
 pub returns-clause-each : goal.returns-clause-each

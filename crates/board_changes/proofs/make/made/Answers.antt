@@ -4,8 +4,10 @@ use Rattle.board_changes.specs.Gathered.{Gathered, FitJournal}
 use Rattle.board_changes.proofs.GatherLaws.{gathered_none}
 use Rattle.board_changes.proofs.LeadLaws.{leads_made}
 use Rattle.board_changes.proofs.MadeLaws.{new_fits, new_is_board}
-use Rattle.board_layout.specs.Board.{board_with, conferences_in, shapes_of}
+use Rattle.board_changes.proofs.BaseOutlines.{made_outline}
+use Rattle.board_layout.specs.Board.{Board, board_with, conferences_in, shapes_of}
 use Rattle.board_layout.specs.Layout.{AreEmpty, layouts}
+use Rattle.board_layout.specs.Outlines.{board_outline}
 use Rattle.board_layout.specs.Valid.{IsBoard}
 use Rattle.board_ledger.specs.Ledger.{ledger_text}
 use Rattle.board_ledger.specs.declared.ledger.Ledger.{Ledger}
@@ -39,6 +41,15 @@ new-board-requires-clause-board c =
     let conferences : conferences_in bases ≡ empty_conferences (shapes_of (new_ledger c.args.setup c.args.created)) = c.in_ok-bases.ensures.conferences ∙ ap (λ (k : Ledger). empty_conferences (shapes_of k)) is in
     let board : board_with l bases ≡ made c.args.setup c.args.created = λ i. record { ledger = is i; conferences = conferences i } in
     subst IsBoard (sym board) (new_is_board c.args.setup c.args.created c.requires (omega (arith, c.ranges.created.fits)))
+
+pub new-board-requires-clause-outline : goal.new-board-requires-clause-outline
+new-board-requires-clause-outline c =
+    let l : Ledger = record { version = 2; setup = c.args.setup; created = c.args.created; users = c.new.result; uploads = c.new-2.result } in
+    let is : l ≡ new_ledger c.args.setup c.args.created = ledger_is c.args.setup c.args.created c.new.result c.new-2.result c.new.ensures c.new-2.ensures in
+    let bases : List Contents = c.in_ok-bases.bases in
+    let conferences : conferences_in bases ≡ empty_conferences (shapes_of (new_ledger c.args.setup c.args.created)) = c.in_ok-bases.ensures.conferences ∙ ap (λ (k : Ledger). empty_conferences (shapes_of k)) is in
+    let board : board_with l bases ≡ made c.args.setup c.args.created = λ i. record { ledger = is i; conferences = conferences i } in
+    subst (λ (b : Board). board_outline b ≡ b) (sym board) (made_outline c.args.setup c.args.created)
 
 pub returns-clause-leads : goal.returns-clause-leads
 returns-clause-leads c =

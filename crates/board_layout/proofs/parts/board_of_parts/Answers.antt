@@ -2,6 +2,7 @@ use Rattle.std.proofs.Common.{ap, arith}
 use Rattle.std.specs.Prelude.{sum_by}
 use Rattle.std.proofs.lemmas.Bool.{iff_false}
 use Rattle.board_layout.specs.Layout.{base_size}
+use Rattle.board_layout.proofs.OutlineLaws.{own_board}
 use Rattle.board_layout.proofs.ReadingParts.{is_board}
 use Rattle.board_layout.proofs.SizeLaws.{size_in}
 use Rattle.board_layout.proofs.parts.board_of_parts.Goals as goal
@@ -17,3 +18,6 @@ new-requires-clause-board c =
     let short = c.are_short.ensures.0 c.if-not-are_short.false in
     let same = ap (sum_by base_size) c.as_slice.ensures in
     is_board c.args.ledger c.args.bases c.requires.shapes c.requires.ledger c.requires.conferences c.requires.highs (omega (arith, short, same, size_in c.args.ledger c.args.bases c.requires.shapes))
+
+pub new-requires-clause-outline : goal.new-requires-clause-outline
+new-requires-clause-outline c = own_board c.args.ledger c.args.bases c.requires.outlines

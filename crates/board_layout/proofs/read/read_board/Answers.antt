@@ -1,18 +1,21 @@
-use Rattle.std.proofs.Common.{◌≡◌, ◌∙◌, ◌≤◌, ◌<◌, sym, ap, subst, arith}
+use Rattle.std.proofs.Common.{◌≡◌, ◌∙◌, ◌≤◌, ◌<◌, Some, None, sym, ap, subst, arith}
 use Rattle.std.proofs.lemmas.Result.{err_from_is_err_and}
 use Rattle.damage_rules.specs.Rules.{Stops}
 use Rattle.door_outside.specs.File.{ledger_file}
 use Rattle.intent_journal.specs.Patches.{Files}
 use Rattle.board_layout.specs.Damage.{parts_of, size_limit, board_in}
 use Rattle.board_layout.specs.Layout.{data_size}
-use Rattle.board_layout.specs.Rules.{told}
+use Rattle.board_layout.specs.Rules.{IsFoundOf, ReadSo, told}
 use Rattle.board_layout.specs.declared.error.ReadError.{ReadError}
-use Rattle.board_layout.proofs.ReadingBoard.{too_long, parts_fail, parts_read}
+use Rattle.board_layout.proofs.ReadingBoard.{no_bytes, too_long, parts_fail, parts_read}
 use Rattle.board_layout.proofs.SizeLaws.{empty}
 use Rattle.board_layout.proofs.read.read_board.Goals as goal
 
-pub returns-then-size-eq0-clause-layout : goal.returns-then-size-eq0-clause-layout
-returns-then-size-eq0-clause-layout g c = λ tells. (empty (g.H.Host.disk c.args.host.now).files).0 (sym (c.in_ok-size.ensures.value tells) ∙ c.if-size-eq0.true)
+pub returns-then-size-eq0-clause-gives : goal.returns-then-size-eq0-clause-gives
+returns-then-size-eq0-clause-gives g c = λ tells.
+    let files : Files = (g.H.Host.disk c.args.host.now).files in
+    let none : data_size files ≡ 0 = sym (c.in_ok-size.ensures.value tells) ∙ c.if-size-eq0.true in
+    record { whole = None; is_read = no_bytes files none; holds = (empty files).0 none }
 
 pub returns-then-branch-clause-gives : goal.returns-then-branch-clause-gives
 returns-then-branch-clause-gives g c = λ tells.
@@ -44,4 +47,5 @@ returns-clause-gives g c = λ tells.
     let before = (c.data_size.ensures.unchanged tells).files in
     let same = ap (λ (now : Files). size_limit (now ledger_file)) before in
     let short : data_size files ≤ size_limit (files ledger_file) = omega (arith, size, c.in_ok-size_limit.ensures.value tells, same, c.if-branch.false) in
-    parts_read files some short c.in_ok-found.found.board (ap parts_of (sym ((c.size_limit.ensures.unchanged tells).files ∙ before)) ∙ c.in_ok-found.ensures.gives tells)
+    let read = subst (λ (now : Files). ReadSo (IsFoundOf now) c.in_ok-found.found (parts_of now)) ((c.size_limit.ensures.unchanged tells).files ∙ before) (c.in_ok-found.ensures.gives tells) in
+    record { whole = Some read.whole; is_read = parts_read files some short read.whole read.is_read; holds = read.holds }

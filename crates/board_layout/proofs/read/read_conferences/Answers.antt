@@ -1,13 +1,15 @@
-use Rattle.std.proofs.Common.{◌≡◌, ◌∙◌, ◌+◌, List, length, Some, sym, subst, arith}
+use Rattle.std.proofs.Common.{◌≡◌, ◌∙◌, ◌+◌, List, length, Some, sym, ap, subst, arith}
 use Rattle.std.proofs.lemmas.Result.{err_from_is_err_and}
 use Rattle.board_ledger.specs.declared.ledger.Ledger.{Ledger}
 use Rattle.damage_rules.specs.Rules.{Stops}
 use Rattle.intent_journal.specs.Patches.{Files}
 use Rattle.jam_base.specs.Contents.{Contents}
+use Rattle.jam_layout.specs.declared.conference.Conference.{Conference}
 use Rattle.board_layout.specs.Board.{conferences_in}
+use Rattle.board_layout.specs.Damage.{highs_of}
 use Rattle.board_layout.specs.Rules.{told}
 use Rattle.board_layout.proofs.BoardParts.{bases_fail, rest_fails, highs_fail, all_parts}
-use Rattle.board_layout.proofs.HighLaws.{highs_asked, highs_take}
+use Rattle.board_layout.proofs.HighLaws.{highs_alike, highs_asked, highs_take}
 use Rattle.board_layout.proofs.ReadingParts.{has_places}
 use Rattle.board_layout.proofs.RestLaws.{rest_asked}
 use Rattle.board_layout.proofs.read.read_conferences.Goals as goal
@@ -26,8 +28,9 @@ returns-in_err-check_rests-clause-gives g c =
     let files : Files = (g.H.Host.disk c.args.host.now).files in
     let e = told c.in_err-check_rests.field-0.0 in
     rw (p.1, p.2) (λ tells.
+    let read = c.in_ok-bases.ensures.gives tells in
     let same = (c.read_bases.ensures.unchanged tells).files in
-    rest_fails files l (conferences_in c.in_ok-bases.bases) e (c.in_ok-bases.ensures.gives tells) (subst (Stops e) (rest_asked _ _ _ files places same) (c.in_err-check_rests.ensures.gives tells)))
+    rest_fails files l read.whole e read.is_read (subst (Stops e) (rest_asked _ _ _ files places same) (c.in_err-check_rests.ensures.gives tells)))
 
 pub returns-in_err-check_highs-clause-gives : goal.returns-in_err-check_highs-clause-gives
 returns-in_err-check_highs-clause-gives g c =
@@ -40,8 +43,10 @@ returns-in_err-check_highs-clause-gives g c =
     let asked = highs_asked c.as_slice.result.now bases (1 + c.from.result) (1 + length l.setup.conferences) c.as_slice-2.result.now l.users c.as_slice.ensures first c.as_slice-2.ensures in
     let files : Files = (g.H.Host.disk c.args.host.now).files in
     rw (p.1, p.2) (λ tells.
+    let read = c.in_ok-bases.ensures.gives tells in
     let rest = sym (rest_asked _ _ _ files places (c.read_bases.ensures.unchanged tells).files) ∙ c.in_ok-check_rests.ensures.gives tells in
-    highs_fail files l (conferences_in bases) _ (Some c.in_err-check_highs.field-0.0) (c.in_ok-bases.ensures.gives tells) rest (sym asked ∙ sym c.in_err-check_highs.ensures))
+    let whole = sym (highs_alike read.whole (1 + length l.setup.conferences) l.users) ∙ ap (λ (cs : List Conference). highs_of cs (1 + length l.setup.conferences) l.users) (sym read.holds.alike) in
+    highs_fail files l read.whole _ (Some c.in_err-check_highs.field-0.0) read.is_read rest (whole ∙ (sym asked ∙ sym c.in_err-check_highs.ensures)))
 
 pub returns-clause-highs : goal.returns-clause-highs
 returns-clause-highs g c =
@@ -62,15 +67,17 @@ returns-clause-gives g c = λ tells.
     let first : 1 + c.from.result ≡ 1 + length l.setup.conferences = omega (arith, places, c.from.ensures) in
     let asked = highs_asked c.as_slice.result.now bases (1 + c.from.result) (1 + length l.setup.conferences) c.as_slice-2.result.now l.users c.as_slice.ensures first c.as_slice-2.ensures in
     let files : Files = (g.H.Host.disk c.args.host.now).files in
+    let read = c.in_ok-bases.ensures.gives tells in
     let rest = sym (rest_asked _ _ _ files places (c.read_bases.ensures.unchanged tells).files) ∙ c.in_ok-check_rests.ensures.gives tells in
-    all_parts files l (conferences_in bases) _ _ (c.in_ok-bases.ensures.gives tells) rest (sym asked ∙ sym c.in_ok-check_highs.ensures)
-
-pub returns-clause-places : goal.returns-clause-places
-returns-clause-places g c = λ tells.
-    let l : Ledger = c.args.ledger.now in
-    let bases : List Contents = c.in_ok-bases.bases in
-    let many = c.requires.setup.conferences.many in
-    let places : c.conference_count-places.result ≡ length l.setup.conferences = omega (arith, c.conference_count-places.ensures, many) in
-    let files : Files = (g.H.Host.disk c.args.host.now).files in
-    let rest = sym (rest_asked _ _ _ files places (c.read_bases.ensures.unchanged tells).files) ∙ c.in_ok-check_rests.ensures.gives tells in
-    has_places l bases c.in_ok-bases.ensures.shapes files _ (c.in_ok-bases.ensures.layout tells) rest
+    let whole = sym (highs_alike read.whole (1 + length l.setup.conferences) l.users) ∙ ap (λ (cs : List Conference). highs_of cs (1 + length l.setup.conferences) l.users) (sym read.holds.alike) in
+    let highs = whole ∙ (sym asked ∙ sym c.in_ok-check_highs.ensures) in
+    record {
+      whole = record { ledger = l; conferences = read.whole };
+      is_read = all_parts files l read.whole _ _ read.is_read rest highs;
+      holds = record {
+        alike = λ i. record { ledger = l; conferences = read.holds.alike i };
+        valid = read.holds.valid;
+        highs = highs_take read.whole (1 + length l.setup.conferences) l.users _ highs;
+        stored = has_places l read.whole read.holds.valid files _ read.holds.stored rest;
+      };
+    }

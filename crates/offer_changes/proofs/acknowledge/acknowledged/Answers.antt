@@ -1,9 +1,8 @@
-use Rattle.std.proofs.Common.{◌≡◌, refl, sym, ap, ◌∙◌, subst}
+use Rattle.std.proofs.Common.{◌≡◌, sym, ap, ◌∙◌, subst}
 use Rattle.std.specs.Prelude.{None}
-use Rattle.board_changes.specs.Change.{Leads}
+use Rattle.board_changes.specs.Outlined.{LeadsEach}
 use Rattle.board_layout.proofs.RenewedBases.{none_new}
 use Rattle.board_layout.specs.Board.{Board}
-use Rattle.board_layout.specs.Layout.{IsLayout}
 use Rattle.board_layout.specs.Renewed.{contents_of, renewed}
 use Rattle.board_ledger.specs.declared.user.User.{User}
 use Rattle.offer_changes.proofs.AcknowledgeLaws.{read_open}
@@ -20,9 +19,13 @@ returns-in-None-clause-becomes c =
     let b : Board = c.args.board.now in
     let u : User = c.user_of-reader.result.now in
     let stays : acknowledged c.args.user c.args.packet c.args.now b ≡ b = read_open b c.args.user c.args.packet c.args.now u None c.user_of-reader.ensures.user (sym c.in-None.ensures) in
-    let each = stays_each b c.args.user c.args.packet c.args.now u c.user_of-reader.ensures.user (sym c.in-None.ensures) in
     record {
       ledger = ap (λ (d : Board). d.ledger) (sym stays);
       bases = ap (renewed (contents_of b)) c.new.ensures ∙ (none_new (contents_of b) ∙ ap contents_of (sym stays));
-      intent = subst (Leads (IsLayout b) (acknowledged c.args.user c.args.packet c.args.now b)) (sym c.new-in-None.ensures) (each.leads b c.user_of-reader.ensures.board refl);
     }
+
+pub returns-in-None-clause-each : goal.returns-in-None-clause-each
+returns-in-None-clause-each c =
+    let b : Board = c.args.board.now in
+    let u : User = c.user_of-reader.result.now in
+    subst (LeadsEach b (acknowledged c.args.user c.args.packet c.args.now)) (sym c.new-in-None.ensures) (stays_each b c.args.user c.args.packet c.args.now u c.user_of-reader.ensures.user (sym c.in-None.ensures))

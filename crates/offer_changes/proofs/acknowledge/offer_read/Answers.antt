@@ -57,8 +57,7 @@ returns-clause-becomes c =
     let u : User = c.args.user.now in
     let o : OpenOffer = c.args.offer.now in
     let ledger = made b c.args.id c.args.now u c.in_ok-next.next o c.ledger-old.result.now c.in_ok-ledger.ledger c.in_ok-ledger.ensures c.ledger-old.ensures.ledger c.in_ok-next.ensures in
-    let each = read_leads b c.args.id c.args.now u o c.requires.user c.requires.offer c.ledger-old.ensures.board (omega arith) c.bases_read.new.intent c.in_ok-bases.ensures.gathers in
-    record { ledger = ledger; bases = c.in_ok-bases.ensures.bases; intent = each.leads b c.ledger-old.ensures.board refl }
+    record { ledger = ledger; bases = c.in_ok-bases.ensures.bases }
 
 pub returns-clause-each : goal.returns-clause-each
 returns-clause-each c =

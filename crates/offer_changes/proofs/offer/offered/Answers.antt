@@ -62,12 +62,9 @@ returns-clause-becomes c =
     let there = offer_there b c.args.user u c.args.highs.now c.user_of.ensures.user in
     let here = user_there b c.args.user u c.user_of.ensures.user in
     let ledger = made b c.args.user u c.in_ok-next.next c.args.highs.now c.ledger-old.result.now c.in_ok-ledger.ledger c.in_ok-ledger.ensures c.ledger-old.ensures.ledger c.in_ok-next.ensures in
-    let each = offered_each b c.args.user u c.args.highs.now c.user_of.ensures.user (subst IsBoard there c.requires.next) c.in_ok-intent.intent
-    (c.in_ok-intent.ensures ∙ (λ i. user_puts (c.args.user - 1) (c.in_ok-next.ensures i) (c.ledger-old.ensures.ledger i))) in
     record {
       ledger = ledger ∙ ap (λ (d : Board). d.ledger) (sym there);
       bases = ap (renewed (contents_of b)) c.new.ensures ∙ (none_new (contents_of b) ∙ (sym (contents_stay b c.args.user u c.args.highs.now here) ∙ ap contents_of (sym there)));
-      intent = each.leads b c.user_of.ensures.board refl;
     }
 
 pub returns-clause-each : goal.returns-clause-each

@@ -2,8 +2,10 @@ use Rattle.std.proofs.Common.{◌≡◌, ◌≢◌, ◌+◌, List, [], length, r
 use Rattle.std.specs.Prelude.{All}
 use Rattle.std.proofs.lemmas.Bool.{eqb-false, eqb-true}
 use Rattle.std.proofs.lemmas.List.{nil_from_length}
+use Rattle.board_changes.proofs.BaseOutlines.{own_base}
 use Rattle.board_layout.specs.Board.{Board}
 use Rattle.jam_base.specs.Contents.{Contents}
+use Rattle.jam_base.specs.Outlined.{outlined}
 use Rattle.jam_layout.specs.Messages.{IsMessage}
 use Rattle.jam_records.specs.declared.message.Message.{Message}
 use Rattle.post_changes.proofs.EachPost.{nothing_each, posted_each}
@@ -49,7 +51,7 @@ returns-then-is_empty-clause-base c =
     let are = copies_are b c.args.place c.conference_of.result.now base c.as_slice-bbsid.result.now c.ledger.result.now c.slot_count-first.result messages messages c.in_ok-messages.messages
     c.conference_of.ensures c.as_slice-bbsid.ensures.same c.ledger.ensures.ledger c.slot_count-first.ensures refl c.in_ok-messages.ensures in
     let none : c.as_slice.result.now ≡ [] = nil_from_length c.as_slice.result.now (eqb-true (length c.as_slice.result.now) 0 (sym c.is_empty.ensures ∙ c.if-is_empty.true)) in
-    none_posted b c.args.posts.now c.args.place base c.in_ok-messages.messages are (sym c.as_slice.ensures ∙ none)
+    sym (own_base b c.args.place base c.ledger.ensures.outline c.requires.base) ∙ ap outlined (none_posted b c.args.posts.now c.args.place base c.in_ok-messages.messages are (sym c.as_slice.ensures ∙ none))
 
 pub returns-clause-base : goal.returns-clause-base
 returns-clause-base c =
@@ -61,7 +63,7 @@ returns-clause-base c =
     some_posted b c.args.posts.now c.args.place base c.in_ok-messages.messages c.in_ok-extended.field-0.base are c.in_ok-extended.ensures.base
 
 pub returns-clause-changes : goal.returns-clause-changes
-returns-clause-changes c = changes c.args.base.now c.in_ok-messages.messages c.in_ok-extended.field-0 c.in_ok-extended.ensures.base c.in_ok-extended.ensures.files c.in_ok-extended.ensures.intent
+returns-clause-changes c = changes c.args.base.now c.in_ok-messages.messages c.in_ok-extended.field-0 c.in_ok-extended.ensures.base c.in_ok-extended.ensures.intent
 
 pub returns-then-is_empty-clause-costs : goal.returns-then-is_empty-clause-costs
 returns-then-is_empty-clause-costs c = record { few = omega arith; grown = omega arith }

@@ -5,6 +5,7 @@ use Rattle.board_changes.specs.Change.{Becomes}
 use Rattle.board_changes.specs.Outlined.{LeadsEach}
 use Rattle.board_changes.specs.Spending.{Spends}
 use Rattle.board_layout.specs.Board.{Board}
+use Rattle.board_layout.specs.Outlines.{board_outline}
 use Rattle.board_ledger.specs.declared.ledger.Ledger.{Ledger}
 use Rattle.post_changes.proofs.PlacePosts.{base_here}
 use Rattle.post_changes.proofs.PostSteps.{posts_become, posts_lead, posts_spend}
@@ -28,7 +29,7 @@ pub returns-clause-becomes : goal.returns-clause-becomes
 returns-clause-becomes c =
     let b : Board = c.args.board.now in
     let v = c.loop-place.invariant in
-    subst (λ (l : Option Ledger). Becomes b (posted_with (unwrap_or l b.ledger) c.args.posts.now b) c.loop-place.change) v.ledger (posts_become b c.args.posts.now c.loop-place.place c.loop-place.change c.bases-base-items.ensures.board (omega (arith, v.end)) v.so_far)
+    subst (λ (l : Option Ledger). Becomes b (board_outline (posted_with (unwrap_or l b.ledger) c.args.posts.now b)) c.loop-place.change) v.ledger (posts_become b c.args.posts.now c.loop-place.place c.loop-place.change c.bases-base-items.ensures.board (omega (arith, v.end)) v.so_far)
 
 pub returns-clause-each : goal.returns-clause-each
 returns-clause-each c =

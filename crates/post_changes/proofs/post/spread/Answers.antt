@@ -5,6 +5,7 @@ use Rattle.board_changes.specs.Outlined.{GatheredEach, LeadsEach}
 use Rattle.board_changes.specs.Spending.{Spends}
 use Rattle.board_changes.specs.declared.change.BoardChange.{BoardChange}
 use Rattle.board_layout.specs.Board.{Board}
+use Rattle.board_layout.specs.Outlines.{board_outline}
 use Rattle.board_layout.specs.Valid.{IsBoard}
 use Rattle.intent_journal.specs.Patches.{byte_count}
 use Rattle.jam_base.proofs.ChangeClauses.{one_ok}
@@ -28,7 +29,7 @@ posted-requires-clause-spent c =
     spent_begun b c.as_slice.result.now b.ledger c.new.result (omega (arith, ap length c.new.ensures)) (omega (arith, ap byte_count c.new.ensures))
 
 pub returns-clause-becomes : goal.returns-clause-becomes
-returns-clause-becomes c = subst (λ (next : Board). IfOk c.posted.result (Becomes c.args.board.now next)) (λ i. posted_with c.args.board.now.ledger (c.as_slice.ensures i) c.args.board.now) c.posted.ensures.becomes
+returns-clause-becomes c = subst (λ (next : Board). IfOk c.posted.result (Becomes c.args.board.now (board_outline next))) (λ i. posted_with c.args.board.now.ledger (c.as_slice.ensures i) c.args.board.now) c.posted.ensures.becomes
 
 pub returns-clause-costs : goal.returns-clause-costs
 returns-clause-costs c =

@@ -5,6 +5,7 @@ use Rattle.board_changes.specs.Outlined.{GatheredEach, LeadsEach}
 use Rattle.board_changes.specs.Spending.{Spends}
 use Rattle.board_changes.specs.declared.change.BoardChange.{BoardChange}
 use Rattle.board_layout.specs.Board.{Board, shapes_of}
+use Rattle.board_layout.specs.Outlines.{board_outline}
 use Rattle.board_layout.specs.Valid.{IsBoard}
 use Rattle.board_ledger.specs.Ledger.{ledger_text}
 use Rattle.board_ledger.specs.UploadPuts.{upload_puts}
@@ -83,7 +84,7 @@ returns-clause-becomes c =
     let r : UploadRecord = record_of c.args.user c.args.digest.now c.args.refused c.args.posts.now in
     let same : c.in_ok-ledger.ledger ≡ with_record r b.ledger =
     made b.ledger c.ledger-old.result.now c.in_ok-ledger.ledger r c.record_of-upload.result c.in_ok-ledger.ensures (c.record_of-upload.ensures ∙ ap (record_of c.args.user c.args.digest.now c.args.refused) c.as_slice-posts.ensures) c.ledger-old.ensures.ledger in
-    subst (λ (next : Board). IfOk c.posted.result (Becomes b next)) (λ i. posted_with (same i) (c.as_slice-posts.ensures i) b) c.posted.ensures.becomes
+    subst (λ (next : Board). IfOk c.posted.result (Becomes b (board_outline next))) (λ i. posted_with (same i) (c.as_slice-posts.ensures i) b) c.posted.ensures.becomes
 
 pub returns-clause-costs : goal.returns-clause-costs
 returns-clause-costs c =

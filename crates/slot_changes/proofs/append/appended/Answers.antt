@@ -1,29 +1,34 @@
-use Rattle.std.proofs.Common.{◌≡◌, ℕ, ◌+◌, List, length, Some, sym, ap, ◌∙◌, subst, arith}
+use Rattle.std.proofs.Common.{◌≡◌, ℕ, ◌+◌, List, length, Option, Some, sym, ap, ◌∙◌, subst, arith}
 use Rattle.std.specs.Prelude.{All, IfOk, IsSomeAnd}
-use Rattle.board_changes.specs.Change.{Becomes}
+use Rattle.board_changes.specs.Change.{Becomes, Changes}
 use Rattle.board_changes.specs.Changed.{base_at, with_base}
 use Rattle.board_changes.specs.Outlined.{KeepsEach, LeadsEach, MadeBy, with_changed}
 use Rattle.board_changes.specs.Spending.{Spends}
 use Rattle.board_changes.specs.declared.change.BoardChange.{BoardChange}
+use Rattle.board_changes.proofs.BaseOutlines.{outline_with}
+use Rattle.board_layout.proofs.OutlineLaws.{outline_valid}
 use Rattle.board_layout.specs.Board.{Board}
+use Rattle.board_layout.specs.Outlines.{board_outline}
 use Rattle.board_layout.specs.Valid.{IsBoard}
 use Rattle.jam_base.proofs.ChangeClauses.{one_ok}
 use Rattle.jam_base.specs.Contents.{Contents, with_messages}
+use Rattle.jam_base.specs.Outlined.{outlined}
 use Rattle.jam_base.specs.declared.change.BaseChange.{BaseChange}
 use Rattle.jam_layout.specs.Messages.{IsMessage}
 use Rattle.jam_records.specs.declared.message.Message.{Message}
-use Rattle.slot_changes.proofs.AppendLaws.{appended_few, appended_messages, appended_spends, appended_there, copies_are}
+use Rattle.slot_changes.proofs.AppendLaws.{appended_few, appended_messages, appended_spends, appended_there, changes, copies_are}
 use Rattle.slot_changes.proofs.EachSlots.{appended_leads}
 use Rattle.slot_changes.proofs.MsgidLaws.{identified_count}
 use Rattle.slot_changes.specs.Changed.{appended}
 use Rattle.slot_changes.specs.Msgids.{all_identified, generated, msgid_in}
 use Rattle.slot_changes.proofs.append.appended.Goals as goal
 
--- the board with the base that was made is the wanted one
-next_is : (b : Board) (place : ℕ) (base made : Contents) (messages copies : List Message) → IsBoard b → base_at place b ≡ Some base → made ≡ with_messages copies base → copies ≡ all_identified (msgid_in place b) (length base.conference.slots + 1) messages
-    → with_base place (Some made) b ≡ appended place messages b
-next_is b place base made messages copies ok here is are =
-    ap (λ (c : Contents). with_base place (Some c) b) (is ∙ ap (λ (ms : List Message). with_messages ms base) are) ∙ sym (appended_there b place messages base ok here)
+-- the board with the base that was made is the outline of the wanted one
+next_is : (b : Board) (place : ℕ) (base made : Contents) (messages copies : List Message) → IsBoard b → board_outline b ≡ b → base_at place b ≡ Some base → made ≡ outlined (with_messages copies base) → copies ≡ all_identified (msgid_in place b) (length base.conference.slots + 1) messages
+    → with_base place (Some made) b ≡ board_outline (appended place messages b)
+next_is b place base made messages copies ok own here is are =
+    ap (λ (c : Contents). with_base place (Some c) b) (is ∙ ap (λ (ms : List Message). outlined (with_messages ms base)) are)
+    ∙ (sym (outline_with b place (with_messages (all_identified (msgid_in place b) (length base.conference.slots + 1) messages) base) own) ∙ ap board_outline (sym (appended_there b place messages base ok here)))
 
 pub overflow_add-first : goal.overflow_add-first
 overflow_add-first c =
@@ -48,13 +53,19 @@ extended-requires-clause-few c =
     let few = appended_few c.args.board.now c.args.place c.args.messages.now c.base_of-base.result.now c.base_of-base.ensures.board c.base_of-base.ensures.base c.requires.next in
     omega (arith, few, ap length c.in_ok-messages.ensures, identified_count (generated c.conference_of.result.now.number c.as_slice-bbsid.result.now) (c.slot_count-first.result + 1) c.as_slice.result.now, ap length c.as_slice.ensures)
 
+pub with_base-requires-clause-change : goal.with_base-requires-clause-change
+with_base-requires-clause-change c =
+    let made : BaseChange = c.in_ok-extended.field-0 in
+    subst (λ (o : Option Contents). IsSomeAnd o (λ old. Changes old made)) (sym c.base_of-base.ensures.base)
+    (changes c.base_of-base.result.now c.in_ok-messages.messages made c.in_ok-extended.ensures.base c.in_ok-extended.ensures.intent)
+
 pub with_base-requires-clause-next : goal.with_base-requires-clause-next
 with_base-requires-clause-next c =
     let b : Board = c.args.board.now in
     let base : Contents = c.base_of-base.result.now in
     let are = copies_are b c.args.place c.conference_of.result.now base c.as_slice-bbsid.result.now c.ledger.result.now c.slot_count-first.result c.as_slice.result.now c.args.messages.now c.in_ok-messages.messages
     c.conference_of.ensures c.as_slice-bbsid.ensures.same c.ledger.ensures.ledger c.slot_count-first.ensures c.as_slice.ensures c.in_ok-messages.ensures in
-    subst IsBoard (sym (next_is b c.args.place base c.in_ok-extended.field-0.base c.args.messages.now c.in_ok-messages.messages c.base_of-base.ensures.board c.base_of-base.ensures.base c.in_ok-extended.ensures.base are)) c.requires.next
+    subst IsBoard (sym (next_is b c.args.place base c.in_ok-extended.field-0.base c.args.messages.now c.in_ok-messages.messages c.base_of-base.ensures.board c.base_of-base.ensures.outline c.base_of-base.ensures.base c.in_ok-extended.ensures.base are)) (outline_valid (appended c.args.place c.args.messages.now b) c.requires.next)
 
 pub returns-clause-becomes : goal.returns-clause-becomes
 returns-clause-becomes c =
@@ -63,7 +74,7 @@ returns-clause-becomes c =
     let are = copies_are b c.args.place c.conference_of.result.now base c.as_slice-bbsid.result.now c.ledger.result.now c.slot_count-first.result c.as_slice.result.now c.args.messages.now c.in_ok-messages.messages
     c.conference_of.ensures c.as_slice-bbsid.ensures.same c.ledger.ensures.ledger c.slot_count-first.ensures c.as_slice.ensures c.in_ok-messages.ensures in
     subst (λ (next : Board). IfOk c.with_base.result (Becomes b next))
-    (next_is b c.args.place base c.in_ok-extended.field-0.base c.args.messages.now c.in_ok-messages.messages c.base_of-base.ensures.board c.base_of-base.ensures.base c.in_ok-extended.ensures.base are) c.with_base.ensures.becomes
+    (next_is b c.args.place base c.in_ok-extended.field-0.base c.args.messages.now c.in_ok-messages.messages c.base_of-base.ensures.board c.base_of-base.ensures.outline c.base_of-base.ensures.base c.in_ok-extended.ensures.base are) c.with_base.ensures.becomes
 
 pub returns-clause-costs : goal.returns-clause-costs
 returns-clause-costs c =
@@ -72,7 +83,7 @@ returns-clause-costs c =
     let made : BaseChange = c.in_ok-extended.field-0 in
     let are = copies_are b c.args.place c.conference_of.result.now base c.as_slice-bbsid.result.now c.ledger.result.now c.slot_count-first.result c.as_slice.result.now c.args.messages.now c.in_ok-messages.messages
     c.conference_of.ensures c.as_slice-bbsid.ensures.same c.ledger.ensures.ledger c.slot_count-first.ensures c.as_slice.ensures c.in_ok-messages.ensures in
-    let next = next_is b c.args.place base made.base c.args.messages.now c.in_ok-messages.messages c.base_of-base.ensures.board c.base_of-base.ensures.base c.in_ok-extended.ensures.base are in
+    let next = next_is b c.args.place base made.base c.args.messages.now c.in_ok-messages.messages c.base_of-base.ensures.board c.base_of-base.ensures.outline c.base_of-base.ensures.base c.in_ok-extended.ensures.base are in
     let many : length c.in_ok-messages.messages ≡ length c.args.messages.now =
     omega (arith, ap length c.in_ok-messages.ensures, identified_count (generated c.conference_of.result.now.number c.as_slice-bbsid.result.now) (c.slot_count-first.result + 1) c.as_slice.result.now, ap length c.as_slice.ensures) in
     one_ok (λ (change : BoardChange). change.intent ≡ made.patches) (λ (change : BoardChange). Spends (length c.args.messages.now) b (appended c.args.place c.args.messages.now b) change.intent) c.with_base.result

@@ -10,11 +10,11 @@ use Rattle.slot_changes.proofs.fits.fits_deletion.Goals as goal
 pub returns-then-from-bases : goal.returns-then-from-bases
 returns-then-from-bases c = (
   λ yes.
-      let live = sym c.is_live.ensures ∙ yes in (
+      let live = sym c.has_message.ensures ∙ yes in (
         subst (λ (o : Option Contents). IsSomeAnd o (λ (base : Contents). has_live c.args.number base.conference.slots ≡ true)) (sym c.base_of.ensures.base) live,
         deleted_board c.args.board.now c.args.place c.args.number c.base_of.result.now c.base_of.ensures.board c.base_of.ensures.base live,
       ),
-  λ both. c.is_live.ensures ∙ subst (λ (o : Option Contents). IsSomeAnd o (λ (base : Contents). has_live c.args.number base.conference.slots ≡ true)) c.base_of.ensures.base both.0,
+  λ both. c.has_message.ensures ∙ subst (λ (o : Option Contents). IsSomeAnd o (λ (base : Contents). has_live c.args.number base.conference.slots ≡ true)) c.base_of.ensures.base both.0,
 )
 
 pub returns-else-from-bases : goal.returns-else-from-bases

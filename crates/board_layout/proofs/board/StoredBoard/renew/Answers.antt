@@ -4,10 +4,15 @@ use Rattle.jam_base.specs.Contents.{Contents}
 use Rattle.std.specs.Prelude.{unwrap_or}
 use Rattle.board_ledger.specs.declared.ledger.Ledger.{Ledger}
 use Rattle.board_layout.specs.Board.{Board, board_with, shapes_in, shapes_of}
+use Rattle.board_layout.specs.Outlines.{board_outline}
 use Rattle.board_layout.specs.Renewed.{contents_of, renewed}
 use Rattle.board_layout.specs.Valid.{IsBoard}
 use Rattle.board_layout.proofs.RenewedBases.{contents_are, renewed_count}
 use Rattle.board_layout.proofs.board.StoredBoard.renew.Goals as goal
+
+-- the board is its own outline
+abbrev IsOwn : Board → Type 0
+IsOwn b = board_outline b ≡ b
 
 pub invariant_of-self : goal.invariant_of-self
 invariant_of-self c =
@@ -20,8 +25,8 @@ invariant_of-self c =
     let taken : take c.self.inside.bases.len (new ++ drop (length new) old) ≡ renewed (contents_of c.args.self.now) c.args.bases =
     ap (λ n. take n (new ++ drop (length new) old)) count ∙ (take-append_seam new (drop (length new) old) ∙ made) in
     let ledger : c.renew_ledger.new.ledger ≡ unwrap_or c.args.ledger c.args.self.now.ledger = c.renew_ledger.ensures ∙ ap (λ (b : Board). unwrap_or c.args.ledger b.ledger) c.self.view_is in
-    subst (λ (l : Ledger). IsBoard (board_with l (take c.self.inside.bases.len (new ++ drop (length new) old))) × (shapes_in (take c.self.inside.bases.len (new ++ drop (length new) old)) ≡ shapes_of l)) (sym ledger)
-    (subst (λ (xs : List Contents). IsBoard (board_with (unwrap_or c.args.ledger c.args.self.now.ledger) xs) × (shapes_in xs ≡ shapes_of (unwrap_or c.args.ledger c.args.self.now.ledger))) (sym taken) (c.requires.board, c.requires.shapes))
+    subst (λ (l : Ledger). IsBoard (board_with l (take c.self.inside.bases.len (new ++ drop (length new) old))) × (shapes_in (take c.self.inside.bases.len (new ++ drop (length new) old)) ≡ shapes_of l) × IsOwn (board_with l (take c.self.inside.bases.len (new ++ drop (length new) old)))) (sym ledger)
+    (subst (λ (xs : List Contents). IsBoard (board_with (unwrap_or c.args.ledger c.args.self.now.ledger) xs) × (shapes_in xs ≡ shapes_of (unwrap_or c.args.ledger c.args.self.now.ledger)) × IsOwn (board_with (unwrap_or c.args.ledger c.args.self.now.ledger) xs)) (sym taken) (c.requires.board, c.requires.shapes, c.requires.outline))
 
 pub returns : goal.returns
 returns c =

@@ -1,12 +1,16 @@
-use Rattle.std.proofs.Common.{◌≡◌, ◌∙◌, sym, ap, replicate}
+use Rattle.std.proofs.Common.{◌≡◌, ◌∙◌, [], map, sym, ap, replicate}
 use Rattle.jam_layout.specs.Layout.{layout}
+use Rattle.jam_layout.specs.Outlines.{outline, slot_outline}
 use Rattle.jam_base.specs.Contents.{Contents, no_slots}
 use Rattle.jam_base.proofs.ReaderLaws.{fresh_base}
 use Rattle.jam_base.proofs.ChangeClauses.{fresh_changes, fresh_suits}
 use Rattle.jam_base.proofs.base.Base.fresh.Goals as goal
 
 pub of_files-requires : goal.of_files-requires
-of_files-requires c = c.in_ok-files.ensures ∙ sym (ap (λ (k : Contents). layout k.shape k.conference) c.in_ok-base.ensures)
+of_files-requires c =
+    let same : record { counter = 0; slots = []; pointers = c.as_slice.result.now } ≡ outline (record { counter = 0; slots = c.new.result; pointers = c.in_ok-no_pointers.field-0 }) =
+    λ i. record { counter = 0; slots = map slot_outline (sym c.new.ensures i); pointers = c.as_slice.ensures i } in
+    c.in_ok-files.ensures ∙ (ap (layout c.args.shape.now) same ∙ sym (ap (λ (k : Contents). layout k.shape k.conference) c.in_ok-base.ensures))
 
 pub returns-clause-files : goal.returns-clause-files
 returns-clause-files c =

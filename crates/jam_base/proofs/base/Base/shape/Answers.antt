@@ -1,6 +1,8 @@
-use Rattle.std.proofs.Common.{subst}
+use Rattle.std.proofs.Common.{◌≡◌, subst}
 use Rattle.jam_layout.specs.Valid.{IsShape, IsConference}
 use Rattle.jam_base.specs.Contents.{Contents}
+use Rattle.jam_base.specs.Outlined.{outlined}
+use Rattle.jam_base.proofs.OutlineChanges.{own_outline}
 use Rattle.jam_base.proofs.base.Base.shape.Goals as goal
 
 pub returns-clause-is_shape : goal.returns-clause-is_shape
@@ -8,3 +10,6 @@ returns-clause-is_shape c = subst (λ (k : Contents). IsShape k.shape) c.self.vi
 
 pub returns-clause-is_conference : goal.returns-clause-is_conference
 returns-clause-is_conference c = subst (λ (k : Contents). IsConference k.shape k.conference) c.self.view_is c.self.invariant.1
+
+pub returns-clause-outline : goal.returns-clause-outline
+returns-clause-outline c = subst (λ (k : Contents). outlined k ≡ k) c.self.view_is (own_outline (record { shape = c.self.inside.shape; conference = record { counter = c.self.inside.counter; slots = c.self.inside.slots; pointers = c.self.inside.pointers } }) c.len-count.ensures.outline)

@@ -1,4 +1,5 @@
 use Rattle.std.proofs.Common.{◌≡◌, sym, ap, ◌∙◌, subst}
+use Rattle.board_layout.proofs.OutlineLaws.{outline_again, outline_valid}
 use Rattle.board_layout.specs.Board.{Board}
 use Rattle.board_layout.specs.Layout.{IsLayout}
 use Rattle.board_layout.specs.Outlines.{board_outline}
@@ -46,10 +47,19 @@ returns-in-Err-clause-now g c = λ told certain b holds.
     commit_now (IsLayout b) (layout_moves b) (changed c.args.change.now b) c.in_ok-next.next.intent leads disk holds.1.files (g.H.Host.disk c.commit.new.host) (c.commit.ensures.now told)
 
 pub renew-requires-clause-board : goal.renew-requires-clause-board
-renew-requires-clause-board g c = next_board c.self.inside.stored (changed c.args.change.now c.self.inside.stored) c.in_ok-next.next c.in_ok-next.ensures.becomes (fits_board c.args.change.now c.self.inside.stored (subst (Fits c.args.change.now) (sym (ap (λ (h : HeldBoard). h.board) c.self.view_is)) c.requires.fits))
+renew-requires-clause-board g c =
+    let next : Board = changed c.args.change.now c.self.inside.stored in
+    next_board c.self.inside.stored (board_outline next) c.in_ok-next.next c.in_ok-next.ensures.becomes (outline_valid next (fits_board c.args.change.now c.self.inside.stored (subst (Fits c.args.change.now) (sym (ap (λ (h : HeldBoard). h.board) c.self.view_is)) c.requires.fits)))
 
 pub renew-requires-clause-shapes : goal.renew-requires-clause-shapes
-renew-requires-clause-shapes g c = next_shapes c.self.inside.stored (changed c.args.change.now c.self.inside.stored) c.in_ok-next.next c.in_ok-next.ensures.becomes (fits_board c.args.change.now c.self.inside.stored (subst (Fits c.args.change.now) (sym (ap (λ (h : HeldBoard). h.board) c.self.view_is)) c.requires.fits))
+renew-requires-clause-shapes g c =
+    let next : Board = changed c.args.change.now c.self.inside.stored in
+    next_shapes c.self.inside.stored (board_outline next) c.in_ok-next.next c.in_ok-next.ensures.becomes (outline_valid next (fits_board c.args.change.now c.self.inside.stored (subst (Fits c.args.change.now) (sym (ap (λ (h : HeldBoard). h.board) c.self.view_is)) c.requires.fits)))
+
+pub renew-requires-clause-outline : goal.renew-requires-clause-outline
+renew-requires-clause-outline g c =
+    let next : Board = changed c.args.change.now c.self.inside.stored in
+    subst (λ (b : Board). board_outline b ≡ b) (sym (next_is c.self.inside.stored (board_outline next) c.in_ok-next.next c.in_ok-next.ensures.becomes (outline_valid next (fits_board c.args.change.now c.self.inside.stored (subst (Fits c.args.change.now) (sym (ap (λ (h : HeldBoard). h.board) c.self.view_is)) c.requires.fits))))) (outline_again next)
 
 pub returns-clause-moments : goal.returns-clause-moments
 returns-clause-moments g c = λ told certain b holds.
@@ -66,11 +76,13 @@ returns-clause-now g c = λ told certain b holds.
 pub returns-clause-board : goal.returns-clause-board
 returns-clause-board g c =
     let stored : c.self.inside.stored ≡ c.args.self.now.board = ap (λ (h : HeldBoard). h.board) c.self.view_is in
-    let board : c.renew.new.self ≡ changed c.args.change.now c.args.self.now.board =
-    c.renew.ensures ∙ (next_is c.self.inside.stored (changed c.args.change.now c.self.inside.stored) c.in_ok-next.next c.in_ok-next.ensures.becomes (fits_board c.args.change.now c.self.inside.stored (subst (Fits c.args.change.now) (sym stored) c.requires.fits)) ∙ ap (changed c.args.change.now) stored) in
+    let made : Board = changed c.args.change.now c.self.inside.stored in
+    let board : c.renew.new.self ≡ board_outline (changed c.args.change.now c.args.self.now.board) =
+    c.renew.ensures ∙ (next_is c.self.inside.stored (board_outline made) c.in_ok-next.next c.in_ok-next.ensures.becomes (outline_valid made (fits_board c.args.change.now c.self.inside.stored (subst (Fits c.args.change.now) (sym stored) c.requires.fits)))
+    ∙ ap (λ (b : Board). board_outline (changed c.args.change.now b)) stored) in
     record {
-      valid = subst IsBoard (sym board) (fits_board c.args.change.now c.args.self.now.board c.requires.fits);
-      alike = ap board_outline board;
+      valid = subst IsBoard (sym board) (outline_valid (changed c.args.change.now c.args.self.now.board) (fits_board c.args.change.now c.args.self.now.board c.requires.fits));
+      alike = ap board_outline board ∙ outline_again (changed c.args.change.now c.args.self.now.board);
       sure = c.if-self.false;
     }
 
@@ -89,8 +101,10 @@ returns-clause-rests g c = λ told.
     let rests = c.requires.rests told certain in
     let b : Board = rests.stands.board in
     let holds = holds_one c.args.self.now.board disk rests in
-    let board : c.renew.new.self ≡ changed c.args.change.now c.args.self.now.board =
-    c.renew.ensures ∙ (next_is c.self.inside.stored (changed c.args.change.now c.self.inside.stored) c.in_ok-next.next c.in_ok-next.ensures.becomes (fits_board c.args.change.now c.self.inside.stored (subst (Fits c.args.change.now) (sym stored) c.requires.fits)) ∙ ap (changed c.args.change.now) stored) in
+    let made : Board = changed c.args.change.now c.self.inside.stored in
+    let board : c.renew.new.self ≡ board_outline (changed c.args.change.now c.args.self.now.board) =
+    c.renew.ensures ∙ (next_is c.self.inside.stored (board_outline made) c.in_ok-next.next c.in_ok-next.ensures.becomes (outline_valid made (fits_board c.args.change.now c.self.inside.stored (subst (Fits c.args.change.now) (sym stored) c.requires.fits)))
+    ∙ ap (λ (b : Board). board_outline (changed c.args.change.now b)) stored) in
     let leads = leads_held c.args.self.now.board disk rests b holds c.self.inside.stored stored c.args.change.now c.in_ok-next.next.intent c.in_ok-next.ensures.each in
-    follows_on c.args.self.now.board disk rests c.args.change.now c.renew.new.self (g.H.Host.disk c.commit.new.host) (subst IsBoard stored c.in_ok-next.ensures.board) c.requires.fits (ap board_outline board)
+    follows_on c.args.self.now.board disk rests c.args.change.now c.renew.new.self (g.H.Host.disk c.commit.new.host) (subst IsBoard stored c.in_ok-next.ensures.board) c.requires.fits (ap board_outline board ∙ outline_again (changed c.args.change.now c.args.self.now.board))
     (commit_rests (IsLayout b) (layout_moves b) (changed c.args.change.now b) c.in_ok-next.next.intent leads disk holds.1.files (g.H.Host.disk c.commit.new.host) (c.in_default.ensures.calm told) (c.in_default.ensures.done told))

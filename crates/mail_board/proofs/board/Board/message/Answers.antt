@@ -4,9 +4,10 @@ use Rattle.board_changes.specs.Changed.{base_at}
 use Rattle.board_layout.specs.Board.{Board}
 use Rattle.board_layout.specs.declared.error.ReadError.TheVariants.{Damaged}
 use Rattle.jam_base.specs.Contents.{Contents}
+use Rattle.jam_base.specs.Slots.{numbered}
 use Rattle.jam_layout.specs.Outlines.{message_outline}
 use Rattle.jam_records.specs.declared.message.Message.{Message}
-use Rattle.mail_board.proofs.BodyLaws.{same_error}
+use Rattle.mail_board.proofs.BodyLaws.{none_whole, same_error}
 use Rattle.mail_board.proofs.MessageLaws.{base_there, base_valid, message_here, message_there, no_base, no_base_there, no_message, other, other_bodies, place_small}
 use Rattle.mail_board.proofs.OneHost.{alike_held}
 use Rattle.mail_board.specs.Held.{HeldBoard}
@@ -42,8 +43,8 @@ fetched-requires-clause-place g c =
     base_there c.self.inside.stored c.bases.result.now c.args.place c.from.result c.in-Some.base.now c.bases.ensures.contents c.from.ensures (search rules) (search rules) in
     place_small c.self.inside.stored c.args.place c.in-Some.base.now c.bases.ensures.board there
 
-pub returns-in_err-found-in-Some-held-clause-undamaged : goal.returns-in_err-found-in-Some-held-clause-undamaged
-returns-in_err-found-in-Some-held-clause-undamaged g c = λ tells damage e.
+pub returns-in_err-found-in-Some-message_of-clause-undamaged : goal.returns-in_err-found-in-Some-message_of-clause-undamaged
+returns-in_err-found-in-Some-message_of-clause-undamaged g c = λ tells damage e.
     let held : Board = c.args.self.now.board in
     let disk = g.H.Host.disk c.args.host.now in
     let base : Contents = c.in-Some.base.now in
@@ -54,11 +55,11 @@ returns-in_err-found-in-Some-held-clause-undamaged g c = λ tells damage e.
     let b : Board = rests.stands.board in
     let one = other held b rests.stands.alike c.args.place c.args.number base here in
     let has = other_bodies held b rests.stands.alike c.args.place c.args.number base here disk.files rests.stands.valid rests.stands.layout in
-    let r : c.from_residual.result ≡ Err c.in_err-found-in-Some-held.field-0.0 = search rules in
-    c.in_err-found-in-Some-held.ensures.undamaged tells one.0 has damage (same_error Message c.in_err-found-in-Some-held.field-0.0 (Damaged damage) c.from_residual.result r e)
+    let r : c.from_residual.result ≡ Err c.in_err-found-in-Some-message_of.field-0.0 = search rules in
+    c.in_err-found-in-Some-message_of.ensures.undamaged tells one.0 has damage (same_error Message c.in_err-found-in-Some-message_of.field-0.0 (Damaged damage) c.from_residual.result r e)
 
-pub returns-in_ok-found-in-Some-held-clause-message : goal.returns-in_ok-found-in-Some-held-clause-message
-returns-in_ok-found-in-Some-held-clause-message g c = λ tells b holds.
+pub returns-in_ok-found-in-Some-message_of-clause-message : goal.returns-in_ok-found-in-Some-message_of-clause-message
+returns-in_ok-found-in-Some-message_of-clause-message g c = λ tells b holds.
     let held : Board = c.args.self.now.board in
     let disk = g.H.Host.disk c.args.host.now in
     let base : Contents = c.in-Some.base.now in
@@ -68,16 +69,16 @@ returns-in_ok-found-in-Some-held-clause-message g c = λ tells b holds.
     let alike = alike_held held disk (c.requires.rests tells) b holds in
     let one = other held b alike c.args.place c.args.number base here in
     let has = other_bodies held b alike c.args.place c.args.number base here disk.files holds.0 holds.1.files in
-    message_there held b alike c.args.place c.args.number base here c.in_ok-found-in-Some-held.found (c.in_ok-found-in-Some-held.ensures.message tells one.0 has)
+    message_there held b alike c.args.place c.args.number base here c.in_ok-found-in-Some-message_of.found (c.in_ok-found-in-Some-message_of.ensures.message tells one.0 has)
 
-pub returns-in_ok-found-in-Some-held-clause-outline : goal.returns-in_ok-found-in-Some-held-clause-outline
-returns-in_ok-found-in-Some-held-clause-outline g c =
+pub returns-in_ok-found-in-Some-message_of-clause-outline : goal.returns-in_ok-found-in-Some-message_of-clause-outline
+returns-in_ok-found-in-Some-message_of-clause-outline g c =
     let held : Board = c.args.self.now.board in
     let base : Contents = c.in-Some.base.now in
     let there : base_at c.args.place c.self.inside.stored ≡ Some base =
     base_there c.self.inside.stored c.bases.result.now c.args.place c.from.result c.in-Some.base.now c.bases.ensures.contents c.from.ensures (search rules) (search rules) in
     let here : base_at c.args.place held ≡ Some base = subst (λ (k : Board). base_at c.args.place k ≡ Some base) (ap (λ (h : HeldBoard). h.board) c.self.view_is) there in
-    ap Some c.in_ok-found-in-Some-held.ensures.outline ∙ ap (option_map message_outline) (c.in-Some-held.ensures ∙ sym (message_here held c.args.place c.args.number (Some base) here))
+    c.in_ok-found-in-Some-message_of.ensures.outline ∙ ap (option_map message_outline) (sym (message_here held c.args.place c.args.number (Some base) here))
 
 -- ---- no slot of the number holds a message
 pub returns-in-None-clause-message : goal.returns-in-None-clause-message
@@ -87,7 +88,7 @@ returns-in-None-clause-message g c = λ tells b holds.
     let there : base_at c.args.place c.self.inside.stored ≡ Some base =
     base_there c.self.inside.stored c.bases.result.now c.args.place c.from.result c.in-Some.base.now c.bases.ensures.contents c.from.ensures (search rules) (search rules) in
     let here : base_at c.args.place held ≡ Some base = subst (λ (k : Board). base_at c.args.place k ≡ Some base) (ap (λ (h : HeldBoard). h.board) c.self.view_is) there in
-    no_message held b (alike_held held (g.H.Host.disk c.args.host.now) (c.requires.rests tells) b holds) c.args.place c.args.number base here c.in-None.ensures
+    no_message held b (alike_held held (g.H.Host.disk c.args.host.now) (c.requires.rests tells) b holds) c.args.place c.args.number base here (none_whole (numbered base.conference.slots c.args.number) c.in-None.ensures)
 
 pub returns-in-None-clause-outline : goal.returns-in-None-clause-outline
 returns-in-None-clause-outline g c =
@@ -96,4 +97,4 @@ returns-in-None-clause-outline g c =
     let there : base_at c.args.place c.self.inside.stored ≡ Some base =
     base_there c.self.inside.stored c.bases.result.now c.args.place c.from.result c.in-Some.base.now c.bases.ensures.contents c.from.ensures (search rules) (search rules) in
     let here : base_at c.args.place held ≡ Some base = subst (λ (k : Board). base_at c.args.place k ≡ Some base) (ap (λ (h : HeldBoard). h.board) c.self.view_is) there in
-    ap (option_map message_outline) (c.in-None.ensures ∙ sym (message_here held c.args.place c.args.number (Some base) here))
+    ap (option_map message_outline) (none_whole (numbered base.conference.slots c.args.number) c.in-None.ensures ∙ sym (message_here held c.args.place c.args.number (Some base) here))

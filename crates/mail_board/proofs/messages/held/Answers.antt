@@ -1,8 +1,0 @@
-use Rattle.std.proofs.Common.{sym, ap, ◌∙◌}
-use Rattle.std.specs.Option.{option_copied}
-use Rattle.board_layout.specs.Lookups.{held_in}
-use Rattle.slot_changes.proofs.DeleteLaws.{gone_past}
-use Rattle.mail_board.proofs.messages.held.Goals as goal
-
-pub returns-in-None : goal.returns-in-None
-returns-in-None c = sym (ap held_in (gone_past c.args.number c.args.base.now.conference.slots (sym c.slot.ensures ∙ ap option_copied c.in-None.is)))
