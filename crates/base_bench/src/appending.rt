@@ -1,15 +1,27 @@
 ghost use Rattle.std.specs.Prelude.{◌≡◌, All, IfOk, OnOk};
-ghost use Rattle.jam_base.specs.Messages.{IsMessage, IsSlot};
+ghost use Rattle.base_bench.specs.Outlines.{AreOutlines};
+ghost use Rattle.jam_layout.specs.Messages.{IsMessage, IsSlot};
 ghost use Rattle.jam_base.specs.Valid.{IsShape};
+ghost use Rattle.jam_layout.specs.Bodies.{message_with};
+ghost use Rattle.jam_layout.specs.Outlines.{line_ends};
 
 use crate::argument::Plan;
-use byte_lists::Duplicate;
+use byte_lists::{Bytes, Duplicate};
 use jam_base::{AppendRefusal, Base, BaseChange, Shape};
-use jam_records::{Kind, Messages, Slot};
+use jam_records::{Kind, Message, Messages, Slot};
 use std::alloc::{AllocError, Global};
 use std::io;
 
-/// Adds a copy of the message of a number, where there is one.
+/// A copy of a message with so many line ends for its body.
+fn with_line_ends(alloc: Global, message: &Message, count: u32) -> Result<Message, AllocError>
+    ensures { IfOk result (λ copy. copy ≡ message_with message.now (line_ends count)) }
+{
+    let mut copy = message.duplicate(alloc)?;
+    copy.body = Bytes::from_vec(vec![in alloc; b'\r'; count as usize]?);
+    Ok(copy)
+}
+
+/// Adds a copy of the message of a number, where there is one. A base holds no body, so that the copy gets one as long.
 fn add_copy(
     alloc: Global,
     messages: &mut Messages,
@@ -17,19 +29,22 @@ fn add_copy(
     number: u32,
 ) -> Result<(), AllocError>
     requires slots { All (IsSlot Kind.Local) base.now.conference.slots }
+    requires outlines { AreOutlines base.now.conference.slots }
     requires messages { All (IsMessage Kind.Local) messages.old }
     ensures { OnOk result (All (IsMessage Kind.Local) messages.new) }
 {
-    match base.slot(number) {
-        Some(Slot::Held(message)) => messages.add(message.duplicate(alloc)?),
-        Some(Slot::Gone) => Ok(()),
-        None => Ok(()),
+    match (base.slot(number), base.body_span(number)) {
+        (Some(Slot::Held(message)), Some(span)) => {
+            messages.add(with_line_ends(alloc, message, span.len)?)
+        }
+        _ => Ok(()),
     }
 }
 
 /// Copies of the messages of a base up to a number.
 fn copies(alloc: Global, base: &Base, upto: u32) -> Result<Messages, AllocError>
-    requires { All (IsSlot Kind.Local) base.now.conference.slots }
+    requires slots { All (IsSlot Kind.Local) base.now.conference.slots }
+    requires outlines { AreOutlines base.now.conference.slots }
     ensures { IfOk result (All (IsMessage Kind.Local)) }
 {
     let mut messages = Messages::new(alloc);
@@ -109,6 +124,7 @@ pub fn report<R: Print>(
     requires shape { IsShape shape.now }
     requires kind { shape.now.kind ≡ Kind.Local }
     requires slots { All (IsSlot Kind.Local) base.now.conference.slots }
+    requires outlines { AreOutlines base.now.conference.slots }
 {
     let messages = copies(alloc, base, plan.appended)?;
     let one = copies(alloc, base, 1)?;

@@ -1,5 +1,6 @@
 ghost use Rattle.std.specs.Prelude.{◌≡◌, All, IfOk, IfSome};
-ghost use Rattle.jam_base.specs.Messages.{IsSlot};
+ghost use Rattle.base_bench.specs.Outlines.{AreOutlines};
+ghost use Rattle.jam_layout.specs.Messages.{IsSlot};
 ghost use Rattle.jam_base.specs.Valid.{IsShape};
 
 use jam_base::{Base, BaseError, BaseFiles, Shape, read_base};
@@ -12,7 +13,8 @@ const TOO_LONG: usize = 1 << 31;
 /// Reads files whose lengths `read_base` takes.
 fn read(alloc: Global, files: &BaseFiles, shape: &Shape) -> Option<Result<Base, BaseError>>
     requires { IsShape shape.now }
-    ensures { IfSome result (λ read. IfOk read (λ base. All (IsSlot shape.now.kind) base.conference.slots)) }
+    ensures slots { IfSome result (λ read. IfOk read (λ base. All (IsSlot shape.now.kind) base.conference.slots)) }
+    ensures outlines { IfSome result (λ read. IfOk read (λ base. AreOutlines base.conference.slots)) }
 {
     if files.jhr.as_slice().len() >= TOO_LONG || files.jdt.as_slice().len() >= TOO_LONG {
         return None;
@@ -44,7 +46,8 @@ pub fn report<R: Print>(
     shape: &Shape,
 ) -> io::Result<Option<Base>>
     requires { IsShape shape.now }
-    ensures { IfOk result (λ read. IfSome read (λ base. All (IsSlot shape.now.kind) base.conference.slots)) }
+    ensures slots { IfOk result (λ read. IfSome read (λ base. All (IsSlot shape.now.kind) base.conference.slots)) }
+    ensures outlines { IfOk result (λ read. IfSome read (λ base. AreOutlines base.conference.slots)) }
 {
     let read = read(alloc, files, shape);
     print(rt, &read)?;

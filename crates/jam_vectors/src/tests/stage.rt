@@ -6,9 +6,10 @@ ghost use Rattle.jam_records.specs.declared.message.Kind.TheVariants.{Local};
 use super::conference::{are_short, general, line_of};
 use super::patched::{bytes_put, file_of, no_files, patched};
 use super::texts::{bytes_of, number_of, parted};
+use byte_lists::{Bytes, Duplicate};
 use intent_journal::Patches;
 use jam_base::{Base, BaseChange, BaseFiles, read_base};
-use jam_records::{Kind, Messages, Slot};
+use jam_records::{Kind, Message, Messages, Slot};
 use std::alloc::{AllocError, Global};
 use std::test::Fail;
 
@@ -169,10 +170,25 @@ impl Stage {
             "reply" => format!(in alloc; "{}", self.base.reply_to(number)),
             "pointer" => format!(in alloc; "{:?}", self.base.pointer(number)),
             "cost" => format!(in alloc; "{}", self.written <= u64::from(number)),
-            _ => match self.base.slot(number) {
-                Some(Slot::Held(message)) => line_of(alloc, message),
-                _ => String::from_str(alloc, "none"),
+            _ => match self.message(alloc, number)? {
+                Some(message) => line_of(alloc, &message),
+                None => String::from_str(alloc, "none"),
             },
         }
+    }
+
+    /// The message of a number, with the body that .JDT has where the base says.
+    fn message(&self, alloc: Global, number: u32) -> Result<Option<Message>, AllocError> {
+        let (Some(Slot::Held(message)), Some(span)) = (
+            self.base.slot(number),
+            self.base.body_span(number),
+        ) else {
+            return Ok(None);
+        };
+        let (begin, len) = (span.at as usize, span.len as usize);
+        let body = self.files.jdt.as_slice().get(begin..begin + len);
+        let mut message = message.duplicate(alloc)?;
+        message.body = Bytes::from_slice(alloc, body.unwrap_or(b"no body"))?;
+        Ok(Some(message))
     }
 }

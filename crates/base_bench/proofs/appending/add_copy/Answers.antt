@@ -1,10 +1,20 @@
-use Rattle.std.proofs.Common.{rules, ◌≡◌, ◌-◌, Some, None}
-use Rattle.std.specs.Prelude.{slice_get, if◌then◌else◌, ◌==◌}
+use Rattle.std.proofs.Common.{rules, ◌≡◌, Some, subst, sym}
+use Rattle.jam_base.proofs.BareLookups.{bare_at}
+use Rattle.jam_base.specs.Bodies.{body_span}
+use Rattle.jam_layout.specs.Messages.{IsMessage}
+use Rattle.jam_layout.specs.Bodies.{message_with}
+use Rattle.jam_layout.specs.Outlines.{line_ends}
+use Rattle.jam_records.specs.declared.message.Kind.TheVariants.{Local}
 use Rattle.jam_records.specs.declared.message.Slot.TheVariants.{Held}
-use Rattle.base_bench.proofs.Copies.{slot_is, one_more}
+use Rattle.base_bench.proofs.Copies.{copy_is, one_more}
 use Rattle.base_bench.proofs.appending.add_copy.Goals as goal
 
-pub returns-in_ok-duplicate-in-Some-Held : goal.returns-in_ok-duplicate-in-Some-Held
-returns-in_ok-duplicate-in-Some-Held c =
-    let held : Some (Held c.in_ok-duplicate-in-Some-Held.field-0) ≡ (if c.args.number == 0 then None else slice_get c.args.base.now.conference.slots (c.args.number - 1)) = search rules in
-    one_more c.add.result _ _ _ c.add.ensures.ok c.requires.messages (slot_is c.args.base.now.conference.slots c.args.number c.in_ok-duplicate-in-Some-Held.field-0 c.requires.slots held)
+pub returns-in_ok-with_line_ends-in-Some-Held-Some : goal.returns-in_ok-with_line_ends-in-Some-Held-Some
+returns-in_ok-with_line_ends-in-Some-Held-Some c =
+    let slots = c.args.base.now.conference.slots in
+    let message = c.in-Some-Held-Some.message in
+    let span = c.in-Some-Held-Some.span in
+    let held : Some (Held message) ≡ bare_at c.args.number slots = search rules in
+    let found : Some span ≡ body_span c.args.number slots = search rules in
+    let copied : c.in_ok-with_line_ends-in-Some-Held-Some.field-0 ≡ message_with message (line_ends span.len) = search rules in
+    one_more c.add.result _ _ _ c.add.ensures.ok c.requires.messages (subst (IsMessage Local) (sym copied) (copy_is slots c.args.number message span c.requires.slots c.requires.outlines held found))
