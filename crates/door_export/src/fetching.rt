@@ -43,8 +43,8 @@ fn fetched<H: Host>(
 
 /// What a packet shows of messages of a board, with logical numbers from 1. Each is fetched from the host and shown at
 /// once, so that one body is held beside the packet. The board isn't doubtful, and the host's files are those of a board
-/// with this outline, which is shown; nothing of the host changes. The messages can be written, in fewer than 2^31 bytes. There are fewer than
-/// 65,536, since a logical number has 16 bits.
+/// with this outline, which is shown; nothing of the host changes. The messages can be written, in fewer than 2^31 bytes.
+/// There are fewer than 65,536, since a logical number has 16 bits.
 ///
 /// `DiskFault` comes only where the host's count of disk faults rose, and `Damaged` never from a host that tells its
 /// files. `OutOfMemory` comes where there is no memory for the packet.
