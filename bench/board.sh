@@ -1,6 +1,7 @@
 #!/bin/sh
 # Enrolls 500 users on a board in real folders, one run each, and then checks it. Then checks a full board, of 64
-# conferences and 33 MB. Times each, beside `sha256sum` of the board's files. It is no part of the gate.
+# conferences and 33 MB. Times each, beside `sha256sum` of the board's files. Shows the peak of memory of that check, and
+# of a check and an export of a board whose 33 MB are one conference. It is no part of the gate.
 # usage: bench/board.sh [RUNS]
 
 runs=${1:-3}
@@ -61,6 +62,18 @@ time_check() {
 }
 time_check 'a board of 500 users'
 
+# Shows the peak of memory of a command.
+peak() {
+    what=$1
+    shift
+    if [ -x /usr/bin/time ] && /usr/bin/time -f %M true 2>/dev/null; then
+        printf 'peak of memory of %s: %s KiB\n' "$what" \
+            "$(/usr/bin/time -f %M "$program" "$work/data" "$shelf" "$@" 2>&1 >/dev/null | tail -n 1)"
+    else
+        echo 'peak of memory: not measured, since /usr/bin/time is missing'
+    fi
+}
+
 # A setup of 64 conferences, and a sheet of 31 messages with bodies as long as they may be.
 shelf=$work/shelf
 mkdir "$shelf" || exit 1
@@ -70,14 +83,17 @@ awk 'BEGIN {
         printf "conference: %d local - C%d\n", i, i
     }
 }' >"$shelf/setup.txt"
-awk 'BEGIN {
-    for (i = 1; i < 16384; i++) {
-        line = line "x"
-    }
-    for (i = 0; i < 31; i++) {
-        printf "From: Bob Ray\nTo: All\nSubject: Hello\n\n%s\n.\n", line
-    }
-}' >"$shelf/sheet"
+sheet() {
+    awk -v count="$1" 'BEGIN {
+        for (i = 1; i < 16384; i++) {
+            line = line "x"
+        }
+        for (i = 0; i < count; i++) {
+            printf "From: Bob Ray\nTo: All\nSubject: Hello\n\n%s\n.\n", line
+        }
+    }' >"$shelf/sheet"
+}
+sheet 31
 rm -rf -- "$work/data"
 door init setup.txt >/dev/null || fail "init failed with status $?"
 number=0
@@ -87,3 +103,17 @@ while [ "$number" -lt 64 ]; do
 done
 door check | tail -n 1
 time_check 'a full board'
+peak 'a check of a full board' check
+
+# The same in one conference, of 2,000 messages.
+rm -rf -- "$work/data"
+door init setup.txt >/dev/null || fail "init failed with status $?"
+sheet 250
+number=0
+while [ "$number" -lt 8 ]; do
+    door import 0 sheet >/dev/null || fail "import failed with status $?"
+    number=$((number + 1))
+done
+door enroll 'Ann Lee' - all >/dev/null || fail "enroll failed with status $?"
+peak 'a check of a full conference' check
+peak 'an export of 2,000 messages' export 'Ann Lee' 2000 out
