@@ -10,8 +10,8 @@ use Rattle.jam_layout.specs.Outlines.{message_outline, slot_outline}
 use Rattle.jam_layout.specs.declared.files.BaseFiles.{BaseFiles}
 use Rattle.jam_base.specs.Bodies.{Lengthens}
 use Rattle.jam_base.specs.Change.{Turns, SuitsIntent}
-use Rattle.jam_base.specs.Contents.{Contents, counter_after, with_slots}
-use Rattle.jam_base.specs.Outlined.{outlined}
+use Rattle.jam_base.specs.Contents.{Contents, counter_after, with_messages, with_slots}
+use Rattle.jam_base.specs.Outlined.{outlined, TurnsEach}
 use Rattle.jam_base.specs.Puts.{append_puts, counts_put, end_puts, link_puts, Costs}
 use Rattle.jam_base.specs.Slots.{slots_with_all}
 use Rattle.jam_base.specs.declared.change.BaseChange.{BaseChange}
@@ -20,7 +20,7 @@ use Rattle.jam_base.proofs.AppendPuts.{append_turns}
 use Rattle.jam_base.proofs.BodyLaws.{append_lengthens}
 use Rattle.jam_base.proofs.ChangeClauses.{both_ok}
 use Rattle.jam_base.proofs.EndOutlines.{added_bodies, costs_alike, ends_alike, suits_alike}
-use Rattle.jam_base.proofs.OutlineChanges.{all_outlined}
+use Rattle.jam_base.proofs.OutlineChanges.{all_outlined, appended_each}
 
 abbrev files_in : Contents → BaseFiles
 files_in base = layout base.shape base.conference
@@ -70,3 +70,18 @@ module _ {E : Type 0} (base : Contents) (slots : List Slot) (messages : List Mes
       let puts : List Patch = append_puts base.shape base.conference.slots messages (with_all base messages).conference in
       clause (λ k ps. Costs (length messages) (files_in base) (files_in k) ps)
       (costs_alike (length messages) (files_in base) base.shape (with_all base messages).conference puts (append_costs base.shape base.conference (counter_after base.conference.counter) messages))
+
+  -- where there is a message more
+  pub extended_bodies : with_all base messages ≡ with_messages messages base → IfOk r (λ change. Lengthens base.shape.place (files_in base) (files_in (with_messages messages base)) change.patches)
+  extended_bodies whole = subst (λ (k : Contents). IfOk r (λ (change : BaseChange). Lengthens base.shape.place (files_in base) (files_in k) change.patches)) whole extended_lengthens
+
+  pub extended_each : with_all base messages ≡ with_messages messages base → IfOk r (λ change. TurnsEach base (with_messages messages) change.patches)
+  extended_each whole =
+      appended_each base messages r (subst (λ (k : Contents). IfOk r (λ (change : BaseChange). Turns base.shape.place (files_in base) (files_in k) change.patches)) whole extended_turns) (extended_bodies whole)
+
+-- where there is none, what holds of the files of the base that stays holds of those with the messages
+pub none_more : {E : Type 0} (base : Contents) (messages : List Message) (r : Result BaseChange E) (Q : BaseFiles → List Patch → Type 0) → base ≡ with_messages messages base → IfOk r (λ change. change.base ≡ base)
+    → IfOk r (λ change. Q (files_in change.base) change.patches) → IfOk r (λ change. Q (files_in (with_messages messages base)) change.patches)
+none_more base messages r Q whole =
+    both_ok (λ (change : BaseChange). change.base ≡ base) (λ (change : BaseChange). Q (files_in change.base) change.patches) (λ (change : BaseChange). Q (files_in (with_messages messages base)) change.patches) r
+    (λ change b q. subst (λ (k : Contents). Q (files_in k) change.patches) (b ∙ whole) q)

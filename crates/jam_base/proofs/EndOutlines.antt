@@ -19,11 +19,12 @@ use Rattle.jam_threads.specs.Links.{link_of}
 use Rattle.jam_threads.specs.Threading.{AreThreads}
 use Rattle.jam_threads.specs.declared.link.Link.{Link}
 use Rattle.jam_threads.specs.declared.threads.Threads.{Threads}
+use Rattle.jam_layout.specs.Bare.{filled_slots, first_length, other_lengths}
 use Rattle.jam_layout.specs.Bodies.{body_piece, body_size}
 use Rattle.jam_layout.specs.Headers.{entry_text, headers_text}
 use Rattle.jam_layout.specs.Index.{index_records, no_pair, pair_of}
 use Rattle.jam_layout.specs.Layout.{entries_of, files_size, layout}
-use Rattle.jam_layout.specs.Outlines.{line_ends, outline, slot_outline}
+use Rattle.jam_layout.specs.Outlines.{line_ends, outline, slot_outline, slot_with}
 use Rattle.jam_layout.specs.Sizes.{slot_header}
 use Rattle.jam_layout.specs.declared.conference.Conference.{Conference}
 use Rattle.jam_layout.specs.declared.files.BaseFiles.{BaseFiles}
@@ -51,6 +52,18 @@ all_same (s ∷ slots) = (one_same s, all_same slots)
 
 pub outlined_threads : (slots new : List Slot) → new ≡ map slot_outline slots → (threads : Threads) → AreThreads slots threads → AreThreads new threads
 outlined_threads slots new is threads are = subst (λ (xs : List Slot). AreThreads xs threads) (sym is) (threads_same slots (map slot_outline slots) (all_same slots) threads are)
+
+with_same : (n : ℕ) (s : Slot) → SameIds s (slot_with n s)
+with_same n Gone = record { msgid = λ id. refl; answers = λ before. refl }
+with_same n (Held m) = record { msgid = λ id. refl; answers = λ before. refl }
+
+filled_same : (lengths : List ℕ) (slots : List Slot) → AllSame slots (filled_slots lengths slots)
+filled_same lengths [] = tt
+filled_same lengths (s ∷ slots) = (with_same (first_length lengths s) s, filled_same (other_lengths lengths s) slots)
+
+-- so it is with any bodies of line ends
+pub filled_threads : (lengths : List ℕ) (slots : List Slot) (threads : Threads) → AreThreads slots threads → AreThreads (filled_slots lengths slots) threads
+filled_threads lengths slots threads are = threads_same slots (filled_slots lengths slots) (filled_same lengths slots) threads are
 
 drop_map : (f : Slot → Slot) (n : ℕ) (slots : List Slot) → drop n (map f slots) ≡ map f (drop n slots)
 drop_map f zero slots = refl

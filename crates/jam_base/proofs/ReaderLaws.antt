@@ -1,13 +1,13 @@
 -- What `fresh` and `joined` make is a conference of its shape.
-use Rattle.std.proofs.Common.{◌≡◌, ℕ, ◌+◌, ◌≤◌, ◌<◌, List, [], ◌∷◌, ◌++◌, length, sym, ap, ◌∙◌, subst, arith, length-append, map}
+use Rattle.std.proofs.Common.{◌≡◌, ℕ, ◌+◌, ◌≤◌, ◌<◌, List, [], ◌∷◌, ◌++◌, length, sym, ap, ◌∙◌, subst, arith, length-append}
 use Rattle.std.specs.Prelude.{All, replicate}
 use Rattle.std.proofs.Math.ListN.{length-replicate}
 use Rattle.std.proofs.lemmas.List.{get_or-replicate}
 use Rattle.std.proofs.lemmas.List.Elements.{All-drop, All-append, All-cons, All-nil}
 use Rattle.jam_records.specs.declared.message.Slot.{Slot}
 use Rattle.jam_base.specs.Contents.{Contents, no_slots, with_reader}
+use Rattle.jam_layout.specs.Bare.{filled_slots}
 use Rattle.jam_layout.specs.Messages.{IsSlot}
-use Rattle.jam_layout.specs.Outlines.{outline, slot_outline}
 use Rattle.jam_layout.specs.Valid.{Rise, IsShape, IsConference}
 use Rattle.jam_layout.specs.declared.conference.Conference.{Conference}
 use Rattle.jam_layout.specs.declared.reader.Reader.{Reader}
@@ -33,14 +33,15 @@ fresh_is shape = record {
   pointers = record { all = length-replicate {A = ℕ} (length shape.readers) 0; within = zeros_within 0 (length shape.readers) };
 }
 
-pub fresh_base : (shape : Shape) (made : Contents) (slots : List Slot) (pointers : List ℕ) → slots ≡ [] → pointers ≡ (no_slots shape).pointers → made ≡ record { shape = shape; conference = outline (record { counter = 0; slots = slots; pointers = pointers }) }
-    → made ≡ record { shape = shape; conference = no_slots shape }
-fresh_base shape made slots pointers none zeros is = is ∙ (λ i. record { shape = shape; conference = record { counter = 0; slots = map slot_outline (none i); pointers = zeros i } })
+-- no slots, whatever lengths there are of bodies
+pub fresh_base : (shape : Shape) (made : Contents) (slots : List Slot) (lengths pointers : List ℕ) → slots ≡ [] → pointers ≡ (no_slots shape).pointers
+    → made ≡ record { shape = shape; conference = record { counter = 0; slots = filled_slots lengths slots; pointers = pointers } } → made ≡ record { shape = shape; conference = no_slots shape }
+fresh_base shape made slots lengths pointers none zeros is = is ∙ (λ i. record { shape = shape; conference = record { counter = 0; slots = filled_slots lengths (none i); pointers = zeros i } })
 
-pub fresh_made : (shape : Shape) (slots : List Slot) (pointers : List ℕ) → slots ≡ [] → pointers ≡ (no_slots shape).pointers → IsConference shape (record { counter = 0; slots = slots; pointers = pointers })
-fresh_made shape slots pointers none zeros =
-    let made : Conference = record { counter = 0; slots = slots; pointers = pointers } in
-    let same : made ≡ no_slots shape = λ i. record { counter = 0; slots = none i; pointers = zeros i } in
+pub fresh_made : (shape : Shape) (slots : List Slot) (lengths pointers : List ℕ) → slots ≡ [] → pointers ≡ (no_slots shape).pointers → IsConference shape (record { counter = 0; slots = filled_slots lengths slots; pointers = pointers })
+fresh_made shape slots lengths pointers none zeros =
+    let made : Conference = record { counter = 0; slots = filled_slots lengths slots; pointers = pointers } in
+    let same : made ≡ no_slots shape = λ i. record { counter = 0; slots = filled_slots lengths (none i); pointers = zeros i } in
     subst (IsConference shape) (sym same) (fresh_is shape)
 
 -- ---- a further reader

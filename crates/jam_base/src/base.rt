@@ -13,7 +13,8 @@ ghost use Rattle.intent_journal.specs.Patches.{byte_count};
 ghost use Rattle.jam_threads.specs.Threading.{AreThreads};
 ghost use Rattle.jam_threads.specs.declared.threads.Threads.{Threads as ThreadsOf};
 ghost use Rattle.jam_layout.specs.Messages.{IsMessage};
-ghost use Rattle.jam_layout.specs.Outlines.{outline, slot_bare};
+ghost use Rattle.jam_layout.specs.Bare.{filled};
+ghost use Rattle.jam_layout.specs.Outlines.{slot_bare};
 ghost use Rattle.jam_layout.specs.Bodies.{body_size};
 ghost use Rattle.jam_layout.specs.Conference.{live_count};
 ghost use Rattle.jam_layout.specs.Valid.{IsShape, IsConference};
@@ -28,10 +29,10 @@ use crate::receipt::{Receipt, any_due, slots_received};
 use crate::refusal::{AppendRefusal, KillRefusal};
 use crate::slots::{has_live, with_deleted, with_messages};
 use crate::span::Span;
-use byte_lists::{Bytes, Duplicate};
+use byte_lists::{Bytes, Duplicate, List};
 use door_outside::FileId;
 use intent_journal::{Patch, Patches};
-use jam_layout::{Conference, Reader, Shape};
+use jam_layout::{BareConference, Conference, Reader, Shape};
 use jam_records::{Message, Messages, Slot, Slots};
 use jam_threads::Threads;
 use jam_writing::{
@@ -68,18 +69,19 @@ impl Model for Base {
 }
 
 impl Base {
-    /// The base of this shape and of the outline of this conference.
+    /// The base of this shape and of this conference, which has no bodies, but their lengths.
     pub(crate) fn linked(
         alloc: Global,
         shape: &Shape,
-        conference: Conference,
+        bare: BareConference,
     ) -> Result<Base, AllocError>
         requires shape { IsShape shape.now }
-        requires conference { IsConference shape.now conference }
-        ensures { IfOk result (λ base. base ≡ record { shape = shape.now; conference = outline conference }) }
+        requires conference { IsConference shape.now (filled bare) }
+        ensures { IfOk result (λ base. base ≡ record { shape = shape.now; conference = filled bare }) }
     {
+        let conference = bare.conference;
         let threads = Threads::of(alloc, &conference.slots)?;
-        let slots = SharedSlots::from_slots(alloc, conference.slots)?;
+        let slots = SharedSlots::from_bare(alloc, conference.slots, bare.lengths.as_slice())?;
         let pointers = SharedList::from_list(alloc, conference.pointers)?;
         Ok(Base {
             shape: Shared::new(alloc, shape.duplicate(alloc)?)?,
@@ -341,7 +343,11 @@ impl Base {
             pointers: no_pointers(alloc, shape.readers.len())?,
         };
         let files = write_first(alloc, shape, conference.pointers.as_slice())?;
-        let base = Base::linked(alloc, shape, conference)?;
+        let bare = BareConference {
+            conference,
+            lengths: List::new(alloc),
+        };
+        let base = Base::linked(alloc, shape, bare)?;
         BaseChange::of_files(alloc, base, files)
     }
 
@@ -376,6 +382,7 @@ impl Base {
         requires { All (IsMessage self.now.shape.kind) messages.now }
         ensures base { IfOk result (λ change. change.base ≡ outlined (with_messages_of messages.now self.now)) }
         ensures costs { IfOk result (λ change. Costs (length messages.now) (layout self.now.shape self.now.conference) (layout change.base.shape change.base.conference) change.patches) }
+        ensures bodies { IfOk result (λ change. Lengthens self.now.shape.place (layout self.now.shape self.now.conference) (layout (with_messages_of messages.now self.now).shape (with_messages_of messages.now self.now).conference) change.patches) }
         ensures each { IfOk result (λ change. TurnsEach self.now (with_messages_of messages.now) change.patches) }
         ensures intent { IfOk result (λ change. SuitsIntent self.now.shape.place (layout change.base.shape change.base.conference) change.patches) }
         ensures slots { (s : ℕ) → (result ≡ Err (AppendRefusal.Slots s)) ↔ ((s ≡ length self.now.conference.slots + length messages.now) × (9999 < s)) }
@@ -396,6 +403,7 @@ impl Base {
         requires few { length self.now.conference.slots + length messages ≤ 9999 }
         ensures base { IfOk result (λ change. change.base ≡ outlined (with_messages_of messages self.now)) }
         ensures costs { IfOk result (λ change. Costs (length messages) (layout self.now.shape self.now.conference) (layout change.base.shape change.base.conference) change.patches) }
+        ensures bodies { IfOk result (λ change. Lengthens self.now.shape.place (layout self.now.shape self.now.conference) (layout (with_messages_of messages self.now).shape (with_messages_of messages self.now).conference) change.patches) }
         ensures each { IfOk result (λ change. TurnsEach self.now (with_messages_of messages) change.patches) }
         ensures intent { IfOk result (λ change. SuitsIntent self.now.shape.place (layout change.base.shape change.base.conference) change.patches) }
     {

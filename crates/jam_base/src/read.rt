@@ -8,7 +8,7 @@ ghost use Rattle.jam_layout.specs.declared.conference.Conference.{Conference};
 ghost use Rattle.jam_base.specs.Outlined.{IsReadOf};
 
 use crate::base::Base;
-use jam_layout::{BaseError, BaseFiles, Shape, read_conference};
+use jam_layout::{BaseError, BaseFiles, Shape, read_bare};
 use std::alloc::Global;
 
 /// The outline of the conference whose layout the files are (JAM message base proposal, revision 1). Each file has fewer
@@ -27,6 +27,6 @@ pub fn read_base(alloc: Global, files: &BaseFiles, shape: &Shape) -> Result<Base
     ensures damaged { (d : Damage) → result ≡ Err (BaseError.Damaged d) → base_damage shape.now files.now ≡ Some d }
     ensures only_damaged { (d : Damage) → base_damage shape.now files.now ≡ Some d → UnlessMemory result (Err (BaseError.Damaged d)) }
 {
-    let conference = read_conference(alloc, files, shape)?;
-    Ok(Base::linked(alloc, shape, conference)?)
+    let bare = read_bare(alloc, files, shape)?;
+    Ok(Base::linked(alloc, shape, bare)?)
 }

@@ -15,10 +15,10 @@ use Rattle.jam_layout.specs.Index.{Pending, slot_at, slots_at}
 use Rattle.damage_rules.proofs.KeptRules.{kept_rules, step_fails}
 use Rattle.damage_rules.proofs.RecordWalks.{walk_behind, ends, is_done}
 
-abbrev begin : ℕ → List Entry → Pending
+abbrev pub begin : ℕ → List Entry → Pending
 begin at entries = record { item = 0; at = at; entries = entries }
 
-abbrev last_rule : ℕ → List Slot × Pending → Result (List Slot) Damage
+abbrev pub last_rule : ℕ → List Slot × Pending → Result (List Slot) Damage
 last_rule place found = by_rules (jdx_file place) found.1.item ((Missing, not (eqb (length found.1.entries) 0)) ∷ []) found.0
 
 opened : (place at : ℕ) (entries : List Entry) (bytes : List ℕ) → length bytes / 8 ≤ 9999 → slots_at place at entries bytes ≡ (walk (slot_at place) (begin at entries) bytes >>= last_rule place)

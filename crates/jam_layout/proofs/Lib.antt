@@ -16,6 +16,7 @@ pub mod LinkBounds
 pub mod SlotLaws
 pub mod LayoutBounds
 pub mod ConferenceLayout
+pub mod MappedReads
 pub mod BodyLoop
 pub mod PointerLoop
 pub mod HeaderLoop
@@ -29,5 +30,8 @@ pub mod NumberedLaws
 pub mod AddressLaws
 pub mod SizeLaws
 pub mod ReadingSteps
+pub mod BareIndex
+pub mod BareSteps
+pub mod BareLaws
 pub mod SlotSizes
 pub mod OutlineLaws

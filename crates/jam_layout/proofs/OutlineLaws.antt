@@ -14,14 +14,14 @@ use Rattle.jam_records.specs.declared.message.Slot.{Slot}
 use Rattle.jam_records.specs.declared.message.Slot.TheVariants.{Gone, Held}
 use Rattle.jam_threads.specs.Links.{link_of}
 use Rattle.jam_threads.specs.declared.link.Link.{Link}
-use Rattle.jam_layout.specs.Bodies.{body_size, bodies_text, message_with}
+use Rattle.jam_layout.specs.Bodies.{body_size, bodies_text}
 use Rattle.jam_layout.specs.Conference.{is_live, live_count}
 use Rattle.jam_layout.specs.Fields.{subfields_of}
 use Rattle.jam_layout.specs.Headers.{message_header, entry_text, headers_text, header_size}
 use Rattle.jam_layout.specs.Index.{index_records, no_pair, pair_of}
 use Rattle.jam_layout.specs.Layout.{entries_of, base_header, layout}
 use Rattle.jam_layout.specs.Messages.{AreBytes, IsBody, IsMessage, IsSlot}
-use Rattle.jam_layout.specs.Outlines.{line_ends, message_outline, slot_outline, outline, slot_bare, SameButBodies}
+use Rattle.jam_layout.specs.Outlines.{line_ends, message_outline, slot_outline, outline, slot_with, slot_bare, SameButBodies}
 use Rattle.jam_layout.specs.Valid.{IsConference, PointersFit}
 use Rattle.jam_layout.specs.declared.conference.Conference.{Conference}
 use Rattle.jam_layout.specs.declared.shape.Shape.{Shape}
@@ -161,20 +161,16 @@ conference_outline shape c ok =
     }
 
 -- ---- an outline is what the slots without bodies and the lengths of the bodies are
-abbrev filled_slot : ℕ → Slot → Slot
-filled_slot n Gone = Gone
-filled_slot n (Held m) = Held (message_with m (line_ends n))
+abbrev slots_with : List ℕ → List Slot → List Slot
+slots_with [] slots = []
+slots_with (n ∷ lengths) [] = []
+slots_with (n ∷ lengths) (s ∷ slots) = slot_with n s ∷ slots_with lengths slots
 
-abbrev filled_slots : List ℕ → List Slot → List Slot
-filled_slots [] slots = []
-filled_slots (n ∷ lengths) [] = []
-filled_slots (n ∷ lengths) (s ∷ slots) = filled_slot n s ∷ filled_slots lengths slots
-
-filled_one : (s : Slot) → filled_slot (body_size s) (slot_bare s) ≡ slot_outline s
+filled_one : (s : Slot) → slot_with (body_size s) (slot_bare s) ≡ slot_outline s
 filled_one Gone = refl
 filled_one (Held m) = refl
 
-filled_all : (slots : List Slot) → filled_slots (map body_size slots) (map slot_bare slots) ≡ map slot_outline slots
+filled_all : (slots : List Slot) → slots_with (map body_size slots) (map slot_bare slots) ≡ map slot_outline slots
 filled_all [] = refl
 filled_all (s ∷ slots) = λ i. filled_one s i ∷ filled_all slots i
 
@@ -197,5 +193,5 @@ one_outline a b e = record {
 
 pub same_outline : (a b : Conference) → SameButBodies a b → outline a ≡ outline b
 same_outline a b same =
-    let slots : map slot_outline a.slots ≡ map slot_outline b.slots = sym (filled_all a.slots) ∙ ((λ i. filled_slots (same.lengths i) (same.slots i)) ∙ filled_all b.slots) in
+    let slots : map slot_outline a.slots ≡ map slot_outline b.slots = sym (filled_all a.slots) ∙ ((λ i. slots_with (same.lengths i) (same.slots i)) ∙ filled_all b.slots) in
     λ i. record { counter = same.counter i; slots = slots i; pointers = same.pointers i }

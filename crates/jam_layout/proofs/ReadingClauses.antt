@@ -1,4 +1,4 @@
--- The four clauses of `read_conference`, from the one function that it computes.
+-- The four clauses of `read_bare`, from the one function that it computes.
 use Rattle.std.proofs.Common.{◌≡◌, Option, Some, None, Result, Ok, Err, refl, sym, ap, subst, ◌∙◌, inl, inr}
 use Rattle.std.specs.Prelude.{IfOk}
 use Rattle.jam_records.specs.declared.damage.Damage.{Damage}

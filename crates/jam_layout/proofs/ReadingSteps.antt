@@ -1,5 +1,5 @@
--- What each step of `conference_in` requires, and what it answers where a step fails.
-use Rattle.std.proofs.Common.{◌≡◌, ℕ, ◌+◌, ◌-◌, ◌^◌, ◌≤◌, ◌<◌, List, [], ◌∷◌, length, take, drop, map, Result, Ok, refl, sym, ap, ◌∙◌, subst, arith, length-append}
+-- What the steps of reading a conference require, and what it comes to where one fails.
+use Rattle.std.proofs.Common.{◌≡◌, ℕ, ◌+◌, ◌-◌, ◌^◌, ◌≤◌, ◌<◌, List, [], ◌∷◌, length, take, drop, Result, Ok, refl, sym, ap, ◌∙◌, subst, arith, length-append}
 use Rattle.std.specs.Prelude.{All, sum_by}
 use Rattle.std.proofs.lemmas.List.{length-drop, take_rest}
 use Rattle.std.proofs.lemmas.List.Sums.{sum_by-cons}
@@ -9,14 +9,12 @@ use Rattle.record_numbers.specs.Numbers.{u32_at}
 use Rattle.jam_records.specs.declared.damage.Damage.{Damage}
 use Rattle.jam_records.specs.declared.message.Kind.{Kind}
 use Rattle.jam_records.specs.declared.message.Slot.{Slot}
-use Rattle.jam_threads.specs.Links.{link_of}
-use Rattle.jam_threads.specs.declared.link.Link.{Link}
 use Rattle.damage_rules.specs.Rules.{by_rules, ◌>>=◌}
 use Rattle.jam_layout.specs.Rules.{told, Fails}
 use Rattle.door_outside.specs.File.{jhr_file}
 use Rattle.jam_layout.specs.Headers.{entries_at, headers_text, header_size, entry_text, start, behind}
-use Rattle.jam_layout.specs.SecondPass.{slots_of, second_pass, Numbered}
-use Rattle.jam_layout.specs.Bodies.{bodies_at}
+use Rattle.jam_layout.specs.SecondPass.{second_pass, Numbered}
+use Rattle.jam_layout.specs.Bodies.{bodies_at, lengths_at}
 use Rattle.jam_layout.specs.Index.{slots_at}
 use Rattle.jam_layout.specs.Readers.{pointers_at}
 use Rattle.jam_layout.specs.Layout.{base_rules, conference_of}
@@ -28,10 +26,7 @@ use Rattle.jam_layout.specs.declared.reader.Reader.{Reader}
 use Rattle.jam_layout.specs.declared.shape.Shape.{Shape}
 use Rattle.damage_rules.proofs.KeptRules.{step_fails}
 use Rattle.jam_layout.proofs.EntryLaws.{HeadersFit, entry_length}
-use Rattle.jam_layout.proofs.BodyLaws.{bare, bodies_take}
-use Rattle.jam_layout.proofs.LinkLaws.{LinksFit}
-use Rattle.jam_layout.proofs.SlotLaws.{headers_bare, bodiless_of, linked_of}
-use Rattle.jam_layout.proofs.ConferenceLayout.{after_slots, after_bodies, after_second, after_headers, after_counter, jhr_take, second_take, jdx_take}
+use Rattle.jam_layout.proofs.ConferenceLayout.{after_slots, after_bodies, after_second, after_headers, after_counter, jhr_take}
 
 -- ---- what the steps leave
 numbered_of : (kind : Kind) (f : Front) (hs : List Entry) → HeadersFit kind f hs → Numbered f.last hs
@@ -47,34 +42,17 @@ headers_length kind offset (e ∷ es) =
     length-append (entry_text kind offset e) (headers_text kind (offset + e.text_len) es)
     ∙ (ap (λ n. n + length (headers_text kind (offset + e.text_len) es)) (entry_length kind offset e) ∙ (ap (λ n. header_size e.message + n) (headers_length kind (offset + e.text_len) es) ∙ sym (sum_by-cons (λ (d : Entry). header_size d.message) e es)))
 
--- the headers with bodies have the length of those in the file
-pub sizes : (place : ℕ) (kind : Kind) (bytes text : List ℕ) (hs es : List Entry) → All IsByte bytes → length bytes < 2 ^ 31 → entries_at place kind bytes ≡ Ok hs → bodies_at place 1 hs text ≡ Ok es → sum_by (λ e. header_size e.message) es ≡ length bytes
-sizes place kind bytes text hs es fits small e f =
-    let headers = jhr_take place kind bytes hs fits small e in
-    let bodies = bodies_take place 1 hs text es (bodiless_of kind start hs headers.1) f in
-    sym (headers_length kind 0 es) ∙ (ap length (sym (headers_bare kind 0 es)) ∙ (ap (λ (xs : List Entry). length (headers_text kind 0 xs)) bodies.1 ∙ ap length (sym headers.0)))
-
-pub few_slots : (place active : ℕ) (kind : Kind) (bytes text index : List ℕ) (hs es : List Entry) (slots : List Slot) (u : Unit {0}) → All IsByte bytes → length bytes < 2 ^ 31 → All IsByte index
-    → entries_at place kind bytes ≡ Ok hs → second_pass place active hs ≡ Ok u → bodies_at place 1 hs text ≡ Ok es → slots_at place 1024 es index ≡ Ok slots → length slots ≤ 9999
-few_slots place active kind bytes text index hs es slots u fits small ints e second f g =
-    let headers = jhr_take place kind bytes hs fits small e in
-    let linked = second_take place active hs u second in
-    let bodies = bodies_take place 1 hs text es (bodiless_of kind start hs headers.1) f in
-    let links : ℕ → Link = link_of (slots_of 1 hs) in
-    let first_fit : LinksFit links (map bare es) = subst (LinksFit links) (sym bodies.1) linked.1 in
-    (jdx_take links place 1024 es index slots ints (linked_of links es first_fit bodies.2) g).2
-
 -- ---- a step that fails
 pass : {A B : Type 0} (e : BaseError) (r : Result A Damage) (x : A) (f : A → Result B Damage) → r ≡ Ok x → Fails e (f x) → Fails e (r >>= f)
 pass {A = A} e r x f is h = subst (λ (q : Result A Damage). Fails e (q >>= f)) (sym is) h
 
-abbrev base_at : Shape → BaseFiles → Result ℕ Damage
+abbrev pub base_at : Shape → BaseFiles → Result ℕ Damage
 base_at shape files = by_rules (jhr_file shape.place) 0 (base_rules shape files.jhr) (u32_at 8 files.jhr)
 
-abbrev headers_at : Shape → BaseFiles → Result (List Entry) Damage
+abbrev pub headers_at : Shape → BaseFiles → Result (List Entry) Damage
 headers_at shape files = entries_at shape.place shape.kind (drop 1024 files.jhr)
 
-abbrev second_at : Shape → BaseFiles → List Entry → Result (Unit {0}) Damage
+abbrev pub second_at : Shape → BaseFiles → List Entry → Result (Unit {0}) Damage
 second_at shape files hs = second_pass shape.place (u32_at 12 files.jhr) hs
 
 pub counter_fails : (shape : Shape) (files : BaseFiles) (e : BaseError) → Fails e (base_at shape files) → Fails e (conference_of shape files)
@@ -152,8 +130,8 @@ pub second_is : (shape : Shape) (files : BaseFiles) (bytes : List ℕ) (active :
 second_is shape files bytes active list hs is count same =
     ap (λ n. second_pass shape.place n list) (count ∙ ap (u32_at 12) is) ∙ ap (second_pass shape.place (u32_at 12 files.jhr)) same
 
-pub bodies_is : (shape : Shape) (files : BaseFiles) (text : List ℕ) (list hs : List Entry) → text ≡ files.jdt → list ≡ hs → bodies_at shape.place 1 list text ≡ bodies_at shape.place 1 hs files.jdt
-bodies_is shape files text list hs is same = ap (bodies_at shape.place 1 list) is ∙ ap (λ (xs : List Entry). bodies_at shape.place 1 xs files.jdt) same
+pub lengths_is : (shape : Shape) (files : BaseFiles) (text : List ℕ) (list hs : List Entry) → text ≡ files.jdt → list ≡ hs → lengths_at shape.place list text ≡ lengths_at shape.place hs files.jdt
+lengths_is shape files text list hs is same = ap (lengths_at shape.place list) is ∙ ap (λ (xs : List Entry). lengths_at shape.place xs files.jdt) same
 
 pub slots_is : (shape : Shape) (files : BaseFiles) (index : List ℕ) (list es : List Entry) → index ≡ files.jdx → list ≡ es → slots_at shape.place 1024 list index ≡ slots_at shape.place 1024 es files.jdx
 slots_is shape files index list es is same = ap (slots_at shape.place 1024 list) is ∙ ap (λ (xs : List Entry). slots_at shape.place 1024 xs files.jdx) same
@@ -170,17 +148,10 @@ numbered_list shape files list hs fits small is e =
     let short : length (drop 1024 files.jhr) < 2 ^ 31 = omega (arith, length-drop 1024 files.jhr, small) in
     subst (Numbered 0) (sym is) (numbered shape.place shape.kind (drop 1024 files.jhr) hs (All-drop IsByte 1024 files.jhr fits) short e)
 
-pub room : (shape : Shape) (files : BaseFiles) (bytes : List ℕ) (list hs es : List Entry) → All IsByte files.jhr → length files.jhr < 2 ^ 31 → bytes ≡ files.jhr → 1024 ≤ length bytes → list ≡ es → headers_at shape files ≡ Ok hs
-    → bodies_at shape.place 1 hs files.jdt ≡ Ok es → 1024 + sum_by (λ e. header_size e.message) list < 2 ^ 31
-room shape files bytes list hs es fits small same long is e f =
+pub room : (shape : Shape) (files : BaseFiles) (bytes : List ℕ) (hs : List Entry) → All IsByte files.jhr → length files.jhr < 2 ^ 31 → bytes ≡ files.jhr → 1024 ≤ length bytes → headers_at shape files ≡ Ok hs
+    → 1024 + sum_by (λ e. header_size e.message) hs < 2 ^ 31
+room shape files bytes hs fits small same long headers =
     let len = length-drop 1024 files.jhr in
     let short : length (drop 1024 files.jhr) < 2 ^ 31 = omega (arith, len, small) in
-    let sum = sizes shape.place shape.kind (drop 1024 files.jhr) files.jdt hs es (All-drop IsByte 1024 files.jhr fits) short e f in
-    let sum_is : sum_by (λ e. header_size e.message) list ≡ sum_by (λ e. header_size e.message) es = ap (sum_by (λ e. header_size e.message)) is in
-    omega (arith, sum_is, sum, len, ap length same, long, small)
-
-pub few : (shape : Shape) (files : BaseFiles) (hs es : List Entry) (slots : List Slot) (u : Unit {0}) → All IsByte files.jhr → length files.jhr < 2 ^ 31 → All IsByte files.jdx → headers_at shape files ≡ Ok hs → second_at shape files hs ≡ Ok u
-    → bodies_at shape.place 1 hs files.jdt ≡ Ok es → slots_at shape.place 1024 es files.jdx ≡ Ok slots → length slots ≤ 9999
-few shape files hs es slots u fits small ints headers second bodies index =
-    let short : length (drop 1024 files.jhr) < 2 ^ 31 = omega (arith, length-drop 1024 files.jhr, small) in
-    few_slots shape.place (u32_at 12 files.jhr) shape.kind (drop 1024 files.jhr) files.jdt files.jdx hs es slots u (All-drop IsByte 1024 files.jhr fits) short ints headers second bodies index
+    let read = jhr_take shape.place shape.kind (drop 1024 files.jhr) hs (All-drop IsByte 1024 files.jhr fits) short headers in
+    omega (arith, headers_length shape.kind 0 hs, ap length read.0, len, ap length same, long, small)

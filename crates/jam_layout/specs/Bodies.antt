@@ -1,5 +1,5 @@
 -- .JDT: the body of each message, one after the other.
-use Rattle.std.specs.Prelude.{ℕ, ◌+◌, ◌-◌, List, [], ◌∷◌, ◌++◌, length, take, drop, slice_index, Result, Ok, not, ◌||◌, ◌==◌, nat_lt}
+use Rattle.std.specs.Prelude.{ℕ, ◌+◌, ◌-◌, List, [], ◌∷◌, ◌++◌, length, map, take, drop, slice_index, Result, Ok, not, ◌||◌, ◌==◌, nat_lt}
 use Rattle.jam_records.specs.declared.damage.Damage.{Damage}
 use Rattle.jam_records.specs.declared.damage.DamageRule.TheVariants.{Short, Line, Rest}
 use Rattle.jam_records.specs.declared.message.Message.{Message}
@@ -29,6 +29,12 @@ bodies_at place i (e ∷ entries) bytes = do
   body ← by_rules (jdt_file place) i (body_rules e.text_len bytes) (take e.text_len bytes)
   others ← bodies_at place (i + 1) entries (drop e.text_len bytes)
   Ok (with_body e body ∷ others)
+
+-- how long the bodies of the messages of all headers are, which are all that there is
+abbrev pub lengths_at : ℕ → List Entry → List ℕ → Result (List ℕ) Damage
+lengths_at place headers bytes = do
+  entries ← bodies_at place 1 headers bytes
+  Ok (map (λ e. length e.message.body) entries)
 
 -- what a slot gives to .JDT: the body, and its length
 abbrev pub body_piece : Slot → List ℕ

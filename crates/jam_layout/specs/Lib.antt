@@ -1,4 +1,5 @@
 pub mod Address
+pub mod Bare
 pub mod Bodies
 pub mod Conference
 pub mod Fields

@@ -22,6 +22,11 @@ slot_outline (Held m) = Held (message_outline m)
 abbrev pub outline : Conference → Conference
 outline c = record c { slots = map slot_outline c.slots }
 
+-- a slot with a body of so many line ends, where it holds a message
+abbrev pub slot_with : ℕ → Slot → Slot
+slot_with n Gone = Gone
+slot_with n (Held m) = Held (message_with m (line_ends n))
+
 -- a slot without the body of its message
 abbrev pub slot_bare : Slot → Slot
 slot_bare Gone = Gone

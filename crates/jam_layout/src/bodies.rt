@@ -1,22 +1,22 @@
-ghost use Rattle.std.specs.Prelude.{◌≡◌, ◌+◌, ◌≤◌, ◌<◌, ◌^◌, length, take, IfOk, OnOk};
+ghost use Rattle.std.specs.Prelude.{◌≡◌, ◌+◌, ◌≤◌, ◌<◌, ◌^◌, length, take, IfOk};
 ghost use Rattle.damage_rules.specs.Rules.{by_rules};
 ghost use Rattle.jam_layout.specs.Rules.{Gives};
 ghost use Rattle.door_outside.specs.File.{jdt_file};
-ghost use Rattle.jam_layout.specs.Bodies.{body_rules, with_body, bodies_at};
+ghost use Rattle.jam_layout.specs.Bodies.{body_rules, lengths_at};
 
 use crate::entry::Entry;
 use crate::error::BaseError;
 use crate::places::damaged;
-use byte_lists::{Bytes, List};
+use byte_lists::List;
 use door_outside::FileId;
 use jam_records::DamageRule;
-use std::alloc::{AllocError, Global};
+use std::alloc::Global;
 
-/// The body of this length at the front.
-fn body_of(place: u8, item: u32, text_len: u32, bytes: &[u8]) -> Result<&[u8], BaseError>
+/// Tests the body of this length at the front.
+fn check_body(place: u8, item: u32, text_len: u32, bytes: &[u8]) -> Result<(), BaseError>
     requires { place < 64 }
-    ensures gives { Gives (λ body. body.now) result (by_rules (jdt_file place) item (body_rules text_len bytes.now) (take text_len bytes.now)) }
-    ensures long { IfOk result (λ _. text_len ≤ length bytes.now) }
+    ensures gives { Gives (λ unit. take text_len bytes.now) result (by_rules (jdt_file place) item (body_rules text_len bytes.now) (take text_len bytes.now)) }
+    ensures long { IfOk result (λ unit. text_len ≤ length bytes.now) }
 {
     let len = text_len as usize;
     if bytes.len() < len {
@@ -25,38 +25,33 @@ fn body_of(place: u8, item: u32, text_len: u32, bytes: &[u8]) -> Result<&[u8], B
     if len != 0 && bytes[len - 1] != b'\r' {
         return Err(damaged(FileId::jdt(place), item, DamageRule::Line));
     }
-    Ok(&bytes[..len])
-}
-
-/// Gives an entry this body.
-fn put_body(alloc: Global, entry: &mut Entry, body: &[u8]) -> Result<(), AllocError>
-    ensures { OnOk result (entry.new ≡ with_body entry.old body.now) }
-{
-    entry.message.body = Bytes::from_slice(alloc, body)?;
     Ok(())
 }
 
-/// The entries with their bodies.
-pub fn bodies_of(
+/// The lengths of the bodies of these entries, which are tested.
+pub fn lengths_of(
     alloc: Global,
     place: u8,
-    entries: List<Entry>,
+    entries: &[Entry],
     bytes: &[u8],
-) -> Result<List<Entry>, BaseError>
+) -> Result<List<u32>, BaseError>
     requires place { place < 64 }
-    requires few { length entries < 2 ^ 31 }
-    ensures { Gives (λ x. x) result (bodies_at place 1 entries bytes.now) }
+    requires few { length entries.now < 2 ^ 31 }
+    ensures { Gives (λ x. x) result (lengths_at place entries.now bytes.now) }
 {
-    let mut items = entries.into_vec();
+    let mut lengths = List::new(alloc);
     let mut rest = bytes;
-    for i in 0..items.len() {
-        let text_len = items[i].text_len;
-        let body = body_of(place, i as u32 + 1, text_len, rest)?;
-        put_body(alloc, &mut items[i], body)?;
-        rest = &rest[text_len as usize..];
+    for (i, entry) in entries.iter().enumerate() {
+        check_body(place, i as u32 + 1, entry.text_len, rest)?;
+        lengths.add(entry.text_len)?;
+        rest = &rest[entry.text_len as usize..];
     }
     if !rest.is_empty() {
-        return Err(damaged(FileId::jdt(place), items.len() as u32 + 1, DamageRule::Rest));
+        return Err(damaged(
+            FileId::jdt(place),
+            entries.len() as u32 + 1,
+            DamageRule::Rest,
+        ));
     }
-    Ok(List::from_vec(items))
+    Ok(lengths)
 }

@@ -10,7 +10,7 @@ pub struct Entry {
     pub text_len: u32,
     /// The links.
     pub link: Link,
-    /// The message. Its body is empty until it was read.
+    /// The message, without its body.
     pub message: Message,
 }
 

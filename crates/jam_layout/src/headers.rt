@@ -136,7 +136,7 @@ fn text_of(alloc: Global, text: Option<Bytes>) -> Bytes
     }
 }
 
-/// The message of a header. Its body is read later.
+/// The message of a header, without its body.
 #[tactic(auto, unfolding(crate::specs::Headers::message_of))]
 fn message_of(alloc: Global, header: &MessageHeader, values: Values) -> Message
     ensures { result ≡ message_in header.now values }

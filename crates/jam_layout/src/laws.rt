@@ -13,7 +13,7 @@ ghost use Rattle.jam_layout.specs.declared.files.BaseFiles.{BaseFiles};
 ghost use Rattle.jam_layout.specs.declared.shape.Shape.{Shape};
 
 /// Four files have no damage exactly where they are the layout of a conference of that shape, and that
-/// conference is unique. Shapes and files are those that the types and the conditions of `read_conference`
+/// conference is unique. Shapes and files are those that the types and the conditions of `read_bare`
 /// allow, and each conference has a layout that these allow.
 pub fn unique_conference()
     ensures undamaged { (shape : Shape) (files : BaseFiles) → IsShape shape → ShapeFits shape → FilesFit files → (base_damage shape files ≡ None) ↔ ((c : Conference) × IsConference shape c × (files ≡ layout shape c)) }

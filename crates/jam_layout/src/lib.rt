@@ -1,6 +1,7 @@
 //! The four JAM files of one conference, without changes: exactly their layout, and the first damage named.
 #![tactic(auto)]
 
+mod bare;
 mod bodies;
 mod conference;
 mod entry;
@@ -20,11 +21,12 @@ mod second_pass;
 mod shape;
 mod sizes;
 
+pub use bare::BareConference;
 pub use conference::Conference;
 pub use error::BaseError;
 pub use files::BaseFiles;
 pub use marks::Marks;
-pub use read::read_conference;
+pub use read::read_bare;
 pub use reader::Reader;
 pub use reader_list::Readers;
 pub use shape::Shape;

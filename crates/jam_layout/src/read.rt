@@ -6,10 +6,12 @@ ghost use Rattle.damage_rules.specs.Rules.{by_rules};
 ghost use Rattle.jam_layout.specs.Rules.{Gives, UnlessMemory};
 ghost use Rattle.door_outside.specs.File.{jhr_file};
 ghost use Rattle.jam_layout.specs.declared.conference.Conference.{Conference};
-ghost use Rattle.jam_layout.specs.Layout.{wrong_base as base_wrong, base_rules, conference_of, layout, base_damage};
+ghost use Rattle.jam_layout.specs.Bare.{bare_of, bare_in as bare_read, IsBareOf};
+ghost use Rattle.jam_layout.specs.Layout.{wrong_base as base_wrong, base_rules, layout, base_damage};
 ghost use Rattle.jam_layout.specs.Valid.{IsShape, ShapeFits, FilesFit, IsConference};
 
-use crate::bodies::bodies_of;
+use crate::bare::BareConference;
+use crate::bodies::lengths_of;
 use crate::conference::Conference;
 use crate::error::BaseError;
 use crate::files::BaseFiles;
@@ -66,14 +68,14 @@ fn counter_of(shape: &Shape, bytes: &[u8]) -> Result<u32, BaseError>
     Ok(u32_at(bytes, 8))
 }
 
-/// The conference of the files, or the first rule that they break.
-fn conference_in(alloc: Global, files: &BaseFiles, shape: &Shape) -> Result<Conference, BaseError>
+/// The conference of the files without its bodies, or the first rule that they break.
+fn bare_in(alloc: Global, files: &BaseFiles, shape: &Shape) -> Result<BareConference, BaseError>
     requires place { shape.now.place < 64 }
     requires jhr { length files.now.jhr < 2 ^ 31 }
     requires jdt { length files.now.jdt < 2 ^ 31 }
     requires jdx { length files.now.jdx < 2 ^ 31 }
     requires jlr { length files.now.jlr < 2 ^ 31 }
-    ensures gives { Gives (λ x. x) result (conference_of shape.now files.now) }
+    ensures gives { Gives (λ x. x) result (bare_read shape.now files.now) }
     ensures files { IfOk result (λ _. FilesFit files.now) }
     ensures shape { ShapeFits shape.now }
 {
@@ -82,36 +84,41 @@ fn conference_in(alloc: Global, files: &BaseFiles, shape: &Shape) -> Result<Conf
     let counter = counter_of(shape, headers)?;
     let entries = entries_of(alloc, shape.place, shape.kind, &headers[BASE_HEADER..])?;
     check(alloc, shape.place, u32_at(headers, 12), entries.as_slice())?;
-    let entries = bodies_of(alloc, shape.place, entries, files.jdt.as_slice())?;
+    let lengths = lengths_of(alloc, shape.place, entries.as_slice(), files.jdt.as_slice())?;
     let slots = slots_in(alloc, shape.place, entries, files.jdx.as_slice())?;
     let count = slots.len() as u32;
     let pointers = pointers_of(alloc, shape.place, count, readers, files.jlr.as_slice())?;
-    Ok(Conference {
+    let conference = Conference {
         counter,
         slots,
         pointers,
+    };
+    Ok(BareConference {
+        conference,
+        lengths,
     })
 }
 
-/// The conference whose layout the files are (JAM message base proposal, revision 1). Each file has fewer
-/// than 2^31 bytes, the shape's place is at most 63, and the ids of its readers rise.
+/// The conference whose layout the files are (JAM message base proposal, revision 1), without the bodies of its
+/// messages: they are tested, but not copied. Each file has fewer than 2^31 bytes, the shape's place is at most 63,
+/// and the ids of its readers rise.
 ///
 /// `Damaged` comes where the files are the layout of no conference of that shape, with the first rule that
 /// they break. `OutOfMemory` comes where there is no memory. Where both meet, either may be answered.
-pub fn read_conference(
+pub fn read_bare(
     alloc: Global,
     files: &BaseFiles,
     shape: &Shape,
-) -> Result<Conference, BaseError>
+) -> Result<BareConference, BaseError>
     requires shape { IsShape shape.now }
     requires jhr { length files.now.jhr < 2 ^ 31 }
     requires jdt { length files.now.jdt < 2 ^ 31 }
     requires jdx { length files.now.jdx < 2 ^ 31 }
     requires jlr { length files.now.jlr < 2 ^ 31 }
-    ensures ok { IfOk result (λ c. IsConference shape.now c × (files.now ≡ layout shape.now c)) }
-    ensures only_ok { (c : Conference) → IsConference shape.now c → files.now ≡ layout shape.now c → UnlessMemory result (Ok c) }
+    ensures ok { IfOk result (IsBareOf shape.now files.now) }
+    ensures only_ok { (c : Conference) → IsConference shape.now c → files.now ≡ layout shape.now c → UnlessMemory result (Ok (bare_of c)) }
     ensures damaged { (d : Damage) → result ≡ Err (BaseError.Damaged d) → base_damage shape.now files.now ≡ Some d }
     ensures only_damaged { (d : Damage) → base_damage shape.now files.now ≡ Some d → UnlessMemory result (Err (BaseError.Damaged d)) }
 {
-    conference_in(alloc, files, shape)
+    bare_in(alloc, files, shape)
 }

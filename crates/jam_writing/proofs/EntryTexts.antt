@@ -9,9 +9,8 @@ use Rattle.jam_threads.specs.declared.link.Link.{Link}
 use Rattle.jam_layout.specs.Bodies.{message_with}
 use Rattle.jam_layout.specs.Fields.{subfields_of}
 use Rattle.jam_layout.specs.Headers.{entry_text, message_header}
-use Rattle.jam_layout.specs.Outlines.{line_ends}
+use Rattle.jam_layout.specs.Outlines.{line_ends, slot_with}
 use Rattle.jam_writing.specs.Pieces.{entry_with, header_piece}
-use Rattle.shared_slots.specs.Kept.{slot_with}
 
 pub entry_as_long : (kind : Kind) (offset number n : ℕ) (link : Link) (m : Message)
     → entry_text kind offset (record { number = number; text_len = n; link = link; message = m }) ≡ entry_text kind offset (entry_with number link (message_with m (line_ends n)))

@@ -11,11 +11,10 @@ use Rattle.jam_threads.specs.Links.{link_of}
 use Rattle.jam_layout.specs.Headers.{headers_text}
 use Rattle.jam_layout.specs.Index.{index_records}
 use Rattle.jam_layout.specs.Layout.{entries_of}
-use Rattle.jam_layout.specs.Outlines.{slot_bare, slot_outline}
+use Rattle.jam_layout.specs.Outlines.{slot_bare, slot_outline, slot_with}
 use Rattle.jam_layout.specs.Sizes.{slot_header}
 use Rattle.jam_writing.specs.Pieces.{header_piece, body_size, index_piece}
 use Rattle.jam_writing.proofs.PieceLaws.{headers_more, index_more}
-use Rattle.shared_slots.specs.Kept.{slot_with}
 use Rattle.shared_slots.proofs.BareSlots.{bare_is, filled, header_is}
 use Rattle.shared_slots.proofs.KeptLaws.{same_item}
 

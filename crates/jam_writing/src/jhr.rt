@@ -1,7 +1,7 @@
 ghost use Rattle.std.specs.Prelude.{◌≡◌, ◌+◌, ◌++◌, ◌<◌, ◌^◌, IfOk, OnOk};
+ghost use Rattle.jam_layout.specs.Outlines.{slot_with};
 ghost use Rattle.jam_layout.specs.Sizes.{slot_header};
 ghost use Rattle.jam_writing.specs.Pieces.{header_piece, body_size};
-ghost use Rattle.shared_slots.specs.Kept.{slot_with};
 
 use crate::header::add_header;
 use byte_lists::Bytes;

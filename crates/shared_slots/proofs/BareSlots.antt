@@ -4,8 +4,8 @@ use Rattle.jam_records.specs.declared.message.Slot.{Slot}
 use Rattle.jam_records.specs.declared.message.Slot.TheVariants.{Gone, Held}
 use Rattle.jam_layout.specs.Bodies.{body_size}
 use Rattle.jam_layout.specs.Sizes.{slot_header}
-use Rattle.jam_layout.specs.Outlines.{slot_bare, slot_outline}
-use Rattle.shared_slots.specs.Kept.{slot_as_long, slot_with}
+use Rattle.jam_layout.specs.Outlines.{slot_bare, slot_outline, slot_with}
+use Rattle.shared_slots.specs.Kept.{slot_as_long}
 use Rattle.shared_slots.proofs.KeptLaws.{header_bare, item_map}
 
 -- the slot in a place without its body

@@ -1,5 +1,5 @@
 -- What is kept of slots, after one more and after one replaced.
-use Rattle.std.proofs.Common.{◌≡◌, ℕ, zero, suc, ◌+◌, ◌-◌, ◌<◌, ◌≤◌, ◌^◌, List, [], ◌∷◌, ◌++◌, length, map, get_or, refl, sym, ap, ◌∙◌, subst, arith, length-append}
+use Rattle.std.proofs.Common.{◌≡◌, ℕ, zero, suc, ◌+◌, ◌-◌, ◌<◌, ◌≤◌, ◌^◌, List, [], ◌∷◌, ◌++◌, length, map, get_or, refl, sym, ap, ◌∙◌, subst, arith, append_assoc, length-append}
 use Rattle.std.specs.Prelude.{sum_by}
 use Rattle.std.proofs.Math.ListN.{set, length-set}
 use Rattle.std.proofs.lemmas.Option.{slice_get-get_or}
@@ -11,9 +11,10 @@ use Rattle.jam_layout.specs.Conference.{live_count}
 use Rattle.jam_layout.specs.Sizes.{slot_header}
 use Rattle.jam_layout.specs.Headers.{header_size}
 use Rattle.jam_layout.specs.Fields.{subfields_of}
+use Rattle.jam_layout.specs.Bare.{filled_slots, first_length, other_lengths}
 use Rattle.jam_layout.specs.Bodies.{body_size}
-use Rattle.jam_layout.specs.Outlines.{slot_bare, slot_outline}
-use Rattle.shared_slots.specs.Kept.{AreKept, one_live, slot_with, slots_between, slot_as_long}
+use Rattle.jam_layout.specs.Outlines.{slot_bare, slot_outline, slot_with}
+use Rattle.shared_slots.specs.Kept.{AreKept, one_live, slots_between, slot_as_long}
 use Rattle.shared_slots.specs.PlacesFrom.{places_from}
 use Rattle.shared_slots.proofs.PlaceLaws.{places_more, places_set}
 
@@ -89,15 +90,63 @@ bare_as_long old (Held m) = refl
 sum_one : (size : Slot → ℕ) (slots : List Slot) (s : Slot) → sum_by size (slots ++ s ∷ []) ≡ sum_by size slots + size s
 sum_one size slots s = omega (arith, sum_by-append size slots (s ∷ []), sum_by-cons size s [])
 
--- ---- slots taken one after the other
-sum_outline : (size : Slot → ℕ) → ((s : Slot) → size (slot_outline s) ≡ size s) → (slots : List Slot) → sum_by size (map slot_outline slots) ≡ sum_by size slots
-sum_outline size same [] = refl
-sum_outline size same (s ∷ slots) = omega (arith, same s, sum_outline size same slots, sum_by-cons size s slots, sum_by-cons size (slot_outline s) (map slot_outline slots))
+-- ---- slots with bodies of line ends, taken one after the other
+pub bare_with : (n : ℕ) (s : Slot) → slot_bare (slot_with n s) ≡ slot_bare s
+bare_with n Gone = refl
+bare_with n (Held m) = refl
 
--- none is too long that isn't so among all
-pub next_fits : (size : Slot → ℕ) → ((s : Slot) → size (slot_outline s) ≡ size s) → (done : List Slot) (s : Slot) (rest slots : List Slot) → done ++ map slot_outline (s ∷ rest) ≡ map slot_outline slots → sum_by size done + size s ≤ sum_by size slots
-next_fits size same done s rest slots is =
-    omega (arith, ap (sum_by size) is, sum_by-append size done (map slot_outline (s ∷ rest)), sum_by-cons size (slot_outline s) (map slot_outline rest), same s, sum_outline size same slots)
+pub header_with : (n : ℕ) (s : Slot) → slot_header (slot_with n s) ≡ slot_header s
+unfolding header_size subfields_of
+header_with n Gone = refl
+header_with n (Held m) = refl
+
+pub live_with : (n : ℕ) (s : Slot) → one_live (slot_with n s) ≡ one_live s
+live_with n Gone = refl
+live_with n (Held m) = refl
+
+pub outline_with : (n : ℕ) (s : Slot) → slot_outline (slot_with n s) ≡ slot_with n s
+outline_with n Gone = refl
+outline_with n (Held m) = ap (λ (k : ℕ). slot_with k (Held m)) (length-replicate n 0x0D)
+
+pub own_with : (s : Slot) → slot_with (body_size s) s ≡ slot_outline s
+own_with Gone = refl
+own_with (Held m) = refl
+
+pub size_filled : (lengths : List ℕ) (s : Slot) → body_size (slot_with (first_length lengths s) s) ≡ first_length lengths s
+size_filled lengths Gone = refl
+size_filled lengths (Held m) = length-replicate (get_or lengths 0 0) 0x0D
+
+pub filled_length : (lengths : List ℕ) (slots : List Slot) → length (filled_slots lengths slots) ≡ length slots
+filled_length lengths [] = refl
+filled_length lengths (s ∷ slots) = ap suc (filled_length (other_lengths lengths s) slots)
+
+pub headers_filled : (lengths : List ℕ) (slots : List Slot) → sum_by slot_header (filled_slots lengths slots) ≡ sum_by slot_header slots
+headers_filled lengths [] = refl
+headers_filled lengths (s ∷ slots) =
+    let first : Slot = slot_with (first_length lengths s) s in
+    let others : List Slot = filled_slots (other_lengths lengths s) slots in
+    omega (arith, header_with (first_length lengths s) s, headers_filled (other_lengths lengths s) slots, sum_by-cons slot_header s slots, sum_by-cons slot_header first others)
+
+-- the slot that is taken next, and those behind it
+module _ (done : List Slot) (lengths : List ℕ) (items : List Slot) (s : Slot) (rest all : List Slot) (is : items ≡ s ∷ rest) (so_far : done ++ filled_slots lengths items ≡ all) where
+  abbrev next : Slot
+  next = slot_with (first_length lengths s) s
+
+  abbrev others : List Slot
+  others = filled_slots (other_lengths lengths s) rest
+
+  whole : done ++ next ∷ others ≡ all
+  whole = ap (λ (xs : List Slot). done ++ filled_slots lengths xs) (sym is) ∙ so_far
+
+  pub next_few : length done < length all
+  next_few = omega (arith, ap length whole, length-append done (next ∷ others))
+
+  -- none is too long that isn't so among all
+  pub next_within : (size : Slot → ℕ) → sum_by size done + size next ≤ sum_by size all
+  next_within size = omega (arith, ap (sum_by size) whole, sum_by-append size done (next ∷ others), sum_by-cons size next others)
+
+  pub next_taken : (new : List Slot) (left : List ℕ) → new ≡ done ++ next ∷ [] → left ≡ other_lengths lengths s → new ++ filled_slots left rest ≡ all
+  next_taken new left new_is left_are = (λ i. new_is i ++ filled_slots (left_are i) rest) ∙ (append_assoc done (next ∷ []) others ∙ whole)
 
 -- ---- one slot more
 pub kept_more : (old old_bare : List Slot) (old_headers old_bodies : List ℕ) (old_live : ℕ) (s : Slot) (bare : List Slot) (headers bodies : List ℕ) (header body live : ℕ)

@@ -5,17 +5,12 @@ use Rattle.jam_records.specs.declared.message.Slot.TheVariants.{Gone, Held}
 use Rattle.jam_layout.specs.Conference.{is_live, live_count}
 use Rattle.jam_layout.specs.Sizes.{slot_header}
 use Rattle.jam_layout.specs.Bodies.{body_piece, body_size, message_with}
-use Rattle.jam_layout.specs.Outlines.{line_ends, slot_bare, slot_outline}
+use Rattle.jam_layout.specs.Outlines.{slot_bare, slot_outline, slot_with}
 use Rattle.shared_slots.specs.PlacesFrom.{places_from}
 
 -- how many messages of a slot aren't deleted
 abbrev pub one_live : Slot → ℕ
 one_live slot = if is_live slot then 1 else 0
-
--- a slot with a body of so many line ends, where it holds a message
-abbrev pub slot_with : ℕ → Slot → Slot
-slot_with n Gone = Gone
-slot_with n (Held m) = Held (message_with m (line_ends n))
 
 -- slots whose bodies stand from each of these places to the next, as the outline that they have
 abbrev pub slots_between : List ℕ → List Slot → List Slot

@@ -3,10 +3,11 @@ ghost use Rattle.std.specs.Option.{option_copied};
 ghost use Rattle.jam_layout.specs.Conference.{live_count};
 ghost use Rattle.jam_layout.specs.Sizes.{slot_header};
 ghost use Rattle.jam_layout.specs.Bodies.{body_size};
-ghost use Rattle.jam_layout.specs.Outlines.{slot_bare, slot_outline};
+ghost use Rattle.jam_layout.specs.Bare.{filled_slots};
+ghost use Rattle.jam_layout.specs.Outlines.{slot_bare, slot_outline, slot_with};
 ghost use Rattle.shared_slots.specs.Kept.{slot_as_long};
 
-use crate::sizes::{body_length, header_length, live_in, without_body};
+use crate::sizes::{body_length, header_length, live_in, next_length, without_body};
 use byte_lists::Duplicate;
 use jam_records::{Slot, Slots};
 use shared_lists::{Shared, SharedList};
@@ -64,18 +65,25 @@ impl SharedSlots {
         })
     }
 
-    /// The outline of these slots, which are moved.
+    /// These slots, which are moved, where the bodies of their messages have these lengths, in order.
     ///
     /// The error comes where there is no memory.
-    pub fn from_slots(alloc: Global, slots: Slots) -> Result<SharedSlots, AllocError>
+    pub fn from_bare(
+        alloc: Global,
+        slots: Slots,
+        lengths: &[u32],
+    ) -> Result<SharedSlots, AllocError>
         requires few { length slots ≤ 9999 }
         requires headers { 1024 + sum_by slot_header slots < 2 ^ 31 }
-        requires bodies { sum_by body_size slots < 2 ^ 31 }
-        ensures { IfOk result (λ shared. shared ≡ map slot_outline slots) }
+        requires bodies { sum_by body_size (filled_slots lengths.now slots) < 2 ^ 31 }
+        ensures { IfOk result (λ shared. shared ≡ filled_slots lengths.now slots) }
     {
         let mut shared = SharedSlots::new(alloc)?;
+        let mut rest = lengths;
         for slot in slots.into_vec() {
-            shared = shared.with_slot(alloc, slot)?;
+            let (size, others) = next_length(&slot, rest);
+            shared = shared.with_bare(alloc, slot, size)?;
+            rest = others;
         }
         Ok(shared)
     }
@@ -154,9 +162,21 @@ impl SharedSlots {
         requires bodies { sum_by body_size self + body_size slot < 2 ^ 31 }
         ensures { IfOk result (λ more. more ≡ self ++ slot_outline slot ∷ []) }
     {
+        let size = body_length(&slot);
+        self.with_bare(alloc, slot, size)
+    }
+
+    /// The slots with one more at the end, whose body, which is dropped, counts as one of this length.
+    fn with_bare(self, alloc: Global, slot: Slot, size: u32) -> Result<SharedSlots, AllocError>
+        requires few { length self < 9999 }
+        requires size { body_size (slot_with size slot) ≡ size }
+        requires headers { 1024 + (sum_by slot_header self + slot_header slot) < 2 ^ 31 }
+        requires bodies { sum_by body_size self + size < 2 ^ 31 }
+        ensures { IfOk result (λ more. more ≡ self ++ slot_with size slot ∷ []) }
+    {
         let count = self.len();
         let header = self.header_place(count) + header_length(&slot);
-        let body = self.body_place(count) + body_length(&slot);
+        let body = self.body_place(count) + size;
         let live = self.live + live_in(&slot);
         let mut slots = self.slots;
         let mut headers = self.headers;

@@ -6,7 +6,7 @@ use super::conference::{are_short, general, line_of};
 use super::patched::{file_of, no_files, set};
 use super::texts::{Subject, bytes_of, expect, number_of, parted};
 use byte_lists::Bytes;
-use jam_layout::{BaseError, BaseFiles, Conference, Reader, Readers, Shape, read_conference};
+use jam_layout::{BareConference, BaseError, BaseFiles, Reader, Readers, Shape, read_bare};
 use jam_records::{Kind, Slot};
 use std::alloc::{AllocError, Global};
 use std::test::Fail;
@@ -37,13 +37,13 @@ const ECHO: [&str; 4] = [
 
 /// Conferences, of which one file may be changed: bytes in it from a place on, its length, or bytes behind it. `far` has
 /// the headers of two messages alone, in another place of the board. What is found is the change counter, how many slots
-/// and live messages there are, and the pointers; or the file, the item and the rule of the first damage. With `message`
-/// and a place from 0 it is the message there.
+/// and live messages there are, the pointers, and the lengths of the bodies; or the file, the item and the rule of the
+/// first damage. With `message` and a place from 0 it is the message there, without its body.
 const TABLE: &str = r#"
-two = 1 2 2 [0, 0, 0, 0]
-two 4 add \xFF\xFF\xFF\xFF\xFF\xFF\xFF\xFF = 1 3 2 [0, 0, 0, 0]
-net = 7 2 1 [2]
-echo = 1 1 1 [1]
+two = 1 2 2 [0, 0, 0, 0] [11, 11]
+two 4 add \xFF\xFF\xFF\xFF\xFF\xFF\xFF\xFF = 1 3 2 [0, 0, 0, 0] [11, 11]
+net = 7 2 1 [2] [10]
+echo = 1 1 1 [1] [0]
 two 2 at 12 \x03 = 2 0 Active
 two 2 at 1024 \0 = 2 1 Signature
 two 2 at 1048 \x01 = 2 1 Links
@@ -56,7 +56,7 @@ two 4 cut 15 = 4 1 Short
 two 5 at 8 \x09 = 5 0 Pointer
 far 2 at 4 \x01 = 6 0 Created
 net message 0 = none
-net message 1 = "Bob Ray" "Ann Lee" "The hub moves on Sunday: poll the new address from 06:00, not the old..!" "2:5020/1042 5e6f7a8b" "" "2:5020/1042" "1:105/42.7" "Line one\r\r" 1100000000 1200000000 1100000060 false true true false
+net message 1 = "Bob Ray" "Ann Lee" "The hub moves on Sunday: poll the new address from 06:00, not the old..!" "2:5020/1042 5e6f7a8b" "" "2:5020/1042" "1:105/42.7" "" 1100000000 1200000000 1100000060 false true true false
 echo message 0 = "Ann Lee" "All" "" "0.1.TESTBBS" "" "" "" "" 1100000000 0 1100000000 true false false false
 "#;
 
@@ -138,13 +138,15 @@ fn change(alloc: Global, files: &mut BaseFiles, number: &str, change: &str) -> R
     Ok(())
 }
 
-/// The counts and the pointers of a conference, or its first damage.
-fn told(alloc: Global, read: &Result<Conference, BaseError>) -> Result<String, AllocError> {
+/// The counts, the pointers and the lengths of a conference, or its first damage.
+fn told(alloc: Global, read: &Result<BareConference, BaseError>) -> Result<String, AllocError> {
     match read {
-        Ok(conference) => {
+        Ok(bare) => {
+            let conference = &bare.conference;
             let (slots, live) = (conference.slots.len(), conference.live_count());
             let (counter, pointers) = (conference.counter, conference.pointers.as_slice());
-            format!(in alloc; "{counter} {slots} {live} {pointers:?}")
+            let lengths = bare.lengths.as_slice();
+            format!(in alloc; "{counter} {slots} {live} {pointers:?} {lengths:?}")
         }
         Err(BaseError::Damaged(damage)) => {
             let (file, item, rule) = (damage.file, damage.item, damage.rule);
@@ -157,13 +159,13 @@ fn told(alloc: Global, read: &Result<Conference, BaseError>) -> Result<String, A
 /// The message in a place of a conference, or without one what is told of it.
 fn found_in(
     alloc: Global,
-    read: &Result<Conference, BaseError>,
+    read: &Result<BareConference, BaseError>,
     place: Option<usize>,
 ) -> Result<String, Fail> {
-    let (Ok(conference), Some(place)) = (read, place) else {
+    let (Ok(bare), Some(place)) = (read, place) else {
         return Ok(told(alloc, read)?);
     };
-    match conference.slots.get(place) {
+    match bare.conference.slots.get(place) {
         Some(Slot::Held(message)) => Ok(line_of(alloc, message)?),
         _ => Ok(String::from_str(alloc, "none")?),
     }
@@ -180,7 +182,7 @@ fn read(
         return Err(Fail::from("a file is long"));
     }
     let shape = shape(alloc, name)?;
-    found_in(alloc, &read_conference(alloc, files, &shape), place)
+    found_in(alloc, &read_bare(alloc, files, &shape), place)
 }
 
 /// What is read of conferences.

@@ -20,8 +20,8 @@ use Rattle.jam_base.specs.Puts.{link_puts}
 use Rattle.jam_base.specs.Slots.{slots_with_all}
 use Rattle.jam_base.specs.declared.change.BaseChange.{BaseChange}
 use Rattle.jam_base.proofs.BaseLaws.{not_none, some_more}
-use Rattle.jam_base.proofs.ChangeClauses.{both_ok, no_change, one_ok}
-use Rattle.jam_base.proofs.AppendClauses.{extended_costs, extended_lengthens, extended_suits, extended_turns, kept_slots, with_all}
+use Rattle.jam_base.proofs.ChangeClauses.{no_change, one_ok}
+use Rattle.jam_base.proofs.AppendClauses.{extended_bodies, extended_costs, extended_each, extended_suits, kept_slots, none_more, with_all}
 use Rattle.jam_base.proofs.EndOutlines.{bodies_sum, headers_sum, outlined_threads}
 use Rattle.jam_base.proofs.SlotChanges.{appended_is, length_all}
 use Rattle.jam_base.proofs.OutlineChanges.{appended_each, no_messages}
@@ -123,17 +123,21 @@ returns-clause-each c =
     let bodies : c.in_ok-bodies.bodies ≡ flat_map (λ (m : Message). m.body) c.args.messages = c.in_ok-bodies.ensures ∙ ap (flat_map (λ (m : Message). m.body)) c.as_slice-3.ensures in
     let some : 0 < length c.args.messages = omega (arith, ap length c.as_slice.ensures, not_none (length c.as_slice.result.now) (sym c.is_empty.ensures ∙ c.if-is_empty.false)) in
     let whole : with_all base c.args.messages ≡ with_messages c.args.messages base = sym (some_more c.args.messages base some) in
-    let turns = extended_turns base c.in_ok-slots.slots c.args.messages c.in_ok-base.base c.len.result c.in_ok-threads.links c.in_ok-bodies.bodies c.of_appended.result c.slots-old.ensures.outline slots c.in_ok-base.ensures count links bodies
-    c.of_appended.ensures.base c.of_appended.ensures.patches in
-    let longer = extended_lengthens base c.in_ok-slots.slots c.args.messages c.in_ok-base.base c.len.result c.in_ok-threads.links c.in_ok-bodies.bodies c.of_appended.result c.slots-old.ensures.outline slots c.in_ok-base.ensures count links bodies
-    c.of_appended.ensures.base c.of_appended.ensures.patches in
-    appended_each base c.args.messages c.of_appended.result
-    (one_ok (λ (change : BaseChange). Turns base.shape.place (layout base.shape base.conference) (layout base.shape (with_all base c.args.messages).conference) change.patches)
-    (λ (change : BaseChange). Turns base.shape.place (layout base.shape base.conference) (layout (with_messages c.args.messages base).shape (with_messages c.args.messages base).conference) change.patches) c.of_appended.result
-    (λ change t. subst (λ (k : Contents). Turns base.shape.place (layout base.shape base.conference) (layout k.shape k.conference) change.patches) whole t) turns)
-    (one_ok (λ (change : BaseChange). Lengthens base.shape.place (layout base.shape base.conference) (layout base.shape (with_all base c.args.messages).conference) change.patches)
-    (λ (change : BaseChange). Lengthens base.shape.place (layout base.shape base.conference) (layout (with_messages c.args.messages base).shape (with_messages c.args.messages base).conference) change.patches) c.of_appended.result
-    (λ change l. subst (λ (k : Contents). Lengthens base.shape.place (layout base.shape base.conference) (layout k.shape k.conference) change.patches) whole l) longer)
+    extended_each base c.in_ok-slots.slots c.args.messages c.in_ok-base.base c.len.result c.in_ok-threads.links c.in_ok-bodies.bodies c.of_appended.result c.slots-old.ensures.outline slots c.in_ok-base.ensures count links bodies
+    c.of_appended.ensures.base c.of_appended.ensures.patches whole
+
+pub returns-clause-bodies : goal.returns-clause-bodies
+returns-clause-bodies c =
+    let base : Contents = c.args.self.now in
+    let slots : c.in_ok-slots.slots ≡ slots_with_all base.conference.slots (map message_outline c.args.messages) =
+    c.in_ok-slots.ensures ∙ ap (λ (xs : List Slot). slots_with_all xs (map message_outline c.args.messages)) c.slots-old.ensures.same in
+    let count : c.len.result ≡ length base.conference.slots = c.len.ensures.count ∙ ap length c.slots-old.ensures.same in
+    let links : c.in_ok-threads.links ≡ link_puts base.shape.place base.conference.slots base.conference.slots c.args.messages = c.in_ok-threads.ensures.patches ∙ ap (link_puts base.shape.place base.conference.slots base.conference.slots) c.as_slice-2.ensures in
+    let bodies : c.in_ok-bodies.bodies ≡ flat_map (λ (m : Message). m.body) c.args.messages = c.in_ok-bodies.ensures ∙ ap (flat_map (λ (m : Message). m.body)) c.as_slice-3.ensures in
+    let some : 0 < length c.args.messages = omega (arith, ap length c.as_slice.ensures, not_none (length c.as_slice.result.now) (sym c.is_empty.ensures ∙ c.if-is_empty.false)) in
+    let whole : with_all base c.args.messages ≡ with_messages c.args.messages base = sym (some_more c.args.messages base some) in
+    extended_bodies base c.in_ok-slots.slots c.args.messages c.in_ok-base.base c.len.result c.in_ok-threads.links c.in_ok-bodies.bodies c.of_appended.result c.slots-old.ensures.outline slots c.in_ok-base.ensures count links bodies
+    c.of_appended.ensures.base c.of_appended.ensures.patches whole
 
 pub returns-then-is_empty-clause-base : goal.returns-then-is_empty-clause-base
 returns-then-is_empty-clause-base c =
@@ -142,6 +146,12 @@ returns-then-is_empty-clause-base c =
     one_ok (λ (change : BaseChange). change.base ≡ base) (λ (change : BaseChange). change.base ≡ outlined (with_messages c.args.messages base)) c.unchanged.result
     (λ change is. is ∙ (sym c.slots-old.ensures.outline ∙ ap outlined (no_messages c.args.messages base none))) c.unchanged.ensures.base
 
+pub returns-then-is_empty-clause-bodies : goal.returns-then-is_empty-clause-bodies
+returns-then-is_empty-clause-bodies c =
+    let base : Contents = c.args.self.now in
+    let none : (length c.args.messages == 0) ≡ true = ap (λ (ms : List Message). length ms == 0) (sym c.as_slice.ensures) ∙ (sym c.is_empty.ensures ∙ c.if-is_empty.true) in
+    none_more base c.args.messages c.unchanged.result (λ files patches. Lengthens base.shape.place (layout base.shape base.conference) files patches) (no_messages c.args.messages base none) c.unchanged.ensures.base c.unchanged.ensures.bodies
+
 pub returns-then-is_empty-clause-each : goal.returns-then-is_empty-clause-each
 returns-then-is_empty-clause-each c =
     let base : Contents = c.args.self.now in
@@ -149,9 +159,5 @@ returns-then-is_empty-clause-each c =
     let whole : base ≡ with_messages c.args.messages base = no_messages c.args.messages base none in
     let turns = no_change base.shape.place (layout base.shape base.conference) base c.unchanged.result refl c.unchanged.ensures.base c.unchanged.ensures.patches in
     appended_each base c.args.messages c.unchanged.result
-    (both_ok (λ (change : BaseChange). Turns base.shape.place (layout base.shape base.conference) (layout change.base.shape change.base.conference) change.patches) (λ (change : BaseChange). change.base ≡ base)
-    (λ (change : BaseChange). Turns base.shape.place (layout base.shape base.conference) (layout (with_messages c.args.messages base).shape (with_messages c.args.messages base).conference) change.patches) c.unchanged.result
-    (λ change t b. subst (λ (k : Contents). Turns base.shape.place (layout base.shape base.conference) (layout k.shape k.conference) change.patches) (b ∙ whole) t) turns c.unchanged.ensures.base)
-    (both_ok (λ (change : BaseChange). Lengthens base.shape.place (layout base.shape base.conference) (layout change.base.shape change.base.conference) change.patches) (λ (change : BaseChange). change.base ≡ base)
-    (λ (change : BaseChange). Lengthens base.shape.place (layout base.shape base.conference) (layout (with_messages c.args.messages base).shape (with_messages c.args.messages base).conference) change.patches) c.unchanged.result
-    (λ change l b. subst (λ (k : Contents). Lengthens base.shape.place (layout base.shape base.conference) (layout k.shape k.conference) change.patches) (b ∙ whole) l) c.unchanged.ensures.bodies c.unchanged.ensures.base)
+    (none_more base c.args.messages c.unchanged.result (λ files patches. Turns base.shape.place (layout base.shape base.conference) files patches) whole c.unchanged.ensures.base turns)
+    (none_more base c.args.messages c.unchanged.result (λ files patches. Lengthens base.shape.place (layout base.shape base.conference) files patches) whole c.unchanged.ensures.base c.unchanged.ensures.bodies)

@@ -1,19 +1,31 @@
-use Rattle.std.proofs.Common.{◌∙◌, refl, map}
-use Rattle.jam_layout.specs.Outlines.{outline, slot_outline}
-use Rattle.jam_layout.proofs.OutlineLaws.{conference_outline}
+use Rattle.std.proofs.Common.{◌≡◌, ◌∙◌, ◌<◌, ◌^◌, ℕ, List, refl, sym, ap, subst, arith}
+use Rattle.std.specs.Prelude.{sum_by}
+use Rattle.jam_records.specs.declared.message.Slot.{Slot}
+use Rattle.jam_layout.specs.Bare.{filled, filled_slots}
+use Rattle.jam_layout.specs.Bodies.{body_size}
 use Rattle.jam_writing.proofs.PieceLaws.{headers_small, bodies_small}
+use Rattle.shared_slots.proofs.KeptLaws.{filled_length, headers_filled}
 use Rattle.jam_base.proofs.BaseLaws.{made_of}
-use Rattle.jam_base.proofs.EndOutlines.{outlined_threads}
+use Rattle.jam_base.proofs.EndOutlines.{filled_threads}
 use Rattle.jam_base.proofs.base.Base.linked.Goals as goal
 
-pub from_slots-requires-clause-headers : goal.from_slots-requires-clause-headers
-from_slots-requires-clause-headers c = headers_small c.args.shape.now c.args.conference c.requires.conference
+pub of-requires : goal.of-requires
+of-requires c = let most = c.requires.conference.few in omega (arith, most, filled_length c.args.bare.lengths c.args.bare.conference.slots)
 
-pub from_slots-requires-clause-bodies : goal.from_slots-requires-clause-bodies
-from_slots-requires-clause-bodies c = bodies_small c.args.shape.now c.args.conference c.requires.conference
+pub from_bare-requires-clause-few : goal.from_bare-requires-clause-few
+from_bare-requires-clause-few c = let most = c.requires.conference.few in omega (arith, most, filled_length c.args.bare.lengths c.args.bare.conference.slots)
+
+pub from_bare-requires-clause-headers : goal.from_bare-requires-clause-headers
+from_bare-requires-clause-headers c =
+    omega (arith, headers_small c.args.shape.now (filled c.args.bare) c.requires.conference, headers_filled c.args.bare.lengths c.args.bare.conference.slots)
+
+pub from_bare-requires-clause-bodies : goal.from_bare-requires-clause-bodies
+from_bare-requires-clause-bodies c =
+    subst (λ (lengths : List ℕ). sum_by body_size (filled_slots lengths c.args.bare.conference.slots) < 2 ^ 31) (sym c.as_slice.ensures) (bodies_small c.args.shape.now (filled c.args.bare) c.requires.conference)
 
 pub invariant_of-result-3 : goal.invariant_of-result-3
 invariant_of-result-3 c =
-    made_of c.args.shape.now c.in_ok-new.field-0 (outline c.args.conference) c.args.conference.counter _ _ c.in_ok-new-2.field-0 c.in_ok-threads.threads
-    (c.in_ok-new.ensures ∙ c.in_ok-duplicate.ensures) refl (c.slots.view_is ∙ c.in_ok-slots.ensures) (c.pointers.view_is ∙ c.in_ok-pointers.ensures) c.in_ok-new-2.ensures c.requires.shape (conference_outline c.args.shape.now c.args.conference c.requires.conference)
-    (outlined_threads c.args.conference.slots (map slot_outline c.args.conference.slots) refl c.in_ok-threads.threads c.in_ok-threads.ensures)
+    let slots : c.in_ok-slots.slots ≡ filled_slots c.args.bare.lengths c.args.bare.conference.slots = c.in_ok-slots.ensures ∙ ap (λ (lengths : List ℕ). filled_slots lengths c.args.bare.conference.slots) c.as_slice.ensures in
+    made_of c.args.shape.now c.in_ok-new.field-0 (filled c.args.bare) c.args.bare.conference.counter _ _ c.in_ok-new-2.field-0 c.in_ok-threads.threads
+    (c.in_ok-new.ensures ∙ c.in_ok-duplicate.ensures) refl (c.slots.view_is ∙ slots) (c.pointers.view_is ∙ c.in_ok-pointers.ensures) c.in_ok-new-2.ensures c.requires.shape c.requires.conference
+    (filled_threads c.args.bare.lengths c.args.bare.conference.slots c.in_ok-threads.threads c.in_ok-threads.ensures)
