@@ -11,8 +11,10 @@ mod halt;
 mod kept;
 mod making;
 mod report;
+mod saying;
 mod setup;
 mod sizes;
+mod telling;
 
 pub use checking::check;
 pub use creation::init;
@@ -22,4 +24,6 @@ pub use finding::find;
 pub use halt::BoardHalt;
 pub use kept::{board_in, keep_board, take_board};
 pub use making::make_change;
+pub use saying::{EnrolledLine, MadeLine};
 pub use sizes::size_refusal;
+pub use telling::say_told;

@@ -10,9 +10,10 @@ use Rattle.intent_journal.specs.Patches as Data
 use Rattle.intent_journal.specs.Recovered.{recovered}
 use Rattle.entry_runs.specs.Door.{World, Act}
 use Rattle.entry_runs.specs.Entry.{Known, Reply, Recovers, Keeps, IsAt, IsDone, Answered, Works, Carried, InEntry, Performs}
-use Rattle.entry_runs.specs.Saying.{SaysIn, Voiced}
+use Rattle.entry_runs.specs.Saying.{SaysIn, Spoken, Voiced}
 use Rattle.entry_runs.specs.Promise.{IsFront, AsThen, Replies, Stopped}
 use Rattle.entry_runs.specs.Runs.{once_said}
+use Rattle.entry_runs.specs.declared.class.Class.{Class}
 use Rattle.entry_runs.specs.declared.stop.Stop.{Stop}
 use Rattle.entry_runs.specs.declared.stop.Stop.TheVariants.{DiskFault, ShelfFault, VoiceFault, OutOfMemory}
 use Rattle.entry_runs.proofs.Voice.{as_before, settled_then, firm_then, calm_then}
@@ -156,3 +157,12 @@ module _ {State : Type 0} (Stores : State → Data.Files → Type 0) (act : Act 
     firm = λ none. works.firm (λ is. let same : stop ≡ DiskFault = cc in none (ap Err same));
     off_board = works.off_board;
   }
+
+  -- what the command answers was said, or it was stopped
+  pub performs_as_said : {after : Known State} {world : World State} {old : Disk} {shelf : Files} {Host : Type 0} (disk : Host → Disk) {mid new : Host} {result : Result Class Stop} (answer : Result Reply Stop)
+      → Works Stores act after world old (disk mid) shelf answer → Spoken disk answer mid new result → Performs Stores act after world old (disk new) shelf result
+  performs_as_said {after} {world} {old} {shelf} disk {mid} {new} (Ok reply) works spoken =
+      subst (Performs Stores act after world old (disk new) shelf) (sym spoken.2) (performs_spoken works spoken.0 spoken.1)
+  performs_as_said {after} {world} {old} {shelf} {Host} disk {mid} {new} (Err stop) works spoken =
+      subst (Performs Stores act after world old (disk new) shelf) (sym spoken.1)
+      (subst (λ (host : Host). Performs Stores act after world old (disk host) shelf (Err stop)) (sym spoken.0) (performs_stopped works))

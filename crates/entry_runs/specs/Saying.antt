@@ -1,9 +1,14 @@
 -- What saying a text does to a host.
-use Rattle.std.specs.Prelude.{◌≡◌, ℕ, List, ◌++◌, map, Result, OnOk}
+use Rattle.std.specs.Prelude.{◌≡◌, ℕ, List, ◌++◌, map, Result, Ok, Err, OnOk}
 use Rattle.std.specs.Borrow.{Bor}
 use Rattle.std.specs.List.{concat}
 use Rattle.door_outside.specs.Disk.{Disk, Image, AllNow, Between}
+use Rattle.door_outside.specs.declared.fault.VoiceFault.{VoiceFault}
+use Rattle.entry_runs.specs.Entry.{Reply}
 use Rattle.entry_runs.specs.Promise.{IsFront, AsThen}
+use Rattle.entry_runs.specs.Runs.{once_said}
+use Rattle.entry_runs.specs.declared.class.Class.{Class}
+use Rattle.entry_runs.specs.declared.stop.Stop.{Stop}
 
 -- a text that is given in pieces
 abbrev pub text_of : List (Bor (List ℕ)) → List ℕ
@@ -31,3 +36,8 @@ pub record Gathers {T E : Type 0} (before piece after : List ℕ) (old new : Dis
   pub whole : before ++ piece ≡ part ++ rest
   pub voiced : Voiced part old new result
   pub gathered : OnOk result (after ≡ rest)
+
+-- What a command answers was said, and the result tells how it went. Where the command was stopped, nothing was.
+abbrev pub Spoken : {Host : Type 0} → (Host → Disk) → Result Reply Stop → Host → Host → Result Class Stop → Type 0
+Spoken disk (Ok reply) old new result = (said : Result (Unit {0}) VoiceFault) × Voiced reply.text (disk old) (disk new) said × (result ≡ once_said reply.class said)
+Spoken disk (Err stop) old new result = (new ≡ old) × (result ≡ Err stop)

@@ -6,8 +6,10 @@ mod class;
 mod saying;
 mod status;
 mod stop;
+mod wording;
 
 pub use class::Class;
 pub use saying::say_all;
 pub use status::Status;
 pub use stop::Stop;
+pub use wording::{AsText, Wording};

@@ -4,6 +4,7 @@
 
 mod acknowledging;
 mod exporting;
+mod lines;
 mod saying;
 mod uploading;
 
@@ -11,5 +12,5 @@ pub use acknowledging::ack;
 pub use door_export::Exported;
 pub use door_upload::Uploaded;
 pub use exporting::export;
-pub use saying::say_uploaded;
+pub use lines::{AcknowledgedLine, PacketLine, UploadedText};
 pub use uploading::upload;

@@ -93,7 +93,7 @@ fn say_tally<H: Host>(host: &mut H, outcomes: &Outcomes) -> Result<(), VoiceFaul
 
 /// Says what became of a reply packet: a line for each message, in their order, and then how many were posted and
 /// refused; or how many were, when it was sent before. It takes no memory.
-pub fn say_uploaded<H: Host>(host: &mut H, uploaded: &Uploaded) -> Result<(), VoiceFault>
+pub(crate) fn say_uploaded<H: Host>(host: &mut H, uploaded: &Uploaded) -> Result<(), VoiceFault>
     ensures voiced { IsTrue H.tells → Voiced (uploaded_text uploaded.now) (H.disk host.old) (H.disk host.new) result }
     ensures cause { HasCause (H.voice_faults host.old) (H.voice_faults host.new) result }
     ensures disk { H.disk_faults host.new ≡ H.disk_faults host.old }

@@ -1,21 +1,22 @@
 -- What a command gives, as its arm of the dispatch has it.
-use Rattle.std.proofs.Common.{◌≡◌, ◌≢◌, inl, inr, ⊎_elim, ℕ, List, refl, ap, arith}
-use Rattle.std.specs.Prelude.{Result, Ok, Err, IfOk, IsTrue, true}
+use Rattle.std.proofs.Common.{◌≡◌, ◌≢◌, inl, inr, ⊎_elim, ℕ, List, refl, sym, subst, arith}
+use Rattle.std.specs.Prelude.{Result, Ok, Err, IfOk, IsTrue, Option, Some, None, true}
+use Rattle.board_commands.specs.Kept.{IsKept}
+use Rattle.board_layout.specs.Layout.{AreEmpty}
+use Rattle.door_outside.specs.Disk.{Disk}
+use Rattle.entry_runs.proofs.Voice.{calm_then, settled_then}
 use Rattle.entry_runs.specs.Entry.{Reply}
-use Rattle.entry_runs.specs.Promise.{Counts, counts, ended, HasCauses}
+use Rattle.entry_runs.specs.Promise.{counts, ended, HasCauses}
+use Rattle.entry_runs.specs.Saying.{Spoken, Voiced}
+use Rattle.entry_runs.specs.declared.class.Class.{Class}
 use Rattle.entry_runs.specs.declared.class.Class.TheVariants.{Damaged}
 use Rattle.entry_runs.specs.declared.stop.Stop.{Stop}
-use Rattle.entry_runs.specs.declared.stop.Stop.TheVariants.{OutOfMemory as Starved}
-use Rattle.shelf_files.specs.Halts.{ShelfCauses, done, refused, served}
+use Rattle.mail_board.specs.Held.{StandsFor}
+use Rattle.mail_board.specs.declared.loading.Loaded.{Loaded}
+use Rattle.mail_board.specs.declared.loading.Loaded.TheVariants.{NotMade, Ready}
+use Rattle.shelf_files.specs.Halts.{ShelfCauses, served}
 use Rattle.shelf_files.specs.declared.halt.Halt.{Halt}
 use Rattle.shelf_files.specs.declared.halt.Halt.TheVariants.{Refused, ShelfFault, OutOfMemory}
-use Rattle.mail_cli.specs.Answers.{answered, reply_of}
-use Rattle.mail_cli.specs.declared.answer.Answer.{Answer}
-
--- what an answer is said as doesn't matter to the counts
-pub causes_answered : {old new : Counts} (result : Result Answer Stop) → HasCauses old new (ended (answered result)) → HasCauses old new (ended result)
-causes_answered (Ok answer) causes = causes
-causes_answered (Err stop) causes = causes
 
 -- a command over the shelf leaves the other counts
 pub shelf_causes : {T : Type 0} (text : T → List ℕ) (disk voice : ℕ) {old new : ℕ} (result : Result T Halt) → ShelfCauses old new result
@@ -65,34 +66,26 @@ shelf_causes text disk voice (Err OutOfMemory) causes = record {
   shelf_kept = inr (⊎_elim (λ is. absurd (cc is)) (λ same. same) causes.kept);
 }
 
--- memory ran out before the command began
-pub starved_causes : (disk voice shelf : ℕ) → HasCauses (counts disk voice shelf) (counts disk voice shelf) (ended {T = Answer} (Err Starved))
-starved_causes disk voice shelf = record {
-  disk_later = omega arith;
-  voice_later = omega arith;
-  shelf_later = omega arith;
-  disk_rose = λ is. absurd (cc is);
-  voice_rose = λ is. absurd (cc is);
-  shelf_rose = λ is. absurd (cc is);
-  disk_kept = inr refl;
-  voice_kept = inr refl;
-  shelf_kept = inr refl;
-}
-
--- a command over the shelf answers no damage
-pub undamaged : {T : Type 0} (text : T → List ℕ) (reply : Result T Halt) (result : Result Answer Stop) → answered result ≡ served text reply → IfOk result (λ answer. (reply_of answer).class ≢ Damaged)
-undamaged text (Ok value) (Ok answer) is = λ damaged. let same : reply_of answer ≡ done (text value) = cc in let class = ap (λ (r : Reply). r.class) same in absurd (cc (class, damaged))
-undamaged text (Err (Refused why)) (Ok answer) is = λ damaged. let same : reply_of answer ≡ refused why = cc in let class = ap (λ (r : Reply). r.class) same in absurd (cc (class, damaged))
-undamaged text (Err ShelfFault) (Ok answer) is = absurd (cc is)
-undamaged text (Err OutOfMemory) (Ok answer) is = absurd (cc is)
-undamaged text reply (Err stop) is = tt
-
--- one that touches the board may
-pub may_be_damaged : (result : Result Answer Stop) → IfOk result (λ answer. (reply_of answer).class ≡ Damaged → IsTrue true)
-may_be_damaged (Ok answer) = λ damaged. refl
+-- one that touches the board may answer damage
+pub may_be_damaged : (result : Result Class Stop) → IfOk result (λ class. class ≡ Damaged → IsTrue true)
+may_be_damaged (Ok class) = λ damaged. refl
 may_be_damaged (Err stop) = tt
 
 -- where none does, nothing follows from one that did
-pub never_damaged : (P : Type 0) (result : Result Answer Stop) → IfOk result (λ answer. (reply_of answer).class ≢ Damaged) → IfOk result (λ answer. (reply_of answer).class ≡ Damaged → P)
-never_damaged P (Ok answer) never = λ damaged. absurd (never damaged)
+pub never_damaged : (P : Type 0) (result : Result Class Stop) → IfOk result (λ class. class ≢ Damaged) → IfOk result (λ class. class ≡ Damaged → P)
+never_damaged P (Ok class) never = λ damaged. absurd (never damaged)
 never_damaged P (Err stop) never = tt
+
+-- what was kept of the board is kept once a text was said
+said_kept : {T E : Type 0} {text : List ℕ} {old new : Disk} {result : Result T E} (kept : Option Loaded) → Voiced text old new result → IsKept kept old → IsKept kept new
+said_kept {old = old} {new = new} None voiced settled = settled_then old new (λ image left. (voiced.now image left).files) voiced.files settled
+said_kept {old = old} {new = new} (Some NotMade) voiced empty =
+    (calm_then old new (λ image left. (voiced.now image left).files) voiced.files empty.0, subst AreEmpty (sym voiced.files) empty.1)
+said_kept {old = old} {new = new} (Some (Ready held)) voiced rests = record {
+  calm = calm_then old new (λ image left. (voiced.now image left).files) voiced.files rests.calm;
+  stands = subst (StandsFor held.board) (sym voiced.files) rests.stands;
+}
+
+pub spoken_kept : {Host : Type 0} (disk : Host → Disk) (old new : Host) (kept : Option Loaded) (answer : Result Reply Stop) (result : Result Class Stop) → Spoken disk answer old new result → IsKept kept (disk old) → IsKept kept (disk new)
+spoken_kept disk old new kept (Ok reply) result spoken was = said_kept kept spoken.1 was
+spoken_kept disk old new kept (Err stop) result spoken was = subst (λ host. IsKept kept (disk host)) (sym spoken.0) was

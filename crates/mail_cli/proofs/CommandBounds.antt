@@ -1,8 +1,7 @@
 -- A run of one command that posts messages writes no more than these may: from what the command wrote to what the run did.
-use Rattle.std.proofs.Common.{◌≡◌, inl, inr, ℕ, zero, suc, List, [], ◌∷◌, drop, length, refl, sym, ◌∙◌, ap, subst, arith}
+use Rattle.std.proofs.Common.{◌≡◌, inl, inr, ℕ, zero, suc, List, [], ◌∷◌, drop, refl, sym, ◌∙◌, ap, subst, arith}
 use Rattle.std.proofs.lemmas.List.{drop_all}
-use Rattle.std.specs.Prelude.{Result}
-use Rattle.board_commands.specs.State.{State}
+use Rattle.std.specs.Prelude.{Result, Ok, Err}
 use Rattle.board_commands.specs.WriteBound.{KeepsWriteBound, WritesWithin}
 use Rattle.door_commands.proofs.OneCommand.{command_unique}
 use Rattle.door_commands.specs.Entries.{EntriesRead}
@@ -13,7 +12,10 @@ use Rattle.door_commands.specs.declared.entry.Entry.{Entry}
 use Rattle.door_commands.specs.declared.entry.Entry.TheVariants.{Run}
 use Rattle.door_outside.specs.Disk.{Disk}
 use Rattle.door_outside.specs.Shelf as Shelf
-use Rattle.entry_runs.specs.Saying.{Voiced}
+use Rattle.entry_runs.specs.Entry.{Reply}
+use Rattle.entry_runs.specs.Saying.{Spoken, Voiced}
+use Rattle.entry_runs.specs.declared.class.Class.{Class}
+use Rattle.entry_runs.specs.declared.stop.Stop.{Stop}
 use Rattle.mail_cli.specs.CommandBound.{CommandKeepsBound, EntryKeepsBound, OneKeepsBound, PostsMessages, RunKeepsBound}
 use Rattle.mail_cli.specs.Step.{does}
 
@@ -23,9 +25,14 @@ unwritten now words disk shelf c reads posts closed state stores today stepped s
 
 module _ (now : ℕ) where
   -- the reply was said, which writes nothing
-  pub said_bound : (c : Command) (old : Disk) {mid new : Disk} (shelf : Shelf.Files) {text : List ℕ} {T E : Type 0} {result : Result T E} → Voiced text mid new result → CommandKeepsBound now c old mid shelf → CommandKeepsBound now c old new shelf
+  said_bound : (c : Command) (old : Disk) {mid new : Disk} (shelf : Shelf.Files) {text : List ℕ} {T E : Type 0} {result : Result T E} → Voiced text mid new result → CommandKeepsBound now c old mid shelf → CommandKeepsBound now c old new shelf
   said_bound c old {mid} {new} shelf voiced kept posts closed state stores today stepped step =
       subst (λ (n : ℕ). WritesWithin state stepped.world.state old.wrote n) (sym voiced.wrote) (kept posts closed state stores today stepped step)
+
+  pub spoken_bound : (c : Command) {Host : Type 0} (disk : Host → Disk) (old : Disk) {mid new : Host} (shelf : Shelf.Files) (answer : Result Reply Stop) (result : Result Class Stop) → Spoken disk answer mid new result
+      → CommandKeepsBound now c old (disk mid) shelf → CommandKeepsBound now c old (disk new) shelf
+  spoken_bound c disk old shelf (Ok reply) result spoken kept = said_bound c old shelf spoken.1 kept
+  spoken_bound c disk old shelf (Err stop) result spoken kept = subst (λ host. CommandKeepsBound now c old (disk host) shelf) (sym spoken.0) kept
 
   pub command_bound : (c : Command) (old new : Disk) (shelf : Shelf.Files) → CommandKeepsBound now c old new shelf → EntryKeepsBound now (Run c) old new shelf
   command_bound c old new shelf kept other is =

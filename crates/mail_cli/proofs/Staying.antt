@@ -1,19 +1,20 @@
 -- Files and a shelf that stay as they are.
-use Rattle.std.proofs.Common.{◌≡◌, inl, inr, ℕ, Bool, true, false, List, [], ◌∷◌, drop, refl, sym, ◌∙◌, ap, subst}
+use Rattle.std.proofs.Common.{◌≡◌, inl, inr, ℕ, Bool, true, false, List, ◌∷◌, drop, refl, sym, ◌∙◌, ap, subst}
 use Rattle.std.proofs.lemmas.Bool.{true≢false}
 use Rattle.std.specs.List.{list_any}
-use Rattle.std.specs.Prelude.{◌||◌, Result}
-use Rattle.door_commands.specs.Entries.{AreEntries, EntriesRead}
+use Rattle.std.specs.Prelude.{◌||◌, Result, Ok, Err}
+use Rattle.door_commands.specs.Entries.{AreEntries}
 use Rattle.door_commands.specs.Words.{CommandReads}
 use Rattle.door_commands.specs.declared.command.Command.TheVariants as command
 use Rattle.door_commands.specs.declared.entry.Entry.{Entry}
-use Rattle.door_commands.specs.declared.entry.Entry.TheVariants.{Run, Wrong}
-use Rattle.door_commands.specs.declared.entry.Usage.TheVariants.{Words}
 use Rattle.door_outside.proofs.Moments.{still, joined, weaker}
 use Rattle.door_outside.specs.Disk.{Disk}
 use Rattle.entry_runs.proofs.Voice.{as_before, as_now}
+use Rattle.entry_runs.specs.Entry.{Reply}
 use Rattle.entry_runs.specs.Promise.{AsThen}
-use Rattle.entry_runs.specs.Saying.{Voiced}
+use Rattle.entry_runs.specs.Saying.{Spoken, Voiced}
+use Rattle.entry_runs.specs.declared.class.Class.{Class}
+use Rattle.entry_runs.specs.declared.stop.Stop.{Stop}
 use Rattle.mail_cli.proofs.Wrongs.{some_from}
 use Rattle.mail_cli.specs.Run.{LeavesFiles, NameNoFile}
 use Rattle.mail_cli.specs.Step.{any_uses_shelf, uses_shelf}
@@ -37,13 +38,10 @@ said_only voiced = record {
   now = λ image left. (voiced.now image left).files;
 }
 
--- one host, and the host that it is
-module _ {Host : Type 0} (disk : Host → Disk) {old mid : Host} (same : mid ≡ old) where
-  pub still_there : LeavesFiles (disk old) (disk mid)
-  still_there = subst (λ (host : Host). LeavesFiles (disk host) (disk mid)) same (nothing_done (disk mid))
-
-  pub said_there : {T E : Type 0} {text : List ℕ} {new : Disk} {result : Result T E} → Voiced text (disk mid) new result → LeavesFiles (disk old) new
-  said_there voiced = and_on still_there (said_only voiced)
+-- what a command answers was said, or nothing
+pub spoken_only : {Host : Type 0} (disk : Host → Disk) {old new : Host} (answer : Result Reply Stop) (result : Result Class Stop) → Spoken disk answer old new result → LeavesFiles (disk old) (disk new)
+spoken_only disk (Ok reply) result spoken = said_only spoken.1
+spoken_only disk {old} (Err stop) result spoken = subst (λ host. LeavesFiles (disk old) (disk host)) (sym spoken.0) (nothing_done (disk old))
 
 -- ---- entries
 off_or_on : (b : Bool) → (b ≡ true → b ≡ false) → b ≡ false

@@ -1,4 +1,3 @@
-pub mod Answers
 pub mod Run
 pub mod Step
 pub mod BoardEntry

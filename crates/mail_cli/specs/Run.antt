@@ -4,7 +4,6 @@ use Rattle.door_outside.specs.Disk.{Disk, AllNow, Between}
 use Rattle.door_outside.specs.Shelf.{Files}
 use Rattle.entry_runs.specs.Door.{World, here, any_touches}
 use Rattle.entry_runs.specs.Entry as Owed
-use Rattle.entry_runs.specs.Entry.{Reply}
 use Rattle.entry_runs.specs.Promise as Promise
 use Rattle.entry_runs.specs.Promise.{Counts}
 use Rattle.entry_runs.specs.declared.class.Class.{Class}
@@ -14,33 +13,11 @@ use Rattle.entry_runs.specs.declared.stop.Stop.{Stop}
 use Rattle.intent_journal.specs.Recovered.{recovered}
 use Rattle.board_commands.specs.Kept.{unread}
 use Rattle.board_commands.specs.State.{State, Stores, IsSpoiled}
-use Rattle.mail_cli.specs.Step.{act, does, door, uses_shelf}
+use Rattle.mail_cli.specs.Step.{act, door, uses_shelf}
 use Rattle.door_commands.specs.Entries.{AreEntries, EntriesRead, HasWrong}
 use Rattle.door_commands.specs.Words.{CommandReads}
 use Rattle.door_commands.specs.declared.command.Command.{Command}
-use Rattle.door_commands.specs.declared.command.Command.TheVariants as command
 use Rattle.door_commands.specs.declared.entry.Entry.{Entry}
-
--- it is one of those by which a caller gets his mail and answers it
-abbrev pub IsForCaller : Command → Type 0
-IsForCaller (command.Ack user packet) = Unit {0}
-IsForCaller (command.Adopt conference prefix) = ⊥
-IsForCaller (command.Batch file) = ⊥
-IsForCaller command.Check = ⊥
-IsForCaller (command.Compose folder conference sheet rep) = ⊥
-IsForCaller (command.Enroll name flags conferences) = ⊥
-IsForCaller (command.Export user limit folder) = Unit {0}
-IsForCaller (command.Import conference file) = ⊥
-IsForCaller (command.Init file) = ⊥
-IsForCaller (command.Kill conference number) = ⊥
-IsForCaller (command.List file) = ⊥
-IsForCaller (command.Read folder) = ⊥
-IsForCaller (command.Reply folder place text rep) = ⊥
-IsForCaller (command.Sample seed count) = ⊥
-IsForCaller (command.Show folder place) = ⊥
-IsForCaller (command.Scan file) = ⊥
-IsForCaller (command.Toss file) = ⊥
-IsForCaller (command.Upload user file) = Unit {0}
 
 -- words that are no command were answered so, unless the saying failed or memory ran out
 abbrev pub AnswersUsage : Status → Type 0
@@ -60,11 +37,6 @@ pub record LeavesFiles (old new : Disk) : Type 0 where
   pub files : new.files ≡ old.files
   pub moments : Between old new (Promise.AsThen old)
   pub now : AllNow new (Promise.AsThen old)
-
--- in each world that stands at entry, this is what the command did, before its reply is said
-abbrev pub CommandWorks : ℕ → Command → Disk → Disk → Files → Files → Result Reply Stop → Type 0
-CommandWorks now c old new shelf later result =
-    (world : World State) → Owed.IsAt Stores unread world old shelf → Owed.Works Stores (does now c) unread world old new later result
 
 -- in each world that stands at entry, this is what the entry did, its reply included
 abbrev pub Performs : ℕ → Entry → Disk → Disk → Files → Files → Result Class Stop → Type 0

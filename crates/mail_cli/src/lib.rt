@@ -1,7 +1,6 @@
 //! A run of the door: words become entries, and these are carried out over a host and a shelf, and their replies said.
 #![tactic(auto)]
 
-mod answer;
 mod entries;
 pub mod laws;
 mod perform;

@@ -1,247 +1,27 @@
 //! One entry of a run.
 ghost use Rattle.std.specs.Prelude.{◌≡◌, ◌≢◌, ◌↔◌, false, IsTrue, IfOk, IfErr};
-ghost use Rattle.door_outside.specs.Name.{HasParts};
 ghost use Rattle.entry_runs.specs.Door.{touches};
-ghost use Rattle.entry_runs.specs.Entry.{Serves};
 ghost use Rattle.entry_runs.specs.Promise.{counts, ended, HasCauses};
 ghost use Rattle.board_commands.specs.Kept.{AreSure, IsKept};
-ghost use Rattle.reply_commands.specs.Compose.{composes};
-ghost use Rattle.reply_commands.specs.Reply.{replies};
-ghost use Rattle.mail_cli.specs.Answers.{answered, reply_of, StopCauses};
 ghost use Rattle.door_commands.specs.Entries.{CanRun, EntryCanRun, IsWrong};
 ghost use Rattle.mail_cli.specs.CommandBound.{CommandKeepsBound, EntryKeepsBound};
-ghost use Rattle.mail_cli.specs.Run.{CommandWorks, IsForCaller, LeavesFiles, Performs};
+ghost use Rattle.mail_cli.specs.Run.{LeavesFiles, Performs};
 ghost use Rattle.mail_cli.specs.Step.{does, door, entry_uses_shelf, uses_shelf};
 ghost use Rattle.door_commands.specs.declared.entry.Entry.TheVariants.{Run};
 
-use crate::answer::Answer;
 use adopt_commands::adopt;
-use board_commands::{check, enroll, init};
+use board_commands::{EnrolledLine, MadeLine, check, enroll, init, say_told};
 use door_commands::{Command, Entry};
-use door_outside::{Host, Shelf, ShelfName};
-use entry_runs::{Class, Stop};
-use exchange_commands::{ack, export, upload};
+use door_outside::{Host, Shelf};
+use entry_runs::{AsText, Class, Stop};
+use exchange_commands::{AcknowledgedLine, PacketLine, UploadedText, ack, export, upload};
 use mail_board::Loaded;
-use message_commands::{import, kill, sample};
-use packet_commands::{list, read, scan, show};
-use reply_commands::{compose, reply};
+use message_commands::{ImportedLine, KilledLine, SampledLine, import, kill, sample};
+use packet_commands::{CountLine, list, read, scan, show};
+use reply_commands::{ComposedLine, RepliedLine, compose, reply};
+use shelf_files::say_served;
 use std::alloc::Global;
 use toss_commands::toss;
-
-/// Adds a reply to a reply packet. The name is copied first, since no memory is taken once the packet is written.
-fn carry_out_reply<S: Shelf>(
-    alloc: Global,
-    shelf: &mut S,
-    folder: &ShelfName,
-    place: u32,
-    text: &ShelfName,
-    rep: &ShelfName,
-    now: u32,
-) -> Result<Answer, Stop>
-    requires { HasParts 3 folder.now }
-    ensures serves { IsTrue S.tells → Serves (replies folder.now place text.now rep.now now) (S.files shelf.old) (S.files shelf.new) (answered result) }
-    ensures causes { StopCauses (S.faults shelf.old) (S.faults shelf.new) result }
-    ensures undamaged { IfOk result (λ answer. (reply_of answer).class ≢ Class.Damaged) }
-{
-    let Ok(name) = rep.copy(alloc) else {
-        return Err(Stop::OutOfMemory);
-    };
-    Answer::of_replied(
-        place,
-        name,
-        reply(alloc, shelf, folder, place, text, rep, now),
-    )
-}
-
-/// Adds the messages of a sheet to a reply packet. The name is copied first.
-fn carry_out_compose<S: Shelf>(
-    alloc: Global,
-    shelf: &mut S,
-    folder: &ShelfName,
-    conference: u32,
-    sheet: &ShelfName,
-    rep: &ShelfName,
-    now: u32,
-) -> Result<Answer, Stop>
-    requires { HasParts 3 folder.now }
-    ensures serves { IsTrue S.tells → Serves (composes folder.now conference sheet.now rep.now now) (S.files shelf.old) (S.files shelf.new) (answered result) }
-    ensures causes { StopCauses (S.faults shelf.old) (S.faults shelf.new) result }
-    ensures undamaged { IfOk result (λ answer. (reply_of answer).class ≢ Class.Damaged) }
-{
-    let Ok(name) = rep.copy(alloc) else {
-        return Err(Stop::OutOfMemory);
-    };
-    Answer::of_composed(
-        name,
-        compose(alloc, shelf, folder, conference, sheet, rep, now),
-    )
-}
-
-/// Carries out a command by which a caller gets his mail or answers it.
-fn carry_out_for_caller<H: Host, S: Shelf>(
-    alloc: Global,
-    host: &mut H,
-    shelf: &mut S,
-    kept: &mut Option<Loaded>,
-    command: &Command,
-    now: u32,
-) -> Result<Answer, Stop>
-    requires can_run { CanRun command.now }
-    requires caller { IsForCaller command.now }
-    requires sure { AreSure kept.old }
-    requires kept { IsTrue H.tells → IsKept kept.old (H.disk host.old) }
-    ensures works { IsTrue H.tells → IsTrue S.tells → CommandWorks now command.now (H.disk host.old) (H.disk host.new) (S.files shelf.old) (S.files shelf.new) (answered result) }
-    ensures sure { AreSure kept.new }
-    ensures kept { IsTrue H.tells → IsKept kept.new (H.disk host.new) }
-    ensures causes { HasCauses (counts (H.disk_faults host.old) (H.voice_faults host.old) (S.faults shelf.old)) (counts (H.disk_faults host.new) (H.voice_faults host.new) (S.faults shelf.new)) (ended result) }
-    ensures damaged { IfOk result (λ answer. (reply_of answer).class ≡ Class.Damaged → IsTrue (does now command.now).reach.board) }
-    ensures shelf_stays { uses_shelf command.now ≡ false → shelf.new ≡ shelf.old }
-    ensures wrote { IsTrue H.tells → IsTrue S.tells → CommandKeepsBound now command.now (H.disk host.old) (H.disk host.new) (S.files shelf.old) }
-{
-    match command {
-        Command::Ack { user, packet } => Answer::of_acknowledged(
-            *packet,
-            ack(alloc, host, kept, user.as_slice(), *packet, now),
-        ),
-        Command::Export {
-            user,
-            limit,
-            folder,
-        } => Answer::of_exported(export(
-            alloc,
-            host,
-            shelf,
-            kept,
-            user.as_slice(),
-            *limit,
-            folder,
-            now,
-        )),
-        Command::Upload { user, file } => Answer::of_uploaded(upload(
-            alloc,
-            host,
-            shelf,
-            kept,
-            user.as_slice(),
-            file,
-            now,
-        )),
-        _ => unreachable!(),
-    }
-}
-
-/// Carries out a command that touches the board, and answers what is to be said of it.
-fn carry_out_on_board<H: Host, S: Shelf>(
-    alloc: Global,
-    host: &mut H,
-    shelf: &mut S,
-    kept: &mut Option<Loaded>,
-    command: &Command,
-    now: u32,
-) -> Result<Answer, Stop>
-    requires can_run { CanRun command.now }
-    requires board { IsTrue (does now command.now).reach.board }
-    requires sure { AreSure kept.old }
-    requires kept { IsTrue H.tells → IsKept kept.old (H.disk host.old) }
-    ensures works { IsTrue H.tells → IsTrue S.tells → CommandWorks now command.now (H.disk host.old) (H.disk host.new) (S.files shelf.old) (S.files shelf.new) (answered result) }
-    ensures sure { AreSure kept.new }
-    ensures kept { IsTrue H.tells → IsKept kept.new (H.disk host.new) }
-    ensures causes { HasCauses (counts (H.disk_faults host.old) (H.voice_faults host.old) (S.faults shelf.old)) (counts (H.disk_faults host.new) (H.voice_faults host.new) (S.faults shelf.new)) (ended result) }
-    ensures damaged { IfOk result (λ answer. (reply_of answer).class ≡ Class.Damaged → IsTrue (does now command.now).reach.board) }
-    ensures shelf_stays { uses_shelf command.now ≡ false → shelf.new ≡ shelf.old }
-    ensures wrote { IsTrue H.tells → IsTrue S.tells → CommandKeepsBound now command.now (H.disk host.old) (H.disk host.new) (S.files shelf.old) }
-{
-    match command {
-        Command::Ack { .. } | Command::Export { .. } | Command::Upload { .. } => {
-            carry_out_for_caller(alloc, host, shelf, kept, command, now)
-        }
-        Command::Check => Answer::of_report(check(alloc, host, kept)),
-        Command::Enroll {
-            name,
-            flags,
-            conferences,
-        } => Answer::of_enrolled(enroll(
-            alloc,
-            host,
-            kept,
-            name.as_slice(),
-            flags.as_slice(),
-            conferences.as_slice(),
-        )),
-        Command::Import { conference, file } => Answer::of_imported(
-            *conference,
-            import(alloc, host, shelf, kept, *conference, file, now),
-        ),
-        Command::Init { file } => Answer::of_made(init(alloc, host, shelf, kept, file, now)),
-        Command::Kill { conference, number } => Answer::of_killed(
-            *conference,
-            *number,
-            kill(alloc, host, kept, *conference, *number),
-        ),
-        Command::Sample { seed, count } => {
-            Answer::of_sampled(sample(alloc, host, kept, *seed, *count, now))
-        }
-        Command::Adopt { conference, prefix } => {
-            let prefix = prefix.as_slice();
-            Answer::of_report(adopt(alloc, host, shelf, kept, *conference, prefix))
-        }
-        Command::Toss { file } => Answer::of_report(toss(alloc, host, shelf, kept, file, now)),
-        _ => unreachable!(),
-    }
-}
-
-/// Carries out a command, and answers what is to be said of it.
-fn carry_out<H: Host, S: Shelf>(
-    alloc: Global,
-    host: &mut H,
-    shelf: &mut S,
-    kept: &mut Option<Loaded>,
-    command: &Command,
-    now: u32,
-) -> Result<Answer, Stop>
-    requires can_run { CanRun command.now }
-    requires sure { AreSure kept.old }
-    requires kept { IsTrue H.tells → IsKept kept.old (H.disk host.old) }
-    ensures works { IsTrue H.tells → IsTrue S.tells → CommandWorks now command.now (H.disk host.old) (H.disk host.new) (S.files shelf.old) (S.files shelf.new) (answered result) }
-    ensures sure { AreSure kept.new }
-    ensures kept { IsTrue H.tells → IsKept kept.new (H.disk host.new) }
-    ensures causes { HasCauses (counts (H.disk_faults host.old) (H.voice_faults host.old) (S.faults shelf.old)) (counts (H.disk_faults host.new) (H.voice_faults host.new) (S.faults shelf.new)) (ended result) }
-    ensures damaged { IfOk result (λ answer. (reply_of answer).class ≡ Class.Damaged → IsTrue (does now command.now).reach.board) }
-    ensures host_stays { (does now command.now).reach.board ≡ false → host.new ≡ host.old }
-    ensures shelf_stays { uses_shelf command.now ≡ false → shelf.new ≡ shelf.old }
-    ensures wrote { IsTrue H.tells → IsTrue S.tells → CommandKeepsBound now command.now (H.disk host.old) (H.disk host.new) (S.files shelf.old) }
-{
-    match command {
-        Command::Compose {
-            folder,
-            conference,
-            sheet,
-            rep,
-        } => carry_out_compose(alloc, shelf, folder, *conference, sheet, rep, now),
-        Command::List { file } => Answer::of_text(list(alloc, shelf, file)),
-        Command::Read { folder } => Answer::of_text(read(alloc, shelf, folder)),
-        Command::Reply {
-            folder,
-            place,
-            text,
-            rep,
-        } => carry_out_reply(alloc, shelf, folder, *place, text, rep, now),
-        Command::Show { folder, place } => Answer::of_text(show(alloc, shelf, folder, *place)),
-        Command::Scan { file } => Answer::of_count(scan(alloc, shelf, file)),
-        Command::Ack { .. }
-        | Command::Adopt { .. }
-        | Command::Check
-        | Command::Enroll { .. }
-        | Command::Export { .. }
-        | Command::Import { .. }
-        | Command::Init { .. }
-        | Command::Kill { .. }
-        | Command::Sample { .. }
-        | Command::Toss { .. }
-        | Command::Upload { .. } => { carry_out_on_board(alloc, host, shelf, kept, command, now) }
-        Command::Batch { .. } => unreachable!(),
-    }
-}
 
 /// Carries out a command and says its reply.
 fn perform_command<H: Host, S: Shelf>(
@@ -266,8 +46,108 @@ fn perform_command<H: Host, S: Shelf>(
     ensures shelf_stays { uses_shelf command.now ≡ false → shelf.new ≡ shelf.old }
     ensures wrote { IsTrue H.tells → IsTrue S.tells → CommandKeepsBound now command.now (H.disk host.old) (H.disk host.new) (S.files shelf.old) }
 {
-    let answer = carry_out(alloc, host, shelf, kept, command, now)?;
-    answer.class().once_said(answer.say(host))
+    match command {
+        Command::Compose {
+            folder,
+            conference,
+            sheet,
+            rep,
+        } => say_served(
+            &ComposedLine { rep },
+            compose(alloc, shelf, folder, *conference, sheet, rep, now),
+            host,
+        ),
+        Command::List { file } => say_served(&AsText, list(alloc, shelf, file), host),
+        Command::Read { folder } => say_served(&AsText, read(alloc, shelf, folder), host),
+        Command::Reply {
+            folder,
+            place,
+            text,
+            rep,
+        } => say_served(
+            &RepliedLine { place: *place, rep },
+            reply(alloc, shelf, folder, *place, text, rep, now),
+            host,
+        ),
+        Command::Show { folder, place } => {
+            say_served(&AsText, show(alloc, shelf, folder, *place), host)
+        }
+        Command::Scan { file } => say_served(&CountLine, scan(alloc, shelf, file), host),
+        Command::Ack { user, packet } => say_told(
+            &AcknowledgedLine { packet: *packet },
+            ack(alloc, host, kept, user.as_slice(), *packet, now),
+            host,
+        ),
+        Command::Adopt { conference, prefix } => say_told(
+            &AsText,
+            adopt(alloc, host, shelf, kept, *conference, prefix.as_slice()),
+            host,
+        ),
+        Command::Check => say_told(&AsText, check(alloc, host, kept), host),
+        Command::Enroll {
+            name,
+            flags,
+            conferences,
+        } => say_told(
+            &EnrolledLine,
+            enroll(
+                alloc,
+                host,
+                kept,
+                name.as_slice(),
+                flags.as_slice(),
+                conferences.as_slice(),
+            ),
+            host,
+        ),
+        Command::Export {
+            user,
+            limit,
+            folder,
+        } => say_told(
+            &PacketLine,
+            export(
+                alloc,
+                host,
+                shelf,
+                kept,
+                user.as_slice(),
+                *limit,
+                folder,
+                now,
+            ),
+            host,
+        ),
+        Command::Import { conference, file } => say_told(
+            &ImportedLine {
+                conference: *conference,
+            },
+            import(alloc, host, shelf, kept, *conference, file, now),
+            host,
+        ),
+        Command::Init { file } => {
+            say_told(&MadeLine, init(alloc, host, shelf, kept, file, now), host)
+        }
+        Command::Kill { conference, number } => {
+            let (conference, number) = (*conference, *number);
+            let words = KilledLine { conference, number };
+            say_told(&words, kill(alloc, host, kept, conference, number), host)
+        }
+        Command::Sample { seed, count } => say_told(
+            &SampledLine,
+            sample(alloc, host, kept, *seed, *count, now),
+            host,
+        ),
+        Command::Toss { file } => {
+            say_told(&AsText, toss(alloc, host, shelf, kept, file, now), host)
+        }
+        Command::Upload { user, file } => say_told(
+            &UploadedText,
+            upload(alloc, host, shelf, kept, user.as_slice(), file, now),
+            host,
+        ),
+        Command::Batch { .. } => unreachable!(),
+    }
 }
 
 /// Carries out an entry and says its reply.

@@ -11,9 +11,11 @@ pub mod laws;
 mod placing;
 mod posts;
 mod sampling;
+mod saying;
 mod texts;
 
 pub use importing::import;
 pub use killing::kill;
 pub use placing::place_in;
 pub use sampling::sample;
+pub use saying::{ImportedLine, KilledLine, SampledLine};

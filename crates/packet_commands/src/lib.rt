@@ -6,10 +6,12 @@ mod folder;
 mod listing;
 mod packet_file;
 mod reading;
+mod saying;
 mod scanning;
 
 pub use control_file::control_in;
 pub use folder::{Packet, control_name, folder_in, messages_name};
 pub use listing::list;
 pub use reading::{read, show};
+pub use saying::CountLine;
 pub use scanning::scan;

@@ -7,7 +7,9 @@ mod enlarging;
 mod putting;
 mod rep_file;
 mod replying;
+mod saying;
 
 pub use composing::compose;
 pub use putting::Added;
 pub use replying::reply;
+pub use saying::{ComposedLine, RepliedLine};
