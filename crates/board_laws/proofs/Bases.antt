@@ -1,12 +1,15 @@
 -- A conference with its shape after a change: its slots follow the ones before, and so do its pointers.
-use Rattle.std.proofs.Common.{◌≡◌, ◌≢◌, ℕ, Bool, true, false, cond, List, [], ◌∷◌, length, length-append, length-set, Option, Some, None, refl, ◌∙◌, arith}
+use Rattle.std.proofs.Common.{◌≡◌, ◌≢◌, ℕ, Bool, true, false, cond, List, [], ◌∷◌, length, length-append, length-set, Option, Some, None, refl, sym, ap, ◌∙◌, subst, arith}
 use Rattle.std.specs.Prelude.{option_map}
 use Rattle.jam_base.specs.Contents.{Contents, pointer_of, pointers_with, reader_place, with_acknowledged, with_deleted, with_messages, with_pointer, with_reader, with_received, with_slots, receipt_to}
 use Rattle.jam_base.specs.Slots.{any_due, has_live, slots_received}
 use Rattle.jam_base.specs.declared.receipt.Receipt.{Receipt}
 use Rattle.jam_records.specs.declared.message.Message.{Message}
 use Rattle.board_laws.proofs.Readers.{PointerFollows, pointer_more, pointer_other, pointer_own}
-use Rattle.board_laws.proofs.Slots.{SlotsFollow, appended_follow, deleted_follow, received_follow, slots_themselves}
+use Rattle.board_laws.proofs.Slots.{SlotsFollow, appended_follow, deleted_follow, packed_follow, received_follow, slots_themselves}
+use Rattle.jam_layout.specs.declared.shape.Shape.{Shape}
+use Rattle.slot_changes.proofs.PackLaws.{packed_pointers, packed_shape, packed_slots}
+use Rattle.slot_changes.specs.Packed.{with_packed}
 
 -- a pointer for each reader
 abbrev pub IsEven : Contents → Type 0
@@ -35,6 +38,16 @@ appended_pointer id (m ∷ messages) base = refl
 -- ---- a message deleted
 pub deleted_grows : (number : ℕ) (base : Contents) → has_live number base.conference.slots ≡ true → BaseGrows base (with_deleted number base)
 deleted_grows number base live = record { slots = deleted_follow number base.conference.slots live; even = λ is. is }
+
+-- ---- a pack
+pub packed_grows : (base : Contents) → BaseGrows base (with_packed base)
+packed_grows base = record {
+  slots = subst (SlotsFollow base.conference.slots) (sym (packed_slots base)) (packed_follow base.conference.slots);
+  even = λ is. ap length (packed_pointers base) ∙ (is ∙ ap (λ (s : Shape). length s.readers) (sym (packed_shape base)));
+}
+
+pub packed_pointer : (id : ℕ) (base : Contents) → pointer_in id (with_packed base) ≡ pointer_in id base
+packed_pointer id base = λ i. pointer_of id (packed_shape base i).readers (packed_pointers base i)
 
 -- ---- a reader more
 pub joined_grows : (id : ℕ) (name : List ℕ) (base : Contents) → BaseGrows base (with_reader id name base)

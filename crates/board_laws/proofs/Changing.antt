@@ -56,7 +56,7 @@ module _ (b : Board) (whole : IsWhole b) where
       length-map bases (λ (base : Contents). base.conference)
       ∙ (same ∙ (sym (length-map (contents_of b) (λ (base : Contents). base.conference)) ∙ (ap (length {A = Conference}) (conferences_are b whole) ∙ whole.count)))
 
-  one_count : (place : ℕ) (f : Contents → Contents) (o : Option Contents) → length (with_base place (option_map f o) b).conferences ≡ length (with_base place (option_map f o) b).ledger.setup.conferences
+  pub one_count : (place : ℕ) (f : Contents → Contents) (o : Option Contents) → length (with_base place (option_map f o) b).conferences ≡ length (with_base place (option_map f o) b).ledger.setup.conferences
   one_count place f None = whole.count
   one_count place f (Some base) = conferences_count (set (contents_of b) place (f base)) (length-set (contents_of b) place (f base))
 
@@ -98,7 +98,7 @@ module _ (b : Board) (whole : IsWhole b) where
 
   -- ---- the pointers of a user
   module _ (id : ℕ) where
-    abbrev Follows : Contents → Contents → Type 0
+    abbrev pub Follows : Contents → Contents → Type 0
     Follows x y = PointerFollows (user_of id b ≡ None) (pointer_in id x) (pointer_in id y)
 
     -- the change is an acknowledgement by the user
@@ -117,7 +117,7 @@ module _ (b : Board) (whole : IsWhole b) where
         cond-false (eqb id 0) None (slice_get b.ledger.users (id - 1)) (ne_eqb id 0 (λ none. omega (arith, is, none)))
         ∙ slice_get_past b.ledger.users (id - 1) (omega (arith, is))
 
-    itself : (x : Contents) → Follows x x
+    pub itself : (x : Contents) → Follows x x
     itself x = inl refl
 
     follows : (change : Change) → (AcksBy change → ⊥) → Suits b whole Follows itself change
@@ -129,7 +129,7 @@ module _ (b : Board) (whole : IsWhole b) where
     follows (Acknowledge user packet now) apart = λ name high x. inl (read_pointer_other user name high now x id (λ same. apart (sym same)))
     follows (Upload user digest refused posts) apart = λ ms x. inl (appended_pointer id ms x)
 
-    at_place : (xs ys : List Contents) (place : ℕ) → AllZip Follows xs ys → PointerFollows (user_of id b ≡ None) (option_and_then (pointer_in id) (slice_get xs place)) (option_and_then (pointer_in id) (slice_get ys place))
+    pub at_place : (xs ys : List Contents) (place : ℕ) → AllZip Follows xs ys → PointerFollows (user_of id b ≡ None) (option_and_then (pointer_in id) (slice_get xs place)) (option_and_then (pointer_in id) (slice_get ys place))
     at_place [] [] place zip = inl refl
     at_place [] (y ∷ ys) place zip = absurd zip
     at_place (x ∷ xs) [] place zip = absurd zip

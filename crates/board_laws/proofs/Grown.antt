@@ -136,7 +136,7 @@ module _ (b : Board) (whole : IsWhole b) (R : Contents → Contents → Type 0) 
   shapes_set (z ∷ bases) zero x y here same = ap (λ (s : Shape). s ∷ shapes_in bases) (same ∙ ap (λ (c : Contents). c.shape) (sym (same_Some z x here)))
   shapes_set (z ∷ bases) (suc k) x y here same = ap (λ (ss : List Shape). z.shape ∷ ss) (shapes_set bases k x y here same)
 
-  zip_one : (place : ℕ) (f : Contents → Contents) → ((x : Contents) → (f x).shape ≡ x.shape) → ((x : Contents) → R x (f x)) → AllZip R (contents_of b) (contents_of (with_base place (option_map f (base_at place b)) b))
+  pub zip_one : (place : ℕ) (f : Contents → Contents) → ((x : Contents) → (f x).shape ≡ x.shape) → ((x : Contents) → R x (f x)) → AllZip R (contents_of b) (contents_of (with_base place (option_map f (base_at place b)) b))
   zip_one place f shape is = by (base_at place b) refl
     where
       by : (o : Option Contents) → base_at place b ≡ o → AllZip R (contents_of b) (contents_of (with_base place (option_map f o) b))

@@ -8,6 +8,7 @@ pub mod OpenOffers
 pub mod Users
 pub mod Changing
 pub mod Views
+pub mod Moves
 pub mod Turns
 pub mod Uploads
 pub mod Sequences

@@ -11,6 +11,7 @@ use Rattle.board_commands.specs.State.{State, Made, migrated, state_of}
 use Rattle.board_commands.specs.Turns.{Turn}
 use Rattle.board_layout.specs.Board.{Board}
 use Rattle.board_layout.specs.Lookups.{user_of}
+use Rattle.board_laws.proofs.Moves.{Makes, Move, Packs, moved}
 use Rattle.board_laws.proofs.OpenOffers.{after_ack}
 use Rattle.board_laws.proofs.Sequences.{AreCommands, IsOfBoard, after_one, does_made, onward, same_made}
 use Rattle.board_laws.proofs.Uploads.{UploadTurns, WasJudged, counts_of, same_counts, upload_turns}
@@ -55,6 +56,10 @@ records_more (Acknowledge user packet now) b = after_ack (λ (c : Board). (more 
     ([], sym (append-nil b.ledger.uploads)) (λ u here o. ([], sym (append-nil b.ledger.uploads)))
 records_more (Upload user digest refused posts) b = (record_of user digest refused posts ∷ [], refl)
 
+records_moved : (move : Move) (b : Board) → (more : List UploadRecord) × ((moved move b).ledger.uploads ≡ b.ledger.uploads ++ more)
+records_moved (Makes change) b = records_more change b
+records_moved (Packs place) b = ([], ap (λ (l : Ledger). l.uploads) (same_ledger place _ b) ∙ sym (append-nil b.ledger.uploads))
+
 -- the record is of this user and digest
 abbrev is_of : ℕ → List ℕ → UploadRecord → Bool
 is_of user digest r = eqb r.user user && bytes_eq r.digest digest
@@ -78,10 +83,10 @@ known_more user digest xs ys counts = by (find (is_of user digest) xs) refl
     by None none is = absurd (none-some counts is)
     by (Some r) there is = ap counts_in (found_more (is_of user digest) xs ys r there) ∙ is
 
-known_stays : (change : Change) (b : Board) (user : ℕ) (digest : List ℕ) (counts : Counts) → upload_of user digest b ≡ Some counts → upload_of user digest (changed change b) ≡ Some counts
+known_stays : (move : Move) (b : Board) (user : ℕ) (digest : List ℕ) (counts : Counts) → upload_of user digest b ≡ Some counts → upload_of user digest (moved move b) ≡ Some counts
 unfolding counts_in
-known_stays change b user digest counts known =
-    let more = records_more change b in
+known_stays move b user digest counts known =
+    let more = records_moved move b in
     ap (λ (rs : List UploadRecord). counts_in (find (is_of user digest) rs)) more.1 ∙ known_more user digest b.ledger.uploads more.0 counts known
 
 -- ---- a record more
@@ -158,7 +163,7 @@ module _ {Entry : Type 0} (command_of : Entry → BoardCommand) (Step : Steps En
 
     known_at : (j : ℕ) → i < j → (b : Board) × LeadsTo start deeds j b × IsKnown j b
     known_at j order =
-        onward command_of Step commands start deeds are IsKnown (suc i) (λ n d b change from is board because known. known_stays change b user digest counts known) (λ n b known. known) j (omega (arith, order)) first_board
+        onward command_of Step commands start deeds are IsKnown (suc i) (λ n d b move from is board because known. known_stays move b user digest counts known) (λ n b known. known) j (omega (arith, order)) first_board
 
     known_then : (j : ℕ) → i < j → (later : IsUpload command_of start deeds j user digest) → upload_of user digest later.board ≡ Some counts
     known_then j order later =

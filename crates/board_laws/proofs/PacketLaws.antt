@@ -5,8 +5,9 @@ use Rattle.std.proofs.lemmas.Option.{same_Some}
 use Rattle.board_commands.specs.State.{State, Made, migrated, state_of}
 use Rattle.board_layout.specs.Board.{Board}
 use Rattle.board_layout.specs.Lookups.{user_of}
+use Rattle.board_laws.proofs.Moves.{Move, moved, users_moved}
 use Rattle.board_laws.proofs.Sequences.{AreCommands, IsOfBoard, after_one, does_made, onward, same_made}
-use Rattle.board_laws.proofs.Users.{offered_there, user_follows, user_still}
+use Rattle.board_laws.proofs.Users.{offered_there, user_still}
 use Rattle.board_laws.specs.BoardCommand.{BoardCommand, Export, does}
 use Rattle.board_laws.specs.History.{Deed, IsHistory, LeadsTo, Steps}
 use Rattle.board_laws.specs.Passed.{IsExport, PacketsRise}
@@ -17,7 +18,6 @@ use Rattle.exchange_commands.specs.Export.{handing_of}
 use Rattle.exchange_commands.specs.Handing.{Handing}
 use Rattle.mail_board.specs.Changes.{changed}
 use Rattle.mail_board.specs.Readers.{user_id}
-use Rattle.mail_board.specs.declared.change.Change.{Change}
 use Rattle.mail_board.specs.declared.change.Change.TheVariants.{Offer}
 use Rattle.offer_changes.specs.Changed.{with_offer}
 use Rattle.offered_packets.specs.Offered.{highs, offered}
@@ -43,9 +43,9 @@ module _ {Entry : Type 0} (command_of : Entry → BoardCommand) (Step : Steps En
   abbrev HasPacket : ℕ → ℕ → Board → Type 0
   HasPacket packet n b = (u : User) × (user_of user b ≡ Some u) × (packet ≤ u.last)
 
-  still_has : (packet n : ℕ) (b : Board) (change : Change) → HasPacket packet n b → HasPacket packet (suc n) (changed change b)
-  still_has packet n b change (u, there, least) =
-      let v = user_still (user_of user b) (user_of user (changed change b)) u (user_follows user b change) there in
+  still_has : (packet n : ℕ) (b : Board) (move : Move) → HasPacket packet n b → HasPacket packet (suc n) (moved move b)
+  still_has packet n b move (u, there, least) =
+      let v = user_still (user_of user b) (user_of user (moved move b)) u (users_moved user b move) there in
       (v.0, v.1, omega (arith, least, v.2))
 
   -- ---- one export
@@ -76,7 +76,7 @@ module _ {Entry : Type 0} (command_of : Entry → BoardCommand) (Step : Steps En
 
   pub rises : (i j packet later : ℕ) → i < j → IsExport command_of start deeds i user packet → IsExport command_of start deeds j user later → packet < later
   rises i j packet later order one other =
-      let reached = onward command_of Step commands start deeds are (HasPacket packet) (suc i) (λ n d b change from is board because has. still_has packet n b change has) (λ n b has. has) j (omega (arith, order)) (first i packet one) in
+      let reached = onward command_of Step commands start deeds are (HasPacket packet) (suc i) (λ n d b move from is board because has. still_has packet n b move has) (λ n b has. has) j (omega (arith, order)) (first i packet one) in
       let same : Made reached.0 ≡ Made other.board = sym reached.1 ∙ other.carried.board_is in
       by (subst (HasPacket packet j) (same_made reached.0 other.board same) reached.2) (number_is j later other)
     where

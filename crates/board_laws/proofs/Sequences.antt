@@ -7,14 +7,13 @@ use Rattle.board_commands.specs.State.{State, NotMade, Made, Old, Spoiled, migra
 use Rattle.board_layout.specs.Board.{Board}
 use Rattle.board_layout.specs.Valid.{IsBoard}
 use Rattle.door_outside.specs.Shelf.{Files}
-use Rattle.board_laws.proofs.Turns.{Because, FromNone, Turns, from_none, turn_on}
+use Rattle.board_laws.proofs.Moves.{Move, moved}
+use Rattle.board_laws.proofs.Turns.{BecauseOf, FromNone, Turns, from_none, turn_on}
 use Rattle.board_laws.specs.BoardCommand.{BoardCommand, does}
 use Rattle.board_laws.specs.BoardCommand as command
 use Rattle.board_laws.specs.History.{Deed, Steps, IsBeginning, IsHistory, LeadsTo, after, left_by}
 use Rattle.entry_runs.specs.Door.{World, here}
 use Rattle.entry_runs.specs.Runs.{Stepped}
-use Rattle.mail_board.specs.Changes.{changed}
-use Rattle.mail_board.specs.declared.change.Change.{Change}
 use Rattle.setup_file.specs.declared.setup.Setup.{Setup}
 
 -- each entry does to a board what its command does
@@ -34,6 +33,7 @@ IsOfBoard (command.Import conference file) = Unit {0}
 IsOfBoard (command.Adopt conference prefix) = Unit {0}
 IsOfBoard (command.Toss file) = Unit {0}
 IsOfBoard (command.Kill conference number) = Unit {0}
+IsOfBoard (command.Pack conference) = Unit {0}
 IsOfBoard (command.Export name limit folder) = Unit {0}
 IsOfBoard (command.Ack name packet) = Unit {0}
 IsOfBoard (command.Upload name file) = Unit {0}
@@ -48,6 +48,7 @@ of_board (command.Import conference file) = inl tt
 of_board (command.Adopt conference prefix) = inl tt
 of_board (command.Toss file) = inl tt
 of_board (command.Kill conference number) = inl tt
+of_board (command.Pack conference) = inl tt
 of_board (command.Export name limit folder) = inl tt
 of_board (command.Ack name packet) = inl tt
 of_board (command.Upload name file) = inl tt
@@ -63,6 +64,7 @@ as_today now (command.Import conference file) b shelf stepped own step = step
 as_today now (command.Adopt conference prefix) b shelf stepped own step = step
 as_today now (command.Toss file) b shelf stepped own step = step
 as_today now (command.Kill conference number) b shelf stepped own step = step
+as_today now (command.Pack conference) b shelf stepped own step = step
 as_today now (command.Export name limit folder) b shelf stepped own step = step
 as_today now (command.Ack name packet) b shelf stepped own step = step
 as_today now (command.Upload name file) b shelf stepped own step = step
@@ -103,9 +105,9 @@ module _ {Entry : Type 0} (command_of : Entry → BoardCommand) (Step : Steps En
       by (inr off) = inl (off d.now (here (after start deeds n) d.shelf) d.stepped (does_on n d (after start deeds n) is refl))
 
   -- ---- from a board on
-  -- what holds of a board after the first n deeds, and is kept by each change
+  -- what holds of a board after the first n deeds, and is kept by each change or pack
   module _ (P : ℕ → Board → Type 0) (i : ℕ)
-      (next : (n : ℕ) (d : Deed Entry) (b : Board) (change : Change) → i ≤ n → slice_get deeds n ≡ Some d → LeadsTo start deeds n b → Because d.now b (command_of d.entry) d.stepped.class change → P n b → P (suc n) (changed change b))
+      (next : (n : ℕ) (d : Deed Entry) (b : Board) (move : Move) → i ≤ n → slice_get deeds n ≡ Some d → LeadsTo start deeds n b → BecauseOf d.now b (command_of d.entry) d.stepped.class move → P n b → P (suc n) (moved move b))
       (idle : (n : ℕ) (b : Board) → P n b → P (suc n) b) where
     -- there is a board of which it holds
     abbrev pub Reaches : ℕ → Type 0
@@ -117,7 +119,7 @@ module _ {Entry : Type 0} (command_of : Entry → BoardCommand) (Step : Steps En
         turned : (d : Deed Entry) → slice_get deeds n ≡ Some d → TurnsAt n d b → Reaches (suc n)
         turned d is (inl still) = (b, ap migrated (after_one n d is ∙ still) ∙ board, idle n b holds)
         turned d is (inr (inl same)) = (b, ap migrated (after_one n d is ∙ same), idle n b holds)
-        turned d is (inr (inr (change, becomes, because))) = (changed change b, ap migrated (after_one n d is ∙ becomes), next n d b change from is board because holds)
+        turned d is (inr (inr (move, becomes, because))) = (moved move b, ap migrated (after_one n d is ∙ becomes), next n d b move from is board because holds)
 
         by : (o : Option (Deed Entry)) → slice_get deeds n ≡ o → Reaches (suc n)
         by None none = (b, ap migrated (after_none n none) ∙ board, idle n b holds)
@@ -131,10 +133,10 @@ module _ {Entry : Type 0} (command_of : Entry → BoardCommand) (Step : Steps En
         (cases_eq i (suc j))
 
   -- ---- from the beginning on
-  -- what holds of the board with which they begin, and of each that is made, and is kept by each change
+  -- what holds of the board with which they begin, and of each that is made, and is kept by each change or pack
   module _ (P : ℕ → Board → Type 0) (begins : IsBeginning start) (first : (b : Board) → IsBoard b → migrated start ≡ Made b → P zero b)
       (fresh : (n : ℕ) (setup : Setup) (now : ℕ) → P (suc n) (made setup now))
-      (next : (n : ℕ) (d : Deed Entry) (b : Board) (change : Change) → slice_get deeds n ≡ Some d → LeadsTo start deeds n b → Because d.now b (command_of d.entry) d.stepped.class change → P n b → P (suc n) (changed change b))
+      (next : (n : ℕ) (d : Deed Entry) (b : Board) (move : Move) → slice_get deeds n ≡ Some d → LeadsTo start deeds n b → BecauseOf d.now b (command_of d.entry) d.stepped.class move → P n b → P (suc n) (moved move b))
       (idle : (n : ℕ) (b : Board) → P n b → P (suc n) b) where
     Holds : ℕ → State → Type 0
     Holds n NotMade = Unit {0}
@@ -158,7 +160,7 @@ module _ {Entry : Type 0} (command_of : Entry → BoardCommand) (Step : Steps En
     unfolding Holds
     turned n d b is board held holds (inl still) = subst (Holds (suc n)) (sym still) (idles n (after start deeds n) held)
     turned n d b is board held holds (inr (inl same)) = subst (Holds (suc n)) (sym same) (idle n b holds)
-    turned n d b is board held holds (inr (inr (change, becomes, because))) = subst (Holds (suc n)) (sym becomes) (next n d b change is board because holds)
+    turned n d b is board held holds (inr (inr (move, becomes, because))) = subst (Holds (suc n)) (sym becomes) (next n d b move is board because holds)
 
     at_board : (n : ℕ) (d : Deed Entry) (s : State) (b : Board) → migrated s ≡ Made b → slice_get deeds n ≡ Some d → after start deeds n ≡ s → Holds n s → P n b → Holds (suc n) d.stepped.world.state
     at_board n d s b leads is state held holds =

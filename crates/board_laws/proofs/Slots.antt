@@ -1,5 +1,5 @@
 -- What slots hold stays, but for marks: who sent a message, to whom, and whether it is private; and what is deleted stays
--- deleted. Further slots come at the end.
+-- deleted, or goes. Further slots come at the end.
 use Rattle.std.proofs.Common.{◌≡◌, ℕ, zero, suc, ◌+◌, ◌-◌, ◌<◌, ◌≤◌, Bool, true, false, cond, eqb, List, [], ◌∷◌, ◌++◌, length, get_or, set, map, refl, sym, ap, ◌∙◌, subst, inl, inr, arith, append_assoc}
 use Rattle.std.proofs.lemmas.Bool.{cases_eq, cases_lt, cond-false, cond-true, eq-eqb, ne_eqb, false≢true}
 use Rattle.std.proofs.lemmas.List.{append-nil, get_or_past}
@@ -9,6 +9,7 @@ use Rattle.jam_layout.specs.Conference.{is_live}
 use Rattle.jam_records.specs.declared.message.Message.{Message}
 use Rattle.jam_records.specs.declared.message.Slot.{Slot}
 use Rattle.jam_records.specs.declared.message.Slot.TheVariants.{Gone, Held}
+use Rattle.slot_changes.specs.Packed.{slot_packed, slots_packed}
 
 pub record MessageFollows (m n : Message) : Type 0 where
   pub from : n.from ≡ m.from
@@ -18,7 +19,7 @@ pub record MessageFollows (m n : Message) : Type 0 where
 
 abbrev pub SlotFollows : Slot → Slot → Type 0
 SlotFollows Gone s = s ≡ Gone
-SlotFollows (Held m) Gone = ⊥
+SlotFollows (Held m) Gone = m.deleted ≡ true
 SlotFollows (Held m) (Held n) = MessageFollows m n
 
 abbrev pub SlotsFollow : List Slot → List Slot → Type 0
@@ -77,6 +78,18 @@ received_itself name r n (Held m) = by (is_due name r n m)
 pub received_follow : (name : List ℕ) (r : Receipt) (n : ℕ) (slots : List Slot) → SlotsFollow slots (slots_received name r n slots)
 received_follow name r n [] = tt
 received_follow name r n (s ∷ slots) = (received_itself name r n s, received_follow name r (n + 1) slots)
+
+packed_itself : (s : Slot) → SlotFollows s (slot_packed s)
+packed_itself Gone = refl
+packed_itself (Held m) = by m.deleted refl
+  where
+    by : (d : Bool) → m.deleted ≡ d → SlotFollows (Held m) (cond d Gone (Held m))
+    by true is = is
+    by false is = slot_itself (Held m)
+
+pub packed_follow : (slots : List Slot) → SlotsFollow slots (slots_packed slots)
+packed_follow [] = tt
+packed_follow (s ∷ slots) = (packed_itself s, packed_follow slots)
 
 -- ---- what is found in them
 pub slots_count : (xs ys : List Slot) → SlotsFollow xs ys → length xs ≤ length ys

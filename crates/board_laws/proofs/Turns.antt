@@ -1,4 +1,4 @@
--- What each command makes of a board, and of no board: nothing, or one change, and then why.
+-- What each command makes of a board, and of no board: nothing, or one change, and then why, or a pack.
 use Rattle.std.proofs.Common.{◌≡◌, ◌⊎◌, ℕ, ◌+◌, Bool, true, false, cond, List, Option, Some, None, Result, Ok, Err, refl, ap, ◌∙◌, inl, inr}
 use Rattle.std.proofs.lemmas.Bool.{cond-false, cond-true}
 use Rattle.adopt_commands.specs.Adopt.{adopt_at, base_turn}
@@ -11,6 +11,7 @@ use Rattle.board_commands.specs.State.{State, NotMade, Made, state_of}
 use Rattle.board_commands.specs.Turns.{Turn, refuses}
 use Rattle.board_layout.specs.Board.{Board}
 use Rattle.board_layout.specs.Lookups.{user_of}
+use Rattle.board_laws.proofs.Moves.{Makes, Move, Packs, moved}
 use Rattle.board_laws.proofs.Uploads.{UploadTurns, upload_turns}
 use Rattle.board_laws.specs.BoardCommand.{BoardCommand, does}
 use Rattle.board_laws.specs.BoardCommand as command
@@ -33,7 +34,6 @@ use Rattle.fts_packet.specs.declared.packet.FtsMessage.{FtsMessage}
 use Rattle.import_sheet.specs.declared.sheet.Sheet.{Sheet}
 use Rattle.jam_adopt.specs.declared.found.Found.{Found}
 use Rattle.jam_records.specs.declared.message.Message.{Message}
-use Rattle.mail_board.specs.Changes.{changed}
 use Rattle.mail_board.specs.Readers.{is_offered, offer_of, place_of, user_id}
 use Rattle.mail_board.specs.declared.change.Change.{Change}
 use Rattle.mail_board.specs.declared.change.Change.TheVariants.{Enroll, Append, Spread, Kill, Offer, Acknowledge}
@@ -42,6 +42,7 @@ use Rattle.message_commands.specs.Import.{ImportsAt, appending, import_refusals,
 use Rattle.message_commands.specs.Kill.{has_message, kill_at, killed_line, killing}
 use Rattle.offer_changes.specs.Changed.{acknowledged}
 use Rattle.offered_packets.specs.Offered.{highs, offered}
+use Rattle.pack_commands.specs.Pack.{pack_at}
 use Rattle.packet_verdicts.specs.Judged.{judged, refused_count}
 use Rattle.message_commands.specs.Sample.{sample_refusals, sampled_posts, sampling}
 use Rattle.setup_file.specs.declared.setup.Setup.{Setup}
@@ -72,6 +73,7 @@ from_none now (command.Import conference file) shelf stepped (same, (turn, is, n
 from_none now (command.Adopt conference prefix) shelf stepped (same, (turn, is, next, reply)) = inl (next ∙ ap (λ (t : Turn). state_of t.board) is)
 from_none now (command.Toss file) shelf stepped (same, (turn, is, next, reply)) = inl (next ∙ ap (λ (t : Turn). state_of t.board) is)
 from_none now (command.Kill conference number) shelf stepped (same, (turn, is, next, reply)) = inl (next ∙ ap (λ (t : Turn). state_of t.board) is)
+from_none now (command.Pack conference) shelf stepped (same, (turn, is, next, reply)) = inl (next ∙ ap (λ (t : Turn). state_of t.board) is)
 from_none now (command.Export name limit folder) shelf stepped (handing, is, next, new, reply) = inl (next ∙ ap (λ (h : Handing). state_of h.board) is)
 from_none now (command.Ack name packet) shelf stepped (same, (turn, is, next, reply)) = inl (next ∙ ap (λ (t : Turn). state_of t.board) is)
 from_none now (command.Upload name file) shelf stepped (same, (turn, is, next, reply)) = inl (next ∙ ap (λ (t : Turn). state_of t.board) is)
@@ -112,22 +114,27 @@ Because now b c class (Offer user given) = Exporting now b c class user given
 Because now b c class (Acknowledge user packet at) = Acknowledging b c class user packet
 Because now b c class (change.Upload user digest refused posts) = Unit {0}
 
--- the board stays, or is changed
+-- and so of a pack, for which there is nothing to know
+abbrev pub BecauseOf : ℕ → Board → BoardCommand → Class → Move → Type 0
+BecauseOf now b c class (Makes change) = Because now b c class change
+BecauseOf now b c class (Packs place) = Unit {0}
+
+-- the board stays, or is moved on
 abbrev pub Turns : ℕ → Board → BoardCommand → State → Class → Type 0
-Turns now b c next class = (next ≡ Made b) ⊎ ((change : Change) × (next ≡ Made (changed change b)) × Because now b c class change)
+Turns now b c next class = (next ≡ Made b) ⊎ ((move : Move) × (next ≡ Made (moved move b)) × BecauseOf now b c class move)
 
 module _ (now : ℕ) (b : Board) (c : BoardCommand) (next : State) (class : Class) where
   -- ---- users and messages
   by_enroll : (name : List ℕ) (net : Bool) (choice : Choice) (why : Option Refusal) (turn : Turn) → turn ≡ enrolling name net choice b why → next ≡ state_of turn.board → Turns now b c next class
-  by_enroll name net choice None turn is then = inr (Enroll name net (places_from choice 0 b.ledger.setup.conferences), then ∙ ap (λ (t : Turn). state_of t.board) is, tt)
+  by_enroll name net choice None turn is then = inr (Makes (Enroll name net (places_from choice 0 b.ledger.setup.conferences)), then ∙ ap (λ (t : Turn). state_of t.board) is, tt)
   by_enroll name net choice (Some why) turn is then = inl (then ∙ ap (λ (t : Turn). state_of t.board) is)
 
   by_append : (conference place : ℕ) (messages : List Message) (why : Option Refusal) (turn : Turn) → turn ≡ appending conference place messages b why → next ≡ state_of turn.board → Turns now b c next class
-  by_append conference place messages None turn is then = inr (Append place messages, then ∙ ap (λ (t : Turn). state_of t.board) is, tt)
+  by_append conference place messages None turn is then = inr (Makes (Append place messages), then ∙ ap (λ (t : Turn). state_of t.board) is, tt)
   by_append conference place messages (Some why) turn is then = inl (then ∙ ap (λ (t : Turn). state_of t.board) is)
 
   by_sample : (seed count : ℕ) (why : Option Refusal) (turn : Turn) → turn ≡ sampling seed count now b why → next ≡ state_of turn.board → Turns now b c next class
-  by_sample seed count None turn is then = inr (Spread (sampled_posts seed now b count), then ∙ ap (λ (t : Turn). state_of t.board) is, tt)
+  by_sample seed count None turn is then = inr (Makes (Spread (sampled_posts seed now b count)), then ∙ ap (λ (t : Turn). state_of t.board) is, tt)
   by_sample seed count (Some why) turn is then = inl (then ∙ ap (λ (t : Turn). state_of t.board) is)
 
   by_sheet : (conference place : ℕ) (read : Result (List Sheet) Refusal) (turn : Turn) → turn ≡ sheet_turn conference now place b read → next ≡ state_of turn.board → Turns now b c next class
@@ -142,7 +149,7 @@ module _ (now : ℕ) (b : Board) (c : BoardCommand) (next : State) (class : Clas
 
   by_base : (conference place : ℕ) (read : Result (List Found) Refusal) (turn : Turn) → turn ≡ base_turn conference place b read → next ≡ state_of turn.board → Turns now b c next class
   by_base conference place (Err why) turn is then = inl (then ∙ ap (λ (t : Turn). state_of t.board) is)
-  by_base conference place (Ok records) turn is then = inr (Spread (adopted conference place b records).1, then ∙ ap (λ (t : Turn). state_of t.board) is, tt)
+  by_base conference place (Ok records) turn is then = inr (Makes (Spread (adopted conference place b records).1), then ∙ ap (λ (t : Turn). state_of t.board) is, tt)
 
   by_adopt : (conference : ℕ) (prefix : List ℕ) (shelf : Files) (o : Option ℕ) (turn : Turn) → turn ≡ adopt_at conference prefix shelf b o → next ≡ state_of turn.board → Turns now b c next class
   by_adopt conference prefix shelf None turn is then = inl (then ∙ ap (λ (t : Turn). state_of t.board) is)
@@ -150,17 +157,21 @@ module _ (now : ℕ) (b : Board) (c : BoardCommand) (next : State) (class : Clas
 
   by_packet : (read : Result (List FtsMessage) Refusal) (turn : Turn) → turn ≡ packet_turn now b read → next ≡ state_of turn.board → Turns now b c next class
   by_packet (Err why) turn is then = inl (then ∙ ap (λ (t : Turn). state_of t.board) is)
-  by_packet (Ok messages) turn is then = inr (Spread (tossed b now messages).1, then ∙ ap (λ (t : Turn). state_of t.board) is, tt)
+  by_packet (Ok messages) turn is then = inr (Makes (Spread (tossed b now messages).1), then ∙ ap (λ (t : Turn). state_of t.board) is, tt)
 
   by_kill : (conference number place : ℕ) (has : Bool) (turn : Turn) → has_message place number b ≡ has → turn ≡ killing conference number place b → next ≡ state_of turn.board → Turns now b c next class
   by_kill conference number place true turn has is then =
-      inr (Kill place number, then ∙ (ap (λ (t : Turn). state_of t.board) is ∙ ap (λ (t : Turn). state_of t.board) (cond-true (has_message place number b) (record { board = Some (deleted place number b); reply = done (killed_line conference number) }) (refuses NoMessage (Some b)) has)), tt)
+      inr (Makes (Kill place number), then ∙ (ap (λ (t : Turn). state_of t.board) is ∙ ap (λ (t : Turn). state_of t.board) (cond-true (has_message place number b) (record { board = Some (deleted place number b); reply = done (killed_line conference number) }) (refuses NoMessage (Some b)) has)), tt)
   by_kill conference number place false turn has is then =
       inl (then ∙ (ap (λ (t : Turn). state_of t.board) is ∙ ap (λ (t : Turn). state_of t.board) (cond-false (has_message place number b) (record { board = Some (deleted place number b); reply = done (killed_line conference number) }) (refuses NoMessage (Some b)) has)))
 
   by_kill_at : (conference number : ℕ) (o : Option ℕ) (turn : Turn) → turn ≡ kill_at conference number b o → next ≡ state_of turn.board → Turns now b c next class
   by_kill_at conference number None turn is then = inl (then ∙ ap (λ (t : Turn). state_of t.board) is)
   by_kill_at conference number (Some place) turn is then = by_kill conference number place (has_message place number b) turn refl is then
+
+  by_pack : (conference : ℕ) (o : Option ℕ) (turn : Turn) → turn ≡ pack_at conference b o → next ≡ state_of turn.board → Turns now b c next class
+  by_pack conference None turn is then = inl (then ∙ ap (λ (t : Turn). state_of t.board) is)
+  by_pack conference (Some place) turn is then = inr (Packs place, then ∙ ap (λ (t : Turn). state_of t.board) is, tt)
 
   -- ---- packets
   by_export : (name : List ℕ) (limit : ℕ) (folder : List ℕ) (shelf : Files) (handing : Handing) → c ≡ command.Export name limit folder → handing ≡ handing_of folder shelf b (export_of name limit now b) → next ≡ state_of handing.board
@@ -176,7 +187,7 @@ module _ (now : ℕ) (b : Board) (c : BoardCommand) (next : State) (class : Clas
       by_refusal : (id : ℕ) (u : User) → user_id name b ≡ Some id → user_of id b ≡ Some u → (why : Option ExportRefusal) → Ends (unless_refused (packet_to limit now b id u) why)
       by_refusal id u user there (Some why) given is = refused why given is
       by_refusal id u user there None given is = inr (
-        Offer id (highs b (offered b id limit)),
+        Makes (Offer id (highs b (offered b id limit))),
         then ∙ ap (λ (h : Handing). state_of h.board) is,
         record {
           name = name;
@@ -214,7 +225,7 @@ module _ (now : ℕ) (b : Board) (c : BoardCommand) (next : State) (class : Clas
       by_offer : (id : ℕ) → user_id name b ≡ Some id → (has : Bool) → is_offered id packet b ≡ has → Ends (cond has (Ok (acknowledged id packet now b)) (Err (NoPacket (offer_of id b))))
       by_offer id user false there is = refused (NoPacket (offer_of id b)) is
       by_offer id user true there is = inr (
-        Acknowledge id packet now,
+        Makes (Acknowledge id packet now),
         then ∙ ap (λ (t : Turn). state_of t.board) is,
         record {
           name = name;
@@ -237,7 +248,7 @@ module _ (now : ℕ) (b : Board) (c : BoardCommand) (next : State) (class : Clas
       by : UploadTurns now b user (sha256 bytes) next turn.reply → Turns now b c next class
       by (inl refused) = inl refused.same
       by (inr (inl again)) = inl again.same
-      by (inr (inr judgement)) = inr (change.Upload user (sha256 bytes) (refused_count (judged b user now judgement.messages).0) (judged b user now judgement.messages).1, judgement.made, tt)
+      by (inr (inr judgement)) = inr (Makes (change.Upload user (sha256 bytes) (refused_count (judged b user now judgement.messages).0) (judged b user now judgement.messages).1), judgement.made, tt)
 
   by_file : (file : List ℕ) (shelf : Files) (o : Option ℕ) (turn : Turn) → UploadsFile file now shelf b o turn → next ≡ state_of turn.board → Turns now b c next class
   by_file file shelf None turn is then = inl (then ∙ ap (λ (t : Turn). state_of t.board) is)
@@ -254,6 +265,7 @@ turn_on now b (command.Adopt conference prefix) shelf stepped (same, (turn, is, 
     by_adopt now b (command.Adopt conference prefix) stepped.world.state stepped.class conference prefix shelf (place_of conference b) turn is next
 turn_on now b (command.Toss file) shelf stepped (same, (turn, (read, reads, is), next, reply)) = by_packet now b (command.Toss file) stepped.world.state stepped.class read turn is next
 turn_on now b (command.Kill conference number) shelf stepped (same, (turn, is, next, reply)) = by_kill_at now b (command.Kill conference number) stepped.world.state stepped.class conference number (place_of conference b) turn is next
+turn_on now b (command.Pack conference) shelf stepped (same, (turn, is, next, reply)) = by_pack now b (command.Pack conference) stepped.world.state stepped.class conference (place_of conference b) turn is next
 turn_on now b (command.Export name limit folder) shelf stepped (handing, is, next, new, reply) =
     by_export now b (command.Export name limit folder) stepped.world.state stepped.class name limit folder shelf handing refl is next (ap (λ (r : Reply). r.class) reply)
 turn_on now b (command.Ack name packet) shelf stepped (same, (turn, is, next, reply)) = by_ack now b (command.Ack name packet) stepped.world.state stepped.class name packet turn refl is next (ap (λ (r : Reply). r.class) reply)

@@ -41,7 +41,7 @@ pub same_user : (o : Option User) → UserFollows o o
 same_user None = tt
 same_user (Some u) = himself u
 
-same_offers : (found : Option User) → KeepsOffers found found
+pub same_offers : (found : Option User) → KeepsOffers found found
 same_offers found o is = is
 
 -- ---- lists of users
@@ -102,7 +102,7 @@ same_ledger place None b = refl
 same_ledger place (Some base) b = refl
 
 module _ (id : ℕ) (b : Board) where
-  same_users : (c : Board) → c.ledger.users ≡ b.ledger.users → user_of id c ≡ user_of id b
+  pub same_users : (c : Board) → c.ledger.users ≡ b.ledger.users → user_of id c ≡ user_of id b
   same_users c same = ap (λ (users : List User). cond (eqb id 0) None (slice_get users (id - 1))) same
 
   -- ---- every change leaves the users who are there

@@ -52,23 +52,19 @@ numbered_follow xs ys n follow within = elim (cases_eq n 0) [
       subst (λ (t : Bool). SlotFollows (cond t Gone (get_or xs (n - 1) Gone)) (cond t Gone (get_or ys (n - 1) Gone))) (sym test) (slot_at xs ys (n - 1) follow (omega (arith, some, within)))
 ]
 
-held_within : (xs : List Slot) (n : ℕ) (m : Message) → held_in (numbered xs n) ≡ Some m → n ≤ length xs
-held_within xs n m held = elim (cases_lt (length xs) n) [
-  | inl past ↦
-      let test : eqb n 0 ≡ false = ne_eqb n 0 (λ same. omega (arith, past, same)) in
-      let gone : numbered xs n ≡ Gone = cond-false (eqb n 0) Gone (get_or xs (n - 1) Gone) test ∙ get_or_past xs (n - 1) Gone (omega (arith, past)) in
-      absurd (none-some m (sym (ap held_in gone) ∙ held))
-  | inr within ↦ within
-]
-
 live_back : (s t : Slot) (n : Message) → SlotFollows s t → held_in t ≡ Some n → is_live t ≡ true → (m : Message) × (held_in s ≡ Some m) × MessageFollows m n × (is_live s ≡ true)
 live_back Gone t n follows held live = absurd (none-some n (sym (ap held_in follows) ∙ held))
-live_back (Held m) Gone n follows held live = absurd follows
+live_back (Held m) Gone n follows held live = absurd (false≢true live)
 live_back (Held m) (Held k) n follows held live = (m, refl, subst (MessageFollows m) (same_Some k n held) follows, by m.deleted refl)
   where
     by : (d : Bool) → m.deleted ≡ d → not d ≡ true
     by true is = absurd (false≢true (sym (ap not (follows.deleted is)) ∙ live))
     by false is = refl
+
+pub still_live : (s t : Slot) → SlotFollows s t → is_live t ≡ true → is_live s ≡ true
+still_live Gone t follows live = absurd (false≢true (sym (ap is_live follows) ∙ live))
+still_live (Held m) Gone follows live = absurd (false≢true live)
+still_live (Held m) (Held n) follows live = (live_back (Held m) (Held n) n follows refl live).3
 
 -- ---- who may see it
 same_sight : (l k : Ledger) (place : ℕ) (u v : User) (m n : Message) → k.setup ≡ l.setup → IsSameUser u v → MessageFollows m n → may_see k place v n ≡ may_see l place u m
@@ -78,12 +74,12 @@ same_sight l k place u v m n setup alike follows = λ i.
     || str_eq_ignore_ascii_case (alike.name i) (setup i).sysop)
 
 module _ (l k : Ledger) (place : ℕ) (setup : k.setup ≡ l.setup) where
-  sight_on : (o p : Option User) (s t : Slot) → UserFollows o p → SlotFollows s t → is_allowed l place o (held_in s) ≡ true → is_allowed k place p (held_in t) ≡ true
-  sight_on None p s t users slots may = absurd (false≢true may)
-  sight_on (Some u) None s t users slots may = absurd users
-  sight_on (Some u) (Some v) Gone t users slots may = absurd (false≢true may)
-  sight_on (Some u) (Some v) (Held m) Gone users slots may = absurd slots
-  sight_on (Some u) (Some v) (Held m) (Held n) users slots may = same_sight l k place u v m n setup users slots ∙ may
+  sight_on : (o p : Option User) (s t : Slot) → UserFollows o p → SlotFollows s t → is_live t ≡ true → is_allowed l place o (held_in s) ≡ true → is_allowed k place p (held_in t) ≡ true
+  sight_on None p s t users slots live may = absurd (false≢true may)
+  sight_on (Some u) None s t users slots live may = absurd users
+  sight_on (Some u) (Some v) Gone t users slots live may = absurd (false≢true may)
+  sight_on (Some u) (Some v) (Held m) Gone users slots live may = absurd (false≢true live)
+  sight_on (Some u) (Some v) (Held m) (Held n) users slots live may = same_sight l k place u v m n setup users slots ∙ may
 
   sight_back : (o p : Option User) (u : User) (s t : Slot) → o ≡ Some u → UserFollows o p → SlotFollows s t → is_live t ≡ true → is_allowed k place p (held_in t) ≡ true → (is_live s ≡ true) × (is_allowed l place o (held_in s) ≡ true)
   sight_back None p u s t there users slots live may = absurd (none-some u there)
@@ -94,17 +90,15 @@ module _ (l k : Ledger) (place : ℕ) (setup : k.setup ≡ l.setup) where
 
 -- ---- one board and a later one
 module _ (b c : Board) (id : ℕ) (setup : c.ledger.setup ≡ b.ledger.setup) (users : UserFollows (user_of id b) (user_of id c)) (place : ℕ) (slots : SlotsFollow (slots_in b place) (slots_in c place)) (number : ℕ) where
-  -- what he might see he may see
-  pub allowed_on : is_allowed b.ledger place (user_of id b) (message_at b place number) ≡ true → is_allowed c.ledger place (user_of id c) (message_at c place number) ≡ true
-  allowed_on may =
-      let there = allowed_held (user_of id b) (message_at b place number) may in
-      let within : number ≤ length (slots_in b place) = held_within (slots_in b place) number there.0 there.1 in
-      sight_on b.ledger c.ledger place setup (user_of id b) (user_of id c) (numbered (slots_in b place) number) (numbered (slots_in c place) number) users (numbered_follow (slots_in b place) (slots_in c place) number slots within) may
-    where
-      allowed_held : (o : Option User) (m : Option Message) → is_allowed b.ledger place o m ≡ true → (found : Message) × (m ≡ Some found)
-      allowed_held None m may = absurd (false≢true may)
-      allowed_held (Some u) None may = absurd (false≢true may)
-      allowed_held (Some u) (Some m) may = (m, refl)
+  -- a message that is live was so, where its slot was there
+  pub live_on : number ≤ length (slots_in b place) → has_live number (slots_in c place) ≡ true → has_live number (slots_in b place) ≡ true
+  live_on within live = still_live (numbered (slots_in b place) number) (numbered (slots_in c place) number) (numbered_follow (slots_in b place) (slots_in c place) number slots within) live
+
+  -- and one that he might see he may see, while it is live
+  pub allowed_on : number ≤ length (slots_in b place) → has_live number (slots_in c place) ≡ true → is_allowed b.ledger place (user_of id b) (message_at b place number) ≡ true
+      → is_allowed c.ledger place (user_of id c) (message_at c place number) ≡ true
+  allowed_on within live may =
+      sight_on b.ledger c.ledger place setup (user_of id b) (user_of id c) (numbered (slots_in b place) number) (numbered (slots_in c place) number) users (numbered_follow (slots_in b place) (slots_in c place) number slots within) live may
 
   -- what he sees he saw, where its slot was there and he was
   pub sees_back : (u : User) → user_of id b ≡ Some u → number ≤ length (slots_in b place) → sees c id place number ≡ true → sees b id place number ≡ true

@@ -12,6 +12,7 @@ use Rattle.exchange_commands.specs.Export.{exports}
 use Rattle.message_commands.specs.Import.{imports}
 use Rattle.message_commands.specs.Kill.{kills}
 use Rattle.message_commands.specs.Sample.{samples}
+use Rattle.pack_commands.specs.Pack.{packs}
 use Rattle.toss_commands.specs.Toss.{tosses}
 use Rattle.exchange_commands.specs.Upload.{uploads}
 
@@ -29,6 +30,8 @@ pub data BoardCommand : Type 0 where
   Toss : List ℕ → BoardCommand
   -- the number of the conference, and that of the message
   Kill : ℕ → ℕ → BoardCommand
+  -- the number of the conference
+  Pack : ℕ → BoardCommand
   -- the name of the user, the limit, and the folder
   Export : List ℕ → ℕ → List ℕ → BoardCommand
   -- the name of the user, and the packet
@@ -49,6 +52,7 @@ does now (Import conference file) world stepped = (imports conference file now).
 does now (Adopt conference prefix) world stepped = (adopts conference prefix).Step world stepped
 does now (Toss file) world stepped = (tosses file now).Step world stepped
 does now (Kill conference number) world stepped = (kills conference number).Step world stepped
+does now (Pack conference) world stepped = (packs conference).Step world stepped
 does now (Export name limit folder) world stepped = (exports name limit folder now).Step world stepped
 does now (Ack name packet) world stepped = (acknowledges name packet now).Step world stepped
 does now (Upload name file) world stepped = (uploads name file now).Step world stepped

@@ -4,6 +4,7 @@ mod board_runs;
 mod damage_runs;
 mod import_runs;
 mod old_runs;
+mod pack_runs;
 mod packet_runs;
 mod reply_runs;
 mod sample_runs;

@@ -13,7 +13,7 @@ use Rattle.door_commands.specs.Words.{CommandReads, IsFlags, IsNoCommand, NamesC
 use Rattle.door_commands.specs.declared.command.Command.{Command}
 use Rattle.door_commands.specs.declared.command.Command.TheVariants as command
 use Rattle.door_commands.specs.declared.verb.Verb.{Verb}
-use Rattle.door_commands.specs.declared.verb.Verb.TheVariants.{AckPacket, AdoptBase, BatchFile, CheckBoard, ComposeSheet, EnrollUser, ExportPacket, ImportSheet, InitBoard, KillMessage, ListFile, ReadFolder, ReplyTo, SampleMessages, ScanFile, TossFile, UploadPacket}
+use Rattle.door_commands.specs.declared.verb.Verb.TheVariants.{AckPacket, AdoptBase, BatchFile, CheckBoard, ComposeSheet, EnrollUser, ExportPacket, ImportSheet, InitBoard, KillMessage, ListFile, PackConference, ReadFolder, ReplyTo, SampleMessages, ScanFile, TossFile, UploadPacket}
 use Rattle.door_outside.specs.Name.{HasParts, IsNameByte, IsPart, IsShelfName, parts}
 use Rattle.line_words.proofs.LineLaws.{SoFar, bare_line, bare_word, badly_ended, begun, breaks_off, ends, goes_on, open_quote, well_ended}
 use Rattle.line_words.specs.Line.{Begins, BeginsBare, BeginsQuoted, EndsWord, LineReads, SkipsSpaces}
@@ -178,6 +178,18 @@ file_alone words = elim (one_word words) [
     | inr refuted ↦ inr (λ file is named. let e : w.0 ∷ [] ≡ file ∷ [] = sym w.1 ∙ is in let same : file ≡ w.0 = cc in refuted (subst IsShelfName same named))
   ]
   | inr none ↦ inr (λ file is named. none file is)
+]
+
+number_alone : (words : List (List ℕ)) → ((word : List ℕ) × (n : ℕ) × (words ≡ word ∷ []) × NumberWord word n) ⊎ ((word : List ℕ) (n : ℕ) → words ≡ word ∷ [] → NumberWord word n → ⊥)
+number_alone words = elim (one_word words) [
+  | inl w ↦ elim (number_or_not w.0) [
+    | inl n ↦ inl (w.0, n.0, w.1, n.1)
+    | inr refuted ↦ inr (λ word n is number.
+        let e : w.0 ∷ [] ≡ word ∷ [] = sym w.1 ∙ is in
+        let same : word ≡ w.0 = cc in
+        refuted n (subst (λ (t : List ℕ). NumberWord t n) same number))
+  ]
+  | inr none ↦ inr (λ word n is number. none word is)
 ]
 
 text_and_number : (words : List (List ℕ)) → ((text word : List ℕ) × (n : ℕ) × (words ≡ text ∷ word ∷ []) × NumberWord word n) ⊎ ((text word : List ℕ) (n : ℕ) → words ≡ text ∷ word ∷ [] → NumberWord word n → ⊥)
@@ -368,6 +380,10 @@ behind_or_not KillMessage words = elim (two_numbers words) [
   | inr none ↦ inr (λ c x. none x.0 x.1 x.2 x.3 x.4 x.5 x.6)
 ]
 behind_or_not ListFile words = elim (file_alone words) [ inl f ↦ inl (command.List f.0, (f.0, f.1, f.2, refl)) | inr none ↦ inr (λ c x. none x.0 x.1 x.2) ]
+behind_or_not PackConference words = elim (number_alone words) [
+  | inl w ↦ inl (command.Pack w.1, (w.0, w.1, w.2, w.3, refl))
+  | inr none ↦ inr (λ c x. none x.0 x.1 x.2 x.3)
+]
 behind_or_not ReadFolder words = read_or_not words
 behind_or_not ReplyTo words = elim (writing_or_not words) [
   | inl w ↦ inl (command.Reply w.0 w.1 w.2 w.3, (w.0, w.1, w.2, w.3, w.4, refl))

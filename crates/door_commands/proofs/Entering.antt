@@ -12,7 +12,7 @@ use Rattle.door_commands.specs.declared.entry.Entry.{Entry}
 use Rattle.door_commands.specs.declared.entry.Entry.TheVariants.{Run, Wrong}
 use Rattle.door_commands.specs.declared.entry.Usage.TheVariants.{Words}
 use Rattle.door_commands.specs.declared.verb.Verb.{Verb}
-use Rattle.door_commands.specs.declared.verb.Verb.TheVariants.{AckPacket, AdoptBase, BatchFile, CheckBoard, ComposeSheet, EnrollUser, ExportPacket, ImportSheet, InitBoard, KillMessage, ListFile, ReadFolder, ReplyTo, SampleMessages, ScanFile, TossFile, UploadPacket}
+use Rattle.door_commands.specs.declared.verb.Verb.TheVariants.{AckPacket, AdoptBase, BatchFile, CheckBoard, ComposeSheet, EnrollUser, ExportPacket, ImportSheet, InitBoard, KillMessage, ListFile, PackConference, ReadFolder, ReplyTo, SampleMessages, ScanFile, TossFile, UploadPacket}
 
 -- the names in what words are read as: a line for each verb
 behind_runs : (verb : Verb) (rest : List (List ℕ)) (c : Command) → ReadsBehind verb rest c → ¬ IsBatch c → CanRun c
@@ -27,6 +27,7 @@ behind_runs ImportSheet rest c x single = subst CanRun (sym x.6) tt
 behind_runs InitBoard rest c x single = subst CanRun (sym x.3) tt
 behind_runs KillMessage rest c x single = subst CanRun (sym x.7) tt
 behind_runs ListFile rest c x single = subst CanRun (sym x.3) tt
+behind_runs PackConference rest c x single = subst CanRun (sym x.4) tt
 behind_runs ReadFolder rest c (inl x) single = subst CanRun (sym x.3) x.2
 behind_runs ReadFolder rest c (inr x) single = subst CanRun (sym x.6) x.4
 behind_runs ReplyTo rest c x single = subst CanRun (sym x.5) x.4.folder_is

@@ -7,12 +7,12 @@ use Rattle.command_words.specs.NumberWord.{NumberWord}
 use Rattle.door_commands.specs.declared.command.Command.{Command}
 use Rattle.door_commands.specs.declared.command.Command.TheVariants as command
 use Rattle.door_commands.specs.declared.verb.Verb.{Verb}
-use Rattle.door_commands.specs.declared.verb.Verb.TheVariants.{AckPacket, AdoptBase, BatchFile, CheckBoard, ComposeSheet, EnrollUser, ExportPacket, ImportSheet, InitBoard, KillMessage, ListFile, ReadFolder, ReplyTo, SampleMessages, ScanFile, TossFile, UploadPacket}
+use Rattle.door_commands.specs.declared.verb.Verb.TheVariants.{AckPacket, AdoptBase, BatchFile, CheckBoard, ComposeSheet, EnrollUser, ExportPacket, ImportSheet, InitBoard, KillMessage, ListFile, PackConference, ReadFolder, ReplyTo, SampleMessages, ScanFile, TossFile, UploadPacket}
 use Rattle.door_commands.specs.Words.{first_word, ReadsBehind, CommandReads, WritingReads}
 
 -- all verbs in order
 abbrev pub verbs : List Verb
-verbs = AckPacket ∷ AdoptBase ∷ BatchFile ∷ CheckBoard ∷ ComposeSheet ∷ EnrollUser ∷ ExportPacket ∷ ImportSheet ∷ InitBoard ∷ KillMessage ∷ ListFile ∷ ReadFolder ∷ ReplyTo ∷ SampleMessages ∷ ScanFile ∷ TossFile ∷ UploadPacket ∷ []
+verbs = AckPacket ∷ AdoptBase ∷ BatchFile ∷ CheckBoard ∷ ComposeSheet ∷ EnrollUser ∷ ExportPacket ∷ ImportSheet ∷ InitBoard ∷ KillMessage ∷ ListFile ∷ PackConference ∷ ReadFolder ∷ ReplyTo ∷ SampleMessages ∷ ScanFile ∷ TossFile ∷ UploadPacket ∷ []
 
 -- the verb of a first word
 verb_of : List ℕ → Option Verb
@@ -32,6 +32,7 @@ verb_back ImportSheet = refl
 verb_back InitBoard = refl
 verb_back KillMessage = refl
 verb_back ListFile = refl
+verb_back PackConference = refl
 verb_back ReadFolder = refl
 verb_back ReplyTo = refl
 verb_back SampleMessages = refl
@@ -52,12 +53,13 @@ no_verb word none ImportSheet = none 7 AckPacket (omega arith)
 no_verb word none InitBoard = none 8 AckPacket (omega arith)
 no_verb word none KillMessage = none 9 AckPacket (omega arith)
 no_verb word none ListFile = none 10 AckPacket (omega arith)
-no_verb word none ReadFolder = none 11 AckPacket (omega arith)
-no_verb word none ReplyTo = none 12 AckPacket (omega arith)
-no_verb word none SampleMessages = none 13 AckPacket (omega arith)
-no_verb word none ScanFile = none 14 AckPacket (omega arith)
-no_verb word none TossFile = none 15 AckPacket (omega arith)
-no_verb word none UploadPacket = none 16 AckPacket (omega arith)
+no_verb word none PackConference = none 11 AckPacket (omega arith)
+no_verb word none ReadFolder = none 12 AckPacket (omega arith)
+no_verb word none ReplyTo = none 13 AckPacket (omega arith)
+no_verb word none SampleMessages = none 14 AckPacket (omega arith)
+no_verb word none ScanFile = none 15 AckPacket (omega arith)
+no_verb word none TossFile = none 16 AckPacket (omega arith)
+no_verb word none UploadPacket = none 17 AckPacket (omega arith)
 
 one_verb : (a b : Verb) → first_word a ≡ first_word b → a ≡ b
 one_verb a b same = let e : Some a ≡ Some b = sym (verb_back a) ∙ ap verb_of same ∙ verb_back b in cc
@@ -125,6 +127,11 @@ behind_unique KillMessage words a b x y =
     let number : x.3 ≡ y.3 = one_number x.1 y.1 x.3 y.3 other x.6 y.6 in
     x.7 ∙ (λ i. command.Kill (conference i) (number i)) ∙ sym y.7
 behind_unique ListFile words a b x y = let e = sym x.1 ∙ y.1 in let file : x.0 ≡ y.0 = cc in x.3 ∙ ap command.List file ∙ sym y.3
+behind_unique PackConference words a b x y =
+    let e = sym x.2 ∙ y.2 in
+    let word : x.0 ≡ y.0 = cc in
+    let conference : x.1 ≡ y.1 = one_number x.0 y.0 x.1 y.1 word x.3 y.3 in
+    x.4 ∙ ap command.Pack conference ∙ sym y.4
 behind_unique ReadFolder words a b (inl x) (inl y) = let e = sym x.1 ∙ y.1 in let folder : x.0 ≡ y.0 = cc in x.3 ∙ ap command.Read folder ∙ sym y.3
 behind_unique ReadFolder words a b (inl x) (inr y) = let e = sym x.1 ∙ y.3 in cc
 behind_unique ReadFolder words a b (inr x) (inl y) = let e = sym x.3 ∙ y.1 in cc

@@ -51,6 +51,7 @@ CanRun (command.Import conference file) = Unit {0}
 CanRun (command.Init file) = Unit {0}
 CanRun (command.Kill conference number) = Unit {0}
 CanRun (command.List file) = Unit {0}
+CanRun (command.Pack conference) = Unit {0}
 CanRun (command.Read folder) = HasParts 3 folder
 CanRun (command.Reply folder place text rep) = HasParts 3 folder
 CanRun (command.Sample seed count) = Unit {0}

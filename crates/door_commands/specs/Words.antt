@@ -8,7 +8,7 @@ use Rattle.door_commands.specs.declared.command.Command.{Command}
 use Rattle.door_commands.specs.declared.command.Command.TheVariants as command
 use Rattle.door_commands.specs.declared.verb.Verb.{Verb}
 use Rattle.door_commands.specs.declared.verb.Verb.TheVariants.{AckPacket, AdoptBase, BatchFile, CheckBoard, ComposeSheet, EnrollUser, ExportPacket, ImportSheet, InitBoard}
-use Rattle.door_commands.specs.declared.verb.Verb.TheVariants.{KillMessage, ListFile, ReadFolder, ReplyTo, SampleMessages, ScanFile, TossFile, UploadPacket}
+use Rattle.door_commands.specs.declared.verb.Verb.TheVariants.{KillMessage, ListFile, PackConference, ReadFolder, ReplyTo, SampleMessages, ScanFile, TossFile, UploadPacket}
 
 -- `-`, or `n`: the user may send net mail
 abbrev pub IsFlags : List ℕ → Type 0
@@ -31,6 +31,7 @@ first_word ImportSheet = codes "import"
 first_word InitBoard = codes "init"
 first_word KillMessage = codes "kill"
 first_word ListFile = codes "list"
+first_word PackConference = codes "pack"
 first_word ReadFolder = codes "read"
 first_word ReplyTo = codes "reply"
 first_word SampleMessages = codes "sample"
@@ -69,6 +70,7 @@ ReadsBehind InitBoard words c = (file : List ℕ) × (words ≡ file ∷ []) × 
 ReadsBehind KillMessage words c =
     (word other : List ℕ) × (conference number : ℕ) × (words ≡ word ∷ other ∷ []) × NumberWord word conference × NumberWord other number × (c ≡ command.Kill conference number)
 ReadsBehind ListFile words c = (file : List ℕ) × (words ≡ file ∷ []) × IsShelfName file × (c ≡ command.List file)
+ReadsBehind PackConference words c = (word : List ℕ) × (conference : ℕ) × (words ≡ word ∷ []) × NumberWord word conference × (c ≡ command.Pack conference)
 ReadsBehind ReadFolder words c =
     ((folder : List ℕ) × (words ≡ folder ∷ []) × HasParts 3 folder × (c ≡ command.Read folder))
     ⊎ ((folder word : List ℕ) × (place : ℕ) × (words ≡ folder ∷ word ∷ []) × HasParts 3 folder × NumberWord word place × (c ≡ command.Show folder place))

@@ -1,6 +1,6 @@
 ghost use Rattle.std.specs.Prelude.{◌↔◌, ◌∷◌, [], IfOk, IsTrue};
 ghost use Rattle.door_commands.specs.Words.{BehindOf, IsFlags, NamesConferences};
-ghost use Rattle.door_commands.specs.declared.verb.Verb.TheVariants.{AckPacket, AdoptBase, BatchFile, CheckBoard, ComposeSheet, EnrollUser, ExportPacket, ImportSheet, InitBoard, KillMessage, ListFile, ReadFolder, ReplyTo, SampleMessages, ScanFile, TossFile, UploadPacket};
+ghost use Rattle.door_commands.specs.declared.verb.Verb.TheVariants.{AckPacket, AdoptBase, BatchFile, CheckBoard, ComposeSheet, EnrollUser, ExportPacket, ImportSheet, InitBoard, KillMessage, ListFile, PackConference, ReadFolder, ReplyTo, SampleMessages, ScanFile, TossFile, UploadPacket};
 
 use crate::names::{folder_of, names_base};
 use crate::verb::Verb;
@@ -70,6 +70,10 @@ pub enum Command {
     /// `list FILE`: lists the messages of a packet's file.
     List {
         file: ShelfName,
+    },
+    /// `pack CONF`: takes the deleted messages of the conference of a number out of its files.
+    Pack {
+        conference: u32,
     },
     /// `read FOLDER`: lists the messages of a packet's folder, which has at most 3 parts.
     Read {
@@ -276,6 +280,19 @@ fn parse_list(alloc: Global, rest: &[Bytes]) -> Result<Option<Command>, AllocErr
     }
 }
 
+/// The command of `pack` with the words behind it.
+fn parse_pack(rest: &[Bytes]) -> Option<Command>
+    ensures { BehindOf PackConference rest.now result }
+{
+    let [conference] = rest else {
+        return None;
+    };
+    match number_of(conference.as_slice()) {
+        Some(conference) => Some(Command::Pack { conference }),
+        None => None,
+    }
+}
+
 /// The command of `sample` with the words behind it.
 fn parse_sample(rest: &[Bytes]) -> Option<Command>
     ensures { BehindOf SampleMessages rest.now result }
@@ -414,6 +431,7 @@ fn parse_behind(alloc: Global, verb: Verb, rest: &[Bytes]) -> Result<Option<Comm
         Verb::InitBoard => parse_init(alloc, rest),
         Verb::KillMessage => Ok(parse_kill(rest)),
         Verb::ListFile => parse_list(alloc, rest),
+        Verb::PackConference => Ok(parse_pack(rest)),
         Verb::ReadFolder => parse_read(alloc, rest),
         Verb::ReplyTo => parse_reply(alloc, rest),
         Verb::SampleMessages => Ok(parse_sample(rest)),

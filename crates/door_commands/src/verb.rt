@@ -23,6 +23,8 @@ pub enum Verb {
     KillMessage,
     /// `list`
     ListFile,
+    /// `pack`
+    PackConference,
     /// `read`
     ReadFolder,
     /// `reply`
@@ -37,7 +39,7 @@ pub enum Verb {
     UploadPacket,
 }
 
-const VERBS: [Verb; 17] = [
+const VERBS: [Verb; 18] = [
     Verb::AckPacket,
     Verb::AdoptBase,
     Verb::BatchFile,
@@ -49,6 +51,7 @@ const VERBS: [Verb; 17] = [
     Verb::InitBoard,
     Verb::KillMessage,
     Verb::ListFile,
+    Verb::PackConference,
     Verb::ReadFolder,
     Verb::ReplyTo,
     Verb::SampleMessages,
@@ -78,6 +81,7 @@ impl Verb {
             Verb::InitBoard => b"init",
             Verb::KillMessage => b"kill",
             Verb::ListFile => b"list",
+            Verb::PackConference => b"pack",
             Verb::ReadFolder => b"read",
             Verb::ReplyTo => b"reply",
             Verb::SampleMessages => b"sample",

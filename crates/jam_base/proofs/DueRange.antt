@@ -1,5 +1,5 @@
 -- Messages that are due have numbers between two bounds, so that the slots before and behind these don't matter.
-use Rattle.std.proofs.Common.{◌≡◌, inl, inr, ℕ, zero, suc, ◌+◌, ◌-◌, ◌<◌, ◌≤◌, min, List, [], ◌∷◌, ◌++◌, length, take, drop, Bool, false, nat_lt, nat_le, refl, sym, ap, ◌∙◌, arith, append-nil, length-take}
+use Rattle.std.proofs.Common.{◌≡◌, inl, inr, ℕ, zero, suc, ◌+◌, ◌<◌, ◌≤◌, min, List, [], ◌∷◌, ◌++◌, length, take, drop, Bool, false, nat_lt, nat_le, refl, sym, ap, ◌∙◌, arith, append-nil, length-take}
 use Rattle.std.specs.Prelude.{◌&&◌, ◌||◌, not, sum_by}
 use Rattle.std.specs.Str.{str_eq_ignore_ascii_case}
 use Rattle.std.proofs.lemmas.Bool.{cases_lt, cond-false, and_right}

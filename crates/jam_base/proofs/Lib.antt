@@ -27,3 +27,4 @@ pub mod OutlineTurns
 pub mod OutlineChanges
 pub mod EndOutlines
 pub mod BareLookups
+pub mod ReplacedBases

@@ -1,5 +1,5 @@
 -- What whole patches do to the files of a place, and what an intent asks of them.
-use Rattle.std.proofs.Common.{◌≡◌, ◌≢◌, inl, inr, true, false, ℕ, ◌+◌, ◌*◌, ◌<◌, ◌≤◌, List, [], ◌∷◌, ◌++◌, length, refl, ap, ◌∙◌, arith, length-append}
+use Rattle.std.proofs.Common.{◌≡◌, ◌≢◌, inl, inr, true, false, ℕ, ◌+◌, ◌*◌, ◌<◌, ◌≤◌, List, [], ◌∷◌, ◌++◌, length, refl, sym, ap, ◌∙◌, subst, arith, length-append}
 use Rattle.std.specs.Prelude.{All, IsTrue, ◌==◌}
 use Rattle.std.proofs.lemmas.Bool.{and_parts, and_from, eq-eqb, ne_eqb, cond-true, cond-false}
 use Rattle.std.proofs.lemmas.List.Elements.{All-cons, All-nil}
@@ -8,7 +8,7 @@ use Rattle.intent_journal.specs.Journal.{patch_text, patches_text}
 use Rattle.intent_journal.specs.declared.patch.Patch.{Patch}
 use Rattle.intent_journal.specs.declared.patch.Patch.TheVariants.{Whole}
 use Rattle.door_outside.specs.File.{jhr_file, jdt_file, jdx_file, jlr_file}
-use Rattle.jam_base.specs.Change.{whole_files, IsOfPlace, IsElsewhere, Turns, SuitsIntent}
+use Rattle.jam_base.specs.Change.{message_files, whole_files, IsOfPlace, IsElsewhere, Turns, SuitsIntent}
 use Rattle.jam_layout.specs.Layout.{files_size}
 use Rattle.jam_layout.specs.declared.files.BaseFiles.{BaseFiles}
 
@@ -110,6 +110,17 @@ whole_turns place new old =
     (turns_then place one two new (Whole (jdt_file place) new.jdt) (Whole (jdx_file place) new.jdx ∷ Whole (jlr_file place) new.jlr ∷ []) (jdt_turns place one new.jdt)
     (turns_then place two three new (Whole (jdx_file place) new.jdx) (Whole (jlr_file place) new.jlr ∷ []) (jdx_turns place two new.jdx) (jlr_turns place three new.jlr)))
 
+-- ---- .JHR, .JDT and .JDX, where .JLR is the same
+pub messages_turn : (place : ℕ) (new old : BaseFiles) → new.jlr ≡ old.jlr → Turns place old new (message_files place new)
+messages_turn place new old same =
+    let one : BaseFiles = record old { jhr = new.jhr } in
+    let two : BaseFiles = record one { jdt = new.jdt } in
+    let three : BaseFiles = record two { jdx = new.jdx } in
+    let all : three ≡ new = λ i. record { jhr = new.jhr; jdt = new.jdt; jdx = new.jdx; jlr = sym same i } in
+    turns_then place old one new (Whole (jhr_file place) new.jhr) (Whole (jdt_file place) new.jdt ∷ Whole (jdx_file place) new.jdx ∷ []) (jhr_turns place old new.jhr)
+    (turns_then place one two new (Whole (jdt_file place) new.jdt) (Whole (jdx_file place) new.jdx ∷ []) (jdt_turns place one new.jdt)
+    (subst (λ (four : BaseFiles). Turns place two four (Whole (jdx_file place) new.jdx ∷ [])) all (jdx_turns place two new.jdx)))
+
 -- ---- what an intent asks
 module _ (place : ℕ) (new : BaseFiles) where
   differ : (a b : ℕ) → a < b → (b == a) ≡ false
@@ -187,6 +198,19 @@ module _ (place : ℕ) (new : BaseFiles) where
   pub jlr_small : SuitsIntent place new (Whole (jlr_file place) new.jlr ∷ [])
   unfolding OfPlace Ends
   jlr_small = record { within = jlr_within [] none; once = refl; ends = jlr_ends [] no_ends; short = at_most _ _ _ (text_more (jlr_file place) new.jlr []) (omega arith) }
+
+  pub messages_small : SuitsIntent place new (message_files place new)
+  unfolding OfPlace Ends
+  messages_small = record {
+    ends = jhr_ends (Whole (jdt_file place) new.jdt ∷ Whole (jdx_file place) new.jdx ∷ []) (jdt_ends (Whole (jdx_file place) new.jdx ∷ []) (jdx_ends [] no_ends));
+    within = jhr_within (Whole (jdt_file place) new.jdt ∷ Whole (jdx_file place) new.jdx ∷ []) (jdt_within (Whole (jdx_file place) new.jdx ∷ []) (jdx_within [] none));
+    once = rw (
+      differ (jhr_file place) (jdt_file place) (omega arith),
+      differ (jhr_file place) (jdx_file place) (omega arith),
+      differ (jdt_file place) (jdx_file place) (omega arith),
+    ) refl;
+    short = at_most _ _ _ (texts_length []) (omega arith);
+  }
 
   pub whole_small : SuitsIntent place new (whole_files place new)
   unfolding OfPlace Ends

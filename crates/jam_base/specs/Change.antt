@@ -42,3 +42,7 @@ pub record SuitsIntent (place : ℕ) (new : BaseFiles) (patches : List Patch) : 
 abbrev pub whole_files : ℕ → BaseFiles → List Patch
 whole_files place files =
     Whole (jhr_file place) files.jhr ∷ Whole (jdt_file place) files.jdt ∷ Whole (jdx_file place) files.jdx ∷ Whole (jlr_file place) files.jlr ∷ []
+
+-- .JHR, .JDT and .JDX of a place, whole
+abbrev pub message_files : ℕ → BaseFiles → List Patch
+message_files place files = Whole (jhr_file place) files.jhr ∷ Whole (jdt_file place) files.jdt ∷ Whole (jdx_file place) files.jdx ∷ []

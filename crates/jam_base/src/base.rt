@@ -120,8 +120,22 @@ impl Base {
         &self.pointers
     }
 
+    /// Its change counter.
+    pub(crate) fn counter(&self) -> u32
+        ensures { result ≡ self.now.conference.counter }
+    {
+        self.counter
+    }
+
+    /// The threads of its slots.
+    pub(crate) fn threads(&self) -> &Threads
+        ensures { AreThreads self.now.conference.slots result.now }
+    {
+        self.threads.get()
+    }
+
     /// The base with other slots, by one change, whose threads these are.
-    fn with_threads(
+    pub(crate) fn with_threads(
         &self,
         alloc: Global,
         slots: SharedSlots,
@@ -516,7 +530,7 @@ impl Base {
     }
 
     /// How many bytes its .JLR has.
-    fn jlr_size(&self) -> u64
+    pub fn jlr_size(&self) -> u64
         ensures size { result ≡ 16 * length self.now.shape.readers }
         ensures bound { result ≤ 2 ^ 36 }
     {

@@ -1,6 +1,6 @@
-ghost use Rattle.std.specs.Prelude.{◌≡◌, ◌≤◌, [], ◌∷◌, ◌++◌, ◌<◌, length, IfOk};
+ghost use Rattle.std.specs.Prelude.{◌≡◌, ℕ, ◌≤◌, List, [], ◌∷◌, ◌++◌, ◌<◌, length, IfOk};
 ghost use Rattle.jam_layout.specs.Layout.{layout};
-ghost use Rattle.jam_base.specs.Change.{whole_files};
+ghost use Rattle.jam_base.specs.Change.{message_files, whole_files};
 ghost use Rattle.jam_base.specs.MarkPuts.{pointer_patch as pointer_patch_of, record_patch as record_patch_of};
 ghost use Rattle.jam_base.specs.Puts.{counts_put, end_puts};
 
@@ -182,5 +182,23 @@ fn whole_of(alloc: Global, place: u8, files: BaseFiles) -> Result<Patches, Alloc
     patches.add(whole(FileId::jdt(place), files.jdt))?;
     patches.add(whole(FileId::jdx(place), files.jdx))?;
     patches.add(whole(FileId::jlr(place), files.jlr))?;
+    Ok(patches)
+}
+
+/// What writes .JHR, .JDT and .JDX of a place, in one change.
+pub(crate) fn messages_of(
+    alloc: Global,
+    place: u8,
+    jhr: Bytes,
+    jdt: Bytes,
+    jdx: Bytes,
+) -> Result<Patches, AllocError>
+    requires { place < 64 }
+    ensures { IfOk result (λ patches. (jlr : List ℕ) → patches ≡ message_files place (record { jhr = jhr; jdt = jdt; jdx = jdx; jlr = jlr })) }
+{
+    let mut patches = Patches::new(alloc);
+    patches.add(whole(FileId::jhr(place), jhr))?;
+    patches.add(whole(FileId::jdt(place), jdt))?;
+    patches.add(whole(FileId::jdx(place), jdx))?;
     Ok(patches)
 }

@@ -12,6 +12,7 @@ mod pointers;
 mod read;
 mod receipt;
 mod refusal;
+mod replaced;
 mod slots;
 mod span;
 

@@ -9,9 +9,11 @@ mod jhr;
 mod jlr;
 mod last;
 mod message_subfields;
+mod whole;
 
 pub use bodies::write_bodies;
 pub use files::write_first;
 pub use header::add_header;
 pub use jlr::{write_jlr, write_reader};
 pub use last::{write_last_headers, write_last_records};
+pub use whole::{write_whole_bodies, write_whole_headers, write_whole_records};

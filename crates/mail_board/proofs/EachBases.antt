@@ -1,5 +1,5 @@
 -- The bases of boards with one outline, and the boards with one of them anew.
-use Rattle.std.proofs.Common.{◌≡◌, ℕ, List, [], ◌∷◌, map, set, Option, Some, None, refl, sym, ap, ◌∙◌}
+use Rattle.std.proofs.Common.{◌≡◌, ℕ, List, map, set, Option, Some, None, sym, ap, ◌∙◌}
 use Rattle.std.specs.Prelude.{option_map, slice_get, unwrap_or}
 use Rattle.std.proofs.lemmas.List.{map-set}
 use Rattle.board_changes.specs.Changed.{base_at, with_base}
@@ -10,7 +10,6 @@ use Rattle.board_layout.specs.Renewed.{contents_of}
 use Rattle.jam_base.specs.Contents.{Contents}
 use Rattle.jam_base.specs.Outlined.{outlined}
 use Rattle.jam_layout.specs.Outlines.{outline}
-use Rattle.jam_layout.specs.declared.conference.Conference.{Conference}
 use Rattle.post_changes.proofs.EachPost.{conferences_outline}
 use Rattle.mail_board.specs.Held.{AreAlike}
 

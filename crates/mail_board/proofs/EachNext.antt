@@ -1,17 +1,16 @@
 -- A change of boards with one outline gives boards with one outline, and where it may be made of one it may be of each.
-use Rattle.std.proofs.Common.{◌≡◌, ℕ, ◌<◌, Bool, true, false, cond, inl, inr, List, [], ◌∷◌, ◌++◌, length, map, Option, Some, None, refl, sym, ap, ◌∙◌, subst, arith, eqb}
-use Rattle.std.specs.Prelude.{◌+◌, All, IsSome, IsSomeAnd, IsTrue}
-use Rattle.std.specs.Int.{bit_at}
+use Rattle.std.proofs.Common.{◌≡◌, ℕ, ◌<◌, Bool, true, false, inl, inr, List, length, Option, Some, None, refl, sym, ap, ◌∙◌, subst, arith}
+use Rattle.std.specs.Prelude.{All, IsSome, IsSomeAnd, IsTrue}
 use Rattle.std.specs.List.{AllZip}
 use Rattle.std.proofs.lemmas.Bool.{cond-false}
 use Rattle.std.proofs.lemmas.List.{length-map}
 use Rattle.std.proofs.lemmas.Option.{slice_get_cases}
 use Rattle.board_changes.proofs.EachMember.{member_keeps, member_outline}
 use Rattle.board_changes.proofs.OneBase.{conferences_back}
-use Rattle.board_changes.specs.Changed.{base_at, joined_from, joined_in, new_user, with_member, with_user}
+use Rattle.board_changes.specs.Changed.{base_at, new_user, with_member}
 use Rattle.board_layout.proofs.OneOutline.{alike_base, alike_ledger, alike_places, alike_user, alike_valid}
 use Rattle.board_layout.proofs.OutlineLaws.{outline_has_live}
-use Rattle.board_layout.specs.Board.{Board, conferences_in, shapes_of}
+use Rattle.board_layout.specs.Board.{Board, shapes_of}
 use Rattle.board_layout.specs.Lookups.{user_of}
 use Rattle.board_layout.specs.Outlines.{board_outline}
 use Rattle.board_layout.specs.Renewed.{contents_of}
@@ -22,7 +21,6 @@ use Rattle.jam_base.proofs.OutlineChanges.{killed_blind}
 use Rattle.jam_base.specs.Contents.{Contents, with_deleted}
 use Rattle.jam_base.specs.Outlined.{outlined}
 use Rattle.jam_base.specs.Slots.{has_live}
-use Rattle.jam_layout.specs.Outlines.{outline}
 use Rattle.jam_layout.specs.Valid.{IsConference}
 use Rattle.jam_layout.specs.declared.conference.Conference.{Conference}
 use Rattle.jam_layout.specs.declared.shape.Shape.{Shape}
@@ -39,7 +37,7 @@ use Rattle.slot_changes.specs.Changed.{HasMessage, deleted, with_identified, wit
 use Rattle.slot_changes.specs.Msgids.{msgid_in}
 use Rattle.mail_board.proofs.EachBases.{changed_base}
 use Rattle.mail_board.proofs.EachRead.{acknowledged_alike, acknowledged_valid}
-use Rattle.mail_board.specs.Changes.{changed, Exists, Fits}
+use Rattle.mail_board.specs.Changes.{changed, Fits}
 use Rattle.mail_board.specs.Held.{AreAlike}
 use Rattle.mail_board.specs.declared.change.Change.{Change}
 use Rattle.mail_board.specs.declared.change.Change.TheVariants.{Enroll, Append, Spread, Kill, Offer, Acknowledge, Upload}

@@ -15,3 +15,5 @@ pub mod WriteBounds
 pub mod PostedSlots
 pub mod MigrationLaws
 pub mod MsgidTests
+pub mod ReplacedSlots
+pub mod FetchedHosts

@@ -18,7 +18,6 @@ use Rattle.intent_journal.specs.Patches.{Files}
 use Rattle.jam_base.specs.Contents.{Contents}
 use Rattle.jam_base.specs.Outlined.{outlined}
 use Rattle.jam_base.specs.Slots.{numbered}
-use Rattle.jam_layout.specs.Outlines.{message_outline}
 use Rattle.jam_layout.specs.declared.files.BaseFiles.{BaseFiles}
 use Rattle.jam_records.specs.declared.message.Message.{Message}
 use Rattle.post_changes.proofs.PlacePosts.{place_there}

@@ -1,6 +1,7 @@
 // The bodies of messages, which the host holds.
 ghost use Rattle.std.specs.Prelude.{◌≡◌, ◌+◌, ◌-◌, ◌≤◌, ◌<◌, ◌==◌, ◌^◌, ◌||◌, length, option_map, slice_index, Err, Some, IfOk, IsTrue};
 ghost use Rattle.board_layout.specs.Lookups.{held_in};
+ghost use Rattle.board_layout.specs.Outlines.{HasBody};
 ghost use Rattle.board_layout.specs.Rules.{HasReadCause};
 ghost use Rattle.door_outside.specs.Disk.{Unchanged};
 ghost use Rattle.door_outside.specs.File.{jdt_file};
@@ -11,6 +12,7 @@ ghost use Rattle.jam_layout.specs.Messages.{IsBody};
 ghost use Rattle.jam_layout.specs.Outlines.{message_outline, slot_bare};
 ghost use Rattle.jam_layout.specs.Valid.{IsConference};
 ghost use Rattle.jam_records.specs.declared.damage.Damage as Damages;
+ghost use Rattle.jam_records.specs.declared.message.Slot.TheVariants.{Held};
 ghost use Rattle.mail_board.specs.Bodies.{one_held, record_number as record_of, span_text, HasBodies};
 
 use board_layout::ReadError;
@@ -127,6 +129,7 @@ pub(crate) fn fetched<H: Host>(
     requires there { Some message.now ≡ held_in (slot_bare (numbered base.now.conference.slots number)) }
     ensures message { IsTrue H.tells → (other : Contents) → HasBodies base.now other ((H.disk host.old).files (jdt_file place)) → IfOk result (λ found. Some found ≡ held_in (numbered other.conference.slots number)) }
     ensures outline { IfOk result (λ found. Some (message_outline found) ≡ option_map message_outline (held_in (numbered base.now.conference.slots number))) }
+    ensures lines { IfOk result (λ found. HasBody (Held found)) }
     ensures undamaged { IsTrue H.tells → (other : Contents) → HasBodies base.now other ((H.disk host.old).files (jdt_file place)) → (damage : Damages.Damage) → ¬ (result ≡ Err (ReadError.Damaged damage)) }
     ensures unchanged { IsTrue H.tells → Unchanged (H.disk host.old) (H.disk host.new) }
     ensures cause { HasReadCause (H.disk_faults host.old) (H.disk_faults host.new) result }
@@ -136,5 +139,6 @@ pub(crate) fn fetched<H: Host>(
         unreachable!()
     };
     let body = read_body(alloc, host, base, place, number, span)?;
+    let _bytes = body.as_slice();
     Ok(with_body(alloc, message, body)?)
 }

@@ -10,6 +10,7 @@ mod making;
 mod messages;
 mod migrating;
 mod readers;
+mod replace;
 
 pub use board::Board;
 pub use board_layout::{ReadError, ReadError as LoadError};

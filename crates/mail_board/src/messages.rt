@@ -1,10 +1,12 @@
 // The messages of a board, and the msgids that it generates.
-ghost use Rattle.std.specs.Prelude.{◌≡◌, ◌<◌, Err, length, option_map, IfOk, IsFalse, IsTrue};
+ghost use Rattle.std.specs.Prelude.{◌≡◌, ◌<◌, Err, length, option_map, IfOk, IfSome, IsFalse, IsTrue};
 ghost use Rattle.board_layout.specs.Board as Boards;
+ghost use Rattle.board_layout.specs.Outlines.{HasBody};
 ghost use Rattle.board_layout.specs.Rules.{HasReadCause};
-ghost use Rattle.door_outside.specs.Disk.{Disk, Unchanged};
+ghost use Rattle.door_outside.specs.Disk.{Unchanged};
 ghost use Rattle.jam_layout.specs.Outlines.{message_outline};
 ghost use Rattle.jam_records.specs.declared.damage.Damage.{Damage};
+ghost use Rattle.jam_records.specs.declared.message.Slot.TheVariants.{Held};
 ghost use Rattle.mail_board.specs.Held.{Holds, RestsOn};
 ghost use Rattle.mail_board.specs.Readers.{message_at};
 ghost use Rattle.slot_changes.specs.Msgids.{msgid_in};
@@ -50,6 +52,8 @@ impl Board {
         ensures message { IsTrue H.tells → (b : Boards.Board) → Holds b (H.disk host.old) → IfOk result (λ found. found ≡ message_at place number b) }
         // Whatever the host tells, it is this board's but for the bytes of the body.
         ensures outline { IfOk result (λ found. option_map message_outline found ≡ option_map message_outline (message_at place number self.now.board)) }
+        // The bytes are a body's.
+        ensures lines { IfOk result (λ found. IfSome found (λ message. HasBody (Held message))) }
         ensures unchanged { IsTrue H.tells → Unchanged (H.disk host.old) (H.disk host.new) }
         ensures rests { IsTrue H.tells → RestsOn self.now.board (H.disk host.new) }
         ensures undamaged { IsTrue H.tells → (damage : Damage) → ¬ (result ≡ Err (ReadError.Damaged damage)) }

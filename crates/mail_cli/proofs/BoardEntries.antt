@@ -15,6 +15,7 @@ are_commands now (Run (command.Export user limit folder)) world stepped step = s
 are_commands now (Run (command.Import conference file)) world stepped step = step
 are_commands now (Run (command.Init file)) world stepped step = step
 are_commands now (Run (command.Kill conference number)) world stepped step = step
+are_commands now (Run (command.Pack conference)) world stepped step = step
 are_commands now (Run (command.List file)) world stepped step = step.1
 are_commands now (Run (command.Read folder)) world stepped step = step.1
 are_commands now (Run (command.Reply folder place text rep)) world stepped step = step.1

@@ -10,6 +10,7 @@ use Rattle.entry_runs.proofs.ShelfLaws.{IsLawfulOnShelf, lawful_look, lawful_on_
 use Rattle.entry_runs.specs.Entry.{ShelfAct, on_shelf}
 use Rattle.exchange_commands.proofs.ExportActs.{ack_turns, keeps_exports, lawful_exports}
 use Rattle.message_commands.proofs.MessageActs.{import_turns, kill_turns}
+use Rattle.pack_commands.proofs.PackActs.{pack_turns}
 use Rattle.packet_commands.proofs.PacketLaws.{lawful_lists, lawful_reads, lawful_scans, lawful_shows}
 use Rattle.packet_commands.specs.List.{lists}
 use Rattle.packet_commands.specs.Read.{reads, shows}
@@ -58,6 +59,7 @@ lawful now (Run (command.Export user limit folder)) = lawful_exports user limit 
 lawful now (Run (command.Import conference file)) = lawful_on_board _ (import_turns conference file now)
 lawful now (Run (command.Init file)) = lawful_on_board _ (init_turns file now)
 lawful now (Run (command.Kill conference number)) = lawful_on_board _ (kill_turns conference number)
+lawful now (Run (command.Pack conference)) = lawful_on_board _ (pack_turns conference)
 lawful now (Run (command.List file)) = lawful_on_shelf (lists file) (lawful_lists file)
 lawful now (Run (command.Read folder)) = lawful_on_shelf (reads folder) (lawful_reads folder)
 lawful now (Run (command.Reply folder place text rep)) = lawful_on_shelf (replies folder place text rep now) (lawful_replies folder place text rep now)
@@ -81,6 +83,7 @@ keeps now (Run (command.Export user limit folder)) = keeps_exports user limit fo
 keeps now (Run (command.Import conference file)) = keeps_state _ (import_turns conference file now)
 keeps now (Run (command.Init file)) = keeps_state _ (init_turns file now)
 keeps now (Run (command.Kill conference number)) = keeps_state _ (kill_turns conference number)
+keeps now (Run (command.Pack conference)) = keeps_state _ (pack_turns conference)
 keeps now (Run (command.List file)) = keeps_on_shelf (lists file) (lawful_lists file)
 keeps now (Run (command.Read folder)) = keeps_on_shelf (reads folder) (lawful_reads folder)
 keeps now (Run (command.Reply folder place text rep)) = keeps_on_shelf (replies folder place text rep now) (lawful_replies folder place text rep now)
@@ -110,6 +113,7 @@ one_migration now (Run (command.Export user limit folder)) state on = refl
 one_migration now (Run (command.Import conference file)) state on = refl
 one_migration now (Run (command.Init file)) state on = refl
 one_migration now (Run (command.Kill conference number)) state on = refl
+one_migration now (Run (command.Pack conference)) state on = refl
 one_migration now (Run (command.List file)) state on = absurd (true≢false (sym on))
 one_migration now (Run (command.Read folder)) state on = absurd (true≢false (sym on))
 one_migration now (Run (command.Reply folder place text rep)) state on = absurd (true≢false (sym on))

@@ -171,6 +171,7 @@ moved now (Run (command.Export user limit folder)) world stepped state off step 
 moved now (Run (command.Import conference file)) world stepped state off step = absurd (true≢false off)
 moved now (Run (command.Init file)) world stepped state off step = absurd (true≢false off)
 moved now (Run (command.Kill conference number)) world stepped state off step = absurd (true≢false off)
+moved now (Run (command.Pack conference)) world stepped state off step = absurd (true≢false off)
 moved now (Run (command.List file)) world stepped state off step = (step.0, refl)
 moved now (Run (command.Read folder)) world stepped state off step = (step.0, refl)
 moved now (Run (command.Reply folder place text rep)) world stepped state off step = (step.0, refl)

@@ -51,6 +51,7 @@ use Rattle.mail_board.specs.Readers.{place_of, user_id}
 use Rattle.mail_cli.specs.Step.{act}
 use Rattle.message_commands.specs.Import.{Imports, ImportsAt}
 use Rattle.message_commands.specs.Kill.{kill_turn}
+use Rattle.pack_commands.specs.Pack.{pack_turn}
 use Rattle.message_commands.specs.Sample.{sample_turn}
 use Rattle.offline_reader.specs.Listing.{folder_listing, listing}
 use Rattle.offline_writer.specs.Drafts.{entry_drafts, reply_draft}
@@ -358,6 +359,7 @@ outcome_of now (Run (command.Export user limit folder)) can state shelf has =
 outcome_of now (Run (command.Import conference file)) can state shelf has = some_turn (Imports conference file now) (some_import conference file now) state shelf has
 outcome_of now (Run (command.Init file)) can state shelf has = some_turn (Inits file now) (some_init file now) state shelf has
 outcome_of now (Run (command.Kill conference number)) can state shelf has = some_turn (λ shelf board turn. turn ≡ kill_turn conference number board) (λ shelf board. (kill_turn conference number board, refl)) state shelf has
+outcome_of now (Run (command.Pack conference)) can state shelf has = some_turn (λ shelf board turn. turn ≡ pack_turn conference board) (λ shelf board. (pack_turn conference board, refl)) state shelf has
 outcome_of now (Run (command.List file)) can state shelf has = some_look (ListAnswers file) (λ shelf. (replied listing (some_packet shelf file).0, ((some_packet shelf file).0, (some_packet shelf file).1, refl))) (here state shelf)
 outcome_of now (Run (command.Read folder)) can state shelf has = some_look (ReadAnswers folder)
     (λ shelf. (replied (λ packet. folder_listing packet.control packet.messages) (some_folder shelf folder).0, ((some_folder shelf folder).0, (some_folder shelf folder).1, refl))) (here state shelf)

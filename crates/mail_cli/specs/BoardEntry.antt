@@ -18,6 +18,7 @@ board_command (Run (command.Export user limit folder)) = board.Export user limit
 board_command (Run (command.Import conference file)) = board.Import conference file
 board_command (Run (command.Init file)) = board.Init file
 board_command (Run (command.Kill conference number)) = board.Kill conference number
+board_command (Run (command.Pack conference)) = board.Pack conference
 board_command (Run (command.List file)) = board.Other
 board_command (Run (command.Read folder)) = board.Other
 board_command (Run (command.Reply folder place text rep)) = board.Other

@@ -24,6 +24,7 @@ PostsMessages (command.Import conference file) = Unit {0}
 PostsMessages (command.Init file) = ⊥
 PostsMessages (command.Kill conference number) = ⊥
 PostsMessages (command.List file) = ⊥
+PostsMessages (command.Pack conference) = ⊥
 PostsMessages (command.Read folder) = ⊥
 PostsMessages (command.Reply folder place text rep) = ⊥
 PostsMessages (command.Sample seed count) = Unit {0}

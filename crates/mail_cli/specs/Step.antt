@@ -12,6 +12,7 @@ use Rattle.exchange_commands.specs.Ack.{acknowledges}
 use Rattle.exchange_commands.specs.Export.{exports}
 use Rattle.message_commands.specs.Import.{imports}
 use Rattle.message_commands.specs.Kill.{kills}
+use Rattle.pack_commands.specs.Pack.{packs}
 use Rattle.packet_commands.specs.List.{lists}
 use Rattle.packet_commands.specs.Read.{reads, shows}
 use Rattle.packet_commands.specs.Scan.{scans}
@@ -44,6 +45,7 @@ does now (command.Import conference file) = imports conference file now
 does now (command.Init file) = inits file now
 does now (command.Kill conference number) = kills conference number
 does now (command.List file) = on_shelf (lists file)
+does now (command.Pack conference) = packs conference
 does now (command.Read folder) = on_shelf (reads folder)
 does now (command.Reply folder place text rep) = on_shelf (replies folder place text rep now)
 does now (command.Sample seed count) = samples seed count now
@@ -77,6 +79,7 @@ uses_shelf (command.Import conference file) = true
 uses_shelf (command.Init file) = true
 uses_shelf (command.Kill conference number) = false
 uses_shelf (command.List file) = true
+uses_shelf (command.Pack conference) = false
 uses_shelf (command.Read folder) = true
 uses_shelf (command.Reply folder place text rep) = true
 uses_shelf (command.Sample seed count) = false

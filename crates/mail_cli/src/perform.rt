@@ -17,6 +17,7 @@ use entry_runs::{AsText, Class, Stop};
 use exchange_commands::{AcknowledgedLine, PacketLine, UploadedText, ack, export, upload};
 use mail_board::Loaded;
 use message_commands::{ImportedLine, KilledLine, SampledLine, import, kill, sample};
+use pack_commands::{PackedLine, pack};
 use packet_commands::{CountLine, list, read, scan, show};
 use reply_commands::{ComposedLine, RepliedLine, compose, reply};
 use shelf_files::say_served;
@@ -133,6 +134,13 @@ fn perform_command<H: Host, S: Shelf>(
             let words = KilledLine { conference, number };
             say_told(&words, kill(alloc, host, kept, conference, number), host)
         }
+        Command::Pack { conference } => say_told(
+            &PackedLine {
+                conference: *conference,
+            },
+            pack(alloc, host, kept, *conference),
+            host,
+        ),
         Command::Sample { seed, count } => say_told(
             &SampledLine,
             sample(alloc, host, kept, *seed, *count, now),

@@ -6,3 +6,6 @@ pub mod AppendLaws
 pub mod FitLaws
 pub mod DeleteLaws
 pub mod EachSlots
+pub mod PackLaws
+pub mod ReplaceLaws
+pub mod SlotValues

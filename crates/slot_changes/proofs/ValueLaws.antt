@@ -138,7 +138,7 @@ held_passes kind m msgid is = record {
 }
 
 -- some msgid
-an_id : IsMsgid (0x41 ∷ [])
+pub an_id : IsMsgid (0x41 ∷ [])
 unfolding is_text
 an_id = record { bytes = All-cons IsByte 0x41 [] (omega arith) (All-nil IsByte); text = refl }
 

@@ -1,3 +1,4 @@
 pub mod Msgids
 pub mod Changed
 pub mod Values
+pub mod Packed

@@ -1,4 +1,5 @@
-//! Changes of a board's slots: messages appended in a place, each with a msgid, and a message deleted.
+//! Changes of a board's slots: messages appended in a place, each with a msgid, a message deleted, and all slots of a
+//! place replaced.
 #![tactic(auto)]
 
 mod append;
@@ -6,7 +7,9 @@ mod delete;
 mod fits;
 mod msgid;
 mod place;
+mod replace;
 mod size;
+mod slots;
 mod value;
 
 pub use append::{appended, identified};
@@ -14,5 +17,7 @@ pub use delete::deleted;
 pub use fits::{fits_deletion, fits_messages};
 pub use msgid::{generated_len, msgid_of};
 pub use place::conference_of;
+pub use replace::replaced;
 pub use size::{message_size, size_with_messages};
+pub use slots::fits_slots;
 pub use value::{is_net, may_hold, typed};

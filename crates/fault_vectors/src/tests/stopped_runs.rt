@@ -114,3 +114,20 @@ made 4 conferences
 fn a_stopped_toss_leaves_the_board_before_or_after(rt: HostRuntime) -> Result<(), Miss> {
     expect_line_stops(rt.alloc(), NEIGHBOUR, "toss few.pkt")
 }
+
+/// A message and three answers, of which the second is deleted.
+const KILLED: &str = r#"
+* board B
+* add answers 3 From: Bob Ray\nTo: All\nSubject: Hello\nReply: 0.1.TESTBBS\n\nFirst line\n.\n
+> import 0 one
+imported 1 into 0
+> import 0 answers
+imported 3 into 0
+> kill 0 3
+killed 0 3
+"#;
+
+#[test]
+fn a_stopped_pack_leaves_the_board_before_or_after(rt: HostRuntime) -> Result<(), Miss> {
+    expect_line_stops(rt.alloc(), KILLED, "pack 0")
+}

@@ -7,7 +7,7 @@ use Rattle.mail_board.specs.Changes.{changed}
 use Rattle.mail_board.specs.Held.{BeforeOrNext, Follows, HeldBoard, Rests, RestsOn}
 use Rattle.mail_board.specs.declared.change.ChangeError.{ChangeError}
 use Rattle.door_export.proofs.ExportLaws.{kept_never, undone, undone_sure}
-use Rattle.door_export.proofs.FetchLaws.{behind_moments, behind_now, fetched_now}
+use Rattle.mail_board.proofs.FetchedHosts.{behind_moments, behind_now, fetched_now}
 use Rattle.door_export.specs.Export.{after_export, export_of}
 use Rattle.door_export.specs.Exporting.{of_change}
 use Rattle.door_export.proofs.exporting.export.Goals as goal

@@ -8,7 +8,8 @@ use Rattle.mail_board.proofs.OneHost.{holds_still}
 use Rattle.offered_packets.proofs.PacketSizes.{are_writable, spelling_short}
 use Rattle.offered_packets.proofs.Packets.{shown_next}
 use Rattle.offered_packets.specs.Shown.{IsShort}
-use Rattle.door_export.proofs.FetchLaws.{more_few, more_short, none_shown, unchanged_never}
+use Rattle.mail_board.proofs.FetchedHosts.{unchanged_never}
+use Rattle.door_export.proofs.FetchLaws.{more_few, more_short, none_shown}
 use Rattle.door_export.proofs.fetching.packet_of.Goals as goal
 use Rattle.door_export.proofs.fetching.packet_of.Goals.{in-Some+in_ok-add, in_default}
 

@@ -1,5 +1,6 @@
-use Rattle.std.proofs.Common.{rules, ◌≡◌, ◌+◌, ◌≤◌, ℕ, List, length, Some, Err, sym, ap, ◌∙◌, subst, arith}
+use Rattle.std.proofs.Common.{rules, ◌≡◌, ℕ, List, length, Some, Err, sym, ap, ◌∙◌, subst, arith}
 use Rattle.std.specs.Prelude.{option_map}
+use Rattle.board_layout.specs.Outlines.{HasBody}
 use Rattle.board_layout.specs.declared.error.ReadError.TheVariants.{Damaged}
 use Rattle.door_outside.specs.File.{jdt_file}
 use Rattle.jam_base.specs.Bodies.{body_begin}
@@ -10,6 +11,7 @@ use Rattle.jam_layout.specs.Messages.{IsBody}
 use Rattle.jam_layout.specs.Outlines.{message_outline}
 use Rattle.jam_records.specs.declared.message.Message.{Message}
 use Rattle.jam_records.specs.declared.message.Slot.{Slot}
+use Rattle.jam_records.specs.declared.message.Slot.TheVariants.{Held}
 use Rattle.mail_board.proofs.BodyLaws.{body_lines, body_within, number_above, number_within, outline_stays, same_error, span_begins, span_length, span_short, span_there, whole, whole_of, Whole}
 use Rattle.mail_board.specs.Bodies.{span_text}
 use Rattle.mail_board.proofs.bodies.fetched.Goals as goal
@@ -72,3 +74,7 @@ returns-clause-outline g c =
     let len = span_length c.args.base.now c.requires.base c.args.number one.message one.there c.in-Some.span (search rules) in
     let made : c.in_ok-with_body.field-0 ≡ message_with one.message c.in_ok-body.body = c.in_ok-with_body.ensures ∙ ap (λ (x : Message). message_with x c.in_ok-body.body) one.bare in
     ap Some (outline_stays one.message c.in_ok-with_body.field-0 c.in_ok-body.body made (c.in_ok-body.ensures.long ∙ len)) ∙ ap (option_map message_outline) one.there
+
+-- ---- its bytes are a body's
+pub returns-clause-lines : goal.returns-clause-lines
+returns-clause-lines g c = subst (λ (m : Message). HasBody (Held m)) (sym c.in_ok-with_body.ensures) (c.as_slice-bytes.ensures.bytes, c.in_ok-body.ensures.lines)

@@ -243,6 +243,21 @@ returns-in-Kill-clause-kept g c tells = spoken_kept g.H.Host.disk _ _ c.kill.new
 pub returns-in-Kill-clause-wrote : goal.returns-in-Kill-clause-wrote
 returns-in-Kill-clause-wrote g c tells shelf_tells = rw c.in-Kill.is (λ posts closed. absurd posts)
 
+pub returns-in-Pack-clause-performs : goal.returns-in-Pack-clause-performs
+returns-in-Pack-clause-performs g c tells shelf_tells world at = rw c.in-Pack.is (performs_as_said Stores _ g.H.Host.disk _ (c.pack.ensures.works tells world _ at) (c.say_told-in-Pack.ensures.spoken tells))
+
+pub returns-in-Pack-clause-causes : goal.returns-in-Pack-clause-causes
+returns-in-Pack-clause-causes g c = c.say_told-in-Pack.ensures.causes _ _ (c.pack.ensures.causes _)
+
+pub returns-in-Pack-clause-damaged : goal.returns-in-Pack-clause-damaged
+returns-in-Pack-clause-damaged g c = rw c.in-Pack.is (may_be_damaged c.say_told-in-Pack.result)
+
+pub returns-in-Pack-clause-kept : goal.returns-in-Pack-clause-kept
+returns-in-Pack-clause-kept g c tells = spoken_kept g.H.Host.disk c.pack.new.kept _ _ (c.say_told-in-Pack.ensures.spoken tells) (c.pack.ensures.kept tells)
+
+pub returns-in-Pack-clause-wrote : goal.returns-in-Pack-clause-wrote
+returns-in-Pack-clause-wrote g c tells shelf_tells = rw c.in-Pack.is (λ posts closed. absurd posts)
+
 pub returns-in-Sample-clause-performs : goal.returns-in-Sample-clause-performs
 returns-in-Sample-clause-performs g c tells shelf_tells world at = rw c.in-Sample.is (performs_as_said Stores _ g.H.Host.disk _ (c.sample.ensures.works tells world _ at) (c.say_told-in-Sample.ensures.spoken tells))
 

@@ -16,5 +16,5 @@ loop-verb-preserved c =
 
 pub returns : goal.returns
 returns c =
-    let all : c.loop-verb.verb-index ≡ 17 = omega arith in
+    let all : c.loop-verb.verb-index ≡ 18 = omega arith in
     no_verb c.args.word.now (subst (λ (k : ℕ). All (λ verb. ¬ (c.args.word.now ≡ first_word verb)) (take k verbs)) all c.loop-verb.invariant)

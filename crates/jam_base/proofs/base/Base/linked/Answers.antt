@@ -1,6 +1,5 @@
 use Rattle.std.proofs.Common.{◌≡◌, ◌∙◌, ◌<◌, ◌^◌, ℕ, List, refl, sym, ap, subst, arith}
 use Rattle.std.specs.Prelude.{sum_by}
-use Rattle.jam_records.specs.declared.message.Slot.{Slot}
 use Rattle.jam_layout.specs.Bare.{filled, filled_slots}
 use Rattle.jam_layout.specs.Bodies.{body_size}
 use Rattle.jam_writing.proofs.PieceLaws.{headers_small, bodies_small}

@@ -1,0 +1,3 @@
+pub mod PackActs
+pub mod PackAlike
+pub mod PackExits

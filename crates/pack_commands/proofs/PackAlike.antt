@@ -1,0 +1,25 @@
+-- Boards with one outline take the turn of `pack` alike.
+use Rattle.std.proofs.Common.{◌≡◌, ℕ, Option, Some, None, sym, ap, ◌∙◌}
+use Rattle.board_commands.specs.Turns.{Turn, refuses}
+use Rattle.board_layout.specs.Board.{Board}
+use Rattle.jam_pack.proofs.PackedBoards.{count_alike}
+use Rattle.mail_board.specs.Held.{AreAlike}
+use Rattle.mail_board.specs.Readers.{place_of}
+use Rattle.message_commands.proofs.PlaceAlike.{place_alike}
+use Rattle.shelf_files.specs.Halts.{done}
+use Rattle.shelf_files.specs.declared.refusal.Refusal.TheVariants.{NoConference}
+use Rattle.slot_changes.specs.Packed.{packed, packed_count}
+use Rattle.pack_commands.specs.Pack.{pack_at, pack_turn, packed_line}
+
+-- a place is packed, and the reply counts so many
+abbrev pub packing : ℕ → ℕ → ℕ → Board → Turn
+packing conference place count b = record { board = Some (packed place b); reply = done (packed_line conference count) }
+
+module _ (conference : ℕ) (b : Board) where
+  pub turn_unplaced : place_of conference b ≡ None → (real : Board) → AreAlike real b → refuses NoConference (Some real) ≡ pack_turn conference (Some real)
+  turn_unplaced none real alike = sym (ap (pack_at conference real) (place_alike real b alike conference ∙ none))
+
+  pub turn_packing : (place count : ℕ) → place_of conference b ≡ Some place → count ≡ packed_count place b → (real : Board) → AreAlike real b → packing conference place count real ≡ pack_turn conference (Some real)
+  turn_packing place count there counts real alike =
+      ap (λ (n : ℕ). packing conference place n real) (counts ∙ sym (count_alike real b alike place))
+      ∙ sym (ap (pack_at conference real) (place_alike real b alike conference ∙ there))
