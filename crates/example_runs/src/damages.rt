@@ -20,22 +20,39 @@ pub enum Damage {
     Longer(usize, u8),
 }
 
+/// Adds a file of which the byte at a place becomes another.
+fn add_with(changed: &mut Bytes, file: &[u8], place: usize, byte: u8) -> Result<(), Miss> {
+    let front = file.get(..place).ok_or("too short")?;
+    let [_, behind @ ..] = &file[place..] else {
+        return Err(Miss::Broken("too short"));
+    };
+    changed.add(front)?;
+    changed.add(&[byte])?;
+    changed.add(behind)?;
+    Ok(())
+}
+
+/// Adds a file with its damage.
+fn add_damaged(
+    alloc: Global,
+    changed: &mut Bytes,
+    file: &[u8],
+    damage: Damage,
+) -> Result<(), Miss> {
+    match damage {
+        Damage::Becomes(place, byte) => add_with(changed, file, place, byte),
+        Damage::Cut(len) => Ok(changed.add(file.get(..len).ok_or("too short")?)?),
+        Damage::Longer(count, byte) => {
+            changed.add(file)?;
+            Ok(changed.add(copies(alloc, &[byte], count)?.as_slice())?)
+        }
+    }
+}
+
 /// A file with its damage.
 pub fn damaged(alloc: Global, file: &[u8], damage: Damage) -> Result<Bytes, Miss> {
     let mut changed = Bytes::new(alloc);
-    match damage {
-        Damage::Becomes(place, byte) => {
-            changed.add(file.get(..place).ok_or("too short")?)?;
-            changed.add(&[byte])?;
-            let behind = place.checked_add(1).ok_or("too far")?;
-            changed.add(file.get(behind..).ok_or("too short")?)?;
-        }
-        Damage::Cut(len) => changed.add(file.get(..len).ok_or("too short")?)?,
-        Damage::Longer(count, byte) => {
-            changed.add(file)?;
-            changed.add(copies(alloc, &[byte], count)?.as_slice())?;
-        }
-    }
+    add_damaged(alloc, &mut changed, file, damage)?;
     Ok(changed)
 }
 

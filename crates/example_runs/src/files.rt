@@ -36,6 +36,13 @@ pub fn copies(alloc: Global, text: &[u8], count: usize) -> Result<Bytes, AllocEr
     Ok(file)
 }
 
+/// A file, or none, with a text behind it.
+fn longer(alloc: Global, before: Option<&[u8]>, text: &[u8]) -> Result<Bytes, AllocError> {
+    let mut file = Bytes::from_slice(alloc, before.unwrap_or(b""))?;
+    file.add(text)?;
+    Ok(file)
+}
+
 /// Adds a text so many times to the end of a file, which may be missing.
 pub(crate) fn add_copies(
     shelf: &mut MemoryShelf,
@@ -45,11 +52,11 @@ pub(crate) fn add_copies(
     count: usize,
 ) -> Result<(), Miss> {
     let name = name_of(alloc, name)?;
-    let mut file = Bytes::new(alloc);
-    if let Some(before) = shelf.get(&name) {
-        file.add(before)?;
-    }
-    file.add(copies(alloc, text, count)?.as_slice())?;
+    let file = longer(
+        alloc,
+        shelf.get(&name),
+        copies(alloc, text, count)?.as_slice(),
+    )?;
     shelf.put(&name, file.as_slice())?;
     Ok(())
 }

@@ -75,9 +75,9 @@ const FRONTS: [(&str, usize, &str, u8, usize); 9] = [
 
 /// Puts the packets of the examples.
 pub fn put_packets(shelf: &mut MemoryShelf, alloc: Global) -> Result<(), Miss> {
-    for (name, messages, count, pad, len) in FRONTS {
-        let whole = packet(alloc, messages, count.as_bytes(), pad)?;
-        put_front(shelf, alloc, name, &whole, len)?;
+    for (name, messages, count, pad, len) in &FRONTS {
+        let whole = packet(alloc, *messages, count.as_bytes(), *pad)?;
+        put_front(shelf, alloc, name, &whole, *len)?;
     }
     Ok(())
 }

@@ -1,5 +1,6 @@
 mod board;
 mod changes;
+mod copies;
 mod ledger;
 mod ledger_texts;
 mod short_reads;

@@ -42,24 +42,29 @@ pub fn are_short(files: &BaseFiles) -> bool
     records && files.jhr.as_slice().len() < most && files.jdt.as_slice().len() < most
 }
 
-/// The texts of a message, each in quotes and before a space.
+/// Adds a text in quotes, and a space behind it.
+fn add_text(alloc: Global, line: &mut String, text: &Bytes) -> Result<(), AllocError> {
+    let text = String::from_utf8_lossy(alloc, text.as_slice())?;
+    let quoted = format!(in alloc; "{text:?} ")?;
+    line.push_str(quoted.as_str())
+}
+
+/// Adds the texts of a message.
+fn add_texts(alloc: Global, line: &mut String, message: &Message) -> Result<(), AllocError> {
+    add_text(alloc, line, &message.from)?;
+    add_text(alloc, line, &message.to)?;
+    add_text(alloc, line, &message.subject)?;
+    add_text(alloc, line, &message.msgid)?;
+    add_text(alloc, line, &message.replyid)?;
+    add_text(alloc, line, &message.origin)?;
+    add_text(alloc, line, &message.destination)?;
+    add_text(alloc, line, &message.body)
+}
+
+/// The texts of a message.
 fn texts_of(alloc: Global, message: &Message) -> Result<String, AllocError> {
-    let texts = [
-        &message.from,
-        &message.to,
-        &message.subject,
-        &message.msgid,
-        &message.replyid,
-        &message.origin,
-        &message.destination,
-        &message.body,
-    ];
     let mut line = String::new(alloc);
-    for text in texts {
-        let text = String::from_utf8_lossy(alloc, text.as_slice())?;
-        let quoted = format!(in alloc; "{text:?} ")?;
-        line.push_str(quoted.as_str())?;
-    }
+    add_texts(alloc, &mut line, message)?;
     Ok(line)
 }
 

@@ -1,6 +1,6 @@
 //! What the files of boards are read as.
 use super::ledger_texts::{ledger_text, version_of};
-use board_layout::{FoundBoard, ReadError, read_board};
+use board_layout::{FoundBoard, ReadError, StoredBoard, read_board};
 use byte_lists::Bytes;
 use case_texts::{Miss, bytes_of, expect_cases, number_of};
 use door_outside::FileId;
@@ -60,12 +60,22 @@ fn put_files(host: &mut MemoryHost, words: &[Bytes]) -> Result<(), Miss> {
     Ok(())
 }
 
+/// How many slots the conference of a place has.
+fn slot_count(board: &StoredBoard, place: u8) -> Option<u32> {
+    Some(board.base(place)?.slot_count())
+}
+
 /// Whether the files are of version 1, how many bytes they have in version 2, of each place how many slots there are, the
 /// serial number, how many conferences there are, and the version of the ledger.
 fn described(alloc: Global, found: &FoundBoard) -> Result<String, AllocError> {
     let age = if found.is_old { "old" } else { "new" };
     let board = &found.board;
-    let slots = [0, 1, 2, 3].map(|place| Some(board.base(place)?.slot_count()));
+    let slots = [
+        slot_count(board, 0),
+        slot_count(board, 1),
+        slot_count(board, 2),
+        slot_count(board, 3),
+    ];
     let ledger = board.ledger();
     format!(in alloc;
         "{age} {} {slots:?} {} {} version {}",

@@ -51,15 +51,22 @@ fn read_old(alloc: Global, words: &[Bytes]) -> Result<String, Miss> {
     outcome(alloc, bytes.as_slice(), today.as_slice())
 }
 
+/// The ledger that bytes are.
+fn ledger_read(alloc: Global, bytes: &[u8]) -> Result<Ledger, Miss>
+    ensures { IfOk result IsStored }
+{
+    match Ledger::read(alloc, bytes) {
+        Ok(ledger) => Ok(ledger),
+        Err(_) => Err(Miss::Unreached),
+    }
+}
+
 /// The ledger of these users and uploads in a version.
 fn ledger_of(alloc: Global, version: u8, users: &[u8], uploads: &[u8]) -> Result<Ledger, Miss>
     ensures { IfOk result IsStored }
 {
     let bytes = ledger_text(alloc, version, users, uploads)?;
-    match Ledger::read(alloc, bytes.as_slice()) {
-        Ok(ledger) => Ok(ledger),
-        Err(_) => Err(Miss::Unreached),
-    }
+    ledger_read(alloc, bytes.as_slice())
 }
 
 /// The moment, the serial number, the id and the zones, and of the third conference its number and its rules.

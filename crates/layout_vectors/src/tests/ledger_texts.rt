@@ -123,8 +123,9 @@ pub fn ledger_text(
 
 /// Gives bytes others from a place on.
 fn put_at(made: &mut Vec<u8>, at: usize, value: &[u8]) {
-    for (old, new) in made.iter_mut().skip(at).zip(value) {
-        *old = *new;
+    if let Some(rest) = made.as_mut_slice().get_mut(at..) {
+        let count = rest.len().min(value.len());
+        rest[..count].copy_from_slice(&value[..count]);
     }
 }
 

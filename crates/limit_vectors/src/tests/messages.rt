@@ -5,6 +5,7 @@ ghost use Rattle.intent_journal.specs.Hosts.{IsSettled};
 ghost use Rattle.mail_board.specs.Held.{RestsOn};
 ghost use Rattle.memory_outside.specs.MemoryHost.{disk_of};
 
+use byte_lists::Bytes;
 use door_outside::{DiskFault, FileId, Host, VoiceFault};
 use example_runs::{Miss, no_faults, played};
 use jam_records::Message;
@@ -20,22 +21,28 @@ fn synced(alloc: Global, last: &MemoryHost) -> Result<MemoryHost, AllocError>
     last.after_crash(alloc, ImageChoice::Synced, no_faults(alloc))
 }
 
+/// Adds a text behind a mark.
+fn add_text(alloc: Global, line: &mut String, mark: &str, text: &Bytes) -> Result<(), AllocError> {
+    let text = format!(in alloc; "{mark}{}", text.as_slice().escape_ascii())?;
+    line.push_str(text.as_str())
+}
+
+/// Adds the texts of a message.
+fn add_texts(alloc: Global, line: &mut String, message: &Message) -> Result<(), AllocError> {
+    add_text(alloc, line, " ", &message.from)?;
+    add_text(alloc, line, " > ", &message.to)?;
+    add_text(alloc, line, ": ", &message.subject)?;
+    add_text(alloc, line, " (", &message.msgid)?;
+    add_text(alloc, line, ") ", &message.body)
+}
+
 /// A message as a text: whether it is local, private, read and deleted, and its texts.
 fn described(alloc: Global, message: &Message) -> Result<String, AllocError> {
-    format!(in alloc;
-        "{:?} {} > {}: {} ({}) {}",
-        [
-            message.local,
-            message.private,
-            message.seen,
-            message.deleted
-        ],
-        message.from.as_slice().escape_ascii(),
-        message.to.as_slice().escape_ascii(),
-        message.subject.as_slice().escape_ascii(),
-        message.msgid.as_slice().escape_ascii(),
-        message.body.as_slice().escape_ascii()
-    )
+    let (local, private) = (message.local, message.private);
+    let (seen, deleted) = (message.seen, message.deleted);
+    let mut line = format!(in alloc; "[{local}, {private}, {seen}, {deleted}]")?;
+    add_texts(alloc, &mut line, message)?;
+    Ok(line)
 }
 
 /// The msgid that a board generates for a number in a place, and whether a message there has it; or that there is no such
@@ -76,15 +83,15 @@ fn message_text<H: Host>(
 }
 
 /// What a board says of a number in a place: the msgid that it generates, whether that is held, and the message.
-fn told<H: Host>(
+fn told(
     alloc: Global,
     board: &Board,
-    host: &mut H,
+    host: &mut MemoryHost,
     place: u8,
     number: u32,
 ) -> Result<String, AllocError>
     requires sure { IsFalse board.now.doubtful }
-    requires rests { IsTrue H.tells → RestsOn board.now.board (H.disk host.old) }
+    requires rests { RestsOn board.now.board (disk_of host.old) }
 {
     let message = message_text(alloc, board, host, place, number)?;
     let msgid = generated(alloc, board, place, number)?;
@@ -92,13 +99,13 @@ fn told<H: Host>(
 }
 
 /// What the board of a host says of a number in a place, or why there is no board.
-fn told_by<H: Host>(
+fn told_by(
     alloc: Global,
-    host: &mut H,
+    host: &mut MemoryHost,
     place: u8,
     number: u32,
 ) -> Result<String, AllocError>
-    requires { IsTrue H.tells → IsSettled (H.disk host.old) }
+    requires { IsSettled (disk_of host.old) }
 {
     match Board::load(alloc, host) {
         Ok(Loaded::Ready(board)) => told(alloc, &board, host, place, number),

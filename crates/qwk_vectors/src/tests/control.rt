@@ -1,30 +1,36 @@
 //! Files from worked examples. A case is a file, and what is found its texts, its count, its conferences, and whether it
 //! is written as it was read; or its first fault.
+use super::messages::add_quoted;
 use byte_lists::Bytes;
-use case_texts::{Miss, expect_cases, quoted};
+use case_texts::{Miss, expect_cases};
 use qwk_control::{Control, Listed, read_control, write_control};
 use std::alloc::{AllocError, Global};
 
-/// The texts, in the order of the file.
+/// Adds the first of the texts, in the order of the file.
+fn add_texts(alloc: Global, found: &mut String, control: &Control) -> Result<(), AllocError> {
+    add_quoted(alloc, found, "", control.board.as_slice())?;
+    add_quoted(alloc, found, " ", control.city.as_slice())?;
+    add_quoted(alloc, found, " ", control.phone.as_slice())?;
+    add_quoted(alloc, found, " ", control.sysop.as_slice())?;
+    add_quoted(alloc, found, " ", control.serial.as_slice())?;
+    add_quoted(alloc, found, " ", control.bbsid.as_slice())
+}
+
+/// Adds the others.
+fn add_others(alloc: Global, found: &mut String, control: &Control) -> Result<(), AllocError> {
+    add_quoted(alloc, found, " ", control.stamp.as_slice())?;
+    add_quoted(alloc, found, " ", control.user.as_slice())?;
+    add_quoted(alloc, found, " ", control.menu.as_slice())?;
+    add_quoted(alloc, found, " ", control.welcome.as_slice())?;
+    add_quoted(alloc, found, " ", control.news.as_slice())?;
+    add_quoted(alloc, found, " ", control.goodbye.as_slice())
+}
+
+/// The texts.
 fn texts_of(alloc: Global, control: &Control) -> Result<String, AllocError> {
     let mut found = String::new(alloc);
-    for text in [
-        &control.board,
-        &control.city,
-        &control.phone,
-        &control.sysop,
-        &control.serial,
-        &control.bbsid,
-        &control.stamp,
-        &control.user,
-        &control.menu,
-        &control.welcome,
-        &control.news,
-        &control.goodbye,
-    ] {
-        found.push_str(quoted(alloc, text.as_slice())?.as_str())?;
-        found.push_str(" ")?;
-    }
+    add_texts(alloc, &mut found, control)?;
+    add_others(alloc, &mut found, control)?;
     Ok(found)
 }
 
@@ -57,7 +63,7 @@ fn described(alloc: Global, control: &Control, file: &[u8]) -> Result<String, Al
     let copy = control.conferences.copy(alloc)?;
     let conferences = conferences_of(alloc, &copy)?;
     let writing = writing_of(alloc, control, file)?;
-    format!(in alloc; "{texts}{}{conferences}, {writing}", control.count)
+    format!(in alloc; "{texts} {}{conferences}, {writing}", control.count)
 }
 
 fn read(alloc: Global, words: &[Bytes]) -> Result<String, Miss> {

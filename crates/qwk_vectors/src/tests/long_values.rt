@@ -1,7 +1,8 @@
 //! Long names and subjects. A case is what it asks, and then To, From, the subject and the lines of a message, and so
 //! is what is found.
+use super::messages::{add_lines, add_quoted};
 use byte_lists::{Bytes, Lines};
-use case_texts::{Miss, expect_cases, quoted};
+use case_texts::{Miss, expect_cases};
 use long_names::{plain, with_long};
 use qwk_blocks::{Header, QwkMessage};
 use std::alloc::{AllocError, Global};
@@ -28,31 +29,35 @@ fn empty_message(alloc: Global) -> QwkMessage {
     }
 }
 
+/// Gives an empty header its texts.
+fn fill_header(
+    header: &mut Header,
+    to: &Bytes,
+    from: &Bytes,
+    subject: &Bytes,
+) -> Result<(), AllocError> {
+    header.to.add(to.as_slice())?;
+    header.from.add(from.as_slice())?;
+    header.subject.add(subject.as_slice())
+}
+
 /// Gives an empty message the texts of a case.
 fn fill(alloc: Global, message: &mut QwkMessage, words: &[Bytes]) -> Result<(), Miss> {
     let [to, from, subject, text @ ..] = words else {
         return Err(Miss::Words);
     };
-    message.header.to.add(to.as_slice())?;
-    message.header.from.add(from.as_slice())?;
-    message.header.subject.add(subject.as_slice())?;
-    for line in text {
-        message.lines.add(line.copy(alloc)?)?;
-    }
-    Ok(())
+    fill_header(&mut message.header, to, from, subject)?;
+    Ok(add_lines(alloc, &mut message.lines, text)?)
 }
 
 /// Adds the texts of a message in the words of a case.
 fn add_texts(alloc: Global, found: &mut String, message: &QwkMessage) -> Result<(), AllocError> {
     let header = &message.header;
-    found.push_str(quoted(alloc, header.to.as_slice())?.as_str())?;
-    found.push_str(" ")?;
-    found.push_str(quoted(alloc, header.from.as_slice())?.as_str())?;
-    found.push_str(" ")?;
-    found.push_str(quoted(alloc, header.subject.as_slice())?.as_str())?;
+    add_quoted(alloc, found, "", header.to.as_slice())?;
+    add_quoted(alloc, found, " ", header.from.as_slice())?;
+    add_quoted(alloc, found, " ", header.subject.as_slice())?;
     for line in message.lines.as_slice() {
-        found.push_str(" ")?;
-        found.push_str(quoted(alloc, line.as_slice())?.as_str())?;
+        add_quoted(alloc, found, " ", line.as_slice())?;
     }
     Ok(())
 }

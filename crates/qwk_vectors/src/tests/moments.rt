@@ -1,4 +1,5 @@
 //! Moments in the fields of messages, by seconds since 1970.
+use super::messages::{date_of, time_of};
 use byte_lists::Bytes;
 use case_texts::{Miss, expect_cases, number_of};
 use qwk_moments::{date_field, read_moment, stamp, time_field};
@@ -9,8 +10,7 @@ fn read(alloc: Global, words: &[Bytes]) -> Result<String, Miss> {
     let [date, time] = words else {
         return Err(Miss::Words);
     };
-    let date: [u8; 8] = date.as_slice().try_into().ok().ok_or(Miss::Words)?;
-    let time: [u8; 5] = time.as_slice().try_into().ok().ok_or(Miss::Words)?;
+    let (date, time) = (date_of(date)?, time_of(time)?);
     Ok(format!(in alloc; "{:?}", read_moment(&date, &time))?)
 }
 

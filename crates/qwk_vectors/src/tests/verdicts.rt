@@ -1,7 +1,8 @@
 //! Verdicts on uploaded messages, from worked examples and the table of the rules. What is found is the rule that refuses
 //! with its word, or what is posted.
+use super::messages::{add_lines, add_quoted, date_of, time_of};
 use byte_lists::{Bytes, Lines, List};
-use case_texts::{Miss, expect_cases, number_of, quoted};
+use case_texts::{Miss, expect_cases, number_of};
 use jam_records::{Kind, Message};
 use netmail_rules::{ConferenceView, Rule, Verdict, View, judge};
 use qwk_blocks::{Header, QwkMessage};
@@ -96,14 +97,6 @@ impl Upload {
         self.message.header.subject.add(b"Hello")
     }
 
-    /// Adds these lines to it.
-    fn add_lines(&mut self, alloc: Global, lines: &[Bytes]) -> Result<(), AllocError> {
-        for line in lines {
-            self.message.lines.add(line.copy(alloc)?)?;
-        }
-        Ok(())
-    }
-
     /// The rule that refuses with its word, and else `posted`.
     fn refusal(&self, alloc: Global) -> Result<String, Miss> {
         match judge(alloc, &self.view, &self.message, NOW)? {
@@ -135,12 +128,21 @@ const RULES: [Rule; 14] = [
     Rule::Full,
 ];
 
+/// The rule that a word names.
+fn rule_of(word: &Bytes) -> Result<Rule, Miss> {
+    for rule in &RULES {
+        if rule.word() == word.as_slice() {
+            return Ok(*rule);
+        }
+    }
+    Err(Miss::Words)
+}
+
 /// The rules that words name.
 fn rules_of(alloc: Global, words: &[Bytes]) -> Result<Vec<Rule>, Miss> {
     let mut rules = Vec::new(alloc);
     for word in words {
-        let named = RULES.iter().find(|rule| rule.word() == word.as_slice());
-        rules.push(*named.ok_or(Miss::Words)?)?;
+        rules.push(rule_of(word)?)?;
     }
     Ok(rules)
 }
@@ -227,7 +229,7 @@ impl Upload {
         lines: &[Bytes],
     ) -> Result<String, Miss> {
         self.fill()?;
-        self.add_lines(alloc, lines)?;
+        add_lines(alloc, &mut self.message.lines, lines)?;
         self.view.room = u64::from(room);
         self.message.header.to = to.copy(alloc)?;
         self.refusal(alloc)
@@ -244,18 +246,12 @@ fn judge_size(alloc: Global, words: &[Bytes]) -> Result<String, Miss> {
     Upload::new(alloc, conference).judge_size(alloc, room, to, lines)
 }
 
-/// Adds a text of a message that is posted.
-fn add_text(alloc: Global, found: &mut String, name: &str, text: &Bytes) -> Result<(), AllocError> {
-    found.push_str(name)?;
-    found.push_str(quoted(alloc, text.as_slice())?.as_str())
-}
-
 /// Adds the texts of a message that is posted.
 fn add_texts(alloc: Global, found: &mut String, draft: &Message) -> Result<(), AllocError> {
-    add_text(alloc, found, " from ", &draft.from)?;
-    add_text(alloc, found, " to ", &draft.to)?;
-    add_text(alloc, found, " at ", &draft.destination)?;
-    add_text(alloc, found, " says ", &draft.body)
+    add_quoted(alloc, found, " from ", draft.from.as_slice())?;
+    add_quoted(alloc, found, " to ", draft.to.as_slice())?;
+    add_quoted(alloc, found, " at ", draft.destination.as_slice())?;
+    add_quoted(alloc, found, " says ", draft.body.as_slice())
 }
 
 /// The message that the board keeps.
@@ -271,8 +267,8 @@ fn posted(alloc: Global, draft: &Message) -> Result<String, Miss> {
 /// Writes a status, a date and a time into a header.
 fn set_fields(header: &mut Header, status: &Bytes, date: &Bytes, time: &Bytes) -> Result<(), Miss> {
     header.status = *status.as_slice().first().ok_or(Miss::Words)?;
-    header.date = date.as_slice().try_into().ok().ok_or(Miss::Words)?;
-    header.time = time.as_slice().try_into().ok().ok_or(Miss::Words)?;
+    header.date = date_of(date)?;
+    header.time = time_of(time)?;
     Ok(())
 }
 
@@ -280,7 +276,7 @@ impl Upload {
     /// Judges these lines of Ann's.
     fn judge_letter(&mut self, alloc: Global, lines: &[Bytes]) -> Result<String, Miss> {
         self.fill()?;
-        self.add_lines(alloc, lines)?;
+        add_lines(alloc, &mut self.message.lines, lines)?;
         match judge(alloc, &self.view, &self.message, NOW)? {
             Verdict::Post(draft) => posted(alloc, &draft),
             Verdict::Refused(rule) => refused(alloc, rule),

@@ -1,4 +1,5 @@
-//! Lists and their copies.
+//! Copies of the list types: each is equal where memory is ample. Those of lines, sheets, subfields, QWK messages, control
+//! lines and setups stand among the examples of their crates.
 mod ledgers;
 mod messages;
 mod patches;
