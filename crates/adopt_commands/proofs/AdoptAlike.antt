@@ -3,7 +3,6 @@ use Rattle.std.proofs.Common.{◌≡◌, ℕ, ◌+◌, cond, List, [], ◌∷◌
 use Rattle.std.specs.Prelude.{codes, fold}
 use Rattle.board_commands.specs.Turns.{Turn}
 use Rattle.board_layout.specs.Board.{Board}
-use Rattle.jam_adopt.specs.RuleWord.{foreign_word}
 use Rattle.jam_adopt.specs.declared.found.Found.{Found}
 use Rattle.jam_adopt.specs.declared.found.FoundVerdict.{FoundVerdict}
 use Rattle.jam_adopt.specs.declared.found.FoundVerdict.TheVariants.{Taken, Refused}
@@ -18,11 +17,11 @@ use Rattle.mail_intake.specs.Lines.{intake_text, posted_line, refused_line}
 use Rattle.mail_intake.specs.Room.{is_full}
 use Rattle.message_commands.proofs.Exits.{carried}
 use Rattle.message_commands.proofs.PlaceAlike.{kind_alike}
-use Rattle.offered_packets.specs.Sees.{slots_in}
+use Rattle.board_layout.specs.Lookups.{slots_in}
 use Rattle.post_changes.specs.Posted.{spread}
 use Rattle.shelf_files.specs.Halts.{done}
 use Rattle.adopt_commands.specs.Adopt.{adopting}
-use Rattle.adopt_commands.specs.Adopted.{adopted, adopted_as, adopted_next, kept_in, post_of}
+use Rattle.adopt_commands.specs.Adopted.{adopted, adopted_as, kept_in, post_of}
 
 module _ (a b : Board) (alike : AreAlike a b) where
   -- ---- one record more

@@ -6,13 +6,14 @@ use Rattle.board_layout.specs.Board.{Board}
 use Rattle.jam_adopt.specs.declared.found.Found.{Found}
 use Rattle.jam_adopt.specs.declared.found.FoundVerdict.TheVariants.{Taken}
 use Rattle.jam_layout.specs.Marks.{is_net}
+use Rattle.jam_layout.specs.Messages.{IsTyped}
 use Rattle.jam_records.specs.declared.message.Kind.{Kind}
 use Rattle.jam_records.specs.declared.message.Message.{Message}
 use Rattle.mail_intake.specs.Tallies.{MayTake}
 use Rattle.message_commands.proofs.EntryLaws.{private_enough}
 use Rattle.setup_file.specs.declared.conference.Conference.{Conference as SetupConference}
 use Rattle.slot_changes.proofs.ValueLaws.{tested_holds}
-use Rattle.slot_changes.specs.Values.{IsTyped, MayHold, has_right_texts}
+use Rattle.slot_changes.specs.Values.{MayHold, has_right_texts}
 use Rattle.adopt_commands.specs.Adopted.{adopted, adopted_next, kept_in}
 use Rattle.adopt_commands.specs.Adopting.{IsRight}
 

@@ -3,16 +3,17 @@ ghost use Rattle.std.specs.Prelude.{◌≡◌, ◌<◌, ◌++◌, [], ℕ, lengt
 ghost use Rattle.jam_adopt.specs.declared.found.FoundVerdict.TheVariants as verdict;
 ghost use Rattle.mail_intake.specs.Lines.{refused_line};
 ghost use Rattle.mail_intake.specs.Tallies.{IsTally};
-ghost use Rattle.slot_changes.specs.Values.{IsTyped};
+ghost use Rattle.jam_layout.specs.Messages.{IsTyped};
 ghost use Rattle.adopt_commands.specs.Adopted.{adopted_as, adopted_next, kept_in as kept_in_kind};
 ghost use Rattle.adopt_commands.specs.Adopting.{AreAdopted, AreRight, IsRight};
 
 use board_layout::StoredBoard;
 use byte_lists::Bytes;
 use jam_adopt::{Foreign, Found, FoundVerdict};
+use jam_layout::typed;
 use jam_records::{Kind, Message};
 use mail_intake::{Tally, add_posted, add_refused};
-use slot_changes::{conference_of, is_net, typed};
+use slot_changes::is_net;
 use std::alloc::{AllocError, Global};
 
 /// Where the messages of a base go.
@@ -75,7 +76,7 @@ impl Adopted {
         ensures step { OnOk result ((self.new.lines, self.new.tally.posts) ≡ adopted_as target.conference target.place board.now (self.old.lines, self.old.tally.posts) place (verdict.Taken message)) }
         ensures tally { OnOk result (IsTally board.now self.new.tally) }
     {
-        let conference = conference_of(board, target.place);
+        let conference = board.conference_of(target.place);
         let message = kept_in(conference.kind, message);
         if self.tally.is_full(board, target.place, &message) {
             return self.refuse(place, b"full");

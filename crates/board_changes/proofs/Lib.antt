@@ -15,3 +15,4 @@ pub mod UserSizes
 pub mod EachMember
 pub mod FitLaws
 pub mod BaseOutlines
+pub mod StepLaws

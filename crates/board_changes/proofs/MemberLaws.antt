@@ -3,7 +3,7 @@ use Rattle.std.proofs.Common.{◌≡◌, ℕ, zero, suc, ◌+◌, ◌<◌, ◌�
 use Rattle.std.specs.Prelude.{All, slice_get, unwrap_or, Option, Some, None}
 use Rattle.std.specs.Int.{bit_at}
 use Rattle.std.proofs.lemmas.Bool.{cond-true, cond-false}
-use Rattle.std.proofs.lemmas.Option.{get_or_from_slice_get, slice_get_within}
+use Rattle.std.proofs.lemmas.Option.{get_or_from_slice_get, slice_get_within, none-some}
 use Rattle.std.proofs.lemmas.List.{append-nil, length-take-le, take_more}
 use Rattle.std.proofs.lemmas.List.Elements.{All-append, All-nil, All-cons}
 use Rattle.board_changes.specs.Changed.{joined_in, joined_from, with_user, with_member}
@@ -63,13 +63,10 @@ base_at l u place kind c = ap over (readers_more place 1 l.users u) ∙ by (eqb 
     by true = refl
     by false = λ i. record { shape = record { place = place; created = l.created; kind = kind; readers = append-nil (readers_from place 1 l.users) i }; conference = c }
 
-none_some : {A : Type 0} (x : A) → None ≡ Some x → ⊥
-none_some x e = cc
-
 next_from : (l : Ledger) (u : User) (place : ℕ) (cs : List SetupConference) (conferences : List Conference) (k : ℕ) (base : Contents) → slice_get (contents (shapes_from l place cs) conferences) k ≡ Some base
     → slice_get (contents (shapes_from (with_user u l) place cs) (joined_from u.members place conferences)) k ≡ Some (next_base l u (place + k) base)
-next_from l u place [] conferences k base is = absurd (none_some base is)
-next_from l u place (c ∷ cs) [] k base is = absurd (none_some base is)
+next_from l u place [] conferences k base is = absurd (none-some base is)
+next_from l u place (c ∷ cs) [] k base is = absurd (none-some base is)
 next_from l u place (c ∷ cs) (d ∷ conferences) zero base is =
     ap Some (base_at l u place c.kind d) ∙ (ap next_of is ∙ ap (λ (n : ℕ). Some (next_base l u n base)) (omega arith))
   where
@@ -93,8 +90,8 @@ renewed_more (o ∷ olds) (Some n ∷ news) old new same = ap (λ (xs : List Con
 
 -- ---- what stands in a place
 files_from : (shapes : List Shape) (conferences : List Conference) (k : ℕ) (base : Contents) → slice_get (contents shapes conferences) k ≡ Some base → at_place (layouts shapes conferences) k ≡ layout base.shape base.conference
-files_from [] conferences k base is = absurd (none_some base is)
-files_from (shape ∷ shapes) [] k base is = absurd (none_some base is)
+files_from [] conferences k base is = absurd (none-some base is)
+files_from (shape ∷ shapes) [] k base is = absurd (none-some base is)
 files_from (shape ∷ shapes) (c ∷ conferences) zero base is = ap files_of is
   where
     files_of : Option Contents → BaseFiles
@@ -107,8 +104,8 @@ files_at b k base is = files_from (shapes_of b.ledger) b.conferences k base is
 
 shape_from : (l : Ledger) (place : ℕ) (cs : List SetupConference) (conferences : List Conference) (k : ℕ) (base : Contents) → slice_get (contents (shapes_from l place cs) conferences) k ≡ Some base
     → (base.shape.readers ≡ readers_from (place + k) 1 l.users) × (base.shape.place ≡ place + k)
-shape_from l place [] conferences k base is = absurd (none_some base is)
-shape_from l place (c ∷ cs) [] k base is = absurd (none_some base is)
+shape_from l place [] conferences k base is = absurd (none-some base is)
+shape_from l place (c ∷ cs) [] k base is = absurd (none-some base is)
 shape_from l place (c ∷ cs) (d ∷ conferences) zero base is =
     (sym (ap readers_in is) ∙ ap (λ (n : ℕ). readers_from n 1 l.users) (omega arith), sym (ap place_in is) ∙ omega arith)
   where

@@ -6,7 +6,7 @@ use Rattle.std.proofs.lemmas.Bool.{and_parts, and_from, leb-true, le-leb}
 use Rattle.std.proofs.lemmas.List.{map-set, get_or-set_other, length-map, length-replicate, length-set}
 use Rattle.std.proofs.lemmas.List.Elements.{All-nil, All-cons, All-set, All-weaker}
 use Rattle.std.proofs.lemmas.List.Sums.{get_or-le-sum_by, sum_by-set}
-use Rattle.std.proofs.lemmas.Option.{get_or_from_slice_get, slice_get_within}
+use Rattle.std.proofs.lemmas.Option.{get_or_from_slice_get, slice_get_within, none-some, same_Some}
 use Rattle.board_changes.specs.Change.{Changes, Leads}
 use Rattle.board_changes.specs.Changed.{base_at, with_base}
 use Rattle.board_changes.specs.Gathered.{at_place, Gathered, Joins}
@@ -56,23 +56,17 @@ are_bases (shape ∷ shapes) [] all = All-nil IsBase
 are_bases (shape ∷ shapes) (c ∷ conferences) all = All-cons IsBase (record { shape = shape; conference = c }) (contents shapes conferences) all.0 (are_bases shapes conferences all.1)
 
 -- ---- a list with one item in place of another
-some_is : {A : Type 0} (x y : A) → Some x ≡ Some y → x ≡ y
-some_is x y e = cc
-
-none_some : {A : Type 0} (x : A) → None ≡ Some x → ⊥
-none_some x e = cc
-
 pub all_at : {A : Type 0} (P : A → Type 0) (xs : List A) (place : ℕ) (x : A) → slice_get xs place ≡ Some x → All P xs → P x
 all_at P xs place x here all = subst P (get_or_from_slice_get xs place x x here) (all place x (slice_get_within xs place x here))
 
 pub set_there : {A : Type 0} (xs : List A) (place : ℕ) (old new : A) → slice_get xs place ≡ Some old → slice_get (set xs place new) place ≡ Some new
-set_there [] place old new here = absurd (none_some old here)
+set_there [] place old new here = absurd (none-some old here)
 set_there (x ∷ xs) zero old new here = refl
 set_there (x ∷ xs) (suc place) old new here = set_there xs place old new here
 
 shapes_set : (bases : List Contents) (place : ℕ) (old new : Contents) → slice_get bases place ≡ Some old → new.shape ≡ old.shape → shapes_in (set bases place new) ≡ shapes_in bases
 shapes_set [] place old new here same = refl
-shapes_set (b ∷ bases) zero old new here same = ap (λ (s : Shape). s ∷ shapes_in bases) (same ∙ ap (λ (c : Contents). c.shape) (sym (some_is b old here)))
+shapes_set (b ∷ bases) zero old new here same = ap (λ (s : Shape). s ∷ shapes_in bases) (same ∙ ap (λ (c : Contents). c.shape) (sym (same_Some b old here)))
 shapes_set (b ∷ bases) (suc place) old new here same = ap (λ (ss : List Shape). b.shape ∷ ss) (shapes_set bases place old new here same)
 
 sum_set : (f : Contents → ℕ) (bases : List Contents) (place : ℕ) (old new : Contents) → slice_get bases place ≡ Some old → sum_by f (set bases place new) + f old ≡ sum_by f bases + f new
@@ -80,7 +74,7 @@ sum_set f bases place old new here = omega (arith, sum_by-set f bases place new 
 
 highs_set : (bases : List Contents) (place : ℕ) (old new : Contents) (highs : List ℕ) → slice_get bases place ≡ Some old → length old.conference.slots ≤ length new.conference.slots
     → highs_fit (conferences_in bases) highs ≡ true → highs_fit (conferences_in (set bases place new)) highs ≡ true
-highs_set [] place old new highs here more fit = absurd (none_some old here)
+highs_set [] place old new highs here more fit = absurd (none-some old here)
 highs_set (b ∷ bases) place old new [] here more fit = by place
   where
     by : (k : ℕ) → highs_fit (conferences_in (set (b ∷ bases) k new)) [] ≡ true
@@ -89,7 +83,7 @@ highs_set (b ∷ bases) place old new [] here more fit = by place
 highs_set (b ∷ bases) zero old new (high ∷ highs) here more fit =
     let parts = and_parts (leb high (length b.conference.slots)) (highs_fit (conferences_in bases) highs) fit in
     let low = leb-true high (length b.conference.slots) parts.0 in
-    let slots = ap (λ (c : Contents). length c.conference.slots) (some_is b old here) in
+    let slots = ap (λ (c : Contents). length c.conference.slots) (same_Some b old here) in
     and_from (leb high (length new.conference.slots)) (highs_fit (conferences_in bases) highs) (le-leb high (length new.conference.slots) (omega (arith, low, slots, more))) parts.1
 highs_set (b ∷ bases) (suc place) old new (high ∷ highs) here more fit =
     let parts = and_parts (leb high (length b.conference.slots)) (highs_fit (conferences_in bases) highs) fit in

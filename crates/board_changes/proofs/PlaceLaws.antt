@@ -1,7 +1,7 @@
 -- What stands in each place of a board: its shape, its conference and its files.
 use Rattle.std.proofs.Common.{◌≡◌, ℕ, zero, suc, ◌+◌, List, [], ◌∷◌, ◌++◌, length, map, take, refl, sym, ap, ◌∙◌, subst, arith}
 use Rattle.std.proofs.lemmas.List.{map-append, take_more}
-use Rattle.std.proofs.lemmas.Option.{get_or_from_slice_get, slice_get_within}
+use Rattle.std.proofs.lemmas.Option.{get_or_from_slice_get, slice_get_within, none-some}
 use Rattle.std.specs.Prelude.{slice_get, Option, Some, None}
 use Rattle.board_changes.specs.Changed.{empty_conferences}
 use Rattle.board_changes.specs.Gathered.{at_place}
@@ -14,12 +14,9 @@ use Rattle.jam_layout.specs.declared.conference.Conference.{Conference}
 use Rattle.jam_layout.specs.declared.shape.Shape.{Shape}
 use Rattle.setup_file.specs.declared.conference.Conference.{Conference as SetupConference}
 
-none_some : {A : Type 0} (x : A) → None ≡ Some x → ⊥
-none_some x e = cc
-
 -- ---- shapes
 shapes_from_at : (l : Ledger) (place : ℕ) (conferences : List SetupConference) (k : ℕ) (c : SetupConference) → slice_get conferences k ≡ Some c → slice_get (shapes_from l place conferences) k ≡ Some (shape_of l (place + k) c.kind)
-shapes_from_at l place [] k c is = absurd (none_some c is)
+shapes_from_at l place [] k c is = absurd (none-some c is)
 shapes_from_at l place (d ∷ conferences) zero c is = ap kind_in is ∙ ap (λ (n : ℕ). Some (shape_of l n c.kind)) (omega arith)
   where
     kind_in : Option SetupConference → Option Shape
@@ -37,8 +34,8 @@ empty_count (shape ∷ shapes) = ap suc (empty_count shapes)
 
 -- ---- files
 pub layout_in : (shapes : List Shape) (conferences : List Conference) (k : ℕ) (shape : Shape) (c : Conference) → slice_get shapes k ≡ Some shape → slice_get conferences k ≡ Some c → at_place (layouts shapes conferences) k ≡ layout shape c
-layout_in [] conferences k shape c is has = absurd (none_some shape is)
-layout_in (s ∷ shapes) [] k shape c is has = absurd (none_some c has)
+layout_in [] conferences k shape c is has = absurd (none-some shape is)
+layout_in (s ∷ shapes) [] k shape c is has = absurd (none-some c has)
 layout_in (s ∷ shapes) (d ∷ conferences) zero shape c is has = λ i. layout (some_in s shape is i) (some_in d c has i)
   where
     some_in : {A : Type 0} (x y : A) → Some x ≡ Some y → x ≡ y
@@ -46,7 +43,7 @@ layout_in (s ∷ shapes) (d ∷ conferences) zero shape c is has = λ i. layout 
 layout_in (s ∷ shapes) (d ∷ conferences) (suc k) shape c is has = layout_in shapes conferences k shape c is has
 
 pub empty_in : (shapes : List Shape) (k : ℕ) (shape : Shape) → slice_get shapes k ≡ Some shape → slice_get (empty_conferences shapes) k ≡ Some (no_slots shape)
-empty_in [] k shape is = absurd (none_some shape is)
+empty_in [] k shape is = absurd (none-some shape is)
 empty_in (s ∷ shapes) zero shape is = ap new_in is
   where
     new_in : Option Shape → Option Conference

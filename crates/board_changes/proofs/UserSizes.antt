@@ -8,9 +8,7 @@ use Rattle.std.proofs.lemmas.List.Sums.{sum_by-cons}
 use Rattle.std.proofs.lemmas.List.Elements.{All-append, All-nil, All-cons, All-replicate}
 use Rattle.board_changes.specs.Changed.{joined_in, joined_from, new_user, with_user, with_member}
 use Rattle.board_changes.specs.Enrolling.{one_if_joined, joined_count}
-use Rattle.board_changes.proofs.LeadLaws.{zipped_count}
 use Rattle.board_changes.proofs.MemberLaws.{readers_more}
-use Rattle.board_layout.proofs.BasePlaces.{shapes_count}
 use Rattle.board_layout.specs.Board.{Board, reader_of, readers_from, shape_of, shapes_from, shapes_of}
 use Rattle.board_layout.specs.Layout.{board_size, layouts}
 use Rattle.board_layout.specs.Valid.{IsBoard}
@@ -161,9 +159,6 @@ joined_more members n =
     ap (joined_count members 0) longer ∙ (count_more members 0 n ∙ ap (λ (k : ℕ). joined_count members 0 n + one_if_joined members k) last)
 
 -- ---- the whole board
-pub conferences_count : (b : Board) → IsBoard b → length b.conferences ≡ length b.ledger.setup.conferences
-conferences_count b ok = sym (zipped_count IsConference (shapes_of b.ledger) b.conferences ok.conferences) ∙ shapes_count b.ledger 0 b.ledger.setup.conferences
-
 pub member_size : (b : Board) (u : User) → IsBoard b → board_size (with_member u b) ≡ board_size b + length (record_in b.ledger u) + 16 * joined_count u.members 0 (length b.conferences)
 member_size b u ok =
     let ledger = user_ledger b.ledger u ok.ledger in

@@ -4,3 +4,4 @@ pub mod Gathered
 pub mod Enrolling
 pub mod Spending
 pub mod Outlined
+pub mod Steps

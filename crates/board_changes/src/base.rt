@@ -6,7 +6,7 @@ ghost use Rattle.board_layout.specs.Valid.{IsBoard};
 ghost use Rattle.jam_base.specs.Contents.{Contents};
 
 use crate::change::BoardChange;
-use crate::gather::intent_with;
+use crate::gathering::intent_with;
 use board_layout::StoredBoard;
 use byte_lists::List;
 use jam_base::{Base, BaseChange};

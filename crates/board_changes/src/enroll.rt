@@ -10,7 +10,7 @@ ghost use Rattle.board_ledger.specs.Valid.{IsLedger};
 
 use crate::change::BoardChange;
 use crate::copy::copy_of;
-use crate::gather::{add_all, intent_with};
+use crate::gathering::{add_all, intent_with};
 use board_layout::StoredBoard;
 use board_ledger::{Ledger, Offers, User, enroll_patches};
 use byte_lists::{Bytes, Duplicate, List};

@@ -6,7 +6,7 @@ mod change;
 mod copy;
 mod enroll;
 mod fits;
-mod gather;
+mod gathering;
 mod make;
 mod size;
 
@@ -14,6 +14,6 @@ pub use base::with_base;
 pub use change::BoardChange;
 pub use enroll::enrolled;
 pub use fits::fits_user;
-pub use gather::{add_all, intent_with, ledger_intent};
+pub use gathering::{add_all, gather, intent_with, ledger_intent};
 pub use make::{NewBoard, made};
 pub use size::size_with_user;

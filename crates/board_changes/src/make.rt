@@ -9,7 +9,7 @@ ghost use Rattle.board_ledger.specs.Valid.{IsLedger};
 ghost use Rattle.jam_base.specs.Contents.{no_slots};
 ghost use Rattle.setup_file.specs.Valid.{IsSetup};
 
-use crate::gather::{add_all, ledger_intent};
+use crate::gathering::{add_all, ledger_intent};
 use board_layout::{Bases, StoredBoard, shape_at};
 use board_ledger::{Ledger, Setup, Uploads, Users};
 use intent_journal::Intent;

@@ -1,5 +1,5 @@
 -- From what a change of a board gives to what a command takes of it.
-use Rattle.std.proofs.Common.{◌≡◌, ◌⊎◌, inl, inr, ⊎_elim, Option, Some, Result, Ok, Err, sym, ◌∙◌, ap, subst}
+use Rattle.std.proofs.Common.{◌≡◌, ◌⊎◌, inl, inr, ⊎_elim, Option, Some, Result, Ok, Err, sym, ◌∙◌, ap}
 use Rattle.std.specs.Prelude.{OnOk}
 use Rattle.door_outside.specs.Disk.{Disk, Image, AllNow, Between, as_read}
 use Rattle.door_outside.proofs.Moments.{reads_have, weaker}

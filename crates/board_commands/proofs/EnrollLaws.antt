@@ -8,7 +8,8 @@ use Rattle.std.specs.List.{list_any, list_all, position_or_len}
 use Rattle.std.specs.Option.{option_map}
 use Rattle.std.specs.Str.{str_eq_ignore_ascii_case}
 use Rattle.board_changes.proofs.FitLaws.{board_fits}
-use Rattle.board_changes.proofs.UserSizes.{conferences_count, member_size, new_length, one_at_most}
+use Rattle.board_changes.proofs.UserSizes.{member_size, new_length, one_at_most}
+use Rattle.board_layout.proofs.BoardLookups.{conferences_count}
 use Rattle.board_changes.specs.Changed.{enrolled, new_user}
 use Rattle.board_changes.specs.Enrolling.{is_free, joined_count, may_enroll}
 use Rattle.board_layout.specs.Board.{Board}

@@ -3,7 +3,7 @@ use Rattle.std.proofs.Common.{◌≡◌, ◌≢◌, ◌⊎◌, inl, inr, Bool, t
 use Rattle.std.specs.Prelude.{is_some, IsErrOf}
 use Rattle.std.proofs.lemmas.Bool.{cond-true, eq-eqb}
 use Rattle.damage_rules.specs.Rules.{damage_of}
-use Rattle.door_outside.specs.Disk.{Disk, Image, AllNow, Between, Unchanged, as_read}
+use Rattle.door_outside.specs.Disk.{Disk, Image, Between, Unchanged, as_read}
 use Rattle.door_outside.proofs.Moments.{still}
 use Rattle.entry_runs.proofs.Boards.{opened_finds, opening_stops}
 use Rattle.entry_runs.specs.Entry.{Finds, HasBoard, Recovers}
@@ -23,7 +23,7 @@ use Rattle.board_layout.specs.Layout.{AreEmpty, data_size}
 use Rattle.board_layout.specs.declared.error.ReadError.{ReadError}
 use Rattle.board_layout.specs.declared.error.ReadError.TheVariants.{Damaged, DiskFault, OutOfMemory}
 use Rattle.mail_board.proofs.DataLaws.{data_twice, empty_moves, layout_moves}
-use Rattle.mail_board.specs.Loading.{AreOpened, IsMigration, IsTold, Opens, StandsIn}
+use Rattle.mail_board.specs.Loading.{AreOpened, IsTold, Opens, StandsIn}
 use Rattle.mail_board.specs.declared.loading.Loaded.{Loaded}
 use Rattle.mail_board.specs.declared.loading.Loaded.TheVariants.{NotMade, Ready}
 use Rattle.board_commands.specs.Kept.{AreLike, IsFound, IsKept, IsOutlined, found, kept_board, unread}

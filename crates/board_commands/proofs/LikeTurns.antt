@@ -1,7 +1,7 @@
 -- A turn that a refusal decides, on boards with one outline.
-use Rattle.std.proofs.Common.{◌≡◌, ℕ, List, Option, Some, None, sym, ap, ◌∙◌}
+use Rattle.std.proofs.Common.{◌≡◌, ℕ, List, Option, Some, None, sym, ap}
 use Rattle.board_layout.specs.Board.{Board}
-use Rattle.shelf_files.specs.Halts.{done, refused as says_refusal}
+use Rattle.shelf_files.specs.Halts.{done}
 use Rattle.shelf_files.specs.declared.refusal.Refusal.{Refusal}
 use Rattle.board_commands.specs.Turns.{Turn, refuses}
 

@@ -5,7 +5,6 @@ use Rattle.std.proofs.lemmas.Bool.{cond-false, ne_eqb}
 use Rattle.door_outside.specs.Disk.{Disk}
 use Rattle.door_outside.specs.Shelf as Shelf
 use Rattle.entry_runs.specs.Door.{Act, World, here}
-use Rattle.entry_runs.specs.Entry.{Reply}
 use Rattle.entry_runs.specs.Runs.{Stepped}
 use Rattle.intent_journal.specs.Journal.{IsClosed, intent_of, open_patches}
 use Rattle.intent_journal.specs.Patches.{Files, are_within, byte_count}
@@ -20,7 +19,7 @@ use Rattle.board_commands.proofs.BoardActs.{AreTurns}
 use Rattle.board_commands.proofs.LikeLaws.{some_outlined}
 use Rattle.board_commands.proofs.StateLaws.{one_state}
 use Rattle.board_commands.specs.Kept.{IsOutlined}
-use Rattle.board_commands.specs.State.{State, NotMade, Made, Old, Spoiled, Stores, migrated, state_of}
+use Rattle.board_commands.specs.State.{State, Made, Old, Stores, migrated, state_of}
 use Rattle.board_commands.specs.Turns.{Turn, on_board}
 use Rattle.board_commands.specs.WriteBound.{KeepsWriteBound, WritesWithin}
 

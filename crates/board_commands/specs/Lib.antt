@@ -8,3 +8,4 @@ pub mod Kept
 pub mod State
 pub mod Turns
 pub mod WriteBound
+pub mod Causes

@@ -3,7 +3,8 @@ ghost use Rattle.std.specs.Prelude.{IsTrue};
 ghost use Rattle.door_outside.specs.Shelf.{Files};
 ghost use Rattle.entry_runs.specs.Door.{World};
 ghost use Rattle.entry_runs.specs.Entry.{IsAt, Works};
-ghost use Rattle.entry_runs.specs.Promise.{counts, ended, HasCauses};
+ghost use Rattle.entry_runs.specs.Promise.{ended};
+ghost use Rattle.board_commands.specs.Causes.{HostHasCauses};
 ghost use Rattle.board_commands.specs.Check.{checks};
 ghost use Rattle.board_commands.specs.Halts.{told};
 ghost use Rattle.board_commands.specs.Kept.{AreSure, IsKept, unread};
@@ -29,7 +30,7 @@ pub fn check<H: Host>(
     ensures works { IsTrue H.tells → (world : World State) (shelf : Files) → IsAt Stores unread world (H.disk host.old) shelf → Works Stores checks unread world (H.disk host.old) (H.disk host.new) shelf (told (λ text. text) result) }
     ensures kept { IsTrue H.tells → IsKept kept.new (H.disk host.new) }
     ensures sure { AreSure kept.new }
-    ensures causes { (shelf : _) → HasCauses (counts (H.disk_faults host.old) (H.voice_faults host.old) shelf) (counts (H.disk_faults host.new) (H.voice_faults host.new) shelf) (ended (told (λ text. text) result)) }
+    ensures causes { HostHasCauses H.disk_faults H.voice_faults host.old host.new (ended (told (λ text. text) result)) }
 {
     find(alloc, host, kept)?;
     match &*kept {

@@ -6,8 +6,9 @@ ghost use Rattle.command_words.specs.declared.choice.Choice as Choices;
 ghost use Rattle.door_outside.specs.Shelf.{Files};
 ghost use Rattle.entry_runs.specs.Door.{World};
 ghost use Rattle.entry_runs.specs.Entry.{IsAt, Works};
-ghost use Rattle.entry_runs.specs.Promise.{counts, ended, HasCauses};
+ghost use Rattle.entry_runs.specs.Promise.{ended};
 ghost use Rattle.mail_board.specs.declared.change.Change.TheVariants.{Enroll};
+ghost use Rattle.board_commands.specs.Causes.{HostHasCauses};
 ghost use Rattle.board_commands.specs.Enrolling.{MayEnroll};
 ghost use Rattle.board_commands.specs.Enroll.{enroll_refusals, enrolled_line, enrolls, first_refusal, is_net_flag as is_net_of};
 ghost use Rattle.board_commands.specs.Halts.{told};
@@ -147,7 +148,7 @@ pub fn enroll<H: Host>(
     ensures works { IsTrue H.tells → (world : World State) (shelf : Files) → IsAt Stores unread world (H.disk host.old) shelf → Works Stores (enrolls name.now flags.now conferences.now) unread world (H.disk host.old) (H.disk host.new) shelf (told enrolled_line result) }
     ensures kept { IsTrue H.tells → IsKept kept.new (H.disk host.new) }
     ensures sure { AreSure kept.new }
-    ensures causes { (shelf : _) → HasCauses (counts (H.disk_faults host.old) (H.voice_faults host.old) shelf) (counts (H.disk_faults host.new) (H.voice_faults host.new) shelf) (ended (told enrolled_line result)) }
+    ensures causes { HostHasCauses H.disk_faults H.voice_faults host.old host.new (ended (told enrolled_line result)) }
 {
     find(alloc, host, kept)?;
     let enrolling = prepared(alloc, kept, name, flags, conferences)?;

@@ -1,5 +1,5 @@
 -- What a command does to a board: it makes a change, or packs a place.
-use Rattle.std.proofs.Common.{◌≡◌, inl, ℕ, ◌++◌, List, [], length, Option, None, refl, sym, ap, ◌∙◌, subst}
+use Rattle.std.proofs.Common.{◌≡◌, inl, ℕ, None, sym, ap, subst}
 use Rattle.std.specs.List.{AllZip}
 use Rattle.board_changes.specs.Changed.{base_at}
 use Rattle.board_layout.specs.Board.{Board}

@@ -8,13 +8,13 @@ use Rattle.std.proofs.lemmas.List.FromFn.{get_or-map-range_with_len, length-map-
 use Rattle.std.proofs.lemmas.List.Sums.{sum_by-cons}
 use Rattle.std.proofs.lemmas.Option.{slice_get_past}
 use Rattle.board_layout.specs.Board.{Board}
-use Rattle.board_layout.specs.Lookups.{pointer_at}
+use Rattle.board_layout.specs.Lookups.{pointer_at, slots_in}
 use Rattle.board_laws.proofs.Elements.{AreRising, In, among_first, contains_in, filter_short, from_filter, from_flat, from_map, from_range, from_take, greatest_reached, in_contains, in_filter, in_flat, in_map, in_range, rising_append, rising_filter}
 use Rattle.board_laws.proofs.Views.{seen_within}
 use Rattle.jam_layout.specs.declared.conference.Conference.{Conference}
 use Rattle.jam_records.specs.declared.message.Slot.{Slot}
 use Rattle.offered_packets.specs.Offered.{all_numbers, high_of, highs, is_above, is_new, numbers_in, offered}
-use Rattle.offered_packets.specs.Sees.{sees, slots_in}
+use Rattle.offered_packets.specs.Sees.{sees}
 use Rattle.offered_packets.specs.declared.offered_message.OfferedMessage.{OfferedMessage}
 
 -- ---- a message that is new to a user

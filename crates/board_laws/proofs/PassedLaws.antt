@@ -6,7 +6,7 @@ use Rattle.std.proofs.lemmas.Option.{none-some, same_Some}
 use Rattle.board_changes.specs.Changed.{made}
 use Rattle.board_commands.specs.State.{State, NotMade}
 use Rattle.board_layout.specs.Board.{Board}
-use Rattle.board_layout.specs.Lookups.{pointer_at, user_of}
+use Rattle.board_layout.specs.Lookups.{pointer_at, user_of, slots_in}
 use Rattle.board_laws.proofs.Changing.{Reads, known_user, pointers_read}
 use Rattle.board_laws.proofs.Fresh.{fresh_whole, no_pointer_there, nobody_there}
 use Rattle.board_laws.proofs.Grown.{IsWhole}
@@ -28,7 +28,7 @@ use Rattle.board_ledger.specs.declared.user.User.{User}
 use Rattle.mail_board.specs.declared.change.Change.TheVariants.{Enroll, Append, Spread, Kill, Offer, Acknowledge, Upload}
 use Rattle.offer_changes.proofs.UserLaws.{id_above}
 use Rattle.offered_packets.specs.Offered.{highs, offered}
-use Rattle.offered_packets.specs.Sees.{sees, slots_in}
+use Rattle.offered_packets.specs.Sees.{sees}
 use Rattle.offered_packets.specs.declared.offered_message.OfferedMessage.{OfferedMessage}
 use Rattle.setup_file.specs.declared.setup.Setup.{Setup}
 

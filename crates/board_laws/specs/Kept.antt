@@ -8,7 +8,7 @@ use Rattle.jam_base.specs.Slots.{has_live}
 use Rattle.mail_board.specs.Readers.{user_id}
 use Rattle.mail_board.specs.Written.{slot_total}
 use Rattle.offered_packets.specs.Offered.{offered}
-use Rattle.offered_packets.specs.Sees.{slots_in}
+use Rattle.board_layout.specs.Lookups.{slots_in}
 use Rattle.offered_packets.specs.declared.offered_message.OfferedMessage.{OfferedMessage}
 
 -- the message is in a slot, and isn't deleted

@@ -1,5 +1,5 @@
 -- What is looked up in a board.
-use Rattle.std.specs.Prelude.{ℕ, ◌-◌, slice_get, Option, Some, None, option_and_then, ◌==◌, if◌then◌else◌}
+use Rattle.std.specs.Prelude.{ℕ, ◌-◌, List, [], slice_get, Option, Some, None, option_and_then, option_map, unwrap_or, ◌==◌, if◌then◌else◌}
 use Rattle.board_ledger.specs.declared.user.User.{User}
 use Rattle.board_layout.specs.Board.{Board}
 use Rattle.board_layout.specs.Renewed.{contents_of}
@@ -15,6 +15,10 @@ user_of id b = if id == 0 then None else slice_get b.ledger.users (id - 1)
 -- the last-read pointer of the user of an id in the conference in a place
 abbrev pub pointer_at : ℕ → ℕ → Board → Option ℕ
 pointer_at place id b = option_and_then (λ base. pointer_of id base.shape.readers base.conference.pointers) (slice_get (contents_of b) place)
+
+-- the slots of the conference in a place, none where no conference is there
+abbrev pub slots_in : Board → ℕ → List Slot
+slots_in b place = unwrap_or (option_map (λ c. c.slots) (slice_get b.conferences place)) []
 
 -- the message that a slot holds
 abbrev pub held_in : Slot → Option Message

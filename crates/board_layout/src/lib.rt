@@ -9,6 +9,7 @@ mod files;
 mod highs;
 pub mod laws;
 mod limit;
+mod lookups;
 mod parts;
 mod read;
 mod rest;

@@ -5,7 +5,7 @@ use Rattle.std.specs.List.{flat_map}
 use Rattle.std.proofs.lemmas.Bool.{and_from, le-leb, ne_eqb, cond-false}
 use Rattle.std.proofs.lemmas.List.{drop_all, get_or-set_same, length-set}
 use Rattle.std.proofs.lemmas.List.Sums.{sum_by-cons}
-use Rattle.std.proofs.lemmas.Option.{get_or_from_slice_get, slice_get_within}
+use Rattle.std.proofs.lemmas.Option.{get_or_from_slice_get, slice_get_within, none-some, same_Some}
 use Rattle.byteorder.specs.Endian.{little_bytes}
 use Rattle.door_outside.specs.Disk.{written}
 use Rattle.record_numbers.specs.Numbers.{u32s_text}
@@ -27,12 +27,6 @@ use Rattle.board_ledger.proofs.SetupBounds.{user_small}
 use Rattle.board_ledger.proofs.SizeLaws.{user_length, behind_most}
 use Rattle.board_ledger.proofs.Writes.{no_gap, written_before, written_behind, written_in}
 
-none_some : {A : Type 0} (x : A) → None ≡ Some x → ⊥
-none_some x e = cc
-
-some_is : {A : Type 0} (x y : A) → Some x ≡ Some y → x ≡ y
-some_is x y e = cc
-
 -- the user of a place whose name is as long, where there is one
 pub room_there : (o : Option User) (new : User) → IsSomeAnd o (λ old. length new.name ≡ length old.name) → (old : User) × (o ≡ Some old) × (length new.name ≡ length old.name)
 room_there None new room = absurd room
@@ -49,14 +43,14 @@ over old bytes same = no_gap old bytes 0 (omega arith) ∙ ((λ i. none_taken ol
 
 module _ {A : Type 0} (f : A → List ℕ) where
   ends : (xs : List A) (place : ℕ) (old new : A) → slice_get xs place ≡ Some old → length (f new) ≡ length (f old) → length (flat_map f (take place xs)) + length (f new) ≤ length (flat_map f xs)
-  ends [] place old new here same = absurd (none_some old here)
-  ends (x ∷ xs) zero old new here same = omega (arith, length-append (f x) (flat_map f xs), same, ap (λ (y : A). length (f y)) (some_is x old here))
+  ends [] place old new here same = absurd (none-some old here)
+  ends (x ∷ xs) zero old new here same = omega (arith, length-append (f x) (flat_map f xs), same, ap (λ (y : A). length (f y)) (same_Some x old here))
   ends (x ∷ xs) (suc place) old new here same = omega (arith, length-append (f x) (flat_map f xs), length-append (f x) (flat_map f (take place xs)), ends xs place old new here same)
 
   record_put : (xs : List A) (place : ℕ) (old new : A) → slice_get xs place ≡ Some old → length (f new) ≡ length (f old) → written (flat_map f xs) (length (flat_map f (take place xs))) (f new) ≡ flat_map f (set xs place new)
-  record_put [] place old new here same = absurd (none_some old here)
+  record_put [] place old new here same = absurd (none-some old here)
   record_put (x ∷ xs) zero old new here same =
-      let long : length (f new) ≡ length (f x) = omega (arith, same, ap (λ (y : A). length (f y)) (some_is x old here)) in
+      let long : length (f new) ≡ length (f x) = omega (arith, same, ap (λ (y : A). length (f y)) (same_Some x old here)) in
       written_before (f x) (flat_map f xs) (f new) 0 (omega (arith, long)) ∙ ap (λ (ys : List ℕ). ys ++ flat_map f xs) (over (f x) (f new) long)
   record_put (x ∷ xs) (suc place) old new here same =
       let at : ℕ = length (flat_map f (take place xs)) in

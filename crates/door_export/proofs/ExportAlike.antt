@@ -1,5 +1,5 @@
 -- An export of boards with one outline: it is refused alike, and differs in the messages' texts alone.
-use Rattle.std.proofs.Common.{◌≡◌, ℕ, ◌+◌, Bool, true, false, cond, List, [], length, Option, Some, None, Result, Ok, Err, refl, sym, ap, ◌∙◌}
+use Rattle.std.proofs.Common.{◌≡◌, ℕ, ◌+◌, Bool, true, false, cond, List, [], length, Option, Some, None, Ok, Err, refl, sym, ap, ◌∙◌}
 use Rattle.std.specs.Prelude.{option_map}
 use Rattle.std.specs.Result.{result_err, result_ok}
 use Rattle.board_layout.proofs.OneOutline.{alike_ledger, alike_user}
@@ -10,7 +10,6 @@ use Rattle.board_ledger.specs.declared.user.User.{User}
 use Rattle.mail_board.specs.Changes.{changed}
 use Rattle.mail_board.specs.Held.{AreAlike}
 use Rattle.mail_board.specs.Readers.{is_offered, offer_of, user_id}
-use Rattle.mail_board.specs.declared.change.Change.{Change}
 use Rattle.mail_board.specs.declared.change.Change.TheVariants.{Offer}
 use Rattle.offer_changes.specs.Changed.{acknowledged}
 use Rattle.offered_packets.proofs.OutlineLaws.{outline_highs, outline_offered}
@@ -20,10 +19,9 @@ use Rattle.offered_packets.specs.Shown.{notice, shown_all}
 use Rattle.offered_packets.specs.declared.offered_message.OfferedMessage.{OfferedMessage}
 use Rattle.qwk_blocks.specs.Written.{spelling}
 use Rattle.qwk_control.specs.Written.{control_text}
-use Rattle.door_export.specs.Ack.{AckRefusal, NoPacket, ack_as, ack_of, ack_offer}
+use Rattle.door_export.specs.Ack.{NoPacket, ack_as, ack_of, ack_offer}
 use Rattle.door_export.specs.Export.{ExportRefusal, Handout, control_file, export_as, export_of, export_to, packet_to, unless_refused, user_refusal}
 use Rattle.door_export.specs.Exporting as exporting
-use Rattle.door_export.specs.declared.exporting.Exported.{Exported}
 use Rattle.door_export.specs.declared.exporting.Exporting.{Exporting}
 
 module _ (a b : Board) (alike : AreAlike a b) where

@@ -1,25 +1,17 @@
 -- What a packet shows of the messages that the host gives.
-use Rattle.std.proofs.Common.{◌≡◌, ℕ, ◌+◌, ◌≤◌, Bool, true, false, cond, List, [], ◌∷◌, ◌++◌, length, take, Option, Some, None, refl, sym, ap, ◌∙◌, arith, length-append}
-use Rattle.std.specs.Prelude.{All, IfSome, option_and_then, option_map, slice_get, ◌==◌}
+use Rattle.std.proofs.Common.{◌≡◌, ℕ, ◌+◌, ◌≤◌, List, [], ◌∷◌, ◌++◌, length, take, Option, Some, None, refl, sym, ap, ◌∙◌, arith, length-append}
+use Rattle.std.specs.Prelude.{All, IfSome, option_map}
 use Rattle.std.specs.List.{cons_option}
 use Rattle.std.proofs.lemmas.List.{append-nil}
 use Rattle.std.proofs.lemmas.List.Elements.{All-append, All-cons, All-nil}
-use Rattle.board_changes.proofs.OneBase.{conferences_back}
-use Rattle.board_layout.specs.Board.{Board, conferences_in, shapes_of}
-use Rattle.board_layout.specs.Lookups.{held_in}
+use Rattle.board_layout.specs.Board.{Board}
 use Rattle.board_layout.specs.Outlines.{board_outline}
-use Rattle.board_layout.specs.Renewed.{contents_of}
 use Rattle.board_layout.specs.Valid.{IsBoard}
-use Rattle.jam_base.specs.Contents.{Contents}
-use Rattle.jam_base.specs.Slots.{numbered}
 use Rattle.jam_layout.specs.Outlines.{message_outline}
 use Rattle.jam_records.specs.declared.message.Message.{Message}
-use Rattle.jam_records.specs.declared.message.Slot.{Slot}
-use Rattle.jam_records.specs.declared.message.Slot.TheVariants.{Gone}
 use Rattle.mail_board.proofs.FetchedHosts.{message_is}
 use Rattle.mail_board.specs.Held.{AreAlike}
 use Rattle.mail_board.specs.Readers as read
-use Rattle.offered_packets.proofs.BoardLookups.{base_slots, no_slots}
 use Rattle.offered_packets.proofs.OutlineLaws.{outline_message, outline_shown}
 use Rattle.offered_packets.specs.Sees.{message_at}
 use Rattle.offered_packets.specs.Shown.{IsShort, shown, shown_all, shown_message}

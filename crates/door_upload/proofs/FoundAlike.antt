@@ -1,12 +1,12 @@
 -- What is found of a packet on a board is found on each with its outline.
-use Rattle.std.proofs.Common.{◌≡◌, ℕ, List, Option, Result, Ok, Err, inl, inr, refl, sym, ap, ◌∙◌, subst}
+use Rattle.std.proofs.Common.{◌≡◌, ℕ, List, Result, Ok, Err, inl, inr, refl, sym, ap, ◌∙◌, subst}
 use Rattle.std.specs.Prelude.{IfOk}
 use Rattle.board_layout.specs.Board.{Board}
 use Rattle.board_layout.specs.Valid.{IsBoard}
 use Rattle.board_ledger.specs.declared.upload.Counts.{Counts}
 use Rattle.door_upload.proofs.UploadAlike.{SameUpload, judged_alike, judged_too, read_alike}
 use Rattle.door_upload.specs.Upload.{Again, Judged, Upload, UploadRefusal, judged_upload, upload_read}
-use Rattle.door_upload.specs.Uploading.{FindsFor, IsFound, IsJudged, IsKeptFrom, IsNew}
+use Rattle.door_upload.specs.Uploading.{FindsFor, IsJudged, IsKeptFrom, IsNew}
 use Rattle.door_upload.specs.declared.answer.UploadError.{UploadError}
 use Rattle.door_upload.specs.declared.preparing.Uploading.{Uploading}
 use Rattle.door_upload.specs.declared.preparing.Uploading.TheVariants as found

@@ -2,7 +2,7 @@
 use Rattle.std.proofs.Common.{◌≡◌, ℕ, ◌<◌, List, [], ◌∷◌, length, refl, arith}
 use Rattle.std.specs.Prelude.{Option, Some, None, fold}
 use Rattle.std.proofs.lemmas.List.Elements.{All-nil, All-push}
-use Rattle.board_changes.proofs.UserSizes.{conferences_count}
+use Rattle.board_layout.proofs.BoardLookups.{conferences_count}
 use Rattle.board_layout.specs.Board.{Board}
 use Rattle.board_layout.specs.Valid.{IsBoard}
 use Rattle.jam_records.specs.declared.message.Message.{Message}

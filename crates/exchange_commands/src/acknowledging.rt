@@ -1,5 +1,6 @@
 //! The command `ack`.
 ghost use Rattle.std.specs.Prelude.{◌≡◌, ◌≢◌, Err, IsTrue};
+ghost use Rattle.board_commands.specs.Causes.{HostHasCauses};
 ghost use Rattle.board_commands.specs.Halts.{told};
 ghost use Rattle.board_commands.specs.Kept.{AreSure, IsKept, unread};
 ghost use Rattle.board_commands.specs.State.{State, Stores};
@@ -7,7 +8,7 @@ ghost use Rattle.door_export.specs.declared.acknowledging.AckError.TheVariants.{
 ghost use Rattle.door_outside.specs.Shelf.{Files};
 ghost use Rattle.entry_runs.specs.Door.{World};
 ghost use Rattle.entry_runs.specs.Entry.{IsAt, Works};
-ghost use Rattle.entry_runs.specs.Promise.{counts, ended, HasCauses};
+ghost use Rattle.entry_runs.specs.Promise.{ended};
 ghost use Rattle.exchange_commands.specs.Ack.{acknowledged_line, acknowledges};
 ghost use Rattle.exchange_commands.specs.Acknowledging.{halted};
 
@@ -52,7 +53,7 @@ pub fn ack<H: Host>(
     ensures works { IsTrue H.tells → (world : World State) (shelf : Files) → IsAt Stores unread world (H.disk host.old) shelf → Works Stores (acknowledges user.now packet now) unread world (H.disk host.old) (H.disk host.new) shelf (told (λ _. acknowledged_line packet) result) }
     ensures kept { IsTrue H.tells → IsKept kept.new (H.disk host.new) }
     ensures sure { AreSure kept.new }
-    ensures causes { (shelf : _) → HasCauses (counts (H.disk_faults host.old) (H.voice_faults host.old) shelf) (counts (H.disk_faults host.new) (H.voice_faults host.new) shelf) (ended (told (λ _. acknowledged_line packet) result)) }
+    ensures causes { HostHasCauses H.disk_faults H.voice_faults host.old host.new (ended (told (λ _. acknowledged_line packet) result)) }
 {
     find(alloc, host, kept)?;
     let mut board = take_board(kept)?;

@@ -1,5 +1,6 @@
 //! The command `upload`.
 ghost use Rattle.std.specs.Prelude.{◌≡◌, ◌≢◌, Err, IsSome, IsTrue, MatchResult, None};
+ghost use Rattle.board_commands.specs.Causes.{HaveCauses};
 ghost use Rattle.board_commands.specs.Halts.{told};
 ghost use Rattle.board_commands.specs.Kept.{AreSure, IsKept, unread};
 ghost use Rattle.board_commands.specs.State.{State, Stores};
@@ -8,7 +9,7 @@ ghost use Rattle.board_commands.specs.declared.halt.BoardHalt.TheVariants.{Refus
 ghost use Rattle.door_upload.specs.declared.answer.UploadError.TheVariants.{Doubt};
 ghost use Rattle.entry_runs.specs.Door.{World};
 ghost use Rattle.entry_runs.specs.Entry.{IsAt, Works};
-ghost use Rattle.entry_runs.specs.Promise.{counts, ended, HasCauses};
+ghost use Rattle.entry_runs.specs.Promise.{ended};
 ghost use Rattle.intent_journal.specs.Journal.{IsClosed};
 ghost use Rattle.mail_board.specs.Readers.{user_id};
 ghost use Rattle.shelf_files.specs.declared.refusal.Refusal.TheVariants as refusal;
@@ -73,7 +74,7 @@ pub fn upload<H: Host, S: Shelf>(
     ensures kept { IsTrue H.tells → IsKept kept.new (H.disk host.new) }
     ensures sure { AreSure kept.new }
     ensures wrote { IsTrue H.tells → IsTrue S.tells → IsClosed ((H.disk host.old).files 1) → KeepsWriteBound (uploads user.now file.now now) (H.disk host.old) (H.disk host.new) (S.files shelf.old) }
-    ensures causes { HasCauses (counts (H.disk_faults host.old) (H.voice_faults host.old) (S.faults shelf.old)) (counts (H.disk_faults host.new) (H.voice_faults host.new) (S.faults shelf.new)) (ended (told uploaded_text result)) }
+    ensures causes { HaveCauses H.disk_faults H.voice_faults S.faults host.old host.new shelf.old shelf.new (ended (told uploaded_text result)) }
 {
     find(alloc, host, kept)?;
     look_for(board_in(kept)?, user)?;

@@ -12,12 +12,12 @@ use Rattle.jam_layout.proofs.BoolTests.{or_false, not_not}
 use Rattle.jam_layout.specs.Address.{is_address}
 use Rattle.jam_layout.specs.Fields.{is_text}
 use Rattle.jam_layout.specs.Marks.{is_net}
-use Rattle.jam_layout.specs.Messages.{EmptyOr, IsBody, IsMessage}
+use Rattle.jam_layout.specs.Messages.{EmptyOr, IsBody, IsMessage, IsTyped}
 use Rattle.record_numbers.specs.Numbers.{u16_at}
 use Rattle.setup_file.specs.declared.conference.Conference.{Conference}
 use Rattle.setup_file.specs.declared.setup.Setup.{Setup}
 use Rattle.netmail_rules.specs.AddressLine.{is_plain}
-use Rattle.netmail_rules.specs.Fits.{IsOfItsTypes, with_msgid}
+use Rattle.netmail_rules.specs.Fits.{with_msgid}
 use Rattle.netmail_rules.specs.Rules.{names_nobody, first_refusing}
 use Rattle.fts_packet.specs.Packet.{are_parts, fts_address, PackedMessageReads, PackedMessagesRead, FtsReads}
 use Rattle.fts_packet.specs.Lines.{is_kludge, is_id, id_or_none, body_line, body_of_lines, behind_tag, tag_of, first_value}
@@ -190,7 +190,7 @@ destination_fits true text fits = fits
 destination_fits false text fits = inl refl
 
 draft_fits : (m : FtsMessage) (c : Conference) (now : ℕ) (msgid : List ℕ) → IsRead m → Passed m (draft_of m now) → takes (tag_of m.lines) c ≡ true
-    → IsTrue (is_text 80 msgid) → IsOfItsTypes (with_msgid msgid (draft_of m now)) → IsMessage c.kind (with_msgid msgid (draft_of m now))
+    → IsTrue (is_text 80 msgid) → IsTyped (with_msgid msgid (draft_of m now)) → IsMessage c.kind (with_msgid msgid (draft_of m now))
 unfolding draft_of
 draft_fits m c now msgid read passed takes_m id types = record {
   bytes = types.bytes;
@@ -210,11 +210,11 @@ draft_fits m c now msgid read passed takes_m id types = record {
 }
 
 pub posted_is_message : (bytes : List ℕ) (ms : List FtsMessage) (m : FtsMessage) (s : Setup) (c : Conference) (now place : ℕ) (draft : Message) (msgid : List ℕ) → FtsReads bytes ms → Contains ms m
-    → toss_verdict s m now ≡ Post place draft → slice_get s.conferences place ≡ Some c → IsTrue (is_text 80 msgid) → IsOfItsTypes (with_msgid msgid draft) → IsMessage c.kind (with_msgid msgid draft)
+    → toss_verdict s m now ≡ Post place draft → slice_get s.conferences place ≡ Some c → IsTrue (is_text 80 msgid) → IsTyped (with_msgid msgid draft) → IsMessage c.kind (with_msgid msgid draft)
 posted_is_message bytes ms m s c now place draft msgid reads among posted here id types =
     let w = was_posted s m now place draft posted in
     let read = read_at reads.header reads.body ms m among.0 reads.each among.1 among.2 in
-    let own : IsOfItsTypes (with_msgid msgid (draft_of m now)) = subst (λ (d : Message). IsOfItsTypes (with_msgid msgid d)) (sym w.same) types in
+    let own : IsTyped (with_msgid msgid (draft_of m now)) = subst (λ (d : Message). IsTyped (with_msgid msgid d)) (sym w.same) types in
     subst (λ (d : Message). IsMessage c.kind (with_msgid msgid d)) w.same (draft_fits m c now msgid read w.passed (takes_it (tag_of m.lines) s place c w.found here) id own)
 
 own_id : (m : FtsMessage) (now : ℕ) → EmptyOr (is_text 80) (draft_of m now).msgid

@@ -2,10 +2,10 @@
 ghost use Rattle.std.specs.Prelude.{◌≡◌, ℕ, List, Some, Contains, slice_get, IsTrue};
 ghost use Rattle.jam_records.specs.declared.message.Message.{Message};
 ghost use Rattle.jam_layout.specs.Fields.{is_text};
-ghost use Rattle.jam_layout.specs.Messages.{EmptyOr, IsMessage};
+ghost use Rattle.jam_layout.specs.Messages.{EmptyOr, IsMessage, IsTyped};
 ghost use Rattle.setup_file.specs.declared.conference.Conference.{Conference};
 ghost use Rattle.setup_file.specs.declared.setup.Setup.{Setup};
-ghost use Rattle.netmail_rules.specs.Fits.{IsOfItsTypes, with_msgid};
+ghost use Rattle.netmail_rules.specs.Fits.{with_msgid};
 ghost use Rattle.fts_packet.specs.Packet.{FtsReads};
 ghost use Rattle.fts_packet.specs.Fault.{FtsFault};
 ghost use Rattle.fts_packet.specs.Tossed.{toss_verdict};
@@ -30,6 +30,6 @@ pub fn one_fault()
 pub fn posted_fits()
     ensures message { (bytes : List ℕ) (messages : List FtsMessage) (m : FtsMessage) (s : Setup) (c : Conference) (now place : ℕ) (draft : Message) (msgid : List ℕ)
         → FtsReads bytes messages → Contains messages m → toss_verdict s m now ≡ Post place draft → slice_get s.conferences place ≡ Some c
-        → IsTrue (is_text 80 msgid) → IsOfItsTypes (with_msgid msgid draft) → IsMessage c.kind (with_msgid msgid draft) }
+        → IsTrue (is_text 80 msgid) → IsTyped (with_msgid msgid draft) → IsMessage c.kind (with_msgid msgid draft) }
     ensures msgid { (s : Setup) (m : FtsMessage) (now place : ℕ) (draft : Message) → toss_verdict s m now ≡ Post place draft → EmptyOr (is_text 80) draft.msgid }
 {}

@@ -29,6 +29,13 @@ pub record AreBytes (m : Message) : Type 0 where
   pub subject : All IsByte m.subject
   pub body : All IsByte m.body
 
+-- its bytes and its moments are of their types
+pub record IsTyped (m : Message) : Type 0 where
+  pub bytes : AreBytes m
+  pub written : IsU32 m.written
+  pub received : IsU32 m.received
+  pub processed : IsU32 m.processed
+
 -- names of 1 to 36 bytes, a subject of at most 72, a msgid of 1 to 80 and a replyid of at most 80, none
 -- with a byte below 20h; addresses as they are stored; a body of at most 16,384 bytes; private in a net
 -- conference

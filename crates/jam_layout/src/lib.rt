@@ -20,6 +20,7 @@ mod reader_list;
 mod second_pass;
 mod shape;
 mod sizes;
+mod types;
 
 pub use bare::BareConference;
 pub use conference::Conference;
@@ -30,4 +31,5 @@ pub use read::read_bare;
 pub use reader::Reader;
 pub use reader_list::Readers;
 pub use shape::Shape;
-pub use sizes::{files_size, header_size};
+pub use sizes::{files_size, header_size, message_size};
+pub use types::{moments, typed};

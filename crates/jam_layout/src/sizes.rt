@@ -1,6 +1,7 @@
-ghost use Rattle.std.specs.Prelude.{◌≡◌, ◌+◌, ◌*◌, ◌≤◌, ◌<◌, ◌^◌, length, sum_by, All};
+ghost use Rattle.std.specs.Prelude.{◌≡◌, ◌+◌, ◌*◌, ◌≤◌, ◌<◌, ◌^◌, ℕ, List, length, sum_by, All};
 ghost use Rattle.jam_records.specs.Subfields.{subfields_text};
-ghost use Rattle.jam_layout.specs.Fields.{field, subfields_of};
+ghost use Rattle.jam_records.specs.declared.message.Slot.TheVariants.{Held};
+ghost use Rattle.jam_layout.specs.Fields.{field};
 ghost use Rattle.jam_layout.specs.Headers.{header_size as size_of_header};
 ghost use Rattle.jam_layout.specs.Layout.{layout, files_size as size_of_files};
 ghost use Rattle.jam_layout.specs.Sizes.{slot_header, slot_size as size_of_slot};
@@ -11,29 +12,47 @@ use crate::shape::Shape;
 use byte_lists::Bytes;
 use jam_records::{Message, Slot};
 
-/// The length of the subfield of a value, in bytes. A value that is empty has none.
-#[tactic(auto, using(crate::proofs::SizeLaws::field_length, crate::proofs::SizeLaws::field_none))]
-fn field_size(id: u16, value: &Bytes) -> u32
-    requires { length (subfields_text (field id value.now)) < 2 ^ 31 }
-    ensures { result ≡ length (subfields_text (field id value.now)) }
+/// The length of the subfield of a value with so many bytes. An empty value has none.
+fn field_size(len: u64) -> u128
+    ensures size { (id : ℕ) (value : List ℕ) → length value ≡ len → result ≡ length (subfields_text (field id value)) }
+    ensures small { result < 2 ^ 65 }
 {
-    let value = value.as_slice();
-    if value.is_empty() {
-        return 0;
-    }
-    8 + value.len() as u32
+    if len == 0 { 0 } else { 8 + u128::from(len) }
+}
+
+/// The length of the subfield of a text.
+fn text_size(text: &Bytes) -> u128
+    ensures size { (id : ℕ) → result ≡ length (subfields_text (field id text.now)) }
+    ensures small { result < 2 ^ 65 }
+{
+    field_size(text.as_slice().len() as u64)
+}
+
+/// The length of the header with its subfields of a message, in bytes, where its msgid has so many.
+fn header_with(message: &Message, msgid_len: u64) -> u128
+    ensures size { (msgid : List ℕ) → length msgid ≡ msgid_len → result ≡ size_of_header (record message.now { msgid = msgid }) }
+    ensures small { result < 2 ^ 69 }
+{
+    let addresses = text_size(&message.origin) + text_size(&message.destination);
+    let names = text_size(&message.from) + text_size(&message.to);
+    let ids = field_size(msgid_len) + text_size(&message.replyid);
+    76 + (addresses + names + ids + text_size(&message.subject))
 }
 
 /// The length of the header of a message with its subfields, in bytes.
-#[tactic(auto, using(crate::proofs::SizeLaws::whole_length), unfolding(crate::specs::Headers::header_size))]
 pub fn header_size(message: &Message) -> u32
     requires { size_of_header message.now < 2 ^ 31 }
     ensures { result ≡ size_of_header message.now }
 {
-    let addresses = field_size(0, &message.origin) + field_size(1, &message.destination);
-    let names = field_size(2, &message.from) + field_size(3, &message.to);
-    let ids = field_size(4, &message.msgid) + field_size(5, &message.replyid);
-    76 + (addresses + names + ids + field_size(6, &message.subject))
+    header_with(message, message.msgid.as_slice().len() as u64) as u32
+}
+
+/// How many bytes of a conference's files a message takes with a msgid of so many bytes: its header, its subfields, its
+/// body and its index record. It takes no memory.
+pub fn message_size(message: &Message, msgid_len: u64) -> u128
+    ensures { (msgid : List ℕ) → length msgid ≡ msgid_len → result ≡ size_of_slot (Held (record message.now { msgid = msgid })) }
+{
+    8 + (header_with(message, msgid_len) + message.body.as_slice().len() as u128)
 }
 
 /// How many bytes of a conference's files a slot has: its header, its body and its index record.

@@ -5,7 +5,7 @@ use Rattle.std.proofs.lemmas.Bool.{cond-false, cond-true}
 use Rattle.std.proofs.lemmas.List.{map-append, map_more}
 use Rattle.board_layout.proofs.OutlineLaws.{outline_numbered}
 use Rattle.board_layout.specs.Board.{Board}
-use Rattle.board_layout.specs.Lookups.{held_in}
+use Rattle.board_layout.specs.Lookups.{held_in, slots_in}
 use Rattle.board_layout.specs.Outlines.{board_outline}
 use Rattle.jam_base.proofs.SlotChanges.{numbered_is}
 use Rattle.jam_base.specs.Slots.{numbered}
@@ -16,7 +16,6 @@ use Rattle.jam_records.specs.declared.message.Slot.{Slot}
 use Rattle.jam_records.specs.declared.message.Slot.TheVariants.{Gone, Held}
 use Rattle.mail_board.specs.Held.{AreAlike}
 use Rattle.offered_packets.proofs.OutlineLaws.{outline_count, outline_slots}
-use Rattle.offered_packets.specs.Sees.{slots_in}
 use Rattle.slot_changes.specs.Packed.{is_deleted, slot_packed, slots_packed}
 
 -- ---- the mark, by what is kept of the message

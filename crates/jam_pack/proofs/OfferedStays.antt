@@ -7,7 +7,7 @@ use Rattle.std.proofs.lemmas.Option.{same_Some}
 use Rattle.board_changes.proofs.OneBase.{conferences_back, contents_next}
 use Rattle.board_changes.specs.Changed.{base_at, with_base}
 use Rattle.board_layout.specs.Board.{Board, conferences_in, shapes_of}
-use Rattle.board_layout.specs.Lookups.{held_in, pointer_at, user_of}
+use Rattle.board_layout.specs.Lookups.{held_in, pointer_at, user_of, slots_in}
 use Rattle.board_layout.specs.Renewed.{contents_of}
 use Rattle.board_layout.specs.Valid.{IsBoard}
 use Rattle.board_ledger.specs.declared.ledger.Ledger.{Ledger}
@@ -18,7 +18,7 @@ use Rattle.jam_layout.specs.Conference.{is_live}
 use Rattle.jam_layout.specs.declared.conference.Conference.{Conference}
 use Rattle.jam_records.specs.declared.message.Slot.{Slot}
 use Rattle.offered_packets.specs.Offered.{all_numbers, is_above, is_new, numbers_in, offered}
-use Rattle.offered_packets.specs.Sees.{is_allowed, sees, slots_in}
+use Rattle.offered_packets.specs.Sees.{is_allowed, sees}
 use Rattle.offered_packets.specs.declared.offered_message.OfferedMessage.{OfferedMessage}
 use Rattle.slot_changes.proofs.PackLaws.{packed_pointers, packed_shape, packed_slots, same_length}
 use Rattle.slot_changes.specs.Packed.{packed, with_packed}

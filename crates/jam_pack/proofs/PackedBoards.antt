@@ -22,8 +22,8 @@ use Rattle.jam_records.specs.declared.message.Slot.{Slot}
 use Rattle.jam_records.specs.declared.message.Slot.TheVariants.{Gone, Held}
 use Rattle.mail_board.proofs.EachBases.{changed_base, places_alike}
 use Rattle.mail_board.specs.Held.{AreAlike}
-use Rattle.offered_packets.proofs.BoardLookups.{base_slots}
-use Rattle.offered_packets.specs.Sees.{slots_in}
+use Rattle.board_layout.proofs.BoardLookups.{base_slots}
+use Rattle.board_layout.specs.Lookups.{slots_in}
 use Rattle.slot_changes.proofs.PackLaws.{packed_fits, packed_replaced, same_length, slots_valid}
 use Rattle.slot_changes.proofs.ReplaceLaws.{many_back, replaced_board, replaced_size}
 use Rattle.slot_changes.specs.Packed.{FitsSlots, deleted_count, is_deleted, packed, packed_count, replaced, slots_packed, with_packed}

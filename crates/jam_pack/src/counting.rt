@@ -5,7 +5,7 @@ ghost use Rattle.slot_changes.specs.Packed.{deleted_count as count_of, is_delete
 
 use board_layout::StoredBoard;
 use jam_base::Base;
-use offered_packets::{base_at, message_of};
+use offered_packets::message_of;
 
 /// Whether the slot of a number holds a deleted message.
 pub(crate) fn is_deleted(base: &Base, number: u32) -> bool
@@ -39,7 +39,7 @@ fn deleted_count(base: &Base) -> u32
 pub(crate) fn packed_count(board: &StoredBoard, place: u8) -> u32
     ensures { result ≡ packed_count_of place board.now }
 {
-    match base_at(board, place) {
+    match board.base_at(place) {
         Some(base) => deleted_count(base),
         None => 0,
     }

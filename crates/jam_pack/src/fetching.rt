@@ -9,7 +9,7 @@ ghost use Rattle.jam_base.specs.Slots.{numbered};
 ghost use Rattle.jam_layout.specs.Outlines.{slot_outline};
 ghost use Rattle.jam_records.specs.declared.damage.Damage.{Damage};
 ghost use Rattle.mail_board.specs.Held.{Holds, RestsOn};
-ghost use Rattle.offered_packets.specs.Sees.{slots_in};
+ghost use Rattle.board_layout.specs.Lookups.{slots_in};
 ghost use Rattle.slot_changes.specs.Packed.{slot_packed, slots_packed};
 
 use crate::counting::is_deleted;
@@ -17,7 +17,6 @@ use door_outside::Host;
 use jam_base::Base;
 use jam_records::{Slot, Slots};
 use mail_board::{Board, ReadError};
-use offered_packets::base_at;
 use std::alloc::Global;
 
 /// The slot of a number after a pack: Gone where it holds a deleted message, which isn't fetched. The base is that of
@@ -78,7 +77,7 @@ pub(crate) fn slots_of<H: Host>(
     ensures voice { H.voice_faults host.new ≡ H.voice_faults host.old }
 {
     let mut slots = Slots::new(alloc);
-    let Some(base) = base_at(board.stored(), place) else {
+    let Some(base) = board.stored().base_at(place) else {
         return Ok(slots);
     };
     for before in 0..base.slot_count() {

@@ -1,5 +1,5 @@
 -- A ledger without upload records may get one that a ledger of as many users has.
-use Rattle.std.proofs.Common.{◌≡◌, ⊎_elim, List, ℕ, [], ◌∷◌, ◌++◌, length, Some, None, refl, sym, ◌∙◌, ap, subst, arith, inl, inr}
+use Rattle.std.proofs.Common.{◌≡◌, ⊎_elim, List, ℕ, [], ◌∷◌, ◌++◌, length, Some, None, refl, sym, ◌∙◌, subst, arith, inl, inr}
 use Rattle.std.proofs.lemmas.List.{nil_from_length}
 use Rattle.std.proofs.lemmas.List.Elements.{All-cons, All-nil}
 use Rattle.std.proofs.lemmas.Option.{slice_get_cases}

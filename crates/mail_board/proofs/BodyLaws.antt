@@ -6,7 +6,7 @@ use Rattle.std.proofs.lemmas.Bool.{cases_lt}
 use Rattle.std.proofs.lemmas.Bool.Decides.{nat_tests}
 use Rattle.std.proofs.lemmas.List.{drop_all, length-replicate}
 use Rattle.std.proofs.lemmas.List.Sums.{sum_by-cons, sum_by_more, sum_by_more_le}
-use Rattle.std.proofs.lemmas.Option.{slice_get_within}
+use Rattle.std.proofs.lemmas.Option.{slice_get_within, none-some, same_Some}
 use Rattle.std.proofs.Math.Seq.{drop-append-add, take-append_seam}
 use Rattle.board_changes.proofs.OneBase.{all_at}
 use Rattle.board_layout.proofs.OutlineLaws.{held_outline, outline_numbered}
@@ -75,18 +75,12 @@ unfolding answer_error
 same_error B x y r one other = ap (failed B) (ap (answer_error x) (sym one ∙ other))
 
 -- ---- where the body of a slot stands
-none_some : {A : Type 0} (x : A) → None ≡ Some x → ⊥
-none_some x e = cc
-
-some_is : {A : Type 0} (x y : A) → Some x ≡ Some y → x ≡ y
-some_is x y e = cc
-
 stands : (slots : List Slot) (place : ℕ) (m : Message) → slice_get slots place ≡ Some (Held m)
     → (sum_by body_size (take place slots) + length m.body ≤ length (flat_map body_piece slots)) × (take (length m.body) (drop (sum_by body_size (take place slots)) (flat_map body_piece slots)) ≡ m.body)
-stands [] place m there = absurd (none_some (Held m) there)
+stands [] place m there = absurd (none-some (Held m) there)
 stands (s ∷ slots) zero m there =
     let rest : List ℕ = flat_map body_piece slots in
-    let body : body_piece s ≡ m.body = ap body_piece (some_is s (Held m) there) in
+    let body : body_piece s ≡ m.body = ap body_piece (same_Some s (Held m) there) in
     (omega (arith, length-append (body_piece s) rest, ap (length {A = ℕ}) body), ap (λ (xs : List ℕ). take (length m.body) (xs ++ rest)) body ∙ take-append_seam m.body rest)
 stands (s ∷ slots) (suc place) m there =
     let rest : List ℕ = flat_map body_piece slots in
@@ -108,25 +102,25 @@ pub record Whole (s : Slot) (m : Message) : Type 0 where
   pub bare : m ≡ message_with message []
 
 pub whole_of : (s : Slot) (m : Message) → Some m ≡ held_in (slot_bare s) → Whole s m
-whole_of Gone m is = absurd (none_some m (sym is))
-whole_of (Held x) m is = record { message = x; there = refl; bare = some_is m (message_with x []) is }
+whole_of Gone m is = absurd (none-some m (sym is))
+whole_of (Held x) m is = record { message = x; there = refl; bare = same_Some m (message_with x []) is }
 
 pub none_whole : (s : Slot) → None ≡ held_in (slot_bare s) → None ≡ held_in s
 none_whole Gone none = refl
-none_whole (Held x) none = absurd (none_some (message_with x []) none)
+none_whole (Held x) none = absurd (none-some (message_with x []) none)
 
 -- ---- the slot of a number that stands for a message
 one_slot : (s : Slot) (m : Message) → held_in s ≡ Some m → s ≡ Held m
-one_slot Gone m e = absurd (none_some m e)
-one_slot (Held x) m e = ap Held (some_is x m e)
+one_slot Gone m e = absurd (none-some m e)
+one_slot (Held x) m e = ap Held (same_Some x m e)
 
 slot_at : (slots : List Slot) (place : ℕ) (m : Message) → held_in (get_or slots place Gone) ≡ Some m → slice_get slots place ≡ Some (Held m)
-slot_at [] place m e = absurd (none_some m e)
+slot_at [] place m e = absurd (none-some m e)
 slot_at (s ∷ slots) zero m e = ap Some (one_slot s m e)
 slot_at (s ∷ slots) (suc place) m e = slot_at slots place m e
 
 pub slot_there : (slots : List Slot) (number : ℕ) (m : Message) → held_in (numbered slots number) ≡ Some m → (0 < number) × (slice_get slots (number - 1) ≡ Some (Held m))
-slot_there slots zero m e = absurd (none_some m e)
+slot_there slots zero m e = absurd (none-some m e)
 slot_there slots (suc place) m e = (omega arith, slot_at slots (suc place - 1) m (ap held_in (sym (numbered_is slots (suc place) (omega arith))) ∙ e))
 
 -- the span of a message that is there, and which number it has
@@ -141,12 +135,12 @@ module _ (base : Contents) (ok : IsConference base.shape base.conference) (numbe
   number_within = omega (arith, slot_is.0, slice_get_within base.conference.slots (number - 1) (Held m) slot_is.1)
 
   pub span_there : None ≡ body_span number base.conference.slots → ⊥
-  span_there none = none_some (record { at = body_begin number base.conference.slots; len = length m.body })
+  span_there none = none-some (record { at = body_begin number base.conference.slots; len = length m.body })
       (none ∙ ap (span_at (body_begin number base.conference.slots)) (one_slot (numbered base.conference.slots number) m (sym there)))
 
   module _ (span : Span) (is : Some span ≡ body_span number base.conference.slots) where
     span_is : span ≡ record { at = body_begin number base.conference.slots; len = length m.body }
-    span_is = some_is span (record { at = body_begin number base.conference.slots; len = length m.body })
+    span_is = same_Some span (record { at = body_begin number base.conference.slots; len = length m.body })
         (is ∙ ap (span_at (body_begin number base.conference.slots)) (one_slot (numbered base.conference.slots number) m (sym there)))
 
     pub span_begins : span.at ≡ body_begin number base.conference.slots
@@ -188,15 +182,15 @@ module _ (base other : Contents) (alike : outlined other ≡ outlined base) (num
 
   none_other : (o : Option Message) → option_map message_outline o ≡ None → o ≡ None
   none_other None e = refl
-  none_other (Some x) e = absurd (none_some (message_outline x) (sym e))
+  none_other (Some x) e = absurd (none-some (message_outline x) (sym e))
 
   pub none_alike : None ≡ held_in (numbered base.conference.slots number) → None ≡ held_in (numbered other.conference.slots number)
   none_alike none = sym (none_other (held_in (numbered other.conference.slots number)) (held_alike ∙ ap (option_map message_outline) (sym none)))
 
   module _ (m : Message) (there : Some m ≡ held_in (numbered base.conference.slots number)) where
     some_other : (o : Option Message) → held_in (numbered other.conference.slots number) ≡ o → option_map message_outline o ≡ Some (message_outline m) → Other other number m
-    some_other None is e = absurd (none_some (message_outline m) e)
-    some_other (Some x) is e = record { message = x; there = is; outline = some_is (message_outline x) (message_outline m) e }
+    some_other None is e = absurd (none-some (message_outline m) e)
+    some_other (Some x) is e = record { message = x; there = is; outline = same_Some (message_outline x) (message_outline m) e }
 
     pub other_message : Other other number m
     other_message = some_other (held_in (numbered other.conference.slots number)) refl (held_alike ∙ ap (option_map message_outline) (sym there))

@@ -15,7 +15,7 @@ use Rattle.jam_base.specs.Slots.{numbered}
 use Rattle.jam_records.specs.declared.message.Message.{Message}
 use Rattle.jam_records.specs.declared.message.Slot.{Slot}
 use Rattle.jam_records.specs.declared.message.Slot.TheVariants.{Gone}
-use Rattle.offered_packets.proofs.BoardLookups.{base_slots, no_slots}
+use Rattle.board_layout.proofs.BoardLookups.{base_slots, no_slots}
 use Rattle.offered_packets.specs.Sees.{message_at}
 use Rattle.mail_board.proofs.CommitLaws.{calm_now}
 use Rattle.mail_board.proofs.DataLaws.{layout_moves}

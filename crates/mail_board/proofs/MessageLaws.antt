@@ -4,7 +4,7 @@ use Rattle.std.specs.Prelude.{get_or, option_and_then, option_map, slice_get}
 use Rattle.std.proofs.lemmas.Option.{slice_get-get_or}
 use Rattle.board_changes.proofs.MemberLaws.{files_at}
 use Rattle.board_changes.proofs.OneBase.{all_at, are_bases}
-use Rattle.board_changes.proofs.UserSizes.{conferences_count}
+use Rattle.board_layout.proofs.BoardLookups.{conferences_count}
 use Rattle.board_changes.specs.Changed.{base_at}
 use Rattle.board_layout.proofs.BasePlaces.{IsBase}
 use Rattle.board_layout.proofs.OneOutline.{alike_base}

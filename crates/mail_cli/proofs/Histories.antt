@@ -1,11 +1,10 @@
 -- Runs, and what crashes leave of them, as one history.
-use Rattle.std.proofs.Common.{◌≡◌, ◌⊎◌, inl, inr, ⊎_elim, ℕ, zero, suc, ◌+◌, ◌<◌, ◌≤◌, Bool, true, false, List, [], ◌∷◌, ◌++◌, length, map, Option, Some, None, refl, sym, ◌∙◌, ap, subst, append_assoc, arith, length-append}
+use Rattle.std.proofs.Common.{◌≡◌, ◌⊎◌, inl, inr, ⊎_elim, ℕ, zero, suc, ◌+◌, ◌<◌, ◌≤◌, Bool, true, false, List, [], ◌∷◌, ◌++◌, length, Option, Some, None, refl, sym, ◌∙◌, ap, subst, append_assoc, arith, length-append}
 use Rattle.std.proofs.lemmas.Bool.{cases_lt, true≢false}
 use Rattle.std.proofs.lemmas.List.{append-nil, map-append}
 use Rattle.std.proofs.lemmas.List.Elements.{All-nil, All-cons}
 use Rattle.std.proofs.lemmas.Option.{slice_get_within}
-use Rattle.std.specs.List.{flat_map}
-use Rattle.std.specs.Prelude.{All, slice_get, ◌||◌}
+use Rattle.std.specs.Prelude.{slice_get, ◌||◌}
 use Rattle.door_outside.specs.Disk.{Disk, Image}
 use Rattle.door_outside.specs.Shelf as Shelf
 use Rattle.entry_runs.specs.Door.{World, here, Step, any_touches, touches}
@@ -28,7 +27,7 @@ use Rattle.door_commands.specs.declared.entry.Entry.TheVariants.{Run, Wrong, Ref
 use Rattle.mail_cli.proofs.BoardEntries.{are_commands}
 use Rattle.mail_cli.proofs.EntryLaws.{lawful, one_migration}
 use Rattle.mail_cli.specs.BoardEntry.{board_command, steps}
-use Rattle.mail_cli.specs.Histories.{AreDeedsOf, AreJoined, AreTold, Continues, HoldsAsThen, HoldsFront, KeepPromises, Passage, RunBreaksSo, RunContinues, RunEndsSo, StandFor, left_behind, reached}
+use Rattle.mail_cli.specs.Histories.{AreJoined, AreTold, Continues, HoldsAsThen, HoldsFront, KeepPromises, Passage, RunBreaksSo, RunContinues, RunEndsSo, StandFor, left_behind, reached}
 use Rattle.mail_cli.specs.Run.{RunLeaves, RunSurvives}
 use Rattle.mail_cli.specs.Step.{act, door}
 

@@ -1,5 +1,5 @@
 -- Every entry that can run has an outcome, in each world for whose state files of bytes stand.
-use Rattle.std.proofs.Common.{◌≡◌, ◌≢◌, ◌⊎◌, inl, inr, ⊎_elim, ℕ, ◌+◌, ◌<◌, ◌≤◌, Bool, cond, List, [], ◌∷◌, ◌++◌, Option, Some, None, length, codes, refl, sym, ◌∙◌, ap, subst, arith}
+use Rattle.std.proofs.Common.{◌≡◌, ◌≢◌, ◌⊎◌, inl, inr, ⊎_elim, ℕ, ◌+◌, ◌≤◌, Bool, cond, List, [], ◌∷◌, ◌++◌, Option, Some, None, length, codes, refl, sym, ◌∙◌, ap, subst, arith}
 use Rattle.std.proofs.lemmas.Bool.{cases_eq, cases_lt, true≢false}
 use Rattle.std.proofs.lemmas.List.Elements.{All-nil, All-cons}
 use Rattle.std.specs.List.{All}
@@ -28,7 +28,7 @@ use Rattle.door_outside.specs.Shelf as Shelf
 use Rattle.door_outside.specs.Shelf.{fetched, held}
 use Rattle.door_outside.specs.declared.fetch.Fetched.{Fetched}
 use Rattle.door_outside.specs.declared.fetch.Fetched.TheVariants as fetch
-use Rattle.door_upload.specs.Upload.{Upload, UploadRefusal, UploadsFor, Broken, NoBoardId, upload_read}
+use Rattle.door_upload.specs.Upload.{Upload, UploadRefusal, UploadsFor, Broken, NoBoardId}
 use Rattle.entry_runs.specs.Door.{Act, World, here}
 use Rattle.entry_runs.specs.Entry.{Reply, looks, on_shelf}
 use Rattle.entry_runs.specs.Runs.{Stepped}

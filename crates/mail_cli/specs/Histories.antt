@@ -1,5 +1,5 @@
 -- Runs, and what crashes leave of them, as one history.
-use Rattle.std.specs.Prelude.{◌≡◌, ◌⊎◌, ◌≤◌, ◌<◌, ℕ, suc, List, [], ◌∷◌, ◌++◌, length, map, All, Contains}
+use Rattle.std.specs.Prelude.{◌≡◌, ◌⊎◌, ◌≤◌, ℕ, List, [], ◌∷◌, ◌++◌, length, map, All, Contains}
 use Rattle.std.specs.List.{flat_map}
 use Rattle.board_commands.specs.State.{State, Stores, Made, migrated}
 use Rattle.board_layout.specs.Board.{Board}

@@ -1,7 +1,7 @@
 //! A run over a list of entries.
 ghost use Rattle.std.specs.Prelude.{◌≡◌, false, IsTrue, All};
 ghost use Rattle.entry_runs.specs.Door.{any_touches};
-ghost use Rattle.entry_runs.specs.Promise.{counts, HasCauses};
+ghost use Rattle.board_commands.specs.Causes.{HaveCauses};
 ghost use Rattle.board_commands.specs.Kept.{AreSure, IsKept};
 ghost use Rattle.intent_journal.specs.Hosts.{IsSettled};
 ghost use Rattle.door_commands.specs.Entries.{EntryCanRun, HasWrong, BeginsWrong};
@@ -35,7 +35,7 @@ fn carry_on<H: Host, S: Shelf>(
     ensures survives { IsTrue H.tells → IsTrue S.tells → EntriesSurvive now entries.now (H.disk host.old) (H.disk host.new) (S.files shelf.old) }
     ensures damaged { IsTrue H.tells → IsTrue S.tells → DamagedOnlyIfSpoiled result (H.disk host.old) (S.files shelf.old) }
     ensures touched { result ≡ Status.Damaged → IsTrue (any_touches (door now) entries.now) }
-    ensures causes { HasCauses (counts (H.disk_faults host.old) (H.voice_faults host.old) (S.faults shelf.old)) (counts (H.disk_faults host.new) (H.voice_faults host.new) (S.faults shelf.new)) result }
+    ensures causes { HaveCauses H.disk_faults H.voice_faults S.faults host.old host.new shelf.old shelf.new result }
     ensures usage { result ≡ Status.Usage → HasWrong entries.now }
     ensures wrong { BeginsWrong entries.now → AnswersUsage result }
     ensures files_stay { any_touches (door now) entries.now ≡ false → IsTrue H.tells → LeavesFiles (H.disk host.old) (H.disk host.new) }
@@ -72,7 +72,7 @@ pub fn run_entries<H: Host, S: Shelf>(
     ensures survives { IsTrue H.tells → IsTrue S.tells → EntriesSurvive now entries.now (H.disk host.old) (H.disk host.new) (S.files shelf.old) }
     ensures damaged { IsTrue H.tells → IsTrue S.tells → DamagedOnlyIfSpoiled result (H.disk host.old) (S.files shelf.old) }
     ensures touched { result ≡ Status.Damaged → IsTrue (any_touches (door now) entries.now) }
-    ensures causes { HasCauses (counts (H.disk_faults host.old) (H.voice_faults host.old) (S.faults shelf.old)) (counts (H.disk_faults host.new) (H.voice_faults host.new) (S.faults shelf.new)) result }
+    ensures causes { HaveCauses H.disk_faults H.voice_faults S.faults host.old host.new shelf.old shelf.new result }
     ensures usage { result ≡ Status.Usage → HasWrong entries.now }
     ensures wrong { BeginsWrong entries.now → AnswersUsage result }
     ensures files_stay { any_touches (door now) entries.now ≡ false → IsTrue H.tells → LeavesFiles (H.disk host.old) (H.disk host.new) }

@@ -1,7 +1,8 @@
 //! One entry of a run.
 ghost use Rattle.std.specs.Prelude.{◌≡◌, ◌≢◌, ◌↔◌, false, IsTrue, IfOk, IfErr};
 ghost use Rattle.entry_runs.specs.Door.{touches};
-ghost use Rattle.entry_runs.specs.Promise.{counts, ended, HasCauses};
+ghost use Rattle.entry_runs.specs.Promise.{ended};
+ghost use Rattle.board_commands.specs.Causes.{HaveCauses};
 ghost use Rattle.board_commands.specs.Kept.{AreSure, IsKept};
 ghost use Rattle.door_commands.specs.Entries.{CanRun, EntryCanRun, IsWrong};
 ghost use Rattle.mail_cli.specs.CommandBound.{CommandKeepsBound, EntryKeepsBound};
@@ -39,7 +40,7 @@ fn perform_command<H: Host, S: Shelf>(
     ensures sure { AreSure kept.new }
     ensures kept { IsTrue H.tells → IsKept kept.new (H.disk host.new) }
     ensures performs { IsTrue H.tells → IsTrue S.tells → Performs now (Run command.now) (H.disk host.old) (H.disk host.new) (S.files shelf.old) (S.files shelf.new) result }
-    ensures causes { HasCauses (counts (H.disk_faults host.old) (H.voice_faults host.old) (S.faults shelf.old)) (counts (H.disk_faults host.new) (H.voice_faults host.new) (S.faults shelf.new)) (ended result) }
+    ensures causes { HaveCauses H.disk_faults H.voice_faults S.faults host.old host.new shelf.old shelf.new (ended result) }
     ensures usage { IfOk result (λ class. class ≢ Class.Usage) }
     ensures damaged { IfOk result (λ class. class ≡ Class.Damaged → IsTrue (does now command.now).reach.board) }
     ensures files_stay { (does now command.now).reach.board ≡ false → IsTrue H.tells → LeavesFiles (H.disk host.old) (H.disk host.new) }
@@ -173,7 +174,7 @@ pub fn perform<H: Host, S: Shelf>(
     ensures sure { AreSure kept.new }
     ensures kept { IsTrue H.tells → IsKept kept.new (H.disk host.new) }
     ensures performs { IsTrue H.tells → IsTrue S.tells → Performs now entry.now (H.disk host.old) (H.disk host.new) (S.files shelf.old) (S.files shelf.new) result }
-    ensures causes { HasCauses (counts (H.disk_faults host.old) (H.voice_faults host.old) (S.faults shelf.old)) (counts (H.disk_faults host.new) (H.voice_faults host.new) (S.faults shelf.new)) (ended result) }
+    ensures causes { HaveCauses H.disk_faults H.voice_faults S.faults host.old host.new shelf.old shelf.new (ended result) }
     ensures usage { IfOk result (λ class. (class ≡ Class.Usage) ↔ IsWrong entry.now) }
     ensures wrong { IsWrong entry.now → IfErr result (λ stop. stop ≡ Stop.VoiceFault) }
     ensures damaged { IfOk result (λ class. class ≡ Class.Damaged → IsTrue (touches (door now) entry.now)) }

@@ -9,7 +9,7 @@ use Rattle.board_ledger.specs.declared.ledger.Ledger.{Ledger}
 use Rattle.jam_records.specs.declared.message.Message.{Message}
 use Rattle.mail_intake.specs.Room.{is_full}
 use Rattle.offered_packets.proofs.OutlineLaws.{outline_count}
-use Rattle.offered_packets.specs.Sees.{slots_in}
+use Rattle.board_layout.specs.Lookups.{slots_in}
 use Rattle.post_changes.proofs.EachPost.{posted_outline}
 use Rattle.post_changes.specs.Posted.{posted_with, spread}
 

@@ -6,7 +6,7 @@ use Rattle.std.proofs.lemmas.Bool.{cases_eq, leb-false, ltb-false, ne_eqb, or_pa
 use Rattle.std.proofs.lemmas.List.{append-nil, drop_all, get_or-set_other, get_or-set_same, length-map, length-set}
 use Rattle.std.proofs.lemmas.List.Elements.{All-nil, All-push}
 use Rattle.std.proofs.lemmas.Option.{get_or_from_slice_get, same_Some, slice_get-get_or, slice_get_within}
-use Rattle.board_changes.proofs.UserSizes.{conferences_count}
+use Rattle.board_layout.proofs.BoardLookups.{conferences_count, not_past, few_in_place}
 use Rattle.board_layout.specs.Board.{Board, conferences_in}
 use Rattle.board_layout.specs.Layout.{board_size}
 use Rattle.board_layout.specs.Renewed.{contents_of}
@@ -18,8 +18,7 @@ use Rattle.jam_records.specs.declared.message.Message.{Message}
 use Rattle.mail_intake.specs.Room.{is_full}
 use Rattle.mail_intake.specs.Tallies.{IsTally, MayTake}
 use Rattle.mail_intake.specs.declared.tally.Tally.{Tally}
-use Rattle.offered_packets.specs.Sees.{slots_in}
-use Rattle.packet_verdicts.proofs.Places.{few_in_place}
+use Rattle.board_layout.specs.Lookups.{slots_in}
 use Rattle.packet_verdicts.proofs.PostLists.{posts_hit, posts_miss}
 use Rattle.packet_verdicts.proofs.SpreadSizes.{spread_grows}
 use Rattle.packet_verdicts.proofs.Spreading.{as_many, slots_at, spread_count}
@@ -32,7 +31,6 @@ use Rattle.post_changes.proofs.PostLaws.{all_count, posted_there}
 use Rattle.post_changes.specs.Posted.{ArePlaced, all_posted, posts_in, spread}
 use Rattle.setup_file.specs.declared.conference.Conference.{Conference as SetupConference}
 use Rattle.slot_changes.proofs.AppendLaws.{named}
-use Rattle.slot_changes.proofs.PlaceKinds.{not_past}
 use Rattle.slot_changes.proofs.SlotBytes.{message_size}
 use Rattle.slot_changes.specs.Msgids.{generated, identified, msgid_in}
 use Rattle.slot_changes.specs.Values.{MayHold}

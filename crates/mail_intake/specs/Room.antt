@@ -4,7 +4,7 @@ use Rattle.board_layout.specs.Board.{Board}
 use Rattle.board_layout.specs.Layout.{board_size}
 use Rattle.board_layout.specs.Valid.{board_limit}
 use Rattle.jam_records.specs.declared.message.Message.{Message}
-use Rattle.offered_packets.specs.Sees.{slots_in}
+use Rattle.board_layout.specs.Lookups.{slots_in}
 use Rattle.post_changes.specs.Posted.{spread}
 
 -- the conference has 9,999 slots with the posts before it, or the data files would be too long with it

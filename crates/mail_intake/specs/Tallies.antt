@@ -5,7 +5,7 @@ use Rattle.board_layout.specs.Layout.{board_size}
 use Rattle.board_layout.specs.Valid.{IsBoard}
 use Rattle.jam_records.specs.declared.message.Message.{Message}
 use Rattle.mail_intake.specs.declared.tally.Tally.{Tally}
-use Rattle.offered_packets.specs.Sees.{slots_in}
+use Rattle.board_layout.specs.Lookups.{slots_in}
 use Rattle.post_changes.specs.Posted.{ArePlaced, spread}
 use Rattle.setup_file.specs.declared.conference.Conference.{Conference as SetupConference}
 use Rattle.slot_changes.specs.Values.{MayHold}

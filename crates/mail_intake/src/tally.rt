@@ -11,7 +11,7 @@ use board_layout::{BOARD_LIMIT, StoredBoard};
 use byte_lists::List;
 use jam_records::Message;
 use post_changes::Posts;
-use slot_changes::{conference_of, generated_len, message_size};
+use slot_changes::{generated_len, message_size};
 use std::alloc::{AllocError, Global};
 
 /// How many slots a conference may have.
@@ -53,7 +53,7 @@ impl Tally {
         ensures size { result ≡ min (board_size (spread (self.now.posts ++ (place, message.now) ∷ []) board.now)) (2 ^ 64 - 1) }
         ensures board { IsBoard board.now }
     {
-        let conference = conference_of(board, place).number;
+        let conference = board.conference_of(place).number;
         let bbsid = board.ledger().setup.bbsid.as_slice();
         let number = u64::from(self.slots[usize::from(place)]) + 1;
         let generated = generated_len(conference, bbsid, number);

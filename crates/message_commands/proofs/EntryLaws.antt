@@ -16,11 +16,12 @@ use Rattle.import_sheet.specs.declared.sheet.Sheet.{Sheet}
 use Rattle.jam_layout.specs.Address.{is_address}
 use Rattle.jam_layout.specs.Fields.{is_text}
 use Rattle.jam_layout.specs.Marks.{is_net}
+use Rattle.jam_layout.specs.Messages.{IsTyped}
 use Rattle.jam_records.specs.declared.message.Kind.{Kind}
 use Rattle.jam_records.specs.declared.message.Message.{Message}
 use Rattle.shelf_files.specs.Sheets.{AreSheets}
 use Rattle.slot_changes.proofs.ValueLaws.{tested_holds}
-use Rattle.slot_changes.specs.Values.{IsTyped, MayHold, has_right_texts, is_empty_or, is_right_body}
+use Rattle.slot_changes.specs.Values.{MayHold, has_right_texts, is_empty_or, is_right_body}
 use Rattle.message_commands.specs.Import.{imported_message}
 
 -- ---- texts

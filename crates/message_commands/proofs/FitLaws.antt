@@ -5,7 +5,7 @@ use Rattle.std.specs.Option.{option_map_or}
 use Rattle.std.specs.Prelude.{All, slice_get}
 use Rattle.std.specs.List.{AllZip}
 use Rattle.board_changes.proofs.OneBase.{all_at, base_was, size_next}
-use Rattle.board_changes.proofs.UserSizes.{conferences_count}
+use Rattle.board_layout.proofs.BoardLookups.{conferences_count}
 use Rattle.board_changes.specs.Changed.{base_at}
 use Rattle.board_layout.specs.Board.{Board, shapes_of}
 use Rattle.board_layout.specs.Layout.{board_size}

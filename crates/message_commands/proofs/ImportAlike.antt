@@ -3,7 +3,7 @@ use Rattle.std.proofs.Common.{◌≡◌, ℕ, ◌+◌, Bool, List, [], ◌∷◌
 use Rattle.std.specs.Prelude.{nat_lt}
 use Rattle.board_commands.proofs.LikeTurns.{deciding, decided_on, refuses_on}
 use Rattle.board_commands.specs.Enroll.{first_refusal}
-use Rattle.board_commands.specs.Turns.{Turn, refuses}
+use Rattle.board_commands.specs.Turns.{refuses}
 use Rattle.board_layout.proofs.OneOutline.{alike_size}
 use Rattle.board_layout.specs.Board.{Board}
 use Rattle.board_layout.specs.Valid.{board_limit}

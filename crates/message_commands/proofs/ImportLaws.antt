@@ -15,7 +15,8 @@ use Rattle.shelf_files.specs.Sheets.{AreSheets}
 use Rattle.shelf_files.specs.declared.refusal.Refusal.{Refusal}
 use Rattle.shelf_files.specs.declared.refusal.Refusal.TheVariants.{Slots, Size}
 use Rattle.slot_changes.specs.Changed.{appended}
-use Rattle.slot_changes.specs.Values.{IsTyped, MayHold}
+use Rattle.jam_layout.specs.Messages.{IsTyped}
+use Rattle.slot_changes.specs.Values.{MayHold}
 use Rattle.message_commands.proofs.EntryLaws.{entries_hold}
 use Rattle.message_commands.proofs.Exits.{carried}
 use Rattle.message_commands.proofs.FitLaws.{append_fits, append_short}

@@ -7,13 +7,12 @@ use Rattle.std.proofs.lemmas.Bool.{cond-false, ne_eqb}
 use Rattle.std.proofs.lemmas.List.{append-nil, map-append}
 use Rattle.std.proofs.lemmas.List.Elements.{All-cons, All-head, All-nil, All-tail}
 use Rattle.board_layout.specs.Board.{Board}
-use Rattle.board_layout.specs.Lookups.{held_in}
+use Rattle.board_layout.specs.Lookups.{held_in, slots_in}
 use Rattle.board_layout.specs.Valid.{IsBoard}
 use Rattle.jam_base.specs.Slots.{numbered}
 use Rattle.jam_records.specs.declared.message.Message.{Message}
 use Rattle.jam_records.specs.declared.message.Slot.{Slot}
 use Rattle.jam_records.specs.declared.message.Slot.TheVariants.{Gone, Held}
-use Rattle.offered_packets.specs.Sees.{slots_in}
 use Rattle.packet_verdicts.proofs.PostLists.{identified_more}
 use Rattle.packet_verdicts.proofs.Spreading.{spread_slots}
 use Rattle.post_changes.specs.Posted.{posts_in, spread}

@@ -15,12 +15,13 @@ use Rattle.board_ledger.specs.declared.user.User.{User}
 use Rattle.jam_layout.specs.Address.{is_address}
 use Rattle.jam_layout.specs.Fields.{is_text}
 use Rattle.jam_layout.specs.Marks.{is_net}
-use Rattle.jam_layout.specs.Messages.{EmptyOr}
+use Rattle.jam_layout.specs.Messages.{EmptyOr, IsTyped}
 use Rattle.jam_records.specs.declared.message.Message.{Message}
 use Rattle.message_commands.specs.Import.{kind_of}
 use Rattle.offered_packets.proofs.ShownMessages.{is_there}
-use Rattle.offered_packets.specs.Sees.{message_at, slots_in}
-use Rattle.packet_verdicts.proofs.Places.{few_in_place}
+use Rattle.offered_packets.specs.Sees.{message_at}
+use Rattle.board_layout.specs.Lookups.{slots_in}
+use Rattle.board_layout.proofs.BoardLookups.{few_in_place}
 use Rattle.packet_verdicts.proofs.PostLists.{few_in}
 use Rattle.packet_verdicts.proofs.Validity.{ids, no_conference}
 use Rattle.post_changes.specs.Posted.{posts_in, spread}
@@ -32,7 +33,7 @@ use Rattle.message_commands.specs.Sample.{last_msgid, body_line, recipient_name,
 use Rattle.setup_file.specs.Texts.{has_bare_ends, is_name_byte, is_user_name}
 use Rattle.setup_file.specs.declared.conference.Conference.{Conference as SetupConference}
 use Rattle.slot_changes.proofs.ValueLaws.{tested_holds}
-use Rattle.slot_changes.specs.Values.{IsTyped, MayHold, has_right_texts, is_empty_or, is_right_body}
+use Rattle.slot_changes.specs.Values.{MayHold, has_right_texts, is_empty_or, is_right_body}
 use Rattle.std.proofs.lemmas.Option.{slice_get-get_or}
 
 -- ---- texts

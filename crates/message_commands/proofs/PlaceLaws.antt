@@ -4,7 +4,7 @@ use Rattle.std.proofs.lemmas.Bool.{cond-false, ltb-true, ne_eqb}
 use Rattle.std.proofs.lemmas.List.Sums.{position_or_len_is}
 use Rattle.std.specs.Prelude.{IfSome}
 use Rattle.std.specs.List.{position, position_or_len}
-use Rattle.board_changes.proofs.UserSizes.{conferences_count}
+use Rattle.board_layout.proofs.BoardLookups.{conferences_count}
 use Rattle.board_layout.specs.Board.{Board}
 use Rattle.board_layout.specs.Valid.{IsBoard}
 use Rattle.mail_board.specs.Readers.{place_of}

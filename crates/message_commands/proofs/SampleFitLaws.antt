@@ -16,8 +16,8 @@ use Rattle.jam_records.specs.declared.message.Message.{Message}
 use Rattle.mail_board.specs.Changes.{Fits}
 use Rattle.mail_board.specs.declared.change.Change.TheVariants.{Spread}
 use Rattle.message_commands.specs.Import.{kind_of}
-use Rattle.offered_packets.specs.Sees.{slots_in}
-use Rattle.packet_verdicts.proofs.Places.{few_in_place}
+use Rattle.board_layout.specs.Lookups.{slots_in}
+use Rattle.board_layout.proofs.BoardLookups.{few_in_place}
 use Rattle.packet_verdicts.proofs.PostLists.{few_in}
 use Rattle.packet_verdicts.proofs.SpreadSizes.{spread_grows}
 use Rattle.packet_verdicts.proofs.Spreading.{spread_count}
@@ -29,7 +29,7 @@ use Rattle.post_changes.specs.Posted.{MayHoldIn, posts_in, spread}
 use Rattle.message_commands.proofs.MessageTexts.{may_hold}
 use Rattle.message_commands.proofs.SampleLists.{are_placed, next_post, place_within, posts_count}
 use Rattle.message_commands.specs.Sample.{sampled_posts}
-use Rattle.message_commands.specs.Sampling.{IsTypedPost}
+use Rattle.packet_verdicts.specs.Typed.{IsTypedPost}
 use Rattle.setup_file.specs.declared.conference.Conference.{Conference as SetupConference}
 use Rattle.slot_changes.proofs.SlotBytes.{message_size}
 use Rattle.slot_changes.specs.Msgids.{identified, msgid_in}

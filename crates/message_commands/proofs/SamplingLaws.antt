@@ -13,11 +13,12 @@ use Rattle.post_changes.specs.Posted.{posts_in, spread}
 use Rattle.message_commands.proofs.SampleLists.{next_post, no_msgids, no_posts, one_more}
 use Rattle.message_commands.specs.Draws.{draws_of, number_of}
 use Rattle.message_commands.specs.Sample.{sampled_message, sampled_posts}
-use Rattle.message_commands.specs.Sampling.{IsSampling, IsTypedPost}
+use Rattle.message_commands.specs.Sampling.{IsSampling}
+use Rattle.packet_verdicts.specs.Typed.{IsTypedPost}
 use Rattle.message_commands.specs.declared.draws.Draws.{Draws}
 use Rattle.message_commands.specs.declared.draws.Numbers.{Numbers}
 use Rattle.message_commands.specs.declared.posts.Sampling.{Sampling}
-use Rattle.slot_changes.specs.Values.{IsTyped}
+use Rattle.jam_layout.specs.Messages.{IsTyped}
 
 -- ---- before the first message
 none_posted : (place : ℕ) → place < 64 → ◌≡◌ {A = ℕ} (get_or (replicate 64 0) place 0) 0

@@ -12,8 +12,8 @@ use Rattle.board_layout.specs.Valid.{IsBoard}
 use Rattle.jam_base.specs.Contents.{Contents}
 use Rattle.jam_layout.specs.declared.conference.Conference.{Conference}
 use Rattle.jam_records.specs.declared.message.Message.{Message}
-use Rattle.offered_packets.proofs.BoardLookups.{base_slots}
-use Rattle.offered_packets.specs.Sees.{slots_in}
+use Rattle.board_layout.proofs.BoardLookups.{base_slots}
+use Rattle.board_layout.specs.Lookups.{slots_in}
 use Rattle.packet_verdicts.proofs.Spreading.{as_many, slots_at, spread_count}
 use Rattle.post_changes.specs.Posted.{all_posted, posts_in, spread}
 use Rattle.message_commands.specs.Sample.{slot_counts, slots_case}

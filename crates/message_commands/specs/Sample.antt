@@ -6,13 +6,12 @@ use Rattle.board_commands.specs.State.{State}
 use Rattle.board_commands.specs.Turns.{Turn, refuses, on_board}
 use Rattle.board_layout.specs.Board.{Board}
 use Rattle.board_layout.specs.Layout.{board_size}
-use Rattle.board_layout.specs.Lookups.{user_of}
+use Rattle.board_layout.specs.Lookups.{user_of, slots_in}
 use Rattle.board_layout.specs.Valid.{board_limit}
 use Rattle.entry_runs.specs.Door.{Act}
 use Rattle.jam_layout.specs.Marks.{is_net}
 use Rattle.jam_records.specs.declared.message.Message.{Message}
 use Rattle.message_commands.specs.Import.{kind_of}
-use Rattle.offered_packets.specs.Sees.{slots_in}
 use Rattle.packet_verdicts.specs.Views.{msgid_at}
 use Rattle.post_changes.specs.Posted.{spread}
 use Rattle.message_commands.specs.Draws.{draws_of}

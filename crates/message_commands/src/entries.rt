@@ -1,12 +1,13 @@
 // What the entries of a sheet become.
 ghost use Rattle.std.specs.Prelude.{◌≡◌, All, map, IfOk};
-ghost use Rattle.slot_changes.specs.Values.{IsTyped};
+ghost use Rattle.jam_layout.specs.Messages.{IsTyped};
 ghost use Rattle.message_commands.specs.Import.{imported_message};
 
 use byte_lists::Bytes;
 use import_sheet::{Sheet, Sheets};
+use jam_layout::typed;
 use jam_records::{Kind, Message, Messages};
-use slot_changes::{is_net, typed};
+use slot_changes::is_net;
 use std::alloc::{AllocError, Global};
 
 /// The message that an entry becomes, imported at a moment into a conference of a kind. Its texts are moved.

@@ -1,5 +1,6 @@
 //! The command `import`.
 ghost use Rattle.std.specs.Prelude.{◌≡◌, ◌<◌, ℕ, [], ◌∷◌, ◌+◌, length, nat_lt, IsTrue};
+ghost use Rattle.board_commands.specs.Causes.{HaveCauses};
 ghost use Rattle.board_commands.specs.Enroll.{first_refusal};
 ghost use Rattle.board_commands.specs.Halts.{told};
 ghost use Rattle.board_commands.specs.Kept.{AreSure, IsKept, unread};
@@ -8,7 +9,7 @@ ghost use Rattle.board_commands.specs.WriteBound.{KeepsWriteBound};
 ghost use Rattle.board_layout.specs.Valid.{IsBoard};
 ghost use Rattle.entry_runs.specs.Door.{World};
 ghost use Rattle.entry_runs.specs.Entry.{IsAt, Works};
-ghost use Rattle.entry_runs.specs.Promise.{counts, ended, HasCauses};
+ghost use Rattle.entry_runs.specs.Promise.{ended};
 ghost use Rattle.intent_journal.specs.Journal.{IsClosed};
 ghost use Rattle.shelf_files.specs.Sheets.{AreSheets};
 ghost use Rattle.shelf_files.specs.declared.refusal.Refusal.TheVariants.{Slots};
@@ -95,7 +96,7 @@ pub fn import<H: Host, S: Shelf>(
     ensures kept { IsTrue H.tells → IsKept kept.new (H.disk host.new) }
     ensures sure { AreSure kept.new }
     ensures wrote { IsTrue H.tells → IsTrue S.tells → IsClosed ((H.disk host.old).files 1) → KeepsWriteBound (imports conference file.now now) (H.disk host.old) (H.disk host.new) (S.files shelf.old) }
-    ensures causes { HasCauses (counts (H.disk_faults host.old) (H.voice_faults host.old) (S.faults shelf.old)) (counts (H.disk_faults host.new) (H.voice_faults host.new) (S.faults shelf.new)) (ended (told (imported_line conference) result)) }
+    ensures causes { HaveCauses H.disk_faults H.voice_faults S.faults host.old host.new shelf.old shelf.new (ended (told (imported_line conference) result)) }
 {
     find(alloc, host, kept)?;
     let board = board_in(kept)?;

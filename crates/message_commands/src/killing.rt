@@ -1,5 +1,6 @@
 //! The command `kill`.
 ghost use Rattle.std.specs.Prelude.{◌≡◌, false, IfOk, IsTrue, MatchResult};
+ghost use Rattle.board_commands.specs.Causes.{HostHasCauses};
 ghost use Rattle.board_commands.specs.Halts.{told};
 ghost use Rattle.board_commands.specs.Kept.{AreSure, IsKept, unread};
 ghost use Rattle.board_commands.specs.State.{State, Stores};
@@ -8,7 +9,7 @@ ghost use Rattle.board_layout.specs.Valid.{IsBoard};
 ghost use Rattle.door_outside.specs.Shelf.{Files};
 ghost use Rattle.entry_runs.specs.Door.{World};
 ghost use Rattle.entry_runs.specs.Entry.{IsAt, Works};
-ghost use Rattle.entry_runs.specs.Promise.{counts, ended, HasCauses};
+ghost use Rattle.entry_runs.specs.Promise.{ended};
 ghost use Rattle.mail_board.specs.Changes.{Fits};
 ghost use Rattle.mail_board.specs.declared.change.Change.TheVariants.{Kill};
 ghost use Rattle.shelf_files.specs.declared.refusal.Refusal.TheVariants.{NoMessage};
@@ -50,7 +51,7 @@ pub fn kill<H: Host>(
     ensures works { IsTrue H.tells → (world : World State) (shelf : Files) → IsAt Stores unread world (H.disk host.old) shelf → Works Stores (kills conference number) unread world (H.disk host.old) (H.disk host.new) shelf (told (λ _. killed_line conference number) result) }
     ensures kept { IsTrue H.tells → IsKept kept.new (H.disk host.new) }
     ensures sure { AreSure kept.new }
-    ensures causes { (shelf : _) → HasCauses (counts (H.disk_faults host.old) (H.voice_faults host.old) shelf) (counts (H.disk_faults host.new) (H.voice_faults host.new) shelf) (ended (told (λ _. killed_line conference number) result)) }
+    ensures causes { HostHasCauses H.disk_faults H.voice_faults host.old host.new (ended (told (λ _. killed_line conference number) result)) }
 {
     find(alloc, host, kept)?;
     let board = board_in(kept)?;

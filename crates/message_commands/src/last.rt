@@ -1,29 +1,15 @@
 // The last message of a conference.
 ghost use Rattle.std.specs.Prelude.{◌≡◌, ◌≤◌, ◌<◌, ℕ, List, [], length, All, IfOk};
-ghost use Rattle.board_layout.specs.Valid.{IsBoard};
 ghost use Rattle.jam_records.specs.declared.message.Message.{Message};
-ghost use Rattle.offered_packets.specs.Sees.{slots_in};
 ghost use Rattle.packet_verdicts.specs.Views.{msgid_at};
 ghost use Rattle.post_changes.specs.Posted.{posts_in, spread};
 ghost use Rattle.message_commands.specs.Sample.{last_msgid as last_msgid_of};
 
 use board_layout::StoredBoard;
 use byte_lists::Bytes;
-use offered_packets::{base_at, message_of};
+use offered_packets::message_of;
 use slot_changes::msgid_of;
 use std::alloc::{AllocError, Global};
-
-/// How many slots the conference in a place has on the board, none where no conference is there.
-pub(crate) fn kept_count(board: &StoredBoard, place: u8) -> u32
-    ensures count { result ≡ length (slots_in board.now place) }
-    ensures few { result ≤ 9999 }
-    ensures board { IsBoard board.now }
-{
-    match base_at(board, place) {
-        Some(base) => base.slot_count(),
-        None => 0,
-    }
-}
 
 /// The msgid of the message of a number in a place of the board, nothing where no slot of it holds one.
 fn kept_msgid(
@@ -34,7 +20,7 @@ fn kept_msgid(
 ) -> Result<Bytes, AllocError>
     ensures { IfOk result (λ msgid. msgid ≡ msgid_at board.now place number) }
 {
-    let Some(base) = base_at(board, place) else {
+    let Some(base) = board.base_at(place) else {
         return Ok(Bytes::new(alloc));
     };
     match message_of(base, number) {
@@ -55,7 +41,7 @@ pub(crate) fn last_msgid(
     requires few { posted ≤ 5000 }
     ensures { (posts : List (ℕ × Message)) → All (λ p. p.1.msgid ≡ []) posts → posted ≡ length (posts_in place posts) → IfOk result (λ msgid. msgid ≡ last_msgid_of place (spread posts board.now)) }
 {
-    let kept = kept_count(board, place);
+    let kept = board.slot_count(place);
     if posted == 0 {
         return kept_msgid(alloc, board, place, kept);
     }

@@ -3,21 +3,21 @@ ghost use Rattle.std.specs.Prelude.{◌≡◌, ◌≤◌, ◌<◌, ◌+◌, ℕ,
 ghost use Rattle.board_layout.specs.Board as Boards;
 ghost use Rattle.board_layout.specs.Valid.{IsBoard};
 ghost use Rattle.jam_layout.specs.Marks.{is_net as is_net_kind};
+ghost use Rattle.jam_layout.specs.Messages.{IsTyped};
 ghost use Rattle.jam_records.specs.declared.message.Message as Messages;
 ghost use Rattle.message_commands.specs.Import.{kind_of};
 ghost use Rattle.post_changes.specs.Posted.{posts_in, spread};
 ghost use Rattle.message_commands.specs.Sample.{replyid_of as replyid_with, sampled_message, sampled_posts};
 ghost use Rattle.message_commands.specs.Sampling.{IsSampling};
-ghost use Rattle.slot_changes.specs.Values.{IsTyped};
 
 use crate::draws::{Draws, Numbers};
 use crate::last::last_msgid;
 use crate::texts::{body_of, recipient_name, subject_of};
 use board_layout::StoredBoard;
 use byte_lists::{Bytes, List};
+use jam_layout::typed;
 use jam_records::{Kind, Message};
 use post_changes::Posts;
-use slot_changes::{conference_of, typed};
 use std::alloc::{AllocError, Global};
 
 /// How many places there may be.
@@ -47,7 +47,7 @@ fn is_net(board: &StoredBoard, place: u8) -> bool
     requires place { place < length board.now.ledger.setup.conferences }
     ensures { result ≡ is_net_kind (kind_of place board.now) }
 {
-    match conference_of(board, place).kind {
+    match board.conference_of(place).kind {
         Kind::Local => false,
         Kind::Echo => false,
         Kind::Net => true,

@@ -1,5 +1,6 @@
 //! The command `sample`.
 ghost use Rattle.std.specs.Prelude.{◌≡◌, ◌≤◌, ◌<◌, length, map, IsTrue};
+ghost use Rattle.board_commands.specs.Causes.{HostHasCauses};
 ghost use Rattle.board_commands.specs.Enroll.{first_refusal};
 ghost use Rattle.board_commands.specs.Halts.{told};
 ghost use Rattle.board_commands.specs.Kept.{AreSure, IsKept, unread};
@@ -9,7 +10,7 @@ ghost use Rattle.board_layout.specs.Valid.{IsBoard};
 ghost use Rattle.door_outside.specs.Shelf.{Files};
 ghost use Rattle.entry_runs.specs.Door.{World};
 ghost use Rattle.entry_runs.specs.Entry.{IsAt, Works};
-ghost use Rattle.entry_runs.specs.Promise.{counts, ended, HasCauses};
+ghost use Rattle.entry_runs.specs.Promise.{ended};
 ghost use Rattle.intent_journal.specs.Journal.{IsClosed};
 ghost use Rattle.post_changes.specs.Posted.{spread};
 ghost use Rattle.message_commands.specs.Sample.{sampled_line, samples, slot_counts, slots_case};
@@ -91,7 +92,7 @@ pub fn sample<H: Host>(
     ensures kept { IsTrue H.tells → IsKept kept.new (H.disk host.new) }
     ensures sure { AreSure kept.new }
     ensures wrote { IsTrue H.tells → IsClosed ((H.disk host.old).files 1) → (shelf : Files) → KeepsWriteBound (samples seed count now) (H.disk host.old) (H.disk host.new) shelf }
-    ensures causes { (shelf : _) → HasCauses (counts (H.disk_faults host.old) (H.voice_faults host.old) shelf) (counts (H.disk_faults host.new) (H.voice_faults host.new) shelf) (ended (told sampled_line result)) }
+    ensures causes { HostHasCauses H.disk_faults H.voice_faults host.old host.new (ended (told sampled_line result)) }
 {
     find(alloc, host, kept)?;
     let board = board_in(kept)?;

@@ -4,7 +4,6 @@ ghost use Rattle.message_commands.specs.Sample.{body_line as line_with, recipien
 
 use board_layout::StoredBoard;
 use byte_lists::Bytes;
-use offered_packets::user_at;
 use std::alloc::{AllocError, Global};
 use text_fields::add_decimal;
 
@@ -16,7 +15,7 @@ pub(crate) fn recipient_name(
 ) -> Result<Bytes, AllocError>
     ensures { IfOk result (λ name. name ≡ name_of id board.now) }
 {
-    match user_at(board, id) {
+    match board.user_at(id) {
         Some(user) => user.name.copy(alloc),
         None => Bytes::from_slice(alloc, b"All"),
     }

@@ -2,7 +2,6 @@ pub mod Marks
 pub mod AddressLines
 pub mod KeptLines
 pub mod RuleLists
-pub mod Sizes
 pub mod Verdicts
 pub mod PostedNames
 pub mod PostedDrafts

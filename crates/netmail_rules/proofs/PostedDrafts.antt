@@ -11,10 +11,10 @@ use Rattle.jam_layout.proofs.AddressLaws.{is_test}
 use Rattle.jam_layout.proofs.BoolTests.{or_false, not_not}
 use Rattle.jam_layout.specs.Address.{is_address}
 use Rattle.jam_layout.specs.Fields.{is_text}
-use Rattle.jam_layout.specs.Messages.{EmptyOr, IsBody, IsMessage}
+use Rattle.jam_layout.specs.Messages.{EmptyOr, IsBody, IsMessage, IsTyped}
 use Rattle.netmail_rules.specs.AddressLine.{is_plain, net_line}
 use Rattle.netmail_rules.specs.Draft.{is_net_view, is_netmail, netmail_line, first_line, recipient_of, destination_of, kept_line, kept_lines, kept_body, draft_of}
-use Rattle.netmail_rules.specs.Fits.{IsView, HasShortTexts, IsOfItsTypes, with_msgid}
+use Rattle.netmail_rules.specs.Fits.{IsView, HasShortTexts, with_msgid}
 use Rattle.netmail_rules.specs.Verdict.{unless_refused, plain_verdict, verdict}
 use Rattle.netmail_rules.specs.Rules.{first_refusing, new_bytes, rules_before, rules_in}
 use Rattle.netmail_rules.specs.Status.{private_status, comment_status}
@@ -131,7 +131,7 @@ goes_where v q (Some found) is = inr (is_test _ (names_well (first_line q) found
 
 -- ---- the whole
 draft_fits : (v : View) (c : ConferenceView) (q : QwkMessage) (now : ℕ) (msgid : List ℕ) → v.conference ≡ Some c → IsView v → HasShortTexts q.header → Passed v c q (draft_of v q now)
-    → IsTrue (is_text 80 msgid) → IsOfItsTypes (with_msgid msgid (draft_of v q now)) → IsMessage c.kind (with_msgid msgid (draft_of v q now))
+    → IsTrue (is_text 80 msgid) → IsTyped (with_msgid msgid (draft_of v q now)) → IsMessage c.kind (with_msgid msgid (draft_of v q now))
 unfolding draft_of
 draft_fits v c q now msgid conference view short passed id types = record {
   bytes = types.bytes;
@@ -171,11 +171,11 @@ read_short m short = record {
 }
 
 pub posted_is_message : (v : View) (c : ConferenceView) (m : QwkMessage) (now : ℕ) (draft : Message) (msgid : List ℕ) → v.conference ≡ Some c → IsView v → HasShortTexts m.header
-    → verdict v m now ≡ Post draft → IsTrue (is_text 80 msgid) → IsOfItsTypes (with_msgid msgid draft) → IsMessage c.kind (with_msgid msgid draft)
+    → verdict v m now ≡ Post draft → IsTrue (is_text 80 msgid) → IsTyped (with_msgid msgid draft) → IsMessage c.kind (with_msgid msgid draft)
 posted_is_message v c m now draft msgid conference view short posted id types =
     let q : QwkMessage = plain m in
     let w = posted_by v c q now draft conference posted in
-    let own : IsOfItsTypes (with_msgid msgid (draft_of v q now)) = subst (λ (x : Message). IsOfItsTypes (with_msgid msgid x)) (sym w.made) types in
+    let own : IsTyped (with_msgid msgid (draft_of v q now)) = subst (λ (x : Message). IsTyped (with_msgid msgid x)) (sym w.made) types in
     subst (λ (x : Message). IsMessage c.kind (with_msgid msgid x)) w.made (draft_fits v c q now msgid conference view (read_short m short) w.passed id own)
 
 pub posted_has_room : (v : View) (c : ConferenceView) (m : QwkMessage) (now : ℕ) (draft : Message) → v.conference ≡ Some c → verdict v m now ≡ Post draft

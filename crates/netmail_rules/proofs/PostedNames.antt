@@ -6,6 +6,7 @@ use Rattle.std.proofs.lemmas.List.Sums.{prefix_len-le-length}
 use Rattle.std.specs.List.{prefix_len, suffix_len, slice_range}
 use Rattle.std.specs.Option.{option_map}
 use Rattle.std.specs.Prelude.{not, ◌==◌}
+use Rattle.std.proofs.lemmas.Option.{same_Some}
 use Rattle.setup_file.specs.Words.{is_space, is_number, number_of}
 use Rattle.jam_records.specs.Addresses.{IsPart, IsAddress}
 use Rattle.jam_layout.specs.Address.{before, past, is_part}
@@ -14,33 +15,30 @@ use Rattle.netmail_rules.specs.AddressLine.{part_of, point_of, both, node_of, ad
 use Rattle.netmail_rules.specs.declared.address.Address.{Address}
 use Rattle.netmail_rules.specs.declared.net_line.NetLine.{NetLine}
 
-some_same : {A : Type 0} (x y : A) → Some x ≡ Some y → x ≡ y
-some_same x y e = cc
-
 pub chosen : {A : Type 0} (b : Bool) (o : Option A) (x : A) → cond b o None ≡ Some x → (b ≡ true) × (o ≡ Some x)
 chosen true o x e = (refl, e)
 chosen false o x e = absurd (cc)
 
 mapped : {A B : Type 0} (f : A → B) (o : Option A) (y : B) → option_map f o ≡ Some y → (x : A) × (o ≡ Some x) × (f x ≡ y)
 mapped f None y e = absurd (cc)
-mapped f (Some x) y e = (x, refl, some_same (f x) y e)
+mapped f (Some x) y e = (x, refl, same_Some (f x) y e)
 
 part_small : (digits : List ℕ) (n : ℕ) → part_of digits ≡ Some n → IsPart n
 unfolding part_of
 part_small digits n e =
     let c = chosen (is_number digits && is_part (number_of digits)) (Some (number_of digits)) n e in
     let small : number_of digits ≤ 32767 = leb-true (number_of digits) 32767 (and_parts (is_number digits) (is_part (number_of digits)) c.0).1 in
-    let same : number_of digits ≡ n = some_same (number_of digits) n c.1 in
+    let same : number_of digits ≡ n = same_Some (number_of digits) n c.1 in
     omega arith
 
 point_small : (text : List ℕ) (n : ℕ) → point_of text ≡ Some n → IsPart n
-point_small [] n e = let same : 0 ≡ n = some_same 0 n e in omega arith
+point_small [] n e = let same : 0 ≡ n = same_Some 0 n e in omega arith
 point_small (mark ∷ digits) n e = part_small digits n e
 
 both_there : (x y : Option ℕ) (p : ℕ × ℕ) → both x y ≡ Some p → (x ≡ Some p.0) × (y ≡ Some p.1)
 both_there None y p e = absurd (cc)
 both_there (Some a) None p e = absurd (cc)
-both_there (Some a) (Some b) p e = let same : (a, b) ≡ p = some_same (a, b) p e in (ap (λ (q : ℕ × ℕ). Some q.0) same, ap (λ (q : ℕ × ℕ). Some q.1) same)
+both_there (Some a) (Some b) p e = let same : (a, b) ≡ p = same_Some (a, b) p e in (ap (λ (q : ℕ × ℕ). Some q.0) same, ap (λ (q : ℕ × ℕ). Some q.1) same)
 
 node_small : (text : List ℕ) (p : ℕ × ℕ) → node_of text ≡ Some p → IsPart p.0 × IsPart p.1
 unfolding node_of
@@ -53,7 +51,7 @@ all_there None n k a e = absurd (cc)
 all_there (Some z) None k a e = absurd (cc)
 all_there (Some z) (Some n) None a e = absurd (cc)
 all_there (Some z) (Some n) (Some p) a e =
-    let same : record { zone = z; net = n; node = p.0; point = p.1 } ≡ a = some_same (record { zone = z; net = n; node = p.0; point = p.1 }) a e in
+    let same : record { zone = z; net = n; node = p.0; point = p.1 } ≡ a = same_Some (record { zone = z; net = n; node = p.0; point = p.1 }) a e in
     (ap (λ (b : Address). Some b.zone) same, ap (λ (b : Address). Some b.net) same, ap (λ (b : Address). Some (b.node, b.point)) same)
 
 -- an address that is read is stored as one

@@ -1,11 +1,10 @@
 -- When a posted draft is a message that its conference may hold.
 use Rattle.std.specs.Prelude.{ℕ, ◌≤◌, List, length, IsTrue}
-use Rattle.record_numbers.specs.Numbers.{IsU32}
 use Rattle.qwk_blocks.specs.declared.message.Header.{Header}
 use Rattle.jam_records.specs.declared.message.Message.{Message}
 use Rattle.setup_file.specs.Texts.{is_user_name}
 use Rattle.jam_layout.specs.Fields.{is_text}
-use Rattle.jam_layout.specs.Messages.{AreBytes, EmptyOr}
+use Rattle.jam_layout.specs.Messages.{EmptyOr}
 use Rattle.netmail_rules.specs.declared.view.View.{View}
 
 -- the names are those of users, and the reply is empty or a msgid
@@ -18,13 +17,6 @@ pub record IsView (v : View) : Type 0 where
 pub record HasShortTexts (h : Header) : Type 0 where
   pub to : length h.to ≤ 36
   pub subject : length h.subject ≤ 72
-
--- each byte and each moment of a message is of its type
-pub record IsOfItsTypes (m : Message) : Type 0 where
-  pub bytes : AreBytes m
-  pub written : IsU32 m.written
-  pub received : IsU32 m.received
-  pub processed : IsU32 m.processed
 
 -- a message with the msgid that it gets
 abbrev pub with_msgid : List ℕ → Message → Message

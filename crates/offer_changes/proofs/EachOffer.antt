@@ -8,7 +8,7 @@ use Rattle.board_changes.proofs.EachBoard.{gathered_leads, step_each}
 use Rattle.board_changes.proofs.GatherLaws.{gathered_kept, gathered_rest}
 use Rattle.board_changes.proofs.LeadLaws.{leads_next, places_count}
 use Rattle.board_changes.proofs.PlaceSteps.{step_joins}
-use Rattle.board_changes.proofs.UserSizes.{conferences_count}
+use Rattle.board_layout.proofs.BoardLookups.{conferences_count}
 use Rattle.board_changes.specs.Change.{Changes, Leads}
 use Rattle.board_changes.specs.Gathered.{Gathered, Joins}
 use Rattle.board_changes.specs.Outlined.{ChangesEach, GatheredEach, KeepsEach, LeadsEach}
@@ -35,10 +35,10 @@ use Rattle.jam_layout.specs.declared.shape.Shape.{Shape}
 use Rattle.offer_changes.proofs.AcknowledgeLaws.{base_read, read_is, read_open, read_room}
 use Rattle.offer_changes.proofs.OfferLaws.{offer_leads, offer_shapes, offer_there}
 use Rattle.offer_changes.proofs.PutLaws.{gathered_user}
-use Rattle.offer_changes.proofs.StepLaws.{change_suits}
+use Rattle.board_changes.proofs.StepLaws.{change_suits}
 use Rattle.offer_changes.proofs.UserLaws.{user_there}
 use Rattle.offer_changes.specs.Changed.{acknowledged, is_above, offer_in, offered, offered_to, read_offer, read_up_to, with_offer, without_offer}
-use Rattle.offer_changes.specs.Steps.{base_after, patches_of}
+use Rattle.board_changes.specs.Steps.{base_after, patches_of}
 
 -- ---- an offer
 module _ (b : Board) (id : ℕ) (u : User) (highs : List ℕ) (user : user_of id b ≡ Some u) (next : IsBoard (offered_to id highs u b)) where

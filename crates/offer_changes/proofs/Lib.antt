@@ -6,5 +6,4 @@ pub mod OfferLaws
 pub mod ReadLaws
 pub mod AcknowledgeLaws
 pub mod EachOffer
-pub mod StepLaws
 pub mod FitLaws

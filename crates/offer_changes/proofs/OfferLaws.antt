@@ -7,7 +7,7 @@ use Rattle.std.proofs.lemmas.List.Elements.{All-cons, All-nil, All-set}
 use Rattle.board_changes.proofs.GatherLaws.{gathered_rest}
 use Rattle.board_changes.proofs.LeadLaws.{leads_next, places_count}
 use Rattle.board_changes.proofs.OneBase.{all_at, set_there}
-use Rattle.board_changes.proofs.UserSizes.{conferences_count}
+use Rattle.board_layout.proofs.BoardLookups.{conferences_count}
 use Rattle.board_changes.specs.Change.{Leads}
 use Rattle.board_changes.specs.Gathered.{at_place, Gathered}
 use Rattle.board_layout.specs.Board.{Board, shapes_of}

@@ -1,41 +1,36 @@
 -- The open offers of a user with one more, and without one: they are few, their numbers rise, and what holds of each still does.
-use Rattle.std.proofs.Common.{◌≡◌, ℕ, ◌+◌, ◌-◌, ◌≤◌, Bool, true, false, not, cond, eqb, List, [], ◌∷◌, ◌++◌, length, drop, Some, None, refl, sym, ap, ◌∙◌, subst, arith, length-append, length-drop}
+use Rattle.std.proofs.Common.{◌≡◌, ℕ, ◌+◌, ◌-◌, ◌≤◌, Bool, true, false, not, cond, eqb, List, [], ◌∷◌, ◌++◌, length, drop, Some, refl, sym, ap, ◌∙◌, subst, arith, length-append, length-drop}
 use Rattle.std.specs.Prelude.{zero, suc, All}
 use Rattle.std.proofs.lemmas.Bool.{eqb-true}
 use Rattle.std.proofs.lemmas.List.{drop-append-le}
 use Rattle.std.proofs.lemmas.List.Elements.{All-append, All-cons, All-drop, All-filter, All-head, All-nil, All-tail}
 use Rattle.std.proofs.lemmas.List.Sums.{AllPass-from_list_all, list_all-from_AllPass}
+use Rattle.std.proofs.lemmas.Option.{none-some, same_Some}
 use Rattle.open_offers.specs.Offers.{AreOffers, IsOffer, NumbersRise}
 use Rattle.open_offers.specs.declared.offer.OpenOffer.{OpenOffer}
 use Rattle.board_layout.specs.Valid.{highs_fit, offers_fit}
 use Rattle.jam_layout.specs.declared.conference.Conference.{Conference}
 use Rattle.offer_changes.specs.Changed.{latest, offer_in, other_offers}
 
-none_some : {A : Type 0} (x : A) → None ≡ Some x → ⊥
-none_some x e = cc
-
-some_is : {A : Type 0} (x y : A) → Some x ≡ Some y → x ≡ y
-some_is x y e = cc
-
 -- ---- the offer of a number
 module _ (packet : ℕ) (o : OpenOffer) where
   found_number : (offers : List OpenOffer) → offer_in packet offers ≡ Some o → o.number ≡ packet
-  found_number [] is = absurd (none_some o is)
+  found_number [] is = absurd (none-some o is)
   found_number (p ∷ offers) is = by (eqb p.number packet) refl is (found_number offers)
     where
       by : (here : Bool) → eqb p.number packet ≡ here → cond here (Some p) (offer_in packet offers) ≡ Some o → (offer_in packet offers ≡ Some o → o.number ≡ packet) → o.number ≡ packet
-      by true same found later = ap (λ (x : OpenOffer). x.number) (sym (some_is p o found)) ∙ eqb-true p.number packet same
+      by true same found later = ap (λ (x : OpenOffer). x.number) (sym (same_Some p o found)) ∙ eqb-true p.number packet same
       by false same found later = later found
 
   pub found_itself : (offers : List OpenOffer) → offer_in packet offers ≡ Some o → offer_in o.number offers ≡ Some o
   found_itself offers is = subst (λ (n : ℕ). offer_in n offers ≡ Some o) (sym (found_number offers is)) is
 
   pub found_all : (P : OpenOffer → Type 0) (offers : List OpenOffer) → offer_in packet offers ≡ Some o → All P offers → P o
-  found_all P [] is all = absurd (none_some o is)
+  found_all P [] is all = absurd (none-some o is)
   found_all P (p ∷ offers) is all = by (eqb p.number packet) is (λ found. found_all P offers found (All-tail P p offers all))
     where
       by : (here : Bool) → cond here (Some p) (offer_in packet offers) ≡ Some o → (offer_in packet offers ≡ Some o → P o) → P o
-      by true found later = subst P (some_is p o found) (All-head P p offers all)
+      by true found later = subst P (same_Some p o found) (All-head P p offers all)
       by false found later = later found
 
 -- ---- numbers that rise

@@ -5,6 +5,7 @@ use Rattle.std.specs.List.{list_all}
 use Rattle.std.proofs.lemmas.Bool.{and_parts, le-ltb, leb-true}
 use Rattle.std.proofs.lemmas.List.Elements.{All-cons, All-drop, All-nil}
 use Rattle.std.proofs.lemmas.List.Sums.{sum_by-cons}
+use Rattle.std.proofs.lemmas.Option.{none-some, same_Some}
 use Rattle.board_layout.proofs.BasePlaces.{IsBase}
 use Rattle.board_layout.specs.Board.{conferences_in, shapes_in}
 use Rattle.board_layout.specs.Layout.{base_size}
@@ -36,12 +37,6 @@ use Rattle.jam_records.specs.declared.message.Slot.TheVariants.{Gone, Held}
 use Rattle.jam_threads.specs.Links.{link_of}
 use Rattle.jam_threads.specs.declared.link.Link.{Link}
 use Rattle.offer_changes.specs.Changed.{all_read, is_above, read_up_to}
-
-none_some : {A : Type 0} (x : A) → None ≡ Some x → ⊥
-none_some x e = cc
-
-some_is : {A : Type 0} (x y : A) → Some x ≡ Some y → x ≡ y
-some_is x y e = cc
 
 -- ---- marks take no byte
 same_header : (m : Message) (now : ℕ) → header_size (record m { seen = true; received = now }) ≡ header_size m
@@ -204,16 +199,16 @@ module _ (id : ℕ) (name : List ℕ) (now : ℕ) where
 
   -- what stands in a place
   pub read_at : (bases : List Contents) (highs : List ℕ) (place : ℕ) (base : Contents) → slice_get bases place ≡ Some base → slice_get (all_read id name now bases highs) place ≡ Some (read_up_to id name now (get_or highs place 0) base)
-  read_at [] highs place base here = absurd (none_some base here)
+  read_at [] highs place base here = absurd (none-some base here)
   read_at (b ∷ bases) [] place base here = here ∙ ap Some (sym (none_read id name now base))
-  read_at (b ∷ bases) (high ∷ highs) zero base here = ap (λ (c : Contents). Some (read_up_to id name now high c)) (some_is b base here)
+  read_at (b ∷ bases) (high ∷ highs) zero base here = ap (λ (c : Contents). Some (read_up_to id name now high c)) (same_Some b base here)
   read_at (b ∷ bases) (high ∷ highs) (suc place) base here = read_at bases highs place base here
 
 pub high_within : (bases : List Contents) (highs : List ℕ) (place : ℕ) (base : Contents) → highs_fit (conferences_in bases) highs ≡ true → slice_get bases place ≡ Some base → get_or highs place 0 ≤ length base.conference.slots
-high_within [] highs place base fit here = absurd (none_some base here)
+high_within [] highs place base fit here = absurd (none-some base here)
 high_within (b ∷ bases) [] place base fit here = omega arith
 high_within (b ∷ bases) (high ∷ highs) zero base fit here =
     let parts = and_parts (leb high (length b.conference.slots)) (highs_fit (conferences_in bases) highs) fit in
-    omega (arith, leb-true high (length b.conference.slots) parts.0, ap (λ (c : Contents). length c.conference.slots) (some_is b base here))
+    omega (arith, leb-true high (length b.conference.slots) parts.0, ap (λ (c : Contents). length c.conference.slots) (same_Some b base here))
 high_within (b ∷ bases) (high ∷ highs) (suc place) base fit here =
     high_within bases highs place base (and_parts (leb high (length b.conference.slots)) (highs_fit (conferences_in bases) highs) fit).1 here

@@ -7,6 +7,7 @@ use Rattle.std.specs.Str.{bytes_eq}
 use Rattle.std.proofs.lemmas.Bool.{cond-false, ne_eqb}
 use Rattle.std.proofs.lemmas.List.{length-replicate}
 use Rattle.std.proofs.lemmas.List.Elements.{All-head, All-nil, All-tail}
+use Rattle.std.proofs.lemmas.Option.{none-some, same_Some}
 use Rattle.record_numbers.specs.Numbers.{u32_text}
 use Rattle.board_layout.specs.Board.{Board, reader_of, readers_from, shape_of, shapes_from}
 use Rattle.board_ledger.proofs.SizeLaws.{flat_length}
@@ -20,19 +21,13 @@ use Rattle.open_offers.specs.declared.version.Version.TheVariants.{Second}
 use Rattle.board_layout.specs.Lookups.{user_of}
 use Rattle.setup_file.specs.declared.conference.Conference.{Conference as SetupConference}
 
-none_some : {A : Type 0} (x : A) → None ≡ Some x → ⊥
-none_some x e = cc
-
-some_is : {A : Type 0} (x y : A) → Some x ≡ Some y → x ≡ y
-some_is x y e = cc
-
 -- ---- the user of an id
 pub id_above : (b : Board) (id : ℕ) (u : User) → user_of id b ≡ Some u → 0 < id
-id_above b zero u here = absurd (none_some u here)
+id_above b zero u here = absurd (none-some u here)
 id_above b (suc n) u here = omega arith
 
 pub user_there : (b : Board) (id : ℕ) (u : User) → user_of id b ≡ Some u → slice_get b.ledger.users (id - 1) ≡ Some u
-user_there b zero u here = absurd (none_some u here)
+user_there b zero u here = absurd (none-some u here)
 user_there b (suc n) u here = sym (cond-false (eqb (suc n) 0) None (slice_get b.ledger.users (suc n - 1)) (ne_eqb (suc n) 0 (λ e. omega (arith, e)))) ∙ here
 
 -- ---- users that have the same names and places
@@ -55,8 +50,8 @@ themselves [] = tt
 themselves (u ∷ users) = (itself u, themselves users)
 
 pub one_alike : (users : List User) (place : ℕ) (u v : User) → slice_get users place ≡ Some u → Alike u v → AllAlike users (set users place v)
-one_alike [] place u v here alike = absurd (none_some u here)
-one_alike (w ∷ users) zero u v here alike = (subst (λ (x : User). Alike x v) (sym (some_is w u here)) alike, themselves users)
+one_alike [] place u v here alike = absurd (none-some u here)
+one_alike (w ∷ users) zero u v here alike = (subst (λ (x : User). Alike x v) (sym (same_Some w u here)) alike, themselves users)
 one_alike (w ∷ users) (suc place) u v here alike = (itself w, one_alike users place u v here alike)
 
 one_more : (us vs : List User) (u v : User) → AllAlike us vs → Alike u v → AllAlike (us ++ u ∷ []) (vs ++ v ∷ [])

@@ -1,14 +1,13 @@
-ghost use Rattle.std.specs.Prelude.{◌≡◌, ◌≤◌, ◌++◌, Some, length, option_map, slice_index, IfOk, IfSome, OnOk};
+ghost use Rattle.std.specs.Prelude.{◌≡◌, ◌≤◌, Some, length, slice_index, IfOk, IfSome, OnOk};
 ghost use Rattle.board_changes.specs.Change.{Becomes, Changes};
-ghost use Rattle.board_changes.specs.Gathered.{Joins};
 ghost use Rattle.board_changes.specs.Outlined.{ChangesEach, GatheredEach, LeadsEach};
 ghost use Rattle.board_layout.specs.Renewed.{contents_of, renewed};
 ghost use Rattle.board_layout.specs.Lookups.{user_of as user_in};
 ghost use Rattle.offer_changes.specs.Changed.{acknowledged as acknowledged_of, offer_in, other_offers as other_offers_of, read_offer as read_offer_of, read_up_to as read_of, without_offer as without_offer_of, HasUser};
-ghost use Rattle.offer_changes.specs.Steps.{base_after, patches_of};
+ghost use Rattle.board_changes.specs.Steps.{base_after, patches_of};
 
-use crate::user::{open_offer, user_intent, user_of, with_user};
-use board_changes::{BoardChange, add_all};
+use crate::user::{open_offer, user_intent, with_user};
+use board_changes::{BoardChange, gather};
 use board_layout::StoredBoard;
 use board_ledger::{Highs, Offers, OpenOffer, User};
 use byte_lists::{Duplicate, List};
@@ -74,24 +73,6 @@ fn read_up_to(
         return Ok(None);
     }
     Ok(Some(base.acknowledged(alloc, id, name, high, now)?))
-}
-
-/// The base after a change, where there is one, whose patches are added at the end of an intent, which may have them
-/// all.
-///
-/// The error comes where there is no memory. Some of the patches were added then.
-pub fn gather(change: Option<BaseChange>, intent: &mut Intent) -> Result<Option<Base>, AllocError>
-    requires { IfSome change (λ c. Joins intent.old c.patches) }
-    ensures base { IfOk result (λ base. base ≡ option_map (λ c. c.base) change) }
-    ensures gathers { OnOk result (intent.new ≡ intent.old ++ patches_of change) }
-{
-    match change {
-        None => Ok(None),
-        Some(change) => {
-            add_all(intent, change.patches)?;
-            Ok(Some(change.base))
-        }
-    }
 }
 
 /// The bases that the user of an id acknowledges up to the highs of an open offer at a moment, whose files the intent
@@ -164,7 +145,7 @@ pub fn acknowledged(
     ensures becomes { IfOk result (λ change. Becomes board.now (acknowledged_of user packet now board.now) change) }
     ensures each { IfOk result (λ change. LeadsEach board.now (acknowledged_of user packet now) change.intent) }
 {
-    let reader = user_of(board, user);
+    let reader = board.user_of(user);
     match open_offer(reader, packet) {
         Some(offer) => offer_read(alloc, board, user, reader, offer, now),
         None => Ok(BoardChange {

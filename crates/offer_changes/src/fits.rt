@@ -6,7 +6,7 @@ ghost use Rattle.board_ledger.specs.Users.{is_member};
 ghost use Rattle.offer_changes.specs.Changed.{acknowledged as acknowledged_of, offered as offered_of, HasOffer, MayOffer};
 ghost use Rattle.offer_changes.specs.Highs.{may_have as may_have_of};
 
-use crate::user::{open_offer, user_at};
+use crate::user::open_offer;
 use board_layout::{StoredBoard, highs_fit};
 use board_ledger::{Highs, User};
 
@@ -48,7 +48,7 @@ fn may_have(board: &StoredBoard, user: &User, highs: &[u32]) -> bool
 pub fn fits_offer(board: &StoredBoard, user: u32, highs: &Highs) -> bool
     ensures { IsTrue result ↔ (MayOffer user board.now × IsBoard (offered_of user highs.now board.now)) }
 {
-    match user_at(board, user) {
+    match board.user_at(user) {
         Some(user) => user.last < u32::MAX && may_have(board, user, highs.as_slice()),
         None => false,
     }
@@ -59,7 +59,7 @@ pub fn fits_offer(board: &StoredBoard, user: u32, highs: &Highs) -> bool
 pub fn fits_acknowledgement(board: &StoredBoard, user: u32, packet: u32, now: u32) -> bool
     ensures { IsTrue result ↔ (HasOffer user packet board.now × IsBoard (acknowledged_of user packet now board.now)) }
 {
-    match user_at(board, user) {
+    match board.user_at(user) {
         Some(user) => open_offer(user, packet).is_some(),
         None => false,
     }

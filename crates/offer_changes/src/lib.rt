@@ -6,6 +6,6 @@ mod fits;
 mod offer;
 mod user;
 
-pub use acknowledge::{acknowledged, gather};
+pub use acknowledge::acknowledged;
 pub use fits::{fits_acknowledgement, fits_offer};
 pub use offer::offered;

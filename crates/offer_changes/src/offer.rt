@@ -4,7 +4,7 @@ ghost use Rattle.board_changes.specs.Outlined.{LeadsEach};
 ghost use Rattle.board_layout.specs.Valid.{IsBoard};
 ghost use Rattle.offer_changes.specs.Changed.{latest, offered as offered_of, with_offer as with_offer_of, HasUser};
 
-use crate::user::{user_intent, user_of, with_user};
+use crate::user::{user_intent, with_user};
 use board_changes::BoardChange;
 use board_layout::StoredBoard;
 use board_ledger::{Highs, Offers, OpenOffer, User};
@@ -61,7 +61,7 @@ pub fn offered(
     ensures each { IfOk result (λ change. LeadsEach board.now (offered_of user highs.now) change.intent) }
 {
     let old = board.ledger();
-    let next = with_offer(alloc, user_of(board, user), highs)?;
+    let next = with_offer(alloc, board.user_of(user), highs)?;
     let intent = user_intent(alloc, old, user, &next)?;
     let ledger = with_user(alloc, old, user, next)?;
     Ok(BoardChange {

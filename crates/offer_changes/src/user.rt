@@ -1,11 +1,9 @@
 // One of the users of a board.
-ghost use Rattle.std.specs.Prelude.{◌≡◌, ◌≤◌, ◌<◌, ◌-◌, Some, length, IfOk};
+ghost use Rattle.std.specs.Prelude.{◌≡◌, ◌≤◌, ◌<◌, ◌-◌, length, IfOk};
 ghost use Rattle.std.specs.Option.{option_copied};
-ghost use Rattle.board_layout.specs.Valid.{IsBoard};
-ghost use Rattle.board_layout.specs.Lookups.{user_of as user_in};
 ghost use Rattle.board_ledger.specs.UserPuts.{user_puts, IsAsLong};
 ghost use Rattle.board_ledger.specs.Valid.{IsLedger};
-ghost use Rattle.offer_changes.specs.Changed.{offer_in, with_user as with_user_of, HasUser};
+ghost use Rattle.offer_changes.specs.Changed.{offer_in, with_user as with_user_of};
 
 use board_changes::intent_with;
 use board_layout::StoredBoard;
@@ -13,30 +11,6 @@ use board_ledger::{Ledger, OpenOffer, User, user_patches};
 use byte_lists::List;
 use intent_journal::Intent;
 use std::alloc::{AllocError, Global};
-
-/// The user of an id, from 1, or None where there is none.
-pub(crate) fn user_at(board: &StoredBoard, id: u32) -> Option<&User>
-    ensures user { option_copied result ≡ user_in id board.now }
-    ensures board { IsBoard board.now }
-{
-    let users = &board.ledger().users;
-    if id == 0 {
-        return None;
-    }
-    users.get(id as usize - 1)
-}
-
-/// The user of an id that one has.
-pub(crate) fn user_of(board: &StoredBoard, id: u32) -> &User
-    requires { HasUser id board.now }
-    ensures user { user_in id board.now ≡ Some result.now }
-    ensures board { IsBoard board.now }
-{
-    match user_at(board, id) {
-        Some(user) => user,
-        None => unreachable!(),
-    }
-}
 
 /// The open offer of a number, or None where the user has none.
 pub(crate) fn open_offer(user: &User, packet: u32) -> Option<&OpenOffer>

@@ -1,4 +1,3 @@
-pub mod BoardLookups
 pub mod Offers
 pub mod NewMessages
 pub mod HighLaws

@@ -23,7 +23,7 @@ use Rattle.jam_records.specs.declared.message.Kind.TheVariants.{Local}
 use Rattle.jam_records.specs.declared.message.Message.{Message}
 use Rattle.jam_records.specs.declared.message.Slot.{Slot}
 use Rattle.jam_records.specs.declared.message.Slot.TheVariants.{Gone, Held}
-use Rattle.jam_threads.specs.Children.{original}
+use Rattle.jam_threads.specs.Children.{original, slot_original}
 use Rattle.jam_threads.proofs.ChildrenLemmas.{slot_original-le}
 use Rattle.qwk_blocks.specs.Header.{IsPad}
 use Rattle.qwk_blocks.specs.Text.{ended}
@@ -40,13 +40,19 @@ use Rattle.long_names.proofs.WithLong.{long_fits, long_text_size, capitals_writa
 use Rattle.setup_file.specs.Valid.{IsSetupConference, numbers_of}
 use Rattle.setup_file.specs.declared.conference.Conference.{Conference as SetupConference}
 use Rattle.text_fields.proofs.Trimming.{nothing_ends}
-use Rattle.board_layout.specs.Lookups.{held_in}
-use Rattle.offered_packets.specs.Sees.{slots_in, message_at}
+use Rattle.board_layout.specs.Lookups.{held_in, slots_in}
+use Rattle.offered_packets.specs.Sees.{message_at}
 use Rattle.offered_packets.specs.Shown.{shown_text, shown_lines, whole_message, shown_message, IsShort}
 use Rattle.offered_packets.proofs.FieldLaws.{are_lines, lines_length}
-use Rattle.offered_packets.proofs.BoardLookups.{slots_of, conference_fits}
+use Rattle.board_layout.proofs.BoardLookups.{slots_of, conference_fits}
 use Rattle.offered_packets.proofs.OutlineLaws.{outline_shown}
 use Rattle.offered_packets.proofs.PlainTexts.{IsPlain}
+
+-- where there is no slot no message answers another
+pub none_answers : (number : ℕ) → original [] number ≡ 0
+unfolding original
+none_answers zero = refl
+none_answers (suc place) = ap (slot_original (take place [])) (slice_get_past [] place (omega arith))
 
 -- ---- texts
 plain_text : (most : ℕ) (text : List ℕ) → IsTrue (is_text most text) → IsPlain text

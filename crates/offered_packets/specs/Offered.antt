@@ -2,8 +2,8 @@
 use Rattle.std.specs.Prelude.{ℕ, List, length, map, filter, take, fold, max, Option, Some, None, flat_map, Bool, false, ◌&&◌, ◌==◌, nat_lt}
 use Rattle.std.specs.List.{range_with_len}
 use Rattle.board_layout.specs.Board.{Board}
-use Rattle.board_layout.specs.Lookups.{pointer_at}
-use Rattle.offered_packets.specs.Sees.{slots_in, sees}
+use Rattle.board_layout.specs.Lookups.{pointer_at, slots_in}
+use Rattle.offered_packets.specs.Sees.{sees}
 use Rattle.offered_packets.specs.declared.offered_message.OfferedMessage.{OfferedMessage}
 
 -- all message numbers of the conference in a place, rising

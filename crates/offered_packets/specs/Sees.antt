@@ -1,20 +1,15 @@
 -- What a user may see of a board.
-use Rattle.std.specs.Prelude.{ℕ, List, [], slice_get, Option, Some, None, option_map, unwrap_or, Bool, false, not, ◌&&◌, ◌||◌}
+use Rattle.std.specs.Prelude.{ℕ, Option, Some, None, Bool, false, not, ◌&&◌, ◌||◌}
 use Rattle.std.specs.Str.{str_eq_ignore_ascii_case}
 use Rattle.board_ledger.specs.Users.{is_member}
 use Rattle.board_ledger.specs.declared.ledger.Ledger.{Ledger}
 use Rattle.board_ledger.specs.declared.user.User.{User}
 use Rattle.board_layout.specs.Board.{Board}
-use Rattle.board_layout.specs.Lookups.{user_of, held_in}
+use Rattle.board_layout.specs.Lookups.{user_of, held_in, slots_in}
 use Rattle.jam_base.specs.Slots.{numbered, has_live}
 use Rattle.jam_records.specs.declared.message.Message.{Message}
-use Rattle.jam_records.specs.declared.message.Slot.{Slot}
 
 -- ---- what a board has
--- the slots of the conference in a place, none where no conference is there
-abbrev pub slots_in : Board → ℕ → List Slot
-slots_in b place = unwrap_or (option_map (λ c. c.slots) (slice_get b.conferences place)) []
-
 -- the message of a number in a place
 abbrev pub message_at : Board → ℕ → ℕ → Option Message
 message_at b place number = held_in (numbered (slots_in b place) number)

@@ -5,7 +5,6 @@ ghost use Rattle.qwk_moments.specs.Moments.{stamp_text};
 ghost use Rattle.offered_packets.specs.Control.{five_digits as five_digits_of, listed as listed_of, control};
 ghost use Rattle.board_layout.specs.Lookups.{user_of};
 
-use crate::lookups::user_at;
 use board_layout::StoredBoard;
 use board_ledger::{Conference, Setup, User};
 use byte_lists::Bytes;
@@ -155,7 +154,7 @@ pub fn control_of(
     ensures control { IfOk result (λ made. Some made ≡ option_map (λ u. control board.now u count now) (user_of user board.now)) }
     ensures writable { count ≤ 999999999 → IfOk result Writable }
 {
-    let Some(user) = user_at(board, user) else {
+    let Some(user) = board.user_at(user) else {
         unreachable!()
     };
     // A stamp has no line's end.

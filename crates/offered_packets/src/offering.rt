@@ -1,7 +1,7 @@
 ghost use Rattle.std.specs.Prelude.{◌≡◌, ◌≤◌, ◌++◌, length, filter, take, IfOk, OnOk};
 ghost use Rattle.offered_packets.specs.Offered.{numbers_in, is_new, offered as offered_of};
 
-use crate::lookups::{base_at, place_count};
+use crate::lookups::place_count;
 use crate::offered_message::{Offered, OfferedMessage};
 use crate::rights::sees;
 use board_layout::StoredBoard;
@@ -18,7 +18,7 @@ fn add_new(
     requires { length messages.old ≤ limit }
     ensures { OnOk result (messages.new ≡ take limit (messages.old ++ filter (is_new board.now user) (numbers_in board.now place))) }
 {
-    let Some(base) = base_at(board, place) else {
+    let Some(base) = board.base_at(place) else {
         return Ok(());
     };
     let Some(pointer) = base.pointer(user) else {

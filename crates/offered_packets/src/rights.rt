@@ -2,7 +2,7 @@
 ghost use Rattle.std.specs.Prelude.{◌≡◌, ◌<◌};
 ghost use Rattle.offered_packets.specs.Sees.{is_sysop as is_sysop_of, names_user as is_named_in, may_see as is_seen_by, sees as is_seen};
 
-use crate::lookups::{base_at, message_of, user_at};
+use crate::lookups::message_of;
 use board_layout::StoredBoard;
 use board_ledger::{Ledger, User};
 use jam_records::Message;
@@ -43,10 +43,10 @@ pub fn may_see(ledger: &Ledger, place: u8, user: &User, message: &Message) -> bo
 pub fn sees(board: &StoredBoard, user: u32, place: u8, number: u32) -> bool
     ensures { result ≡ is_seen board.now user place number }
 {
-    let Some(user) = user_at(board, user) else {
+    let Some(user) = board.user_at(user) else {
         return false;
     };
-    let Some(base) = base_at(board, place) else {
+    let Some(base) = board.base_at(place) else {
         return false;
     };
     match message_of(base, number) {

@@ -4,11 +4,11 @@ ghost use Rattle.board_layout.specs.Outlines.{board_outline};
 ghost use Rattle.jam_layout.specs.Outlines.{message_outline};
 ghost use Rattle.jam_threads.specs.Children.{original};
 ghost use Rattle.long_names.specs.Plain.{with_long as with_long_of, in_capitals as in_capitals_of};
-ghost use Rattle.offered_packets.specs.Sees.{message_at, slots_in};
+ghost use Rattle.offered_packets.specs.Sees.{message_at};
+ghost use Rattle.board_layout.specs.Lookups.{slots_in};
 ghost use Rattle.offered_packets.specs.Shown.{conference_number as number_in, whole_header as header_of, shown_message, IsShort};
 
 use crate::fields::{shown_lines, shown_status, shown_text};
-use crate::lookups::base_at;
 use board_layout::StoredBoard;
 use byte_lists::Bytes;
 use jam_records::Message;
@@ -82,7 +82,7 @@ fn as_it_goes(alloc: Global, whole: &QwkMessage) -> Result<QwkMessage, AllocErro
 fn original_in(board: &StoredBoard, place: u8, number: u32) -> u32
     ensures { result ≡ original (slots_in board.now place) number }
 {
-    match base_at(board, place) {
+    match board.base_at(place) {
         Some(base) => base.reply_to(number),
         None => 0,
     }

@@ -1,5 +1,5 @@
 -- The turns of `pack` give what a lawful act asks.
-use Rattle.std.proofs.Common.{◌≡◌, ◌≢◌, ℕ, [], Option, Some, None, sym, ◌∙◌, subst}
+use Rattle.std.proofs.Common.{◌≡◌, ◌≢◌, ℕ, [], Option, Some, None}
 use Rattle.board_commands.proofs.BoardActs.{AreTurns}
 use Rattle.board_commands.proofs.TurnLaws.{IsTurn, done_is, refuses_is, turns_of}
 use Rattle.board_layout.specs.Board.{Board}

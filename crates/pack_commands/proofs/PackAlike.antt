@@ -1,5 +1,5 @@
 -- Boards with one outline take the turn of `pack` alike.
-use Rattle.std.proofs.Common.{◌≡◌, ℕ, Option, Some, None, sym, ap, ◌∙◌}
+use Rattle.std.proofs.Common.{◌≡◌, ℕ, Some, None, sym, ap, ◌∙◌}
 use Rattle.board_commands.specs.Turns.{Turn, refuses}
 use Rattle.board_layout.specs.Board.{Board}
 use Rattle.jam_pack.proofs.PackedBoards.{count_alike}

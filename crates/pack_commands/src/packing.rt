@@ -1,12 +1,13 @@
 //! The command `pack`.
 ghost use Rattle.std.specs.Prelude.{◌≡◌, ◌≢◌, Err, IsTrue};
+ghost use Rattle.board_commands.specs.Causes.{HostHasCauses};
 ghost use Rattle.board_commands.specs.Halts.{told};
 ghost use Rattle.board_commands.specs.Kept.{AreSure, IsKept, unread};
 ghost use Rattle.board_commands.specs.State.{State, Stores};
 ghost use Rattle.door_outside.specs.Shelf.{Files};
 ghost use Rattle.entry_runs.specs.Door.{World};
 ghost use Rattle.entry_runs.specs.Entry.{IsAt, Works};
-ghost use Rattle.entry_runs.specs.Promise.{counts, ended, HasCauses};
+ghost use Rattle.entry_runs.specs.Promise.{ended};
 ghost use Rattle.jam_pack.specs.declared.error.PackError.TheVariants.{Doubt};
 ghost use Rattle.pack_commands.specs.Pack.{packed_line, packs};
 ghost use Rattle.pack_commands.specs.Packing.{halted};
@@ -46,7 +47,7 @@ pub fn pack<H: Host>(
     ensures works { IsTrue H.tells → (world : World State) (shelf : Files) → IsAt Stores unread world (H.disk host.old) shelf → Works Stores (packs conference) unread world (H.disk host.old) (H.disk host.new) shelf (told (packed_line conference) result) }
     ensures kept { IsTrue H.tells → IsKept kept.new (H.disk host.new) }
     ensures sure { AreSure kept.new }
-    ensures causes { (shelf : _) → HasCauses (counts (H.disk_faults host.old) (H.voice_faults host.old) shelf) (counts (H.disk_faults host.new) (H.voice_faults host.new) shelf) (ended (told (packed_line conference) result)) }
+    ensures causes { HostHasCauses H.disk_faults H.voice_faults host.old host.new (ended (told (packed_line conference) result)) }
 {
     find(alloc, host, kept)?;
     let found = board_in(kept)?;

@@ -8,7 +8,7 @@ use Rattle.std.proofs.lemmas.List.Elements.{All-push}
 use Rattle.std.proofs.lemmas.Option.{get_or_from_slice_get, none-some, same_Some, slice_get-get_or}
 use Rattle.board_changes.proofs.OneBase.{all_at}
 use Rattle.jam_records.specs.declared.message.Message.{Message}
-use Rattle.netmail_rules.specs.Fits.{IsOfItsTypes}
+use Rattle.jam_layout.specs.Messages.{IsTyped}
 use Rattle.packet_verdicts.proofs.Indexes.{at_index, found_at, indexes_hit, indexes_miss}
 use Rattle.packet_verdicts.specs.Accepted.{IsIndexed, indexes_in}
 use Rattle.post_changes.specs.Posted.{posts_in}
@@ -59,7 +59,7 @@ module _ (a : Accepted) (place index k : ℕ) (list new : List ℕ) (d : Message
     | inr other ↦ get_or-set_other a.by_place.items k j new [] (λ e. other (sym same ∙ sym e)) ∙ (ok.indexes j few ∙ sym (indexes_miss j place a.posts d (ne_eqb place j other)))
   ]
 
-  pub indexed_more : (posts : List (ℕ × Message)) → d.msgid ≡ [] → IsOfItsTypes d → posts ≡ a.posts ++ (place, d) ∷ [] → IsIndexed record { posts = posts; by_place = with_item a.by_place k new }
+  pub indexed_more : (posts : List (ℕ × Message)) → d.msgid ≡ [] → IsTyped d → posts ≡ a.posts ++ (place, d) ∷ [] → IsIndexed record { posts = posts; by_place = with_item a.by_place k new }
   indexed_more posts none typed is =
       let all : IsIndexed record { posts = a.posts ++ (place, d) ∷ []; by_place = with_item a.by_place k new } = record {
         places = length-set a.by_place.items k new ∙ ok.places;

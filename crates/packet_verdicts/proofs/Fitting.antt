@@ -7,22 +7,22 @@ use Rattle.std.proofs.lemmas.Option.{slice_get-get_or, same_Some}
 use Rattle.board_changes.proofs.OneBase.{all_at}
 use Rattle.board_layout.specs.Board.{Board}
 use Rattle.board_layout.specs.Layout.{board_size}
-use Rattle.board_layout.specs.Lookups.{user_of}
+use Rattle.board_layout.specs.Lookups.{user_of, slots_in}
 use Rattle.board_layout.specs.Valid.{IsBoard, board_limit}
 use Rattle.board_ledger.specs.Users.{IsUser}
 use Rattle.board_ledger.specs.declared.user.User.{User}
 use Rattle.setup_file.specs.Texts.{is_user_name}
 use Rattle.setup_file.specs.declared.conference.Conference.{Conference as SetupConference}
 use Rattle.jam_layout.specs.Fields.{is_text}
-use Rattle.jam_layout.specs.Messages.{EmptyOr, IsMessage}
+use Rattle.jam_layout.specs.Messages.{EmptyOr, IsMessage, IsTyped}
 use Rattle.jam_records.specs.declared.message.Message.{Message}
 use Rattle.netmail_rules.proofs.PostedDrafts.{posted_is_message, posted_has_room}
-use Rattle.netmail_rules.specs.Fits.{IsView, HasShortTexts, IsOfItsTypes, with_msgid}
+use Rattle.netmail_rules.specs.Fits.{IsView, HasShortTexts, with_msgid}
 use Rattle.netmail_rules.specs.Rules.{new_bytes}
 use Rattle.netmail_rules.specs.declared.verdict.Verdict.{Verdict}
 use Rattle.netmail_rules.specs.declared.verdict.Verdict.TheVariants.{Post, Refused}
 use Rattle.offered_packets.proofs.ShownMessages.{is_there}
-use Rattle.offered_packets.specs.Sees.{slots_in, message_at, sees}
+use Rattle.offered_packets.specs.Sees.{message_at, sees}
 use Rattle.qwk_blocks.specs.declared.message.QwkMessage.{QwkMessage}
 use Rattle.packet_verdicts.specs.Judged.{judged, judged_next, posts_after}
 use Rattle.post_changes.specs.Posted.{posts_in, spread}
@@ -31,7 +31,8 @@ use Rattle.packet_verdicts.specs.declared.outcome.Outcome.{Outcome}
 use Rattle.packet_verdicts.specs.Views.{conference_seen, conference_view, msgid_at, next_number, nobody, place_of, reply_at, reply_seen, room_of, user_with, verdict_on, view_of}
 use Rattle.packet_verdicts.proofs.PostLists.{posts_hit, posts_miss}
 use Rattle.packet_verdicts.proofs.Outcomes.{no_msgid}
-use Rattle.packet_verdicts.proofs.Places.{few_in_place, place_same, place_within}
+use Rattle.packet_verdicts.proofs.Places.{place_same, place_within}
+use Rattle.board_layout.proofs.BoardLookups.{few_in_place}
 use Rattle.packet_verdicts.proofs.Spreading.{spread_count}
 use Rattle.packet_verdicts.proofs.SpreadSizes.{draft_bytes, spread_grows}
 use Rattle.packet_verdicts.proofs.Steps.{spread_none}
@@ -70,7 +71,7 @@ right_view : (b : Board) (id : ℕ) (m : QwkMessage) → IsBoard b → IsSome (u
 right_view b id m ok some = record { user = user_named b id ok some; sysop = ok.ledger.setup.sysop; reply = right_seen b id (place_of m.header.number b) m.header.reference ok }
 
 -- ---- one post more
-types_with : (d : Message) (msgid : List ℕ) → IsOfItsTypes d → IsMsgid msgid → IsOfItsTypes (with_msgid msgid d)
+types_with : (d : Message) (msgid : List ℕ) → IsTyped d → IsMsgid msgid → IsTyped (with_msgid msgid d)
 types_with d msgid types is = record {
   bytes = record {
     origin = types.bytes.origin;
@@ -135,7 +136,7 @@ module _ (b : Board) (id now : ℕ) (ok : IsBoard b) where
       unfolding HasRoom
       valid = fit_board b posts ok fit (omega (arith, room))
 
-      may : (place : ℕ) (c : SetupConference) (d : Message) → slice_get b.ledger.setup.conferences place ≡ Some c → place_of m.header.number b ≡ Some place → verdict_on (spread posts b) id m now ≡ Post d → IsOfItsTypes d → MayHold c.kind d
+      may : (place : ℕ) (c : SetupConference) (d : Message) → slice_get b.ledger.setup.conferences place ≡ Some c → place_of m.header.number b ≡ Some place → verdict_on (spread posts b) id m now ≡ Post d → IsTyped d → MayHold c.kind d
       may place c d is here posted types msgid id_is =
           let none : d.msgid ≡ [] = no_msgid (view_of (spread posts b) id m) m now d (sym posted) in
           let own : msgid ≡ or_else d.msgid msgid = sym (ap (λ (xs : List ℕ). or_else xs msgid) none) in

@@ -1,18 +1,16 @@
 -- The place of a conference's number is one of the setup's.
-use Rattle.std.proofs.Common.{◌≡◌, ℕ, ◌<◌, ◌≤◌, Bool, eqb, ltb, List, length, refl, ap, arith}
+use Rattle.std.proofs.Common.{◌≡◌, ℕ, ◌<◌, ◌≤◌, Bool, eqb, ltb, List, length, refl, arith}
 use Rattle.std.specs.Prelude.{IfSome, position, slice_get, Option, Some, None}
 use Rattle.std.specs.List.{position_or_len}
 use Rattle.std.proofs.lemmas.Bool.{ltb-true}
 use Rattle.std.proofs.lemmas.Option.{cond_some, none-some}
-use Rattle.board_changes.proofs.OneBase.{all_at, are_bases, conferences_back}
+use Rattle.board_changes.proofs.OneBase.{all_at, are_bases}
 use Rattle.board_layout.proofs.BasePlaces.{IsBase}
-use Rattle.board_layout.specs.Board.{Board, conferences_in, shapes_of}
+use Rattle.board_layout.specs.Board.{Board, shapes_of}
 use Rattle.board_layout.specs.Renewed.{contents_of}
 use Rattle.board_layout.specs.Valid.{IsBoard}
 use Rattle.jam_base.specs.Contents.{Contents}
 use Rattle.jam_records.specs.declared.message.Message.{Message}
-use Rattle.offered_packets.proofs.BoardLookups.{base_slots, no_slots}
-use Rattle.offered_packets.specs.Sees.{slots_in}
 use Rattle.post_changes.specs.Posted.{spread}
 use Rattle.packet_verdicts.specs.Views.{place_of}
 use Rattle.setup_file.specs.declared.conference.Conference.{Conference as SetupConference}
@@ -40,14 +38,3 @@ small_place b place ok within = omega (arith, within, ok.ledger.setup.conference
 pub small_places : (b : Board) (place : Option ℕ) → IsBoard b → IfSome place (λ place. place < length b.ledger.setup.conferences) → IfSome place (λ place. place < 64)
 small_places b None ok within = tt
 small_places b (Some place) ok within = small_place b place ok within
-
--- a conference of a valid board has at most 9,999 slots
-pub few_in_place : (b : Board) (place : ℕ) → IsBoard b → length (slots_in b place) ≤ 9999
-few_in_place b place ok = by (slice_get (contents_of b) place) refl
-  where
-    back : conferences_in (contents_of b) ≡ b.conferences
-    back = conferences_back (shapes_of b.ledger) b.conferences ok.conferences
-
-    by : (o : Option Contents) → slice_get (contents_of b) place ≡ o → length (slots_in b place) ≤ 9999
-    by None e = omega (arith, ap length (no_slots b (contents_of b) place back e))
-    by (Some base) e = omega (arith, few_slots b place base ok e, ap length (base_slots b (contents_of b) place base back e))

@@ -5,7 +5,7 @@ use Rattle.std.proofs.lemmas.Bool.{cases_eq, cond-true, cond-false, eq-eqb, ne_e
 use Rattle.std.proofs.lemmas.List.{get_or_append_left, get_or-append_right}
 use Rattle.std.proofs.lemmas.Option.{none-some}
 use Rattle.board_layout.specs.Board.{Board}
-use Rattle.board_layout.specs.Lookups.{user_of, held_in}
+use Rattle.board_layout.specs.Lookups.{user_of, held_in, slots_in}
 use Rattle.board_layout.specs.Valid.{IsBoard}
 use Rattle.board_ledger.specs.declared.ledger.Ledger.{Ledger}
 use Rattle.board_ledger.specs.declared.user.User.{User}
@@ -15,7 +15,7 @@ use Rattle.jam_layout.specs.Outlines.{slot_bare}
 use Rattle.jam_records.specs.declared.message.Message.{Message}
 use Rattle.jam_records.specs.declared.message.Slot.{Slot}
 use Rattle.jam_records.specs.declared.message.Slot.TheVariants.{Gone, Held}
-use Rattle.offered_packets.specs.Sees.{slots_in, is_allowed, may_see, sees}
+use Rattle.offered_packets.specs.Sees.{is_allowed, may_see, sees}
 use Rattle.post_changes.specs.Posted.{posts_in, spread}
 use Rattle.packet_verdicts.specs.Views.{msgid_at, nobody, reply_at, user_with}
 use Rattle.packet_verdicts.proofs.Spreading.{spread_slots}

@@ -11,33 +11,24 @@ use Rattle.board_layout.specs.Layout.{base_size, board_size}
 use Rattle.board_layout.specs.Renewed.{contents_of}
 use Rattle.board_layout.specs.Valid.{IsBoard}
 use Rattle.jam_base.specs.Contents.{Contents}
-use Rattle.jam_layout.proofs.SizeLaws.{field_length}
+use Rattle.jam_layout.proofs.SizeLaws.{size_by_length}
 use Rattle.jam_layout.specs.declared.conference.Conference.{Conference}
 use Rattle.jam_records.specs.declared.message.Message.{Message}
-use Rattle.netmail_rules.proofs.Sizes.{new_bytes_are}
 use Rattle.netmail_rules.specs.Rules.{new_bytes}
 use Rattle.post_changes.specs.Posted.{posts_in, all_posted, spread}
 use Rattle.packet_verdicts.specs.Views.{next_number, room_of}
 use Rattle.packet_verdicts.proofs.PostLists.{posts_hit, posts_miss, identified_more}
 use Rattle.packet_verdicts.proofs.Spreading.{slots_at, as_many, spread_shapes, spread_count}
-use Rattle.slot_changes.proofs.SlotBytes.{base_grows, message_bytes, message_size, size_of}
+use Rattle.slot_changes.proofs.SlotBytes.{base_grows, message_size}
 use Rattle.slot_changes.specs.Changed.{with_identified}
 use Rattle.slot_changes.specs.Msgids.{all_identified, identified, msgid_in, or_else}
 
 -- ---- a draft
-same_length : (id : ℕ) (xs ys : List ℕ) → length xs ≡ length ys → size_of id xs ≡ size_of id ys
-same_length id [] [] e = refl
-same_length id [] (y ∷ ys) e = absurd (omega arith)
-same_length id (x ∷ xs) [] e = absurd (omega arith)
-same_length id (x ∷ xs) (y ∷ ys) e = omega (arith, field_length id (x ∷ xs) (omega arith), field_length id (y ∷ ys) (omega arith), e)
-
 -- what is reckoned of a draft is what its message takes
 pub draft_bytes : (d : Message) (msgid : List ℕ) → d.msgid ≡ [] → message_size (identified msgid d) ≡ new_bytes d (length msgid)
 draft_bytes d msgid none =
     let own : or_else d.msgid msgid ≡ msgid = ap (λ (xs : List ℕ). or_else xs msgid) none in
-    let size : size_of 4 (or_else d.msgid msgid) ≡ size_of 4 (replicate (length msgid) 0) =
-    ap (size_of 4) own ∙ same_length 4 msgid (replicate (length msgid) 0) (sym (length-replicate (length msgid) 0)) in
-    omega (arith, message_bytes (identified msgid d), new_bytes_are d (length msgid), size)
+    size_by_length d (or_else d.msgid msgid) (replicate (length msgid) 0) (ap length own ∙ sym (length-replicate (length msgid) 0))
 
 -- ---- one base
 base_more : (base : Contents) (msgid : ℕ → List ℕ) (messages : List Message) (m : Message)

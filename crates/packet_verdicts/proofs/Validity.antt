@@ -17,8 +17,8 @@ use Rattle.jam_layout.specs.Messages.{IsMessage}
 use Rattle.jam_records.specs.declared.message.Kind.{Kind}
 use Rattle.jam_records.specs.declared.message.Kind.TheVariants.{Local}
 use Rattle.jam_records.specs.declared.message.Message.{Message}
-use Rattle.offered_packets.proofs.BoardLookups.{base_slots}
-use Rattle.offered_packets.specs.Sees.{slots_in}
+use Rattle.board_layout.proofs.BoardLookups.{base_slots}
+use Rattle.board_layout.specs.Lookups.{slots_in}
 use Rattle.post_changes.proofs.FitLaws.{spread_fits}
 use Rattle.post_changes.specs.Posted.{posts_in, all_posted, spread}
 use Rattle.packet_verdicts.proofs.Spreading.{as_many}

@@ -2,7 +2,7 @@
 use Rattle.std.specs.Prelude.{ℕ, ◌+◌, ◌-◌, List, [], length, position, slice_get, Option, Some, None, option_map, unwrap_or, false, ◌==◌, if◌then◌else◌}
 use Rattle.board_layout.specs.Board.{Board}
 use Rattle.board_layout.specs.Layout.{board_size}
-use Rattle.board_layout.specs.Lookups.{user_of}
+use Rattle.board_layout.specs.Lookups.{user_of, slots_in}
 use Rattle.board_layout.specs.Valid.{board_limit}
 use Rattle.board_ledger.specs.Users.{is_member}
 use Rattle.board_ledger.specs.declared.ledger.Ledger.{Ledger}
@@ -11,7 +11,7 @@ use Rattle.netmail_rules.specs.Verdict.{verdict}
 use Rattle.netmail_rules.specs.declared.verdict.Verdict.{Verdict}
 use Rattle.netmail_rules.specs.declared.view.ConferenceView.{ConferenceView}
 use Rattle.netmail_rules.specs.declared.view.View.{View}
-use Rattle.offered_packets.specs.Sees.{slots_in, message_at, is_sysop, sees}
+use Rattle.offered_packets.specs.Sees.{message_at, is_sysop, sees}
 use Rattle.qwk_blocks.specs.declared.message.QwkMessage.{QwkMessage}
 use Rattle.setup_file.specs.declared.conference.Conference.{Conference as SetupConference}
 use Rattle.slot_changes.specs.Msgids.{msgid_in}

@@ -1,6 +1,6 @@
 ghost use Rattle.std.specs.Prelude.{◌≡◌, ◌<◌, ◌≤◌, ◌++◌, [], ◌∷◌, length, slice_get, IfOk, OnOk};
 ghost use Rattle.std.specs.Option.{option_copied};
-ghost use Rattle.netmail_rules.specs.Fits.{IsOfItsTypes};
+ghost use Rattle.jam_layout.specs.Messages.{IsTyped};
 ghost use Rattle.packet_verdicts.specs.Accepted.{IsIndexed};
 ghost use Rattle.post_changes.specs.Posted.{posts_in};
 
@@ -66,7 +66,7 @@ impl Accepted {
         requires few { length self.old.posts ≤ 8190 }
         requires place { place < 64 }
         requires draft { draft.msgid ≡ [] }
-        requires typed { IsOfItsTypes draft }
+        requires typed { IsTyped draft }
         ensures posts { OnOk result (self.new.posts ≡ self.old.posts ++ (place, draft) ∷ []) }
         ensures indexed { OnOk result (IsIndexed self.new) }
     {

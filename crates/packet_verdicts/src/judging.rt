@@ -9,12 +9,12 @@ ghost use Rattle.packet_verdicts.specs.Typed.{IsTypedPost};
 ghost use Rattle.packet_verdicts.specs.Views.{place_of as place_in, view_of};
 
 use crate::accepted::Accepted;
-use crate::lookups::{place_of, user_of};
+use crate::lookups::place_of;
 use crate::outcome::{Outcome, Outcomes};
 use crate::replies::reply_seen;
-use crate::types::typed;
 use crate::views::{conference_seen, user_view};
 use board_layout::{BOARD_LIMIT, StoredBoard};
+use jam_layout::typed;
 use jam_records::Message;
 use netmail_rules::{Rule, Verdict, View, judge, new_bytes};
 use post_changes::Posts;
@@ -59,7 +59,7 @@ impl Judging {
         ensures outcomes { IfOk result (λ judging. judging.outcomes ≡ []) }
         ensures posts { IfOk result (λ judging. judging.accepted.posts ≡ []) }
     {
-        let uploader = user_of(board, user);
+        let uploader = board.user_of(user);
         let room = BOARD_LIMIT.saturating_sub(board.size() + UPLOAD_RECORD);
         Ok(Judging {
             user,
@@ -91,7 +91,7 @@ impl Judging {
     {
         let header = &message.header;
         let place = place_of(board, header.number);
-        let user = user_of(board, self.user);
+        let user = board.user_of(self.user);
         let conference = conference_seen(alloc, board, user, &self.accepted, place)?;
         let reference = header.reference;
         let reply = reply_seen(alloc, board, self.user, &self.accepted, place, reference)?;

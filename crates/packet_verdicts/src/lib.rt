@@ -8,7 +8,6 @@ pub mod laws;
 mod lookups;
 mod outcome;
 mod replies;
-mod types;
 mod views;
 
 pub use judging::{Judged, judge_all};

@@ -8,7 +8,7 @@ ghost use Rattle.packet_verdicts.specs.Views.{user_with, reply_at as reply_of, r
 ghost use Rattle.slot_changes.specs.Msgids.{msgid_in};
 
 use crate::accepted::Accepted;
-use crate::lookups::{kept_count, message_at, user_of};
+use crate::lookups::message_at;
 use board_layout::StoredBoard;
 use byte_lists::Bytes;
 use jam_records::Message;
@@ -49,7 +49,7 @@ fn draft_reply(
     requires place { place < length board.now.ledger.setup.conferences }
     ensures { IfOk result (λ msgid. msgid ≡ (if not draft.now.deleted && is_seen_by board.now.ledger place (user_with user board.now) draft.now then msgid_in place board.now number else [])) }
 {
-    let user = user_of(board, user);
+    let user = board.user_of(user);
     if draft.deleted || !may_see(board.ledger(), place, user, draft) {
         return Ok(Bytes::new(alloc));
     }
@@ -71,7 +71,7 @@ fn reply_at(
     requires place { place < length board.now.ledger.setup.conferences }
     ensures { IfOk result (λ msgid. msgid ≡ reply_of (spread accepted.now.posts board.now) user place number) }
 {
-    let kept = kept_count(board, place);
+    let kept = board.slot_count(place);
     if number <= kept {
         return kept_reply(alloc, board, user, place, number);
     }

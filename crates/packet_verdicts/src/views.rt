@@ -1,14 +1,13 @@
 // What the rules see of a board with the drafts that were accepted so far.
 ghost use Rattle.std.specs.Prelude.{◌≡◌, ◌<◌, ◌≤◌, [], length, Some, None, is_none, IfOk, IfSome};
 ghost use Rattle.board_layout.specs.Valid.{IsBoard};
-ghost use Rattle.offered_packets.specs.Sees.{slots_in};
+ghost use Rattle.board_layout.specs.Lookups.{slots_in};
 ghost use Rattle.packet_verdicts.specs.Accepted.{IsIndexed};
 ghost use Rattle.post_changes.specs.Posted.{spread};
 ghost use Rattle.packet_verdicts.specs.Views.{view_with, conference_seen as seen_of};
 ghost use Rattle.slot_changes.specs.Msgids.{msgid_in};
 
 use crate::accepted::Accepted;
-use crate::lookups::{conference_at, kept_count};
 use board_layout::StoredBoard;
 use board_ledger::User;
 use byte_lists::Bytes;
@@ -48,7 +47,7 @@ fn slot_count(board: &StoredBoard, accepted: &Accepted, place: u8) -> u32
     ensures few { result ≤ 18190 }
     ensures board { IsBoard board.now }
 {
-    kept_count(board, place) + accepted.count(place) as u32
+    board.slot_count(place) + accepted.count(place) as u32
 }
 
 /// How many bytes the msgid has that is generated for a message number in a place.
@@ -76,8 +75,8 @@ fn conference_view(
     ensures view { IfOk result (λ view. Some view ≡ seen_of (spread accepted.now.posts board.now) user.now (Some place)) }
     ensures slots { IfOk result (λ view. view.slots ≤ 18190) }
 {
-    let conference = conference_at(board, place);
     let slots = slot_count(board, accepted, place);
+    let conference = board.conference_of(place);
     Ok(ConferenceView {
         number: conference.number,
         kind: conference.kind,

@@ -1,11 +1,12 @@
 -- Boards with posts at the ends of their conferences: what stands in each place, how many bytes their files have, and
 -- when they are valid.
 use Rattle.std.proofs.Common.{◌≡◌, ℕ, zero, suc, ◌+◌, ◌≤◌, true, leb, List, [], ◌∷◌, length, refl, sym, ap, ◌∙◌, subst, arith}
-use Rattle.std.specs.Prelude.{All, slice_get, Some, None, sum_by}
+use Rattle.std.specs.Prelude.{All, slice_get, Some, sum_by}
 use Rattle.std.specs.List.{AllZip}
 use Rattle.std.proofs.lemmas.Bool.{and_from, and_parts, leb-true, le-leb}
 use Rattle.std.proofs.lemmas.List.{length-map}
 use Rattle.std.proofs.lemmas.List.Elements.{All-weaker}
+use Rattle.std.proofs.lemmas.Option.{none-some, same_Some}
 use Rattle.board_changes.proofs.OneBase.{all_at, are_bases, conferences_back, shapes_back, still_fit}
 use Rattle.board_layout.proofs.BasePlaces.{IsBase, shapes_count, zipped}
 use Rattle.board_layout.proofs.RenewedBases.{contents_are}
@@ -26,12 +27,6 @@ use Rattle.jam_records.specs.declared.message.Message.{Message}
 use Rattle.post_changes.proofs.PlacePosts.{posted_shape, posted_slots}
 use Rattle.post_changes.specs.Posted.{all_posted, posted_in, posted_with}
 
-none_some : {A : Type 0} (x : A) → None ≡ Some x → ⊥
-none_some x e = cc
-
-some_is : {A : Type 0} (x y : A) → Some x ≡ Some y → x ≡ y
-some_is x y e = cc
-
 -- ---- all bases
 module _ (b : Board) (posts : List (ℕ × Message)) where
   all_shapes : (place : ℕ) (bases : List Contents) → shapes_in (all_posted b posts place bases) ≡ shapes_in bases
@@ -44,10 +39,10 @@ module _ (b : Board) (posts : List (ℕ × Message)) where
 
   -- what stands in a place
   pub all_there : (place : ℕ) (bases : List Contents) (k : ℕ) (base : Contents) → slice_get bases k ≡ Some base → slice_get (all_posted b posts place bases) k ≡ Some (posted_in b posts (place + k) base)
-  all_there place [] k base is = absurd (none_some base is)
+  all_there place [] k base is = absurd (none-some base is)
   all_there place (x ∷ bases) zero base is =
       let last : place ≡ place + zero = omega arith in
-      ap (λ (c : Contents). Some (posted_in b posts place c)) (some_is x base is) ∙ ap (λ (n : ℕ). Some (posted_in b posts n base)) last
+      ap (λ (c : Contents). Some (posted_in b posts place c)) (same_Some x base is) ∙ ap (λ (n : ℕ). Some (posted_in b posts n base)) last
   all_there place (x ∷ bases) (suc k) base is =
       let next : place + 1 + k ≡ place + suc k = omega arith in
       all_there (place + 1) bases k base is ∙ ap (λ (n : ℕ). Some (posted_in b posts n base)) next

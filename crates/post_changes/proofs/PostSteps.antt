@@ -9,12 +9,12 @@ use Rattle.board_changes.proofs.EachBoard.{gathered_leads, step_each}
 use Rattle.board_changes.proofs.LeadLaws.{places_count}
 use Rattle.board_changes.proofs.MemberLaws.{files_at, files_count, place_known, renewed_pushed}
 use Rattle.board_changes.proofs.PlaceSteps.{step_joins}
-use Rattle.offer_changes.proofs.StepLaws.{change_joins, change_suits}
+use Rattle.board_changes.proofs.StepLaws.{change_joins, change_suits}
 use Rattle.board_changes.specs.Change.{Becomes, Changes}
 use Rattle.board_changes.specs.Gathered.{at_place, Joins}
 use Rattle.board_changes.specs.Outlined.{ChangesEach, GatheredEach, LeadsEach}
 use Rattle.board_changes.specs.Spending.{Spends, SpendsHere}
-use Rattle.offer_changes.specs.Steps.{base_after, patches_of}
+use Rattle.board_changes.specs.Steps.{base_after, patches_of}
 use Rattle.board_changes.specs.declared.change.BoardChange.{BoardChange}
 use Rattle.board_layout.proofs.BasePlaces.{shapes_count}
 use Rattle.board_layout.proofs.OutlineLaws.{base_size_outline, outline_base, outline_contents}

@@ -12,7 +12,7 @@ use crate::size::{size_with_posts, size_with_upload};
 use board_layout::{BOARD_LIMIT, StoredBoard};
 use jam_base::Base;
 use jam_records::Kind;
-use slot_changes::{conference_of, may_hold};
+use slot_changes::may_hold;
 
 /// How many slots a conference may have.
 const SLOT_LIMIT: usize = 9999;
@@ -55,7 +55,7 @@ fn fits_place(board: &StoredBoard, place: u8, base: &Base, posts: &[Post]) -> bo
     requires base { base_at place board.now ≡ Some base.now }
     ensures { IsTrue result ↔ IsConference (posted_in board.now posts.now place base.now).shape (posted_in board.now posts.now place base.now).conference }
 {
-    let kind = conference_of(board, place).kind;
+    let kind = board.conference_of(place).kind;
     let slots = (base.slot_count() as usize).saturating_add(count_in(place, posts));
     slots <= SLOT_LIMIT && may_hold_posts(kind, place, posts)
 }

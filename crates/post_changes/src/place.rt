@@ -6,7 +6,7 @@ ghost use Rattle.board_changes.specs.Outlined.{ChangesEach};
 ghost use Rattle.board_changes.specs.Spending.{SpendsHere};
 ghost use Rattle.jam_base.specs.Outlined.{outlined};
 ghost use Rattle.jam_layout.specs.Valid.{IsConference};
-ghost use Rattle.offer_changes.specs.Steps.{base_after, patches_of};
+ghost use Rattle.board_changes.specs.Steps.{base_after, patches_of};
 ghost use Rattle.board_layout.specs.Layout.{files_in};
 ghost use Rattle.post_changes.specs.Posted.{posted_in, posts_in};
 ghost use Rattle.slot_changes.specs.Msgids.{all_identified, generated};
@@ -15,7 +15,7 @@ use crate::post::Post;
 use board_layout::StoredBoard;
 use jam_base::{Base, BaseChange};
 use jam_records::Messages;
-use slot_changes::{conference_of, identified};
+use slot_changes::identified;
 use std::alloc::{AllocError, Global};
 
 /// Copies of the messages of the posts in a place, the first of which gets this number, each with the msgid that is
@@ -57,7 +57,7 @@ pub(crate) fn place_posted(
     ensures each { IfOk result (λ change. ChangesEach base.now (posted_in board.now posts.now place) (patches_of change)) }
     ensures costs { IfOk result (λ change. SpendsHere (length (posts_in place posts.now)) (files_in base.now) (files_in (base_after base.now change)) (patches_of change)) }
 {
-    let conference = conference_of(board, place).number;
+    let conference = board.conference_of(place).number;
     let bbsid = board.ledger().setup.bbsid.as_slice();
     let first = base.slot_count() + 1;
     let messages = copies_in(alloc, conference, bbsid, first, place, posts)?;

@@ -10,14 +10,13 @@ ghost use Rattle.post_changes.specs.Posted.{ArePlaced, posted_with, spread as sp
 ghost use Rattle.post_changes.specs.Posting.{Posting, SpentSoFar, next_ledger};
 
 use crate::place::place_posted;
-use board_changes::BoardChange;
+use board_changes::{BoardChange, gather};
 use board_layout::StoredBoard;
 use board_ledger::Ledger;
 use byte_lists::List;
 use intent_journal::Intent;
 use jam_base::Base;
 use jam_records::Message;
-use offer_changes::gather;
 use std::alloc::{AllocError, Global};
 
 /// The place of a conference, from 0, and a message for it. A message with an empty msgid gets the one that is

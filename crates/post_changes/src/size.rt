@@ -10,7 +10,7 @@ ghost use Rattle.slot_changes.specs.Msgids.{all_identified, generated, msgid_in}
 use crate::post::{Post, Posts};
 use board_layout::StoredBoard;
 use jam_base::Base;
-use slot_changes::{conference_of, generated_len, message_size};
+use slot_changes::{generated_len, message_size};
 
 /// How many bytes an upload record has.
 const RECORD_SIZE: u64 = 42;
@@ -40,7 +40,7 @@ fn place_size(board: &StoredBoard, place: u8, base: &Base, posts: &[Post]) -> u6
     requires { base_at place board.now ≡ Some base.now }
     ensures { result ≡ min (sum_by (λ message. slot_size (Held message)) (all_identified (msgid_in place board.now) (length base.now.conference.slots + 1) (posts_in place posts.now))) (2 ^ 64 - 1) }
 {
-    let conference = conference_of(board, place).number;
+    let conference = board.conference_of(place).number;
     let bbsid = board.ledger().setup.bbsid.as_slice();
     let first = u64::from(base.slot_count()) + 1;
     copies_size(conference, bbsid, first, place, posts)

@@ -1,11 +1,11 @@
 -- Any bytes read as CONTROL.DAT, or have a first line that breaks its rule.
-use Rattle.std.proofs.Common.{◌≢◌, ◌≡◌, ◌⊎◌, inl, inr, ℕ, zero, suc, ◌+◌, ◌-◌, ◌*◌, ◌<◌, ◌≤◌, List, [], ◌∷◌, ◌++◌, Some, length, refl, sym, ap, ◌∙◌, subst, arith, length-append}
+use Rattle.std.proofs.Common.{◌≡◌, ◌⊎◌, inl, inr, ℕ, zero, suc, ◌+◌, ◌-◌, ◌*◌, ◌<◌, ◌≤◌, List, [], ◌∷◌, ◌++◌, length, refl, sym, ap, ◌∙◌, subst, arith, length-append}
 use Rattle.std.proofs.lemmas.Bool.{cases_eq, cases_lt}
 use Rattle.std.specs.Str.Lines.{lines}
 use Rattle.qwk_control.proofs.Kept.{bad_first, board_ends, board_more, conference_more, conference_push, early_fault, from_first, late_fault, lines_read, no_board_id, no_first, no_last, no_name, packet_ends, packet_more, within_more}
 use Rattle.qwk_control.specs.Control.{ConferencesRead, ControlReads, CountReads, LinesRead}
 use Rattle.qwk_control.specs.Fault.{BreaksUpto, ControlFault, KeptBefore, LineFault}
-use Rattle.qwk_control.specs.Line.{IdLine, IsId, IsSpace, NumberLine, PlaceLine, line, or_empty}
+use Rattle.qwk_control.specs.Line.{IdLine, IsId, IsSpace, PlaceLine, line, or_empty}
 use Rattle.qwk_control.specs.declared.control.Control.{Control}
 use Rattle.qwk_control.specs.declared.fault.ControlError.{ControlError}
 use Rattle.qwk_control.specs.declared.fault.ControlError.TheVariants.{TooFewLines, BadNumber, BadBoardId}

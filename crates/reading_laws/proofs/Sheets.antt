@@ -11,7 +11,7 @@ use Rattle.import_sheet.proofs.Heads.{gives_fits, header_push}
 use Rattle.import_sheet.proofs.Lines.{nothing_starts}
 use Rattle.import_sheet.proofs.Reading.{sheets_blanks, sheets_push}
 use Rattle.import_sheet.proofs.Words.{no_word_of}
-use Rattle.import_sheet.specs.Fault.{BodyBreaks, HeaderBreaks, LineBreaks, LinesFault, MessageFault, SheetFault, WholeHeaders, bad_value, by_line, in_body, in_headers, no_dot, no_line, no_word, too_long, too_soon, with_return, word_again}
+use Rattle.import_sheet.specs.Fault.{BodyBreaks, HeaderBreaks, LinesFault, MessageFault, SheetFault, WholeHeaders, bad_value, by_line, in_body, in_headers, no_dot, no_line, no_word, too_long, too_soon, with_return, word_again}
 use Rattle.import_sheet.specs.Header.{BeginsWithWord, DateIs, HeaderReads, IsPlainText, ValueFits, rule_of, word_of}
 use Rattle.import_sheet.specs.Sheet.{AllEmpty, BodyLines, FieldsAre, Has, HasNone, HeaderGives, HeaderGivesDate, HeaderGivesOrEmpty, Headers, SheetIs, SheetReads, SheetsAre, dot, stored_body, without_dot}
 use Rattle.import_sheet.specs.State.{StartsWithText}
@@ -23,7 +23,6 @@ use Rattle.import_sheet.specs.declared.sheet.Sheet.{Sheet}
 use Rattle.reading_laws.proofs.Fields.{all_or_not, split_or_lacks, some_trimmed, value_or_none}
 use Rattle.text_fields.proofs.Splits.{not_split}
 use Rattle.text_fields.specs.Blank.{IsBlank}
-use Rattle.text_fields.specs.Split.{Lacks, SplitsAt}
 use Rattle.text_fields.specs.Trim.{Trimmed}
 use Rattle.text_fields.specs.declared.blank.Blank.TheVariants.{Spaces}
 

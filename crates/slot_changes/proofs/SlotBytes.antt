@@ -9,10 +9,8 @@ use Rattle.jam_base.specs.Contents.{Contents, with_messages}
 use Rattle.jam_base.specs.Slots.{slots_with_all}
 use Rattle.jam_layout.proofs.BaseLaws.{base_length}
 use Rattle.jam_layout.proofs.EntryLaws.{entry_length}
-use Rattle.jam_layout.proofs.SizeLaws.{whole_length}
 use Rattle.jam_layout.proofs.SlotLaws.{index_length}
-use Rattle.jam_layout.specs.Fields.{field}
-use Rattle.jam_layout.specs.Headers.{entry_text, header_size, headers_text}
+use Rattle.jam_layout.specs.Headers.{entry_text, headers_text}
 use Rattle.jam_layout.specs.Layout.{base_header, entries_of, entries_in, files_size, layout}
 use Rattle.jam_layout.specs.Readers.{last_reads}
 use Rattle.jam_layout.specs.Sizes.{slot_header, slot_size}
@@ -20,7 +18,6 @@ use Rattle.jam_layout.specs.declared.conference.Conference.{Conference}
 use Rattle.jam_layout.specs.declared.entry.Entry.{Entry}
 use Rattle.jam_layout.specs.declared.shape.Shape.{Shape}
 use Rattle.jam_records.specs.BaseHeaders.{base_text}
-use Rattle.jam_records.specs.Subfields.{subfields_text}
 use Rattle.jam_records.specs.declared.message.Kind.{Kind}
 use Rattle.jam_records.specs.declared.message.Message.{Message}
 use Rattle.jam_records.specs.declared.message.Slot.{Slot}
@@ -83,15 +80,6 @@ base_grows base (m ∷ messages) =
       sum_by-append slot_size slots (map Held (m ∷ messages)),
       held_sizes (m ∷ messages),
     )
-
--- the length of the subfield of a value
-abbrev pub size_of : ℕ → List ℕ → ℕ
-size_of id value = length (subfields_text (field id value))
-
-pub message_bytes : (m : Message) → message_size m
-    ≡ 8 + ((76 + (size_of 0 m.origin + (size_of 1 m.destination + (size_of 2 m.from + (size_of 3 m.to + (size_of 4 m.msgid + (size_of 5 m.replyid + size_of 6 m.subject))))))) + length m.body)
-unfolding header_size
-message_bytes m = ap (λ n. 8 + ((76 + n) + length m.body)) (whole_length m)
 
 -- ---- a sum that stays at its last value
 min_more : (size more rest most : ℕ) → min (min (size + min more most) most + rest) most ≡ min (size + (more + rest)) most

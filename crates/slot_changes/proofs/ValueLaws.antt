@@ -7,11 +7,11 @@ use Rattle.byte_lists.specs.Byte.{IsByte}
 use Rattle.jam_layout.specs.Address.{is_address}
 use Rattle.jam_layout.specs.Fields.{is_text}
 use Rattle.jam_layout.specs.Marks.{is_net}
-use Rattle.jam_layout.specs.Messages.{EmptyOr, IsBody, IsMessage}
+use Rattle.jam_layout.specs.Messages.{EmptyOr, IsBody, IsMessage, IsTyped}
 use Rattle.jam_records.specs.declared.message.Kind.{Kind}
 use Rattle.jam_records.specs.declared.message.Message.{Message}
 use Rattle.slot_changes.specs.Msgids.{IsMsgid, all_identified, identified, or_else}
-use Rattle.slot_changes.specs.Values.{IsTyped, MayHold, has_right_texts, is_empty_or, is_private_enough, is_right, is_right_body}
+use Rattle.slot_changes.specs.Values.{MayHold, has_right_texts, is_empty_or, is_private_enough, is_right, is_right_body}
 
 -- ---- single tests
 empty_or : (test : List ℕ → Bool) (text : List ℕ) → is_empty_or test text ≡ true → EmptyOr test text

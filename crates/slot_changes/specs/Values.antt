@@ -3,22 +3,14 @@ use Rattle.std.specs.Prelude.{ℕ, ◌-◌, List, length, slice_index, Bool, not
 use Rattle.jam_layout.specs.Address.{is_address}
 use Rattle.jam_layout.specs.Fields.{is_text}
 use Rattle.jam_layout.specs.Marks.{is_net}
-use Rattle.jam_layout.specs.Messages.{AreBytes, IsMessage}
+use Rattle.jam_layout.specs.Messages.{IsMessage}
 use Rattle.jam_records.specs.declared.message.Kind.{Kind}
 use Rattle.jam_records.specs.declared.message.Message.{Message}
-use Rattle.record_numbers.specs.Numbers.{IsU32}
 use Rattle.slot_changes.specs.Msgids.{IsMsgid, identified}
 
 -- with any msgid, where it has none, it is a message that a conference of this kind may hold
 abbrev pub MayHold : Kind → Message → Type 0
 MayHold kind m = (msgid : List ℕ) → IsMsgid msgid → IsMessage kind (identified msgid m)
-
--- its bytes and its moments are of their types
-pub record IsTyped (m : Message) : Type 0 where
-  pub bytes : AreBytes m
-  pub written : IsU32 m.written
-  pub received : IsU32 m.received
-  pub processed : IsU32 m.processed
 
 -- there is none, or it passes
 abbrev pub is_empty_or : (List ℕ → Bool) → List ℕ → Bool

@@ -8,7 +8,6 @@ ghost use Rattle.slot_changes.specs.Changed.{appended as appended_of};
 ghost use Rattle.slot_changes.specs.Msgids.{generated as generated_of, identified as identified_of, all_identified as all_identified_of};
 
 use crate::msgid::generated;
-use crate::place::{base_of, conference_of};
 use board_changes::{BoardChange, with_base};
 use board_layout::StoredBoard;
 use byte_lists::Duplicate;
@@ -73,8 +72,8 @@ pub fn appended(
     ensures each { IfOk result (λ change. LeadsEach board.now (appended_of place messages.now) change.intent) }
     ensures costs { IfOk result (λ change. Spends (length messages.now) board.now (appended_of place messages.now board.now) change.intent) }
 {
-    let base = base_of(board, place);
-    let conference = conference_of(board, place).number;
+    let base = board.base_of(place);
+    let conference = board.conference_of(place).number;
     let bbsid = board.ledger().setup.bbsid.as_slice();
     let first = base.slot_count() + 1;
     let messages = all_identified(alloc, conference, bbsid, first, messages.as_slice())?;

@@ -8,7 +8,6 @@ ghost use Rattle.jam_base.specs.Outlined.{TurnsEach};
 ghost use Rattle.jam_base.specs.Slots.{has_live};
 ghost use Rattle.slot_changes.specs.Changed.{deleted as deleted_of, HasMessage};
 
-use crate::place::base_of;
 use board_changes::{BoardChange, with_base};
 use board_layout::StoredBoard;
 use jam_base::{Base, BaseChange, KillRefusal};
@@ -45,6 +44,6 @@ pub fn deleted(
     ensures each { IfOk result (λ change. LeadsEach board.now (deleted_of place number) change.intent) }
     ensures costs { IfOk result (λ change. (length change.intent ≤ 2) × (byte_count change.intent ≤ 24)) }
 {
-    let change = killed(alloc, base_of(board, place), number)?;
+    let change = killed(alloc, board.base_of(place), number)?;
     with_base(alloc, board, place, change)
 }

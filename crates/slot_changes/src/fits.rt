@@ -4,7 +4,6 @@ ghost use Rattle.jam_base.specs.Slots.{has_live};
 ghost use Rattle.jam_layout.specs.Conference.{is_live as is_live_of};
 ghost use Rattle.slot_changes.specs.Changed.{appended as appended_of, deleted as deleted_of, HasMessage};
 
-use crate::place::{base_of, conference_of};
 use crate::size::size_with_messages;
 use crate::value::may_hold_all;
 use board_layout::{BOARD_LIMIT, StoredBoard};
@@ -26,8 +25,8 @@ fn fits_in_place(board: &StoredBoard, place: u8, messages: &Messages) -> bool
     requires { place < length board.now.conferences }
     ensures { IsTrue result ↔ IsBoard (appended_of place messages.now board.now) }
 {
-    let kind = conference_of(board, place).kind;
-    if !has_slots(base_of(board, place), messages.len()) {
+    let kind = board.conference_of(place).kind;
+    if !has_slots(board.base_of(place), messages.len()) {
         return false;
     }
     if !may_hold_all(kind, messages.as_slice()) {
@@ -69,5 +68,5 @@ fn has_message(base: &Base, number: u32) -> bool
 pub fn fits_deletion(board: &StoredBoard, place: u8, number: u32) -> bool
     ensures { IsTrue result ↔ (HasMessage place number board.now × IsBoard (deleted_of place number board.now)) }
 {
-    usize::from(place) < board.bases().len() && has_message(base_of(board, place), number)
+    usize::from(place) < board.bases().len() && has_message(board.base_of(place), number)
 }

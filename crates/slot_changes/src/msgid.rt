@@ -1,7 +1,6 @@
 ghost use Rattle.std.specs.Prelude.{◌≡◌, ◌<◌, ◌≤◌, length, decimal, IfOk};
 ghost use Rattle.slot_changes.specs.Msgids.{generated as generated_of, msgid_in};
 
-use crate::place::conference_of;
 use board_layout::StoredBoard;
 use byte_lists::Bytes;
 use itoa::Buffer;
@@ -55,7 +54,7 @@ pub fn msgid_of(
     requires { place < length board.now.conferences }
     ensures { IfOk result (λ msgid. msgid ≡ msgid_in place board.now number) }
 {
-    let conference = conference_of(board, place).number;
+    let conference = board.conference_of(place).number;
     let bbsid = board.ledger().setup.bbsid.as_slice();
     generated(alloc, conference, bbsid, number)
 }

@@ -5,7 +5,6 @@ ghost use Rattle.board_layout.specs.Outlines.{board_outline};
 ghost use Rattle.board_layout.specs.Valid.{IsBoard};
 ghost use Rattle.slot_changes.specs.Packed.{replaced as replaced_of, FitsSlots};
 
-use crate::place::base_of;
 use board_changes::{BoardChange, with_base};
 use board_layout::StoredBoard;
 use jam_records::Slots;
@@ -27,6 +26,6 @@ pub fn replaced(
     ensures board { IsBoard board.now }
     ensures each { IfOk result (λ change. LeadsEach board.now (replaced_of place slots.now) change.intent) }
 {
-    let change = base_of(board, place).replaced(alloc, slots)?;
+    let change = board.base_of(place).replaced(alloc, slots)?;
     with_base(alloc, board, place, change)
 }

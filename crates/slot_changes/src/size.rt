@@ -1,33 +1,13 @@
-ghost use Rattle.std.specs.Prelude.{◌≡◌, ◌<◌, ◌≤◌, ◌+◌, ◌-◌, ◌^◌, ℕ, List, length, min};
+ghost use Rattle.std.specs.Prelude.{◌≡◌, ◌<◌, ◌+◌, ◌-◌, ◌^◌, ℕ, List, length, min};
 ghost use Rattle.board_layout.specs.Layout.{board_size};
-ghost use Rattle.jam_layout.specs.Fields.{field};
 ghost use Rattle.jam_layout.specs.Sizes.{slot_size};
-ghost use Rattle.jam_records.specs.Subfields.{subfields_text};
 ghost use Rattle.jam_records.specs.declared.message.Slot.TheVariants.{Held};
 ghost use Rattle.slot_changes.specs.Changed.{appended as appended_of};
 ghost use Rattle.slot_changes.specs.Msgids.{identified};
 
 use crate::msgid::generated_len;
-use crate::place::{base_of, conference_of};
 use board_layout::StoredBoard;
-use byte_lists::Bytes;
 use jam_records::{Message, Messages};
-
-/// The length of the subfield of a value with so many bytes. An empty value has none.
-fn field_size(len: u64) -> u128
-    ensures size { (id : ℕ) (value : List ℕ) → length value ≡ len → result ≡ length (subfields_text (field id value)) }
-    ensures small { result < 2 ^ 65 }
-{
-    if len == 0 { 0 } else { 8 + u128::from(len) }
-}
-
-/// The length of the subfield of a text.
-fn text_size(text: &Bytes) -> u128
-    ensures size { (id : ℕ) → result ≡ length (subfields_text (field id text.now)) }
-    ensures small { result < 2 ^ 65 }
-{
-    field_size(text.as_slice().len() as u64)
-}
 
 /// How long the msgid of a message is that gets one of this length, where it has none.
 fn msgid_len(message: &Message, generated: u64) -> u64
@@ -43,11 +23,7 @@ fn msgid_len(message: &Message, generated: u64) -> u64
 pub fn message_size(message: &Message, generated: u64) -> u64
     ensures { (msgid : List ℕ) → length msgid ≡ generated → result ≡ min (slot_size (Held (identified msgid message.now))) (2 ^ 64 - 1) }
 {
-    let addresses = text_size(&message.origin) + text_size(&message.destination);
-    let names = text_size(&message.from) + text_size(&message.to);
-    let ids = field_size(msgid_len(message, generated)) + text_size(&message.replyid);
-    let header = 76 + (addresses + names + ids + text_size(&message.subject));
-    let size = 8 + (header + message.body.as_slice().len() as u128);
+    let size = jam_layout::message_size(message, msgid_len(message, generated));
     size.min(u128::from(u64::MAX)) as u64
 }
 
@@ -58,9 +34,9 @@ pub fn size_with_messages(board: &StoredBoard, place: u8, messages: &Messages) -
     requires { place < length board.now.conferences }
     ensures { result ≡ min (board_size (appended_of place messages.now board.now)) (2 ^ 64 - 1) }
 {
-    let conference = conference_of(board, place).number;
+    let conference = board.conference_of(place).number;
     let bbsid = board.ledger().setup.bbsid.as_slice();
-    let first = u64::from(base_of(board, place).slot_count()) + 1;
+    let first = u64::from(board.base_of(place).slot_count()) + 1;
     let mut size = board.size();
     for (index, message) in messages.as_slice().iter().enumerate() {
         let generated = generated_len(conference, bbsid, first + index as u64);

@@ -5,7 +5,6 @@ ghost use Rattle.jam_layout.specs.Messages.{IsMessage, IsSlot};
 ghost use Rattle.jam_layout.specs.Sizes.{slot_size as size_of};
 ghost use Rattle.slot_changes.specs.Packed.{replaced, FitsSlots, HasSlots};
 
-use crate::place::{base_of, conference_of};
 use crate::size::message_size;
 use crate::value::may_hold;
 use board_layout::{BOARD_LIMIT, StoredBoard};
@@ -59,7 +58,7 @@ fn size_with_slots(board: &StoredBoard, place: u8, slots: &Slots) -> u64
     requires { HasSlots place (length slots.now) board.now }
     ensures { result ≡ min (board_size (replaced place slots.now board.now)) (2 ^ 64 - 1) }
 {
-    let base = base_of(board, place);
+    let base = board.base_of(place);
     let mut size = board.size() - base.size() + 1024 + base.jlr_size();
     for slot in slots.as_slice() {
         size = size.saturating_add(slot_size(slot));
@@ -73,8 +72,8 @@ fn fits_in_place(board: &StoredBoard, place: u8, slots: &Slots) -> bool
     requires { place < length board.now.conferences }
     ensures { IsTrue result ↔ FitsSlots place slots.now board.now }
 {
-    let kind = conference_of(board, place).kind;
-    if slots.as_slice().len() != base_of(board, place).slot_count() as usize {
+    let kind = board.conference_of(place).kind;
+    if slots.as_slice().len() != board.base_of(place).slot_count() as usize {
         return false;
     }
     if !may_stand_all(kind, slots.as_slice()) {

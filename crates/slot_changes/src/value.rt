@@ -5,11 +5,11 @@ ghost use Rattle.byte_lists.specs.Byte.{IsByte};
 ghost use Rattle.jam_layout.specs.Address.{is_address};
 ghost use Rattle.jam_layout.specs.Fields.{is_text as is_text_of};
 ghost use Rattle.jam_layout.specs.Marks.{is_net as is_net_kind};
-ghost use Rattle.jam_layout.specs.Messages.{AreBytes};
-ghost use Rattle.record_numbers.specs.Numbers.{IsU32};
-ghost use Rattle.slot_changes.specs.Values.{IsTyped, MayHold, is_empty_or, has_right_texts as texts_are_right, is_private_enough as private_enough, is_right as message_is_right, is_right_body as body_is_right};
+ghost use Rattle.jam_layout.specs.Messages.{AreBytes, IsTyped};
+ghost use Rattle.slot_changes.specs.Values.{MayHold, is_empty_or, has_right_texts as texts_are_right, is_private_enough as private_enough, is_right as message_is_right, is_right_body as body_is_right};
 
 use byte_lists::Bytes;
+use jam_layout::moments;
 use jam_records::{Kind, Message, address_text};
 
 /// Whether no byte is below 20h.
@@ -96,44 +96,6 @@ fn is_private_enough(kind: Kind, message: &Message) -> bool
     ensures { result ≡ private_enough kind message.now }
 {
     message.private || !is_net(kind)
-}
-
-/// The same moment, of which it is said that it is one.
-fn in_range(moment: u32) -> u32
-    ensures same { result ≡ moment }
-    ensures bound { IsU32 result }
-{
-    moment
-}
-
-/// The moments of a message, of which it is said that each is one.
-fn moments(message: &Message) -> [u32; 3]
-    ensures written { IsU32 message.now.written }
-    ensures received { IsU32 message.now.received }
-    ensures processed { IsU32 message.now.processed }
-{
-    [
-        in_range(message.written),
-        in_range(message.received),
-        in_range(message.processed),
-    ]
-}
-
-/// The same message, of which it is said that its bytes and its moments are of their types.
-pub fn typed(message: Message) -> Message
-    ensures same { result ≡ message }
-    ensures typed { IsTyped message }
-{
-    let _from = message.from.as_slice();
-    let _to = message.to.as_slice();
-    let _subject = message.subject.as_slice();
-    let _msgid = message.msgid.as_slice();
-    let _replyid = message.replyid.as_slice();
-    let _origin = message.origin.as_slice();
-    let _destination = message.destination.as_slice();
-    let _body = message.body.as_slice();
-    let _moments = [message.written, message.received, message.processed];
-    message
 }
 
 /// Whether a message passes all tests, but for a msgid that may be missing.

@@ -15,16 +15,15 @@ use Rattle.fts_packet.specs.declared.packet.FtsMessage.{FtsMessage}
 use Rattle.fts_packet.specs.declared.rule.TossRule.{TossRule}
 use Rattle.fts_packet.specs.declared.toss.TossDraft.TheVariants.{Post}
 use Rattle.jam_layout.specs.Fields.{is_text}
-use Rattle.jam_layout.specs.Messages.{EmptyOr}
+use Rattle.jam_layout.specs.Messages.{EmptyOr, IsTyped}
 use Rattle.jam_records.specs.declared.message.Message.{Message}
 use Rattle.mail_intake.specs.Tallies.{MayTake}
-use Rattle.netmail_rules.specs.Fits.{IsOfItsTypes, with_msgid}
+use Rattle.netmail_rules.specs.Fits.{with_msgid}
 use Rattle.netmail_rules.specs.Rules.{first_refusing}
 use Rattle.packet_verdicts.proofs.Validity.{no_conference}
 use Rattle.setup_file.specs.declared.conference.Conference.{Conference}
 use Rattle.setup_file.specs.declared.setup.Setup.{Setup}
 use Rattle.slot_changes.specs.Msgids.{IsMsgid, or_else}
-use Rattle.slot_changes.specs.Values.{IsTyped}
 use Rattle.toss_commands.specs.Tossing.{IsOfPacket}
 
 -- ---- the place
@@ -59,7 +58,7 @@ own_bytes : (own other : List ℕ) → All IsByte own → IsMsgid other → All 
 own_bytes [] other bytes ok = ok.bytes
 own_bytes (b ∷ own) other bytes ok = bytes
 
-with_types : (draft : Message) (msgid : List ℕ) → IsTyped draft → IsMsgid msgid → IsOfItsTypes (with_msgid (or_else draft.msgid msgid) draft)
+with_types : (draft : Message) (msgid : List ℕ) → IsTyped draft → IsMsgid msgid → IsTyped (with_msgid (or_else draft.msgid msgid) draft)
 with_types draft msgid typed ok = record {
   bytes = record {
     origin = typed.bytes.origin;

@@ -7,7 +7,7 @@ use Rattle.std.proofs.lemmas.Bool.{cases_eq, ne_eqb}
 use Rattle.std.proofs.lemmas.List.{append-nil, get_or-set_same, length-set, map-append}
 use Rattle.std.proofs.lemmas.List.Folds.{list_any-append}
 use Rattle.std.proofs.lemmas.Option.{none-some, same_Some, slice_get-get_or, slice_get_within}
-use Rattle.board_changes.proofs.UserSizes.{conferences_count}
+use Rattle.board_layout.proofs.BoardLookups.{conferences_count}
 use Rattle.board_layout.specs.Board.{Board}
 use Rattle.board_layout.specs.Valid.{IsBoard}
 use Rattle.jam_records.specs.declared.message.Message.{Message}
@@ -16,7 +16,7 @@ use Rattle.jam_records.specs.declared.message.Slot.TheVariants.{Held}
 use Rattle.jam_threads.specs.Children.{has_msgid}
 use Rattle.mail_intake.specs.Msgids.{has_id}
 use Rattle.mail_intake.specs.declared.msgids.MsgidSet.{MsgidSet}
-use Rattle.offered_packets.specs.Sees.{slots_in}
+use Rattle.board_layout.specs.Lookups.{slots_in}
 use Rattle.packet_verdicts.proofs.PostLists.{identified_more, posts_hit, posts_miss}
 use Rattle.packet_verdicts.proofs.Spreading.{spread_count, spread_slots}
 use Rattle.packet_verdicts.specs.Views.{next_number}

@@ -28,7 +28,7 @@ use Rattle.mail_intake.specs.Lines.{intake_text, posted_line}
 use Rattle.message_commands.proofs.Exits.{carried}
 use Rattle.message_commands.proofs.PlaceAlike.{bare}
 use Rattle.offered_packets.proofs.OutlineLaws.{outline_slots}
-use Rattle.offered_packets.specs.Sees.{slots_in}
+use Rattle.board_layout.specs.Lookups.{slots_in}
 use Rattle.post_changes.specs.Posted.{spread}
 use Rattle.shelf_files.specs.Halts.{done}
 use Rattle.slot_changes.specs.Msgids.{number_at}

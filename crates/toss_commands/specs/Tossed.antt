@@ -13,7 +13,7 @@ use Rattle.jam_records.specs.declared.message.Message.{Message}
 use Rattle.jam_threads.specs.Children.{has_msgid}
 use Rattle.mail_intake.specs.Lines.{posted_line, refused_line}
 use Rattle.mail_intake.specs.Room.{is_full}
-use Rattle.offered_packets.specs.Sees.{slots_in}
+use Rattle.board_layout.specs.Lookups.{slots_in}
 use Rattle.packet_verdicts.specs.Views.{next_number}
 use Rattle.post_changes.specs.Posted.{spread}
 use Rattle.slot_changes.specs.Msgids.{number_at}

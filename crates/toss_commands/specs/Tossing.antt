@@ -15,7 +15,7 @@ use Rattle.mail_board.specs.declared.change.Change.TheVariants.{Spread}
 use Rattle.mail_intake.specs.Msgids.{has_id}
 use Rattle.mail_intake.specs.Tallies.{IsTally}
 use Rattle.mail_intake.specs.declared.msgids.MsgidSet.{MsgidSet}
-use Rattle.offered_packets.specs.Sees.{slots_in}
+use Rattle.board_layout.specs.Lookups.{slots_in}
 use Rattle.post_changes.specs.Posted.{posts_in, spread}
 use Rattle.shelf_files.specs.Halts.{done}
 use Rattle.shelf_files.specs.ShelfFile.{file_limit}

@@ -1,5 +1,5 @@
 //! The msgids of the conferences that messages come for.
-ghost use Rattle.std.specs.Prelude.{◌≡◌, ◌<◌, ◌+◌, ◌||◌, ◌++◌, ◌∷◌, [], ℕ, List, length, slice_get, Some, None, IfOk, OnOk};
+ghost use Rattle.std.specs.Prelude.{◌≡◌, ◌<◌, ◌+◌, ◌||◌, ◌++◌, ◌∷◌, [], ℕ, List, length, Some, None, IfOk, OnOk};
 ghost use Rattle.std.specs.List.{list_any};
 ghost use Rattle.board_layout.specs.Board as Boards;
 ghost use Rattle.board_layout.specs.Valid.{IsBoard};
@@ -7,7 +7,7 @@ ghost use Rattle.jam_base.specs.Slots.{numbered};
 ghost use Rattle.jam_records.specs.declared.message.Message as Messages;
 ghost use Rattle.jam_threads.specs.Children.{has_msgid};
 ghost use Rattle.mail_intake.specs.Msgids.{has_id};
-ghost use Rattle.offered_packets.specs.Sees.{slots_in};
+ghost use Rattle.board_layout.specs.Lookups.{slots_in};
 ghost use Rattle.post_changes.specs.Posted.{spread};
 ghost use Rattle.slot_changes.specs.Msgids.{identified, msgid_in};
 ghost use Rattle.packet_verdicts.specs.Views.{next_number};
@@ -16,7 +16,7 @@ ghost use Rattle.toss_commands.specs.Tossing.{AreSeen, HasSet, IsLoaded};
 use board_layout::StoredBoard;
 use jam_base::Base;
 use mail_intake::MsgidSet;
-use offered_packets::{base_at, message_of};
+use offered_packets::message_of;
 use std::alloc::{AllocError, Global};
 
 /// For each place the msgids that its conference holds, once a message came for it.
@@ -51,7 +51,7 @@ fn msgids_in(alloc: Global, board: &StoredBoard, place: u8) -> Result<MsgidSet, 
     ensures set { IfOk result (HasSet (slots_in board.now place)) }
     ensures board { IsBoard board.now }
 {
-    match base_at(board, place) {
+    match board.base_at(place) {
         Some(base) => msgids_of(alloc, base),
         None => Ok(MsgidSet::new(alloc)),
     }

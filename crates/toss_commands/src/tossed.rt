@@ -13,9 +13,10 @@ use crate::seen::Seen;
 use board_layout::StoredBoard;
 use byte_lists::Bytes;
 use fts_packet::{FtsMessage, TossDraft, TossRule, toss_draft};
+use jam_layout::typed;
 use jam_records::Message;
 use mail_intake::{Tally, add_posted, add_refused};
-use slot_changes::{conference_of, msgid_of, typed};
+use slot_changes::msgid_of;
 use std::alloc::{AllocError, Global};
 
 /// What became of the messages so far.
@@ -125,7 +126,7 @@ impl Tossed {
     {
         self.see(alloc, board, place, &message)?;
         let number = self.tally.add(board, place, message)?;
-        let conference = conference_of(board, place).number;
+        let conference = board.conference_of(place).number;
         add_posted(&mut self.lines, at, u32::from(conference), number)
     }
 

@@ -1,9 +1,11 @@
-//! A further user of a new board.
+//! A further user of a new board, and other slots in one of its places.
 use board_changes::{NewBoard, enrolled, fits_user, made, size_with_user};
 use board_layout::StoredBoard;
 use byte_lists::Bytes;
 use case_texts::{Miss, expect_cases, number_of};
+use jam_records::{Slot, Slots};
 use setup_file::Setup;
+use slot_changes::{fits_slots, replaced};
 use std::alloc::{AllocError, Global};
 
 /// A setup of three conferences.
@@ -71,4 +73,55 @@ const USERS: &str = r#"
 #[test]
 fn users_fit_by_name_and_places(rt: HostRuntime) -> Result<(), Miss> {
     expect_cases(rt.alloc(), USERS, with_user)
+}
+
+/// So many slots that are Gone.
+fn gone(alloc: Global, count: u32) -> Result<Slots, AllocError> {
+    let mut slots = Slots::new(alloc);
+    for _ in 0..count {
+        slots.add(Slot::Gone)?;
+    }
+    Ok(slots)
+}
+
+/// How many bytes the journal has by which a place gets these slots, or None where they don't fit.
+fn slots_journal(
+    alloc: Global,
+    board: &StoredBoard,
+    place: u8,
+    slots: &Slots,
+) -> Result<Option<u64>, AllocError> {
+    if !fits_slots(board, place, slots) {
+        return Ok(None);
+    }
+    Ok(Some(replaced(alloc, board, place, slots)?.intent.size()))
+}
+
+/// Whether so many slots fit into a place of the new board, and where they do, how many bytes the journal has.
+fn with_slots(alloc: Global, words: &[Bytes]) -> Result<String, Miss> {
+    let [place, count] = words else {
+        return Err(Miss::Words);
+    };
+    let Ok(place) = u8::try_from(number_of(place.as_slice())?) else {
+        return Err(Miss::Words);
+    };
+    let slots = gone(alloc, number_of(count.as_slice())?)?;
+    let new = new_board(alloc)?;
+    Ok(match slots_journal(alloc, &new.board, place, &slots)? {
+        Some(journal) => format!(in alloc; "fits, {journal} journal")?,
+        None => format!(in alloc; "refused")?,
+    })
+}
+
+/// A new conference has no slot. Its .JHR of 1,024 bytes is written whole, and so are .JDT and .JDX, which stay empty.
+const SLOTS: &str = r#"
+0 0 => fits, 1070 journal
+2 0 => fits, 1070 journal
+3 0 => refused
+0 1 => refused
+"#;
+
+#[test]
+fn slots_fit_by_place_and_count(rt: HostRuntime) -> Result<(), Miss> {
+    expect_cases(rt.alloc(), SLOTS, with_slots)
 }

@@ -1,7 +1,8 @@
 use Rattle.std.proofs.Common.{◌≡◌, min, ℕ, ◌+◌, ◌*◌, length, sym, ap, ◌∙◌, arith}
 use Rattle.board_changes.specs.Changed.{new_user, with_member}
 use Rattle.board_changes.specs.Enrolling.{joined_count as joined_count_of}
-use Rattle.board_changes.proofs.UserSizes.{member_size, conferences_count, new_length}
+use Rattle.board_changes.proofs.UserSizes.{member_size, new_length}
+use Rattle.board_layout.proofs.BoardLookups.{conferences_count}
 use Rattle.board_layout.specs.Board.{Board}
 use Rattle.board_layout.specs.Layout.{board_size}
 use Rattle.board_ledger.specs.declared.ledger.Ledger.{Ledger}

@@ -1,4 +1,4 @@
-use Rattle.std.proofs.Common.{rules, ◌≡◌, ◌+◌, Bool, Some, None, sym, ◌∙◌, ap, subst}
+use Rattle.std.proofs.Common.{rules, ◌≡◌, ◌+◌, Bool, Some, None, sym, ◌∙◌, ap}
 use Rattle.board_layout.specs.Board.{Board}
 use Rattle.command_words.specs.Choice.{ChoiceReads, places_from}
 use Rattle.command_words.specs.declared.choice.Choice.{Choice}

@@ -1,4 +1,4 @@
-use Rattle.std.proofs.Common.{◌≡◌, ◌∙◌, sym, ap}
+use Rattle.std.proofs.Common.{◌∙◌, sym, ap}
 use Rattle.jam_layout.specs.Bare.{bare_in, bare_of, IsBareOf}
 use Rattle.jam_layout.specs.Layout.{conference_of}
 use Rattle.jam_layout.specs.Valid.{FilesFit}

@@ -1,7 +1,7 @@
 use Rattle.std.proofs.Common.{◌≡◌, true, false, Option, sym, ap, ◌∙◌, subst}
 use Rattle.std.specs.Prelude.{option_map, IfSome}
 use Rattle.board_layout.specs.Board.{Board}
-use Rattle.board_layout.specs.Lookups.{held_in}
+use Rattle.board_layout.specs.Lookups.{held_in, slots_in}
 use Rattle.board_layout.specs.Outlines.{HasBody}
 use Rattle.jam_base.specs.Slots.{numbered}
 use Rattle.jam_layout.specs.Outlines.{message_outline, slot_outline}
@@ -10,7 +10,6 @@ use Rattle.jam_records.specs.declared.message.Slot.{Slot}
 use Rattle.jam_records.specs.declared.message.Slot.TheVariants.{Held}
 use Rattle.mail_board.proofs.FetchedHosts.{message_is}
 use Rattle.mail_board.proofs.OneHost.{alike_held}
-use Rattle.offered_packets.specs.Sees.{slots_in}
 use Rattle.slot_changes.specs.Packed.{is_deleted}
 use Rattle.jam_pack.proofs.FetchedSlots.{gone_packed, held_packed, mark_alike, none_like, none_packed, outline_packed}
 use Rattle.jam_pack.proofs.fetching.fetched.Goals as goal

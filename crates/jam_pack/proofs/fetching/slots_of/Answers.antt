@@ -9,7 +9,7 @@ use Rattle.jam_layout.specs.Outlines.{slot_outline}
 use Rattle.jam_records.specs.declared.message.Slot.{Slot}
 use Rattle.mail_board.proofs.FetchedHosts.{unchanged_never}
 use Rattle.mail_board.proofs.OneHost.{alike_held, holds_still}
-use Rattle.offered_packets.specs.Sees.{slots_in}
+use Rattle.board_layout.specs.Lookups.{slots_in}
 use Rattle.slot_changes.specs.Packed.{slots_packed}
 use Rattle.jam_pack.proofs.FetchedSlots.{count_same, none_same, outline_more, pack_more}
 use Rattle.jam_pack.proofs.fetching.slots_of.Goals as goal

@@ -5,7 +5,7 @@ use Rattle.board_layout.specs.Outlines.{HasBody}
 use Rattle.door_outside.specs.Disk.{Unchanged}
 use Rattle.jam_layout.specs.Outlines.{slot_outline}
 use Rattle.mail_board.specs.Held.{Holds, RestsOn}
-use Rattle.offered_packets.specs.Sees.{slots_in}
+use Rattle.board_layout.specs.Lookups.{slots_in}
 use Rattle.slot_changes.specs.Packed.{slots_packed}
 use Rattle.jam_pack.proofs.fetching.slots_of.Given as goal
 

@@ -253,7 +253,7 @@ pub returns-in-Pack-clause-damaged : goal.returns-in-Pack-clause-damaged
 returns-in-Pack-clause-damaged g c = rw c.in-Pack.is (may_be_damaged c.say_told-in-Pack.result)
 
 pub returns-in-Pack-clause-kept : goal.returns-in-Pack-clause-kept
-returns-in-Pack-clause-kept g c tells = spoken_kept g.H.Host.disk c.pack.new.kept _ _ (c.say_told-in-Pack.ensures.spoken tells) (c.pack.ensures.kept tells)
+returns-in-Pack-clause-kept g c tells = spoken_kept g.H.Host.disk _ _ c.pack.new.kept _ _ (c.say_told-in-Pack.ensures.spoken tells) (c.pack.ensures.kept tells)
 
 pub returns-in-Pack-clause-wrote : goal.returns-in-Pack-clause-wrote
 returns-in-Pack-clause-wrote g c tells shelf_tells = rw c.in-Pack.is (λ posts closed. absurd posts)

@@ -7,7 +7,6 @@ use Rattle.mail_cli.proofs.CommandBounds.{run_bound, unwritten}
 use Rattle.mail_cli.proofs.Histories.{run_continues}
 use Rattle.mail_cli.proofs.Reading.{read_causes, read_completes, read_kept, read_leaves, read_survives, stays_firm, unread_leaves, unread_survives}
 use Rattle.mail_cli.proofs.Staying.{names_no_batch, none_uses_shelf, nothing_done}
-use Rattle.mail_cli.specs.Step.{any_uses_shelf}
 use Rattle.mail_cli.proofs.running.run.Goals as goal
 
 -- ---- the entries weren't read

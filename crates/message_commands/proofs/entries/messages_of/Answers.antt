@@ -2,7 +2,7 @@ use Rattle.std.proofs.Common.{rules, ◌≡◌, ◌++◌, length, map, sym, ap, 
 use Rattle.std.proofs.lemmas.List.Elements.{All-nil, All-push}
 use Rattle.std.specs.Prelude.{All}
 use Rattle.std.specs.Vec.Iter.{into_iter_items}
-use Rattle.slot_changes.specs.Values.{IsTyped}
+use Rattle.jam_layout.specs.Messages.{IsTyped}
 use Rattle.message_commands.proofs.EntryLaws.{moved_on}
 use Rattle.message_commands.specs.Import.{imported_message}
 use Rattle.message_commands.proofs.entries.messages_of.Goals as goal

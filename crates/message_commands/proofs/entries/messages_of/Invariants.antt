@@ -1,7 +1,7 @@
 use Rattle.std.proofs.Common.{◌≡◌, ◌++◌, length, map}
 use Rattle.std.specs.Prelude.{All}
 use Rattle.std.specs.Vec.Iter.{into_iter_items, into_iter_len}
-use Rattle.slot_changes.specs.Values.{IsTyped}
+use Rattle.jam_layout.specs.Messages.{IsTyped}
 use Rattle.message_commands.specs.Import.{imported_message}
 use Rattle.message_commands.proofs.entries.messages_of.Given as goal
 

@@ -1,8 +1,7 @@
 use Rattle.std.proofs.Common.{◌≡◌, None, slice_get, sym, ap, ◌∙◌, arith}
 use Rattle.std.specs.Option.{option_copied}
-use Rattle.board_changes.proofs.UserSizes.{conferences_count}
+use Rattle.board_layout.proofs.BoardLookups.{conferences_count, not_past}
 use Rattle.board_layout.specs.Board.{Board}
-use Rattle.slot_changes.proofs.PlaceKinds.{not_past}
 use Rattle.message_commands.proofs.placing.kind_in.Goals as goal
 
 pub unreachable-requires : goal.unreachable-requires

@@ -1,5 +1,5 @@
 use Rattle.std.proofs.Common.{arith}
-use Rattle.board_changes.proofs.UserSizes.{conferences_count}
+use Rattle.board_layout.proofs.BoardLookups.{conferences_count}
 use Rattle.message_commands.proofs.posts.is_net.Goals as goal
 
 pub conference_of-requires : goal.conference_of-requires

@@ -13,11 +13,11 @@ use Rattle.jam_base.specs.Contents.{Contents}
 use Rattle.jam_base.specs.declared.change.BaseChange.{BaseChange}
 use Rattle.offer_changes.proofs.AcknowledgeLaws.{base_read, contents_count, highs_were}
 use Rattle.offer_changes.proofs.EachOffer.{read_gathers, read_joins}
-use Rattle.offer_changes.proofs.StepLaws.{change_joins}
+use Rattle.board_changes.proofs.StepLaws.{change_joins}
 use Rattle.offer_changes.proofs.ReadLaws.{high_within}
 use Rattle.offer_changes.proofs.UserLaws.{user_there}
 use Rattle.offer_changes.specs.Changed.{read_offer, read_up_to}
-use Rattle.offer_changes.specs.Steps.{base_after, patches_of}
+use Rattle.board_changes.specs.Steps.{base_after, patches_of}
 use Rattle.offer_changes.proofs.acknowledge.bases_read.Goals as goal
 
 -- the base of a place

@@ -1,6 +1,6 @@
 use Rattle.std.proofs.Common.{length, ap, arith}
 use Rattle.std.proofs.lemmas.List.{length-map}
-use Rattle.board_changes.proofs.UserSizes.{conferences_count}
+use Rattle.board_layout.proofs.BoardLookups.{conferences_count}
 use Rattle.jam_base.specs.Contents.{Contents}
 use Rattle.offer_changes.proofs.fits.may_have.Goals as goal
 

@@ -1,5 +1,5 @@
 use Rattle.std.proofs.Common.{arith}
-use Rattle.offered_packets.proofs.BoardLookups.{few_bases}
+use Rattle.board_layout.proofs.BoardLookups.{few_bases}
 use Rattle.offered_packets.proofs.lookups.place_count.Goals as goal
 
 pub overflow_cast-result : goal.overflow_cast-result

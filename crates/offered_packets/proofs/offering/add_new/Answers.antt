@@ -2,7 +2,7 @@ use Rattle.std.proofs.Common.{◌≡◌, ◌∙◌, ◌+◌, false, length, sym,
 use Rattle.std.proofs.lemmas.List.{length_push}
 use Rattle.std.specs.List.{filter}
 use Rattle.offered_packets.specs.Offered.{is_new, numbers_in}
-use Rattle.offered_packets.specs.Sees.{slots_in}
+use Rattle.board_layout.specs.Lookups.{slots_in}
 use Rattle.offered_packets.proofs.NewMessages.{none_new, seen_new, old_not_new, unseen_not_new}
 use Rattle.offered_packets.proofs.Offers.{numbered_at, none_pass, none_found, limit_reached, passes_next, fails_next}
 use Rattle.offered_packets.proofs.offering.add_new.Goals as goal

@@ -1,6 +1,6 @@
 use Rattle.std.proofs.Common.{ap, ◌∙◌}
 use Rattle.std.specs.Prelude.{slice_get}
-use Rattle.offered_packets.proofs.BoardLookups.{none_number}
+use Rattle.board_layout.proofs.BoardLookups.{none_number}
 use Rattle.offered_packets.proofs.showing.conference_number.Goals as goal
 
 pub returns-in-None : goal.returns-in-None

@@ -1,6 +1,6 @@
 use Rattle.std.proofs.Common.{sym, ap, ◌∙◌}
 use Rattle.jam_threads.specs.Children.{original}
-use Rattle.offered_packets.proofs.BoardLookups.{none_answers}
+use Rattle.offered_packets.proofs.ShownMessages.{none_answers}
 use Rattle.offered_packets.proofs.showing.original_in.Goals as goal
 
 pub returns-in-None : goal.returns-in-None

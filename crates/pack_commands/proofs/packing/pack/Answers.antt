@@ -83,8 +83,8 @@ returns-clause-works g c tells world shelf at =
     (λ count ok. turn_packing c.args.conference held.board place count there (counted c.pack-packed.result count ok gives.count) b real.alike)
     (packed_count place held.board) (turn_packing c.args.conference held.board place (packed_count place held.board) there refl b real.alike))
 
-pub pack-requires-clause-place : goal.pack-requires-clause-place
-pack-requires-clause-place g c =
+pub pack-packed-requires-clause-place : goal.pack-packed-requires-clause-place
+pack-packed-requires-clause-place g c =
     let held = c.in_ok-board.board in
     let found : c.in_ok-found.found.now.board ≡ held.board = let same : Some c.in_ok-found.found.now.board ≡ Some held.board = sym c.in_ok-found.ensures.board ∙ ap kept_board c.in_ok-board.ensures.board in cc in
     subst (λ (b : Board). c.in_ok-place.place < length b.conferences) found c.in_ok-place.ensures.within

@@ -1,5 +1,5 @@
 use Rattle.std.proofs.Common.{arith}
-use Rattle.board_changes.proofs.UserSizes.{conferences_count}
+use Rattle.board_layout.proofs.BoardLookups.{conferences_count}
 use Rattle.packet_verdicts.proofs.replies.draft_reply.Goals as goal
 
 pub msgid_of-requires : goal.msgid_of-requires

@@ -1,5 +1,5 @@
 use Rattle.std.proofs.Common.{length, ap, ◌∙◌, arith}
-use Rattle.board_changes.proofs.UserSizes.{conferences_count}
+use Rattle.board_layout.proofs.BoardLookups.{conferences_count}
 use Rattle.packet_verdicts.proofs.Validity.{short_id}
 use Rattle.packet_verdicts.proofs.views.msgid_len.Goals as goal
 

@@ -1,10 +1,11 @@
 use Rattle.std.proofs.Common.{◌≡◌, ℕ, List, sym, ap, ◌∙◌, subst, arith}
 use Rattle.std.proofs.lemmas.Result.{on_ok_weaker}
-use Rattle.board_changes.proofs.UserSizes.{conferences_count}
+use Rattle.board_layout.proofs.BoardLookups.{conferences_count}
 use Rattle.board_layout.specs.Board.{Board}
 use Rattle.board_ledger.specs.declared.ledger.Ledger.{Ledger}
 use Rattle.fts_packet.specs.Tossed.{toss_verdict}
 use Rattle.fts_packet.specs.declared.toss.TossDraft.TheVariants.{Post}
+use Rattle.jam_layout.specs.Messages.{IsTyped}
 use Rattle.jam_records.specs.declared.message.Message.{Message}
 use Rattle.mail_intake.specs.Tallies.{MayTake}
 use Rattle.toss_commands.proofs.DraftLaws.{draft_taken, posted_place}
@@ -23,7 +24,7 @@ take-requires-clause-takes c =
     let b : Board = c.args.board.now in
     let posted : toss_verdict b.ledger.setup c.args.message.now c.args.now ≡ Post c.in-Post.place c.in-Post.message
     = sym (c.in_ok-rule.ensures ∙ ap (λ (l : Ledger). toss_verdict l.setup c.args.message.now c.args.now) c.ledger.ensures.ledger) ∙ c.in-Post.is in
-    subst (λ (m : Message). MayTake b c.in-Post.place m) (sym c.typed.ensures.same) (draft_taken b c.args.message.now c.args.now c.in-Post.place c.in-Post.message c.requires.read posted c.typed.ensures.typed)
+    subst (λ (m : Message). MayTake b c.in-Post.place m) (sym c.typed.ensures.same) (draft_taken b c.args.message.now c.args.now c.in-Post.place c.in-Post.message c.requires.read posted (subst IsTyped c.typed.ensures.same c.typed.ensures.typed))
 
 pub returns-in-Post-clause-step : goal.returns-in-Post-clause-step
 returns-in-Post-clause-step c =

@@ -3,8 +3,8 @@ use Rattle.std.proofs.lemmas.Result.{on_ok_weaker}
 use Rattle.board_layout.specs.Board.{Board}
 use Rattle.jam_records.specs.declared.message.Message.{Message}
 use Rattle.mail_intake.proofs.TallyLaws.{count_there}
-use Rattle.offered_packets.specs.Sees.{slots_in}
-use Rattle.packet_verdicts.proofs.Places.{few_in_place}
+use Rattle.board_layout.specs.Lookups.{slots_in}
+use Rattle.board_layout.proofs.BoardLookups.{few_in_place}
 use Rattle.packet_verdicts.specs.Views.{next_number}
 use Rattle.post_changes.specs.Posted.{spread}
 use Rattle.slot_changes.specs.Msgids.{msgid_in}

@@ -1,5 +1,6 @@
-ghost use Rattle.std.specs.Prelude.{◌≡◌, ◌++◌, ◌∷◌, [], IfOk, OnOk};
+ghost use Rattle.std.specs.Prelude.{◌≡◌, ◌++◌, ◌∷◌, [], option_map, IfOk, IfSome, OnOk};
 ghost use Rattle.board_changes.specs.Gathered.{Joins};
+ghost use Rattle.board_changes.specs.Steps.{patches_of};
 ghost use Rattle.board_ledger.specs.Ledger.{ledger_text};
 ghost use Rattle.board_ledger.specs.Valid.{IsLedger};
 ghost use Rattle.door_outside.specs.File.{ledger_file};
@@ -7,6 +8,7 @@ ghost use Rattle.door_outside.specs.File.{ledger_file};
 use board_ledger::Ledger;
 use door_outside::FileId;
 use intent_journal::{Intent, Patch, Patches};
+use jam_base::{Base, BaseChange};
 use std::alloc::{AllocError, Global};
 
 /// Adds patches at the end of an intent, which may have them all.
@@ -20,6 +22,24 @@ pub fn add_all(intent: &mut Intent, patches: Patches) -> Result<(), AllocError>
         intent.add(patch)?;
     }
     Ok(())
+}
+
+/// The base after a change, where there is one, whose patches are added at the end of an intent, which may have them
+/// all.
+///
+/// The error comes where there is no memory. Some of the patches were added then.
+pub fn gather(change: Option<BaseChange>, intent: &mut Intent) -> Result<Option<Base>, AllocError>
+    requires { IfSome change (λ c. Joins intent.old c.patches) }
+    ensures base { IfOk result (λ base. base ≡ option_map (λ c. c.base) change) }
+    ensures gathers { OnOk result (intent.new ≡ intent.old ++ patches_of change) }
+{
+    match change {
+        None => Ok(None),
+        Some(change) => {
+            add_all(intent, change.patches)?;
+            Ok(Some(change.base))
+        }
+    }
 }
 
 /// The intent of these patches, which an intent may have.

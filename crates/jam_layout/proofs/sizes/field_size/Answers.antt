@@ -1,6 +1,6 @@
 use Rattle.std.proofs.Common.{◌<◌, length, arith}
 use Rattle.jam_layout.proofs.SizeLaws.{field_length}
-use Rattle.slot_changes.proofs.size.field_size.Goals as goal
+use Rattle.jam_layout.proofs.sizes.field_size.Goals as goal
 
 pub returns-else-len-eq0-clause-size : goal.returns-else-len-eq0-clause-size
 returns-else-len-eq0-clause-size c id value same =

@@ -2,7 +2,7 @@ use Rattle.std.proofs.Common.{inl}
 use Rattle.board_ledger.specs.Ledger.{ledger_text}
 use Rattle.board_changes.proofs.GatherLaws.{takes_ledger}
 use Rattle.board_changes.proofs.LedgerBounds.{ledger_at_most}
-use Rattle.board_changes.proofs.gather.ledger_intent.Goals as goal
+use Rattle.board_changes.proofs.gathering.ledger_intent.Goals as goal
 
 pub write-requires : goal.write-requires
 write-requires c = inl c.requires

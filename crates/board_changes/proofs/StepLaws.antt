@@ -9,7 +9,7 @@ use Rattle.jam_base.proofs.PatchLaws.{nothing_small}
 use Rattle.jam_base.specs.Change.{SuitsIntent}
 use Rattle.jam_base.specs.Contents.{Contents}
 use Rattle.jam_base.specs.declared.change.BaseChange.{BaseChange}
-use Rattle.offer_changes.specs.Steps.{base_after, patches_of}
+use Rattle.board_changes.specs.Steps.{base_after, patches_of}
 
 pub change_suits : (old new : Contents) (change : Option BaseChange) → IfSome change (Changes old) → base_after old change ≡ new → SuitsIntent old.shape.place (files_in new) (patches_of change)
 change_suits old new None changes is = nothing_small old.shape.place (files_in new)

@@ -1,7 +1,7 @@
 use Rattle.std.proofs.Common.{◌≡◌, ◌++◌, length}
 use Rattle.std.specs.Vec.Iter.{into_iter_items, into_iter_len}
 use Rattle.board_changes.specs.Gathered.{Joins}
-use Rattle.board_changes.proofs.gather.add_all.Given as goal
+use Rattle.board_changes.proofs.gathering.add_all.Given as goal
 
 -- the patches so far were added, and the others may be
 abbrev pub invariant-loop-patch : goal.invariant-loop-patch

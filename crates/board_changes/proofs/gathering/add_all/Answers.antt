@@ -4,7 +4,7 @@ use Rattle.std.specs.Vec.Iter.{into_iter_items}
 use Rattle.intent_journal.specs.declared.patch.Patch.{Patch}
 use Rattle.board_changes.specs.Gathered.{Joins}
 use Rattle.board_changes.proofs.JoinLaws.{takes_first, joins_on}
-use Rattle.board_changes.proofs.gather.add_all.Goals as goal
+use Rattle.board_changes.proofs.gathering.add_all.Goals as goal
 
 pub loop-patch-init : goal.loop-patch-init
 loop-patch-init c =

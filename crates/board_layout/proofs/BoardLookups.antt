@@ -1,9 +1,9 @@
 -- What stands in a place of a board.
-use Rattle.std.proofs.Common.{◌≡◌, ℕ, zero, suc, ◌-◌, ◌<◌, ◌≤◌, List, [], ◌∷◌, length, get_or, take, refl, sym, ap, ◌∙◌, arith, Bor}
-use Rattle.std.specs.Prelude.{Option, Some, None, option_map, option_copied, unwrap_or, slice_get, Contains, IfSome, IfNone}
+use Rattle.std.proofs.Common.{◌≡◌, ℕ, zero, suc, ◌-◌, ◌<◌, ◌≤◌, List, [], ◌∷◌, length, get_or, refl, sym, ap, ◌∙◌, arith, Bor}
+use Rattle.std.specs.Prelude.{Option, Some, None, option_map, option_copied, unwrap_or, slice_get, IfSome, IfNone}
 use Rattle.std.specs.List.{AllZip}
 use Rattle.std.proofs.lemmas.List.{length-map}
-use Rattle.std.proofs.lemmas.Option.{slice_get-map, slice_get_past, slice_get_within, get_or_from_slice_get, none-some}
+use Rattle.std.proofs.lemmas.Option.{slice_get-map, slice_get_within, none-some}
 use Rattle.board_layout.specs.Board.{Board, conferences_in, shapes_of}
 use Rattle.board_layout.specs.Valid.{IsBoard}
 use Rattle.board_layout.proofs.BasePlaces.{shapes_count}
@@ -12,17 +12,15 @@ use Rattle.jam_layout.specs.Valid.{IsConference}
 use Rattle.jam_layout.specs.declared.conference.Conference.{Conference}
 use Rattle.jam_layout.specs.declared.shape.Shape.{Shape}
 use Rattle.jam_records.specs.declared.message.Slot.{Slot}
-use Rattle.jam_threads.specs.Children.{original, slot_original}
-use Rattle.board_ledger.specs.declared.user.User.{User}
 use Rattle.setup_file.specs.Valid.{numbers_of}
 use Rattle.setup_file.specs.declared.conference.Conference.{Conference as SetupConference}
-use Rattle.offered_packets.specs.Sees.{slots_in}
+use Rattle.board_layout.specs.Lookups.{slots_in}
 
-conferences_count : (shapes : List Shape) (conferences : List Conference) → AllZip IsConference shapes conferences → length shapes ≡ length conferences
-conferences_count [] [] zip = refl
-conferences_count [] (c ∷ conferences) zip = absurd zip
-conferences_count (s ∷ shapes) [] zip = absurd zip
-conferences_count (s ∷ shapes) (c ∷ conferences) zip = ap suc (conferences_count shapes conferences zip.1)
+shapes_conferences : (shapes : List Shape) (conferences : List Conference) → AllZip IsConference shapes conferences → length shapes ≡ length conferences
+shapes_conferences [] [] zip = refl
+shapes_conferences [] (c ∷ conferences) zip = absurd zip
+shapes_conferences (s ∷ shapes) [] zip = absurd zip
+shapes_conferences (s ∷ shapes) (c ∷ conferences) zip = ap suc (shapes_conferences shapes conferences zip.1)
 
 -- the conference in a place is one of the shape there
 pub conference_fits : (shapes : List Shape) (conferences : List Conference) (k : ℕ) (s : Shape) (c : Conference) → AllZip IsConference shapes conferences → k < length conferences → IsConference (get_or shapes k s) (get_or conferences k c)
@@ -32,8 +30,17 @@ conference_fits (y ∷ shapes) [] k s c zip within = absurd zip
 conference_fits (y ∷ shapes) (x ∷ conferences) zero s c zip within = zip.0
 conference_fits (y ∷ shapes) (x ∷ conferences) (suc k) s c zip within = conference_fits shapes conferences k s c zip.1 (omega arith)
 
+-- of each conference of the setup there is one
+pub conferences_count : (b : Board) → IsBoard b → length b.conferences ≡ length b.ledger.setup.conferences
+conferences_count b ok = sym (shapes_conferences (shapes_of b.ledger) b.conferences ok.conferences) ∙ shapes_count b.ledger 0 b.ledger.setup.conferences
+
+pub not_past : {A : Type 0} (xs : List A) (place : ℕ) → place < length xs → slice_get xs place ≡ None → ⊥
+not_past [] place within none = omega (arith, within)
+not_past (x ∷ xs) zero within none = none-some x (sym none)
+not_past (x ∷ xs) (suc place) within none = not_past xs place (omega (arith, within)) none
+
 pub few_places : (b : Board) → IsBoard b → length b.conferences ≤ 64
-few_places b ok = omega (arith, conferences_count (shapes_of b.ledger) b.conferences ok.conferences, shapes_count b.ledger 0 b.ledger.setup.conferences, ok.ledger.setup.conferences.many)
+few_places b ok = omega (arith, conferences_count b ok, ok.ledger.setup.conferences.many)
 
 pub as_many_bases : (b : Board) (bases : List Contents) → conferences_in bases ≡ b.conferences → length bases ≡ length b.conferences
 as_many_bases b bases e = sym (length-map bases (λ (base : Contents). base.conference)) ∙ ap length e
@@ -44,6 +51,16 @@ conference_at b bases place e = ap (λ (xs : List Conference). slice_get xs plac
 
 abbrev pub slots_of : Option Conference → List Slot
 slots_of c = unwrap_or (option_map (λ (c : Conference). c.slots) c) []
+
+few_slots : (shapes : List Shape) (conferences : List Conference) (place : ℕ) → AllZip IsConference shapes conferences → length (slots_of (slice_get conferences place)) ≤ 9999
+few_slots shapes [] place zip = omega arith
+few_slots [] (c ∷ conferences) place zip = absurd zip
+few_slots (s ∷ shapes) (c ∷ conferences) zero zip = zip.0.few
+few_slots (s ∷ shapes) (c ∷ conferences) (suc place) zip = few_slots shapes conferences place zip.1
+
+-- a conference of a valid board has at most 9,999 slots
+pub few_in_place : (b : Board) (place : ℕ) → IsBoard b → length (slots_in b place) ≤ 9999
+few_in_place b place ok = few_slots (shapes_of b.ledger) b.conferences place ok.conferences
 
 pub base_slots : (b : Board) (bases : List Contents) (place : ℕ) (base : Contents) → conferences_in bases ≡ b.conferences → slice_get bases place ≡ Some base → base.conference.slots ≡ slots_in b place
 base_slots b bases place base e found = sym (ap slots_of (conference_at b bases place e ∙ ap (option_map (λ (base : Contents). base.conference)) found))
@@ -75,14 +92,3 @@ pub none_number : (conferences : List SetupConference) (place : ℕ) → None �
 none_number [] place e = refl
 none_number (c ∷ conferences) zero e = absurd (none-some c e)
 none_number (c ∷ conferences) (suc place) e = none_number conferences place e
-
--- a user of an id is one of the users
-pub found_user : (users : List User) (place : ℕ) (found : Option (Bor User)) → option_copied found ≡ slice_get users place → IfSome found (λ user. Contains users user.now)
-found_user users place None is = tt
-found_user users place (Some user) is = (place, slice_get_within users place user.now (sym is), get_or_from_slice_get users place user.now user.now (sym is))
-
--- where there is no slot no message answers another
-pub none_answers : (number : ℕ) → original [] number ≡ 0
-unfolding original
-none_answers zero = refl
-none_answers (suc place) = ap (slot_original (take place [])) (slice_get_past [] place (omega arith))

@@ -1,0 +1,94 @@
+// What is looked up in a board.
+ghost use Rattle.std.specs.Prelude.{◌≡◌, ◌≤◌, ◌<◌, [], Some, length, slice_get, Contains, IfSome, IfNone, IsSome};
+ghost use Rattle.std.specs.Option.{option_copied};
+ghost use Rattle.board_layout.specs.Lookups.{slots_in, user_of as user_with_id};
+ghost use Rattle.board_layout.specs.Outlines.{board_outline};
+ghost use Rattle.board_layout.specs.Renewed.{contents_of};
+ghost use Rattle.board_layout.specs.Valid.{IsBoard};
+
+use crate::board::StoredBoard;
+use board_ledger::User;
+use jam_base::Base;
+use setup_file::Conference;
+
+/// The base in a place, or None past the last.
+fn base_in(bases: &[Base], place: u8) -> Option<&Base>
+    ensures { option_copied result ≡ slice_get bases.now place }
+{
+    bases.get(usize::from(place))
+}
+
+impl StoredBoard {
+    /// The user of an id, from 1, or None where there is none.
+    pub fn user_at(&self, id: u32) -> Option<&User>
+        ensures user { option_copied result ≡ user_with_id id self.now }
+        ensures there { IfSome result (λ user. Contains self.now.ledger.users user.now) }
+        ensures board { IsBoard self.now }
+    {
+        let users = &self.ledger().users;
+        if id == 0 {
+            return None;
+        }
+        users.get(id as usize - 1)
+    }
+
+    /// The user of an id that one has.
+    pub fn user_of(&self, id: u32) -> &User
+        requires { IsSome (user_with_id id self.now) }
+        ensures user { user_with_id id self.now ≡ Some result.now }
+        ensures board { IsBoard self.now }
+    {
+        match self.user_at(id) {
+            Some(user) => user,
+            None => unreachable!(),
+        }
+    }
+
+    /// What the setup says of the conference in a place, from 0, that has one.
+    pub fn conference_of(&self, place: u8) -> &Conference
+        requires { place < length self.now.conferences }
+        ensures { slice_get self.now.ledger.setup.conferences place ≡ Some result.now }
+    {
+        let conferences = &self.ledger().setup.conferences;
+        match conferences.get(usize::from(place)) {
+            Some(conference) => conference,
+            None => unreachable!(),
+        }
+    }
+
+    /// The base of a place, from 0, or None past the last.
+    pub fn base_at(&self, place: u8) -> Option<&Base>
+        ensures contents { option_copied result ≡ slice_get (contents_of self.now) place }
+        ensures slots { IfSome result (λ base. base.now.conference.slots ≡ slots_in self.now place) }
+        ensures place { IfSome result (λ base. place < 64) }
+        ensures none { IfNone result (slots_in self.now place ≡ []) }
+        ensures board { IsBoard self.now }
+    {
+        base_in(self.bases(), place)
+    }
+
+    /// The base of a place that has one.
+    pub fn base_of(&self, place: u8) -> &Base
+        requires { place < length self.now.conferences }
+        ensures base { slice_get (contents_of self.now) place ≡ Some result.now }
+        ensures board { IsBoard self.now }
+        ensures outline { board_outline self.now ≡ self.now }
+    {
+        match self.bases().get(usize::from(place)) {
+            Some(base) => base,
+            None => unreachable!(),
+        }
+    }
+
+    /// How many slots the conference in a place has, none where no conference is there.
+    pub fn slot_count(&self, place: u8) -> u32
+        ensures count { result ≡ length (slots_in self.now place) }
+        ensures few { result ≤ 9999 }
+        ensures board { IsBoard self.now }
+    {
+        match self.base_at(place) {
+            Some(base) => base.slot_count(),
+            None => 0,
+        }
+    }
+}
