@@ -6,10 +6,10 @@ use Rattle.std.proofs.lemmas.Bool.{and_from, eq-eqb, eqb-false, eqb-true, le-leb
 use Rattle.std.proofs.lemmas.List.{get_or_push, length-map, length-take}
 use Rattle.std.proofs.lemmas.List.Elements.{All-append, All-cons, All-nil}
 use Rattle.jam_adopt.specs.Bodies.{ended_text, is_ended, without_feeds}
-use Rattle.jam_adopt.specs.Fields.{fields_of, first_value}
+use Rattle.jam_adopt.specs.Fields.{fields_of, value_of_id}
 use Rattle.jam_adopt.specs.Foreign.{foreign, foreign_from, found_at, is_no_header, verdict_of}
 use Rattle.jam_adopt.specs.Values.{kept_address, kept_id, kept_name, kept_text, printable}
-use Rattle.jam_adopt.specs.Verdicts.{body_in, field_bytes, first_holding, header_in, message_of, rules_behind, unless_refused, verdict_at, verdict_behind, verdict_on, wrong_fields, wrong_header, wrong_length, wrong_text}
+use Rattle.jam_adopt.specs.Verdicts.{body_in, field_bytes, first_holding, header_in, adopted_message, rules_behind, taken_unless_refused, verdict_at, verdict_behind, verdict_on_header, wrong_subfields, wrong_header, wrong_length, text_past_end}
 use Rattle.jam_adopt.specs.declared.found.ForeignRule.TheVariants as rule
 use Rattle.jam_adopt.specs.declared.found.Found.{Found}
 use Rattle.jam_adopt.specs.declared.found.FoundVerdict.{FoundVerdict}
@@ -99,30 +99,30 @@ ended_right text = by (is_ended text) refl
     by false is short = body_is (text ++ 0x0D ∷ []) short (inr (get_or_push text 0x0D 0 (length (text ++ 0x0D ∷ []) - 1) (omega (arith, length-append text (0x0D ∷ [])))))
 
 -- ---- a message
-texts_right : (h : MessageHeader) (fields : List Subfield) (body : List ℕ) → has_right_texts (message_of h fields body) ≡ true
-unfolding has_right_texts message_of
+texts_right : (h : MessageHeader) (fields : List Subfield) (body : List ℕ) → has_right_texts (adopted_message h fields body) ≡ true
+unfolding has_right_texts adopted_message
 texts_right h fields body =
-    let from : List ℕ = kept_name (codes "Unknown") (first_value 2 fields) in
-    let to : List ℕ = kept_name (codes "All") (first_value 3 fields) in
-    let origin : List ℕ = kept_address (first_value 0 fields) in
-    let destination : List ℕ = kept_address (first_value 1 fields) in
-    let msgid : List ℕ = kept_id (first_value 4 fields) in
-    let replyid : List ℕ = kept_id (first_value 5 fields) in
-    let subject : List ℕ = kept_text 72 (first_value 6 fields) in
+    let from : List ℕ = kept_name (codes "Unknown") (value_of_id 2 fields) in
+    let to : List ℕ = kept_name (codes "All") (value_of_id 3 fields) in
+    let origin : List ℕ = kept_address (value_of_id 0 fields) in
+    let destination : List ℕ = kept_address (value_of_id 1 fields) in
+    let msgid : List ℕ = kept_id (value_of_id 4 fields) in
+    let replyid : List ℕ = kept_id (value_of_id 5 fields) in
+    let subject : List ℕ = kept_text 72 (value_of_id 6 fields) in
     and_from ((is_text 36 from && is_text 36 to) && (is_empty_or is_address origin && is_empty_or is_address destination)) ((is_empty_or (is_text 80) msgid && is_empty_or (is_text 80) replyid) && is_empty_or (is_text 72) subject)
     (and_from (is_text 36 from && is_text 36 to) (is_empty_or is_address origin && is_empty_or is_address destination)
-    (and_from (is_text 36 from) (is_text 36 to) (name_right (codes "Unknown") (first_value 2 fields) unknown_right) (name_right (codes "All") (first_value 3 fields) all_right))
-    (and_from (is_empty_or is_address origin) (is_empty_or is_address destination) (passing_right is_address (first_value 0 fields)) (passing_right is_address (first_value 1 fields))))
+    (and_from (is_text 36 from) (is_text 36 to) (name_right (codes "Unknown") (value_of_id 2 fields) unknown_right) (name_right (codes "All") (value_of_id 3 fields) all_right))
+    (and_from (is_empty_or is_address origin) (is_empty_or is_address destination) (passing_right is_address (value_of_id 0 fields)) (passing_right is_address (value_of_id 1 fields))))
     (and_from (is_empty_or (is_text 80) msgid && is_empty_or (is_text 80) replyid) (is_empty_or (is_text 72) subject)
-    (and_from (is_empty_or (is_text 80) msgid) (is_empty_or (is_text 80) replyid) (passing_right (is_text 80) (first_value 4 fields)) (passing_right (is_text 80) (first_value 5 fields))) (subject_right 72 (first_value 6 fields)))
+    (and_from (is_empty_or (is_text 80) msgid) (is_empty_or (is_text 80) replyid) (passing_right (is_text 80) (value_of_id 4 fields)) (passing_right (is_text 80) (value_of_id 5 fields))) (subject_right 72 (value_of_id 6 fields)))
 
-short_right : (h : MessageHeader) (fields : List Subfield) (text : List ℕ) → length (ended_text text) ≤ 16384 → IsRight (Taken (message_of h fields (ended_text text)))
-unfolding message_of
+short_right : (h : MessageHeader) (fields : List Subfield) (text : List ℕ) → length (ended_text text) ≤ 16384 → IsRight (Taken (adopted_message h fields (ended_text text)))
+unfolding adopted_message
 short_right h fields text short = (texts_right h fields (ended_text text), ended_right text short)
 
 -- ---- verdicts
 -- the message of a header that no rule refuses is right
-unrefused_right : (fields text long : Bool) (m : Message) → (long ≡ false → IsRight (Taken m)) → IsRight (unless_refused (first_holding ((rule.Subfields, fields) ∷ (rule.Text, text) ∷ (rule.Length, long) ∷ [])) m)
+unrefused_right : (fields text long : Bool) (m : Message) → (long ≡ false → IsRight (Taken m)) → IsRight (taken_unless_refused (first_holding ((rule.Subfields, fields) ∷ (rule.Text, text) ∷ (rule.Length, long) ∷ [])) m)
 unrefused_right true text long m right = tt
 unrefused_right false true long m right = tt
 unrefused_right false false true m right = tt
@@ -133,7 +133,7 @@ unfolding verdict_behind rules_behind
 behind_right jhr jdt at h =
     let fields : List Subfield = unwrap_or (fields_of (field_bytes jhr at h)) [] in
     let text : List ℕ = slice_range jdt h.offset (h.offset + h.text_len) in
-    unrefused_right (wrong_fields jhr at h) (wrong_text jdt h) (wrong_length jdt h) (message_of h fields (body_in jdt h)) (λ few. short_right h fields (without_feeds text) (ltb-false 16384 (length (body_in jdt h)) few))
+    unrefused_right (wrong_subfields jhr at h) (text_past_end jdt h) (wrong_length jdt h) (adopted_message h fields (body_in jdt h)) (λ few. short_right h fields (without_feeds text) (ltb-false 16384 (length (body_in jdt h)) few))
 
 -- a verdict, where there is one
 abbrev IsRightWhere : Option FoundVerdict → Type 0
@@ -148,7 +148,7 @@ at_right : (jhr jdt : List ℕ) (at : ℕ) → IsRightWhere (verdict_at jhr jdt 
 unfolding verdict_at
 at_right jhr jdt at =
     let h : MessageHeader = header_in jhr at in
-    either_right (wrong_header jhr at) (Some (Refused rule.Header)) (verdict_on jhr jdt at h) tt (either_right (marks_of h.attribute).deleted None (Some (verdict_behind jhr jdt at h)) tt (behind_right jhr jdt at h))
+    either_right (wrong_header jhr at) (Some (Refused rule.Header)) (verdict_on_header jhr jdt at h) tt (either_right (marks_of h.attribute).deleted None (Some (verdict_behind jhr jdt at h)) tt (behind_right jhr jdt at h))
 
 of_right : (jhr jdt : List ℕ) (r : IndexRecord) → IsRightWhere (verdict_of jhr jdt r)
 unfolding verdict_of

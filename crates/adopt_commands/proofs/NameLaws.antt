@@ -3,7 +3,7 @@ use Rattle.std.proofs.Common.{◌≡◌, inl, inr, ℕ, ◌≤◌, Bool, true, f
 use Rattle.std.specs.Prelude.{All, codes}
 use Rattle.std.specs.List.{onto_first}
 use Rattle.std.proofs.lemmas.List.Elements.{All-cons, All-head, All-nil, All-tail}
-use Rattle.door_outside.specs.Name.{IsNameByte, IsPart, IsShelfName, parts}
+use Rattle.door_outside.specs.Name.{IsNameByte, IsNamePart, IsShelfName, parts}
 
 -- a part has the length and the first byte of another one, and its bytes are allowed where the other's are
 record IsLike (one other : List ℕ) : Type 0 where
@@ -21,7 +21,7 @@ more_like b one other like = record {
   first = refl;
 }
 
-part_like : (one other : List ℕ) → IsLike one other → IsPart one → IsPart other
+part_like : (one other : List ℕ) → IsLike one other → IsNamePart one → IsNamePart other
 part_like one other like is = record {
   some = omega (arith, like.long, is.some);
   short = omega (arith, like.long, is.short);
@@ -42,11 +42,11 @@ count_like [] (part ∷ others) like = absurd like
 count_like (part ∷ ones) [] like = absurd like
 count_like (one ∷ ones) (other ∷ others) like = omega (arith, count_like ones others like.1)
 
-parts_like : (ones others : List (List ℕ)) → AreLike ones others → All IsPart ones → All IsPart others
-parts_like [] [] like all = All-nil IsPart
+parts_like : (ones others : List (List ℕ)) → AreLike ones others → All IsNamePart ones → All IsNamePart others
+parts_like [] [] like all = All-nil IsNamePart
 parts_like [] (part ∷ others) like all = absurd like
 parts_like (part ∷ ones) [] like all = absurd like
-parts_like (one ∷ ones) (other ∷ others) like all = All-cons IsPart other others (part_like one other like.0 (All-head IsPart one ones all)) (parts_like ones others like.1 (All-tail IsPart one ones all))
+parts_like (one ∷ ones) (other ∷ others) like all = All-cons IsNamePart other others (part_like one other like.0 (All-head IsNamePart one ones all)) (parts_like ones others like.1 (All-tail IsNamePart one ones all))
 
 -- a byte more in front of both, which splits or doesn't
 front_like : (splits : Bool) (b : ℕ) (ones others : List (List ℕ)) → AreLike ones others → AreLike (cond splits ([] ∷ ones) (onto_first b ones)) (cond splits ([] ∷ others) (onto_first b others))

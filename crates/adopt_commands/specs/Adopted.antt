@@ -10,7 +10,7 @@ use Rattle.jam_records.specs.declared.message.Kind.{Kind}
 use Rattle.jam_records.specs.declared.message.Message.{Message}
 use Rattle.mail_intake.specs.Lines.{posted_line, refused_line}
 use Rattle.mail_intake.specs.Room.{is_full}
-use Rattle.message_commands.specs.Import.{kind_of}
+use Rattle.message_commands.specs.Import.{kind_of_place}
 use Rattle.packet_verdicts.specs.Views.{next_number}
 use Rattle.post_changes.specs.Posted.{spread}
 
@@ -20,7 +20,7 @@ kept_in kind m = record m { private = m.private || is_net kind }
 
 -- the post that a message becomes in a place
 abbrev pub post_of : ℕ → Board → Message → ℕ × Message
-post_of place b m = (place, kept_in (kind_of place b) m)
+post_of place b m = (place, kept_in (kind_of_place place b) m)
 
 -- The lines and the posts so far, and those with one record more. A message is posted where there is room for it behind
 -- the posts, and is refused as `full` where there isn't.

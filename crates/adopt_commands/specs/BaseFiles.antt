@@ -7,7 +7,7 @@ use Rattle.jam_adopt.specs.declared.found.Found.{Found}
 use Rattle.jam_adopt.specs.declared.error.ForeignError.{ForeignError}
 use Rattle.jam_adopt.specs.declared.error.ForeignError.TheVariants.{Short, Signature, OutOfMemory}
 use Rattle.jam_records.specs.Signature.{signature}
-use Rattle.shelf_files.specs.ShelfFile.{file_of, foreign_limit}
+use Rattle.shelf_files.specs.ShelfFile.{file_within, foreign_limit}
 use Rattle.shelf_files.specs.declared.halt.Halt.{Halt}
 use Rattle.shelf_files.specs.declared.halt.Halt.TheVariants as halt
 use Rattle.shelf_files.specs.declared.refusal.Refusal.{Refusal}
@@ -15,7 +15,7 @@ use Rattle.shelf_files.specs.declared.refusal.Refusal.TheVariants.{ForeignShort,
 
 -- the file with an ending, or why there is none
 abbrev pub ending_of : Files → List ℕ → List ℕ → Result (List ℕ) Refusal
-ending_of shelf prefix ending = file_of shelf (prefix ++ ending) foreign_limit
+ending_of shelf prefix ending = file_within shelf (prefix ++ ending) foreign_limit
 
 -- what the records of the three files come to, or why they are no base
 abbrev pub found_in : List ℕ → List ℕ → List ℕ → Result (List Found) Refusal

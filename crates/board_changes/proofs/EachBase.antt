@@ -5,7 +5,7 @@ use Rattle.board_changes.specs.Outlined.{ChangesEach}
 use Rattle.board_layout.proofs.OneOutline.{alike_base_size}
 use Rattle.board_layout.specs.Layout.{files_in}
 use Rattle.intent_journal.specs.Journal.{patches_text}
-use Rattle.intent_journal.specs.Patches.{bytes_of, place_of}
+use Rattle.intent_journal.specs.Patches.{bytes_of, patch_offset}
 use Rattle.intent_journal.specs.declared.patch.Patch.{Patch}
 use Rattle.jam_base.specs.Change.{SuitsIntent, Turns}
 use Rattle.jam_base.specs.Contents.{Contents}
@@ -18,7 +18,7 @@ pub suits_alike : (place : ℕ) (a b : BaseFiles) (patches : List Patch) → fil
 suits_alike place a b patches size suits = record {
   within = suits.within;
   once = suits.once;
-  ends = subst (λ (n : ℕ). All (λ patch. place_of patch + length (bytes_of patch) ≤ n) patches) size suits.ends;
+  ends = subst (λ (n : ℕ). All (λ patch. patch_offset patch + length (bytes_of patch) ≤ n) patches) size suits.ends;
   short = subst (λ (n : ℕ). 5 * length (patches_text patches) ≤ 5 * (4 * 11) + 6 * n) size suits.short;
 }
 

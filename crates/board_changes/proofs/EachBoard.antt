@@ -5,7 +5,7 @@ use Rattle.board_changes.proofs.EachBase.{each_shape, each_suits, each_turns, su
 use Rattle.board_changes.proofs.LeadLaws.{leads_next}
 use Rattle.board_changes.proofs.OneBase.{base_leads}
 use Rattle.board_changes.proofs.PlaceSteps.{step_gathered}
-use Rattle.board_changes.specs.Change.{Changes, Leads}
+use Rattle.board_changes.specs.Change.{ChangesBase, Leads}
 use Rattle.board_changes.specs.Changed.{base_at, with_base}
 use Rattle.board_changes.specs.Gathered.{Gathered}
 use Rattle.board_changes.specs.Outlined.{ChangesEach, GatheredEach, KeepsEach, LeadsEach, MadeBy, with_changed}
@@ -31,7 +31,7 @@ pub keeps_as : (old : Board) (change other : Board → Board) → ((b : Board) �
 keeps_as old change other same each = record { valid = λ b valid alike. subst IsBoard (same b alike) (each.valid b valid alike) }
 
 -- ---- the change of one conference
-module _ (old : Board) (place : ℕ) (base : Contents) (f : Contents → Contents) (change : BaseChange) (here : base_at place old ≡ Some base) (changes : Changes base change)
+module _ (old : Board) (place : ℕ) (base : Contents) (f : Contents → Contents) (change : BaseChange) (here : base_at place old ≡ Some base) (changes : ChangesBase base change)
     (made : MadeBy f change base) (keeps : KeepsEach old (with_changed place f)) where
   suits : SuitsIntent base.shape.place (files_in (f base)) change.patches
   suits = suits_alike base.shape.place (files_in change.base) (files_in (f base)) change.patches (alike_base_size change.base (f base) made.base) changes.intent
@@ -44,7 +44,7 @@ module _ (old : Board) (place : ℕ) (base : Contents) (f : Contents → Content
       let there = alike_base b old alike place base here in
       let other : Contents = there.0 in
       let own : BaseChange = record { base = f other; patches = change.patches } in
-      let own_changes : Changes other own = record {
+      let own_changes : ChangesBase other own = record {
         shape = each_shape base f change.patches made.each other there.2 stays;
         intent = each_suits base f change.patches made.each other there.2 suits;
       } in
@@ -55,7 +55,7 @@ module _ (old : Board) (place : ℕ) (base : Contents) (f : Contents → Content
   base_leads_each = record { leads = leads_one }
 
 -- where there is such a base
-pub leads_there : (old : Board) (place : ℕ) (f : Contents → Contents) (change : BaseChange) (o : Option Contents) → base_at place old ≡ o → IsSomeAnd o (λ base. Changes base change) → IsSomeAnd o (MadeBy f change)
+pub leads_there : (old : Board) (place : ℕ) (f : Contents → Contents) (change : BaseChange) (o : Option Contents) → base_at place old ≡ o → IsSomeAnd o (λ base. ChangesBase base change) → IsSomeAnd o (MadeBy f change)
     → KeepsEach old (with_changed place f) → LeadsEach old (with_changed place f) change.patches
 leads_there old place f change None here changes each keeps = absurd changes
 leads_there old place f change (Some base) here changes each keeps = base_leads_each old place base f change here changes each keeps

@@ -6,7 +6,7 @@ use Rattle.std.proofs.lemmas.List.{append-nil, take_more}
 use Rattle.std.proofs.lemmas.List.Sums.{sum_by-append, sum_by-cons, sum_by-take-le}
 use Rattle.std.proofs.lemmas.List.Elements.{All-nil, All-cons, All-append}
 use Rattle.door_outside.specs.File.{ledger_file, journal_file, jhr_file, jdt_file, jdx_file, jlr_file}
-use Rattle.intent_journal.specs.Journal.{Takes}
+use Rattle.intent_journal.specs.Journal.{TakesPatch}
 use Rattle.intent_journal.specs.Patches.{Files, file_of, patched}
 use Rattle.intent_journal.specs.declared.patch.Patch.{Patch}
 use Rattle.intent_journal.specs.declared.patch.Patch.TheVariants.{Whole}
@@ -152,7 +152,7 @@ gathered_all P ledger old new patches gathered fewer files here place within = g
     ]
 
 -- ---- an intent of the ledger alone
-pub takes_ledger : (ledger : List ℕ) → length ledger ≤ 5000000 → Takes [] (Whole ledger_file ledger)
+pub takes_ledger : (ledger : List ℕ) → length ledger ≤ 5000000 → TakesPatch [] (Whole ledger_file ledger)
 takes_ledger ledger small = record {
   no_journal = λ e. omega (arith, e);
   once = refl;

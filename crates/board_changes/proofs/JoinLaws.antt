@@ -7,8 +7,8 @@ use Rattle.std.proofs.lemmas.Bool.{and_parts, and_from, and_right, or_parts, eq-
 use Rattle.std.proofs.lemmas.List.Folds.{list_any-append}
 use Rattle.std.proofs.lemmas.List.Elements.{All-drop}
 use Rattle.door_outside.specs.File.{journal_file}
-use Rattle.intent_journal.specs.Journal.{patch_text, patches_text, journal_text, Takes}
-use Rattle.intent_journal.specs.Patches.{Files, file_of, place_of, bytes_of, is_whole, apply, begins_within, patched, are_within, clash, is_once}
+use Rattle.intent_journal.specs.Journal.{patch_text, patches_text, journal_text, TakesPatch}
+use Rattle.intent_journal.specs.Patches.{Files, file_of, patch_offset, bytes_of, is_whole, apply, begins_within, patched, are_within, clash, is_once}
 use Rattle.intent_journal.specs.declared.patch.Patch.{Patch}
 use Rattle.board_changes.specs.Gathered.{Joins}
 
@@ -65,7 +65,7 @@ once_append (p ∷ ps) qs one other differ =
     and_from (not (list_any (clash p) (ps ++ qs))) (is_once (ps ++ qs)) (ap not here) (once_append ps qs parts.1 other (All-drop (λ r. All (λ q. file_of q ≢ file_of r) qs) 1 (p ∷ ps) differ))
 
 -- ---- what an intent asks of the next patch
-pub takes_first : (intent : List Patch) (p : Patch) (rest : List Patch) → Joins intent (p ∷ rest) → Takes intent p
+pub takes_first : (intent : List Patch) (p : Patch) (rest : List Patch) → Joins intent (p ∷ rest) → TakesPatch intent p
 takes_first intent p rest joins = record {
   no_journal = joins.no_journal 0 p (omega arith);
   once = last_once intent p rest joins.once;
@@ -78,6 +78,6 @@ pub joins_on : (intent : List Patch) (p : Patch) (rest : List Patch) → Joins i
 joins_on intent p rest joins = record {
   no_journal = All-drop (λ q. file_of q ≢ journal_file) 1 (p ∷ rest) joins.no_journal;
   once = subst (λ (qs : List Patch). is_once qs ≡ true) (sym (append_assoc intent (p ∷ []) rest)) joins.once;
-  ends = All-drop (λ q. place_of q + length (bytes_of q) < 2 ^ 31) 1 (p ∷ rest) joins.ends;
+  ends = All-drop (λ q. patch_offset q + length (bytes_of q) < 2 ^ 31) 1 (p ∷ rest) joins.ends;
   fits = subst (λ (qs : List Patch). length (journal_text qs) ≤ 41943040) (sym (append_assoc intent (p ∷ []) rest)) joins.fits;
 }

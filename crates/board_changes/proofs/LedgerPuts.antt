@@ -19,7 +19,7 @@ use Rattle.board_ledger.specs.declared.ledger.Ledger.{Ledger}
 use Rattle.board_ledger.specs.declared.user.User.{User}
 use Rattle.door_outside.specs.File.{ledger_file, jhr_file, jdt_file, jdx_file, jlr_file}
 use Rattle.intent_journal.specs.Journal.{patch_text, patches_text}
-use Rattle.intent_journal.specs.Patches.{Files, bytes_of, file_of, is_once, patched, place_of}
+use Rattle.intent_journal.specs.Patches.{Files, bytes_of, file_of, is_once, patched, patch_offset}
 use Rattle.intent_journal.specs.declared.patch.Patch.{Patch}
 use Rattle.intent_journal.specs.declared.patch.Patch.TheVariants.{Put}
 use Rattle.jam_base.specs.Change.{files_of_place}
@@ -30,7 +30,7 @@ use Rattle.record_numbers.specs.Numbers.{u16_text}
 pub record Begins (next : List ℕ) (patches : List Patch) : Type 0 where
   pub own : All (λ patch. file_of patch ≡ ledger_file) patches
   pub once : IsTrue (is_once patches)
-  pub ends : All (λ patch. place_of patch + length (bytes_of patch) ≤ length next) patches
+  pub ends : All (λ patch. patch_offset patch + length (bytes_of patch) ≤ length next) patches
   pub short : length (patches_text patches) ≤ 11 + length next
 
 pub begins_join : (next : Ledger) (patches : List Patch) → Begins (ledger_text next) patches → IsLedger next → Joins [] patches
@@ -74,7 +74,7 @@ one_begins next bytes at ends =
     record {
       own = All-cons (λ (p : Patch). file_of p ≡ ledger_file) put [] refl (All-nil (λ (p : Patch). file_of p ≡ ledger_file));
       once = refl;
-      ends = All-cons (λ (p : Patch). place_of p + length (bytes_of p) ≤ length next) put [] ends (All-nil (λ (p : Patch). place_of p + length (bytes_of p) ≤ length next));
+      ends = All-cons (λ (p : Patch). patch_offset p + length (bytes_of p) ≤ length next) put [] ends (All-nil (λ (p : Patch). patch_offset p + length (bytes_of p) ≤ length next));
       short = omega (arith, put_text at bytes [], ends);
     }
 
@@ -86,7 +86,7 @@ two_begin next bytes others at place ends then short =
     record {
       own = All-cons (λ (p : Patch). file_of p ≡ ledger_file) first last refl behind.own;
       once = refl;
-      ends = All-cons (λ (p : Patch). place_of p + length (bytes_of p) ≤ length next) first last ends behind.ends;
+      ends = All-cons (λ (p : Patch). patch_offset p + length (bytes_of p) ≤ length next) first last ends behind.ends;
       short = omega (arith, put_text at bytes last, put_text place others [], short);
     }
 

@@ -7,12 +7,12 @@ use Rattle.std.proofs.lemmas.List.{map-set, get_or-set_other, length-map, length
 use Rattle.std.proofs.lemmas.List.Elements.{All-nil, All-cons, All-set, All-weaker}
 use Rattle.std.proofs.lemmas.List.Sums.{get_or-le-sum_by, sum_by-set}
 use Rattle.std.proofs.lemmas.Option.{get_or_from_slice_get, slice_get_within, none-some, same_Some}
-use Rattle.board_changes.specs.Change.{Changes, Leads}
+use Rattle.board_changes.specs.Change.{ChangesBase, Leads}
 use Rattle.board_changes.specs.Changed.{base_at, with_base}
 use Rattle.board_changes.specs.Gathered.{at_place, Gathered, Joins}
 use Rattle.door_outside.specs.File.{journal_file}
 use Rattle.intent_journal.specs.Journal.{patches_text}
-use Rattle.intent_journal.specs.Patches.{bytes_of, file_of, place_of}
+use Rattle.intent_journal.specs.Patches.{bytes_of, file_of, patch_offset}
 use Rattle.intent_journal.specs.declared.patch.Patch.{Patch}
 use Rattle.board_changes.proofs.GatherLaws.{gathered_kept, gathered_more, gathered_rest}
 use Rattle.board_changes.proofs.JoinLaws.{journal_length}
@@ -174,7 +174,7 @@ module _ (b : Board) (place : ℕ) (old new : Contents) (ok : IsBoard b) (here :
 
 -- ---- the change of one base
 -- the base that changes, where there is one
-pub changed_there : (o : Option Contents) (change : BaseChange) → IsSomeAnd o (λ old. Changes old change) → (old : Contents) × (o ≡ Some old) × Changes old change
+pub changed_there : (o : Option Contents) (change : BaseChange) → IsSomeAnd o (λ old. ChangesBase old change) → (old : Contents) × (o ≡ Some old) × ChangesBase old change
 changed_there None change is = absurd is
 changed_there (Some old) change is = (old, refl, is)
 
@@ -186,11 +186,11 @@ suits_joins : (place : ℕ) (new : BaseFiles) (patches : List Patch) → SuitsIn
 suits_joins place new patches suits small = record {
   no_journal = All-weaker (λ (p : Patch). IsOfPlace place (file_of p)) (λ (p : Patch). file_of p ≢ journal_file) (λ p within e. omega (arith, within.0, e)) patches suits.within;
   once = suits.once;
-  ends = All-weaker (λ (p : Patch). place_of p + length (bytes_of p) ≤ files_size new) (λ (p : Patch). place_of p + length (bytes_of p) < 2 ^ 31) (λ p most. omega (arith, most, small)) patches suits.ends;
+  ends = All-weaker (λ (p : Patch). patch_offset p + length (bytes_of p) ≤ files_size new) (λ (p : Patch). patch_offset p + length (bytes_of p) < 2 ^ 31) (λ p most. omega (arith, most, small)) patches suits.ends;
   fits = let most = limit_spelled (files_size new) (length (patches_text patches)) small suits.short in omega (arith, journal_length patches, most);
 }
 
-module _ (b : Board) (place : ℕ) (old : Contents) (change : BaseChange) (ok : IsBoard b) (here : base_at place b ≡ Some old) (changes : Changes old change) (next : IsBoard (with_base place (Some change.base) b)) where
+module _ (b : Board) (place : ℕ) (old : Contents) (change : BaseChange) (ok : IsBoard b) (here : base_at place b ≡ Some old) (changes : ChangesBase old change) (next : IsBoard (with_base place (Some change.base) b)) where
   base_small : files_size (files_in change.base) ≤ board_limit
   base_small =
       let bases : List Contents = set (contents_of b) place change.base in
@@ -207,7 +207,7 @@ module _ (b : Board) (place : ℕ) (old : Contents) (change : BaseChange) (ok : 
   base_becomes = renewed_only (contents_of b) place change.base ∙ sym (contents_next b place old change.base ok here changes.shape)
 
 -- ---- the files, where the patches make those of the new base
-module _ (b : Board) (place : ℕ) (old : Contents) (change : BaseChange) (ok : IsBoard b) (here : base_at place b ≡ Some old) (changes : Changes old change) (moved : Turns old.shape.place (files_in old) (files_in change.base) change.patches)
+module _ (b : Board) (place : ℕ) (old : Contents) (change : BaseChange) (ok : IsBoard b) (here : base_at place b ≡ Some old) (changes : ChangesBase old change) (moved : Turns old.shape.place (files_in old) (files_in change.base) change.patches)
     (next : IsBoard (with_base place (Some change.base) b)) where
   small : place < 64
   small = place_small b place old ok here

@@ -1,7 +1,7 @@
 -- What an intent asks of the patches of one place's change, where there is one.
 use Rattle.std.proofs.Common.{◌≡◌, List, subst}
 use Rattle.std.specs.Prelude.{Option, Some, None, IfSome}
-use Rattle.board_changes.specs.Change.{Changes}
+use Rattle.board_changes.specs.Change.{ChangesBase}
 use Rattle.board_changes.specs.Gathered.{Joins}
 use Rattle.board_layout.specs.Layout.{files_in}
 use Rattle.intent_journal.specs.declared.patch.Patch.{Patch}
@@ -9,12 +9,12 @@ use Rattle.jam_base.proofs.PatchLaws.{nothing_small}
 use Rattle.jam_base.specs.Change.{SuitsIntent}
 use Rattle.jam_base.specs.Contents.{Contents}
 use Rattle.jam_base.specs.declared.change.BaseChange.{BaseChange}
-use Rattle.board_changes.specs.Steps.{base_after, patches_of}
+use Rattle.board_changes.specs.Steps.{base_after, patches_or_none}
 
-pub change_suits : (old new : Contents) (change : Option BaseChange) → IfSome change (Changes old) → base_after old change ≡ new → SuitsIntent old.shape.place (files_in new) (patches_of change)
+pub change_suits : (old new : Contents) (change : Option BaseChange) → IfSome change (ChangesBase old) → base_after old change ≡ new → SuitsIntent old.shape.place (files_in new) (patches_or_none change)
 change_suits old new None changes is = nothing_small old.shape.place (files_in new)
 change_suits old new (Some change) changes is = subst (λ (c : Contents). SuitsIntent old.shape.place (files_in c) change.patches) is changes.intent
 
-pub change_joins : (done : List Patch) (change : Option BaseChange) → Joins done (patches_of change) → IfSome change (λ c. Joins done c.patches)
+pub change_joins : (done : List Patch) (change : Option BaseChange) → Joins done (patches_or_none change) → IfSome change (λ c. Joins done c.patches)
 change_joins done None joins = tt
 change_joins done (Some change) joins = joins

@@ -21,6 +21,6 @@ pub record Becomes (old next : Board) (change : BoardChange) : Type 0 where
   pub bases : renewed (contents_of old) change.bases ≡ contents_of next
 
 -- The change of a base leaves its shape, and suits an intent.
-pub record Changes (old : Contents) (change : BaseChange) : Type 0 where
+pub record ChangesBase (old : Contents) (change : BaseChange) : Type 0 where
   pub shape : change.base.shape ≡ old.shape
   pub intent : SuitsIntent old.shape.place (files_in change.base) change.patches

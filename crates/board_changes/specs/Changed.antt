@@ -1,6 +1,7 @@
 -- Boards after a change.
 use Rattle.std.specs.Prelude.{ℕ, ◌+◌, List, [], ◌∷◌, ◌++◌, slice_get, slice_set, Option, Some, None, Bool, ◌==◌, if◌then◌else◌}
 use Rattle.std.specs.Int.{bit_at}
+pub use Rattle.board_ledger.specs.EnrollPuts.{with_user}
 use Rattle.board_ledger.specs.declared.ledger.Ledger.{Ledger}
 use Rattle.board_ledger.specs.declared.user.User.{User}
 use Rattle.board_layout.specs.Board.{Board, shapes_of, board_with}
@@ -42,9 +43,6 @@ joined_in members place c = if bit_at members place == 1 then record c { pointer
 abbrev pub joined_from : ℕ → ℕ → List Conference → List Conference
 joined_from members place [] = []
 joined_from members place (c ∷ conferences) = joined_in members place c ∷ joined_from members (place + 1) conferences
-
-abbrev pub with_user : User → Ledger → Ledger
-with_user user l = record l { users = l.users ++ user ∷ [] }
 
 -- the board with a user behind the others, whose id is the count of all
 abbrev pub with_member : User → Board → Board

@@ -2,7 +2,7 @@
 use Rattle.std.specs.Prelude.{◌≡◌, ◌≢◌, ℕ, ◌+◌, ◌*◌, ◌<◌, ◌≤◌, ◌^◌, List, ◌++◌, length, take, slice_index_or, sum_by, All, IsTrue, nat_lt, if◌then◌else◌}
 use Rattle.door_outside.specs.File.{ledger_file, journal_file, jhr_file}
 use Rattle.intent_journal.specs.Journal.{journal_text, patches_text}
-use Rattle.intent_journal.specs.Patches.{Files, file_of, place_of, bytes_of, patched, are_within, is_once}
+use Rattle.intent_journal.specs.Patches.{Files, file_of, patch_offset, bytes_of, patched, are_within, is_once}
 use Rattle.intent_journal.specs.declared.patch.Patch.{Patch}
 use Rattle.jam_base.specs.Change.{files_of_place}
 use Rattle.jam_layout.specs.Layout.{files_size}
@@ -40,5 +40,5 @@ FitJournal ledger new = 5 * (13 + (11 + length ledger + 44 * length new)) + 6 * 
 pub record Joins (intent patches : List Patch) : Type 0 where
   pub no_journal : All (λ patch. file_of patch ≢ journal_file) patches
   pub once : IsTrue (is_once (intent ++ patches))
-  pub ends : All (λ patch. place_of patch + length (bytes_of patch) < 2 ^ 31) patches
+  pub ends : All (λ patch. patch_offset patch + length (bytes_of patch) < 2 ^ 31) patches
   pub fits : length (journal_text (intent ++ patches)) ≤ 41943040

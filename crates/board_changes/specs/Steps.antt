@@ -9,5 +9,5 @@ abbrev pub base_after : Contents → Option BaseChange → Contents
 base_after old change = unwrap_or (option_map (λ c. c.base) change) old
 
 -- its patches, or none
-abbrev pub patches_of : Option BaseChange → List Patch
-patches_of change = unwrap_or (option_map (λ c. c.patches) change) []
+abbrev pub patches_or_none : Option BaseChange → List Patch
+patches_or_none change = unwrap_or (option_map (λ c. c.patches) change) []

@@ -1,5 +1,5 @@
 ghost use Rattle.std.specs.Prelude.{◌≡◌, ◌++◌, ◌∷◌, [], Some, None, replicate, IfOk, IsSomeAnd};
-ghost use Rattle.board_changes.specs.Change.{Becomes, Changes};
+ghost use Rattle.board_changes.specs.Change.{Becomes, ChangesBase};
 ghost use Rattle.board_changes.specs.Changed.{base_at, with_base as with_base_of};
 ghost use Rattle.board_changes.specs.Outlined.{KeepsEach, LeadsEach, MadeBy, with_changed};
 ghost use Rattle.board_layout.specs.Valid.{IsBoard};
@@ -35,7 +35,7 @@ pub fn with_base(
     place: u8,
     change: BaseChange,
 ) -> Result<BoardChange, AllocError>
-    requires change { IsSomeAnd (base_at place board.now) (λ old. Changes old change) }
+    requires change { IsSomeAnd (base_at place board.now) (λ old. ChangesBase old change) }
     requires next { IsBoard (with_base_of place (Some change.base) board.now) }
     ensures becomes { IfOk result (λ next. Becomes board.now (with_base_of place (Some change.base) board.now) next) }
     ensures each { IfOk result (λ next. (f : Contents → Contents) → IsSomeAnd (base_at place board.now) (MadeBy f change) → KeepsEach board.now (with_changed place f) → LeadsEach board.now (with_changed place f) next.intent) }

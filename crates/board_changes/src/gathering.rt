@@ -1,6 +1,6 @@
 ghost use Rattle.std.specs.Prelude.{◌≡◌, ◌++◌, ◌∷◌, [], option_map, IfOk, IfSome, OnOk};
 ghost use Rattle.board_changes.specs.Gathered.{Joins};
-ghost use Rattle.board_changes.specs.Steps.{patches_of};
+ghost use Rattle.board_changes.specs.Steps.{patches_or_none};
 ghost use Rattle.board_ledger.specs.Ledger.{ledger_text};
 ghost use Rattle.board_ledger.specs.Valid.{IsLedger};
 ghost use Rattle.door_outside.specs.File.{ledger_file};
@@ -31,7 +31,7 @@ pub fn add_all(intent: &mut Intent, patches: Patches) -> Result<(), AllocError>
 pub fn gather(change: Option<BaseChange>, intent: &mut Intent) -> Result<Option<Base>, AllocError>
     requires { IfSome change (λ c. Joins intent.old c.patches) }
     ensures base { IfOk result (λ base. base ≡ option_map (λ c. c.base) change) }
-    ensures gathers { OnOk result (intent.new ≡ intent.old ++ patches_of change) }
+    ensures gathers { OnOk result (intent.new ≡ intent.old ++ patches_or_none change) }
 {
     match change {
         None => Ok(None),

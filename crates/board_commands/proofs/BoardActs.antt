@@ -20,7 +20,7 @@ use Rattle.setup_file.specs.declared.setup.Setup.{Setup}
 use Rattle.shelf_files.proofs.Replies.{read_unique, some_refusal}
 use Rattle.shelf_files.specs.declared.refusal.Refusal.{Refusal}
 use Rattle.shelf_files.specs.declared.refusal.Refusal.TheVariants as refusal
-use Rattle.shelf_files.specs.ShelfFile.{file_of, file_limit}
+use Rattle.shelf_files.specs.ShelfFile.{file_within, file_limit}
 use Rattle.board_commands.specs.Check.{checked}
 use Rattle.board_commands.specs.Damages.{damaged}
 use Rattle.board_commands.specs.Enroll.{Enrolls, is_net_flag, enroll_refusals, enroll_turn, enrolling, first_refusal}
@@ -207,7 +207,7 @@ fault_once bytes f g x y =
 setup_unique : (shelf : Shelf.Files) (name : List ℕ) (a b : Result Setup Refusal) → SetupOf shelf name a → SetupOf shelf name b → a ≡ b
 setup_unique shelf name =
     read_unique SetupReads BreaksSetup (λ (fault : ℕ × SetupRule). refusal.Setup fault.0 fault.1) (λ (bytes : List ℕ). one_reading (lines bytes)) fault_once
-    (λ (bytes : List ℕ) (setup : Setup) (fault : ℕ × SetupRule). no_fault (lines bytes) setup fault.0 fault.1) (file_of shelf name file_limit)
+    (λ (bytes : List ℕ) (setup : Setup) (fault : ℕ × SetupRule). no_fault (lines bytes) setup fault.0 fault.1) (file_within shelf name file_limit)
 
 init_says : (now : ℕ) (read : Result Setup Refusal) → (made_of now read).reply.text ≢ []
 init_says now (Ok setup) is = absurd (cc is)

@@ -16,14 +16,14 @@ use Rattle.mail_board.specs.Held.{AreAlike}
 use Rattle.setup_file.specs.declared.conference.Conference.{Conference as SetupConference}
 use Rattle.shelf_files.specs.Halts.{done, refused}
 use Rattle.shelf_files.specs.declared.refusal.Refusal.TheVariants.{NotMade}
-use Rattle.board_commands.specs.Check.{board_line, checked, checks, conference_line, conference_lines, report}
+use Rattle.board_commands.specs.Check.{board_line, checked, checks, conference_line, checked_lines, report}
 use Rattle.board_commands.specs.Kept.{IsOutlined, unread}
 use Rattle.board_commands.specs.State.{State, Stores, migrated}
 use Rattle.board_commands.proofs.Exits.{answered}
 use Rattle.board_commands.proofs.LikeLaws.{none_outlined, some_outlined}
 
 -- ---- the report
-lines_outline : (named : List SetupConference) (conferences : List Conference) → conference_lines named (map outline conferences) ≡ conference_lines named conferences
+lines_outline : (named : List SetupConference) (conferences : List Conference) → checked_lines named (map outline conferences) ≡ checked_lines named conferences
 lines_outline [] conferences = refl
 lines_outline (one ∷ others) [] = refl
 lines_outline (one ∷ others) (c ∷ conferences) = λ i. conference_line one (length-map c.slots slot_outline i) (outline_live c.slots i) ++ lines_outline others conferences i

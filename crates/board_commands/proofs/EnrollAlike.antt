@@ -7,7 +7,7 @@ use Rattle.board_layout.specs.Board.{Board}
 use Rattle.board_layout.specs.Outlines.{board_outline}
 use Rattle.board_layout.specs.Valid.{board_limit}
 use Rattle.board_ledger.specs.declared.ledger.Ledger.{Ledger}
-use Rattle.command_words.specs.Choice.{ChoiceReads, has_unknown, places_from}
+use Rattle.command_words.specs.Choice.{ChoiceReads, has_unknown, chosen_from}
 use Rattle.command_words.specs.declared.choice.Choice.{Choice}
 use Rattle.mail_board.proofs.EachNext.{changed_alike}
 use Rattle.mail_board.specs.Changes.{changed, Fits}
@@ -39,8 +39,8 @@ refusals_of name net choice l size =
 module _ (name : List ℕ) (net : Bool) (choice : Choice) (a b : Board) (alike : AreAlike a b) where
   with_alike : AreAlike (board_with_user name net choice a) (board_with_user name net choice b)
   with_alike =
-      changed_alike a b alike (Enroll name net (places_from choice 0 a.ledger.setup.conferences))
-      ∙ ap (λ (l : Ledger). board_outline (enrolled name net (places_from choice 0 l.setup.conferences) b)) (alike_ledger a b alike)
+      changed_alike a b alike (Enroll name net (chosen_from choice 0 a.ledger.setup.conferences))
+      ∙ ap (λ (l : Ledger). board_outline (enrolled name net (chosen_from choice 0 l.setup.conferences) b)) (alike_ledger a b alike)
 
   first_same : first_refusal (enroll_refusals name net choice a) ≡ first_refusal (enroll_refusals name net choice b)
   first_same = λ i. first_refusal (refusals_of name net choice (alike_ledger a b alike i) (alike_size (board_with_user name net choice a) (board_with_user name net choice b) with_alike i))
@@ -57,15 +57,15 @@ module _ (name flags conferences : List ℕ) (choice : Choice) (reads : ChoiceRe
       let both = subst (AreLike (Some b)) here like in
       (choice, reads, sym (ap (enrolling name (is_net_flag flags) choice b) (first_same name (is_net_flag flags) choice b held both.1 ∙ is)))
 
-  pub may_alike : (e : Enrolling) → first_refusal (enroll_refusals name (is_net_flag flags) choice held) ≡ None → e.change ≡ Enroll name (is_net_flag flags) (places_from choice 0 held.ledger.setup.conferences)
+  pub may_alike : (e : Enrolling) → first_refusal (enroll_refusals name (is_net_flag flags) choice held) ≡ None → e.change ≡ Enroll name (is_net_flag flags) (chosen_from choice 0 held.ledger.setup.conferences)
       → e.user.id ≡ length held.ledger.users + 1 → e.user.name ≡ name → (board : Option Board) → AreLike board kept → MayEnroll name flags conferences board (Ok e)
   may_alike e none change id named None like = absurd (subst (AreLike None) here like)
   may_alike e none change id named (Some b) like =
       let both = subst (AreLike (Some b)) here like in
       let still : first_refusal (enroll_refusals name (is_net_flag flags) choice b) ≡ None = first_same name (is_net_flag flags) choice b held both.1 ∙ none in
       let ledgers : held.ledger ≡ b.ledger = sym (alike_ledger b held both.1) in
-      let change_is : e.change ≡ Enroll name (is_net_flag flags) (places_from choice 0 b.ledger.setup.conferences) =
-      change ∙ ap (λ (l : Ledger). Enroll name (is_net_flag flags) (places_from choice 0 l.setup.conferences)) ledgers in
+      let change_is : e.change ≡ Enroll name (is_net_flag flags) (chosen_from choice 0 b.ledger.setup.conferences) =
+      change ∙ ap (λ (l : Ledger). Enroll name (is_net_flag flags) (chosen_from choice 0 l.setup.conferences)) ledgers in
       let id_is : e.user.id ≡ length b.ledger.users + 1 = id ∙ ap (λ (l : Ledger). length l.users + 1) ledgers in (
         b,
         refl,

@@ -18,7 +18,7 @@ use Rattle.board_layout.specs.Valid.{IsBoard, board_limit}
 use Rattle.board_ledger.specs.Users.{is_taken, right_members}
 use Rattle.board_ledger.specs.declared.user.User.{User}
 use Rattle.command_words.proofs.ChoiceLaws.{few_places, some_places}
-use Rattle.command_words.specs.Choice.{ChoiceReads, has_unknown, places_from}
+use Rattle.command_words.specs.Choice.{ChoiceReads, has_unknown, chosen_from}
 use Rattle.command_words.specs.declared.choice.Choice.{Choice}
 use Rattle.mail_board.specs.Readers.{user_id}
 use Rattle.setup_file.specs.Texts.{is_name_byte, has_bare_ends, is_user_name}
@@ -27,8 +27,8 @@ use Rattle.shelf_files.specs.declared.refusal.Refusal.TheVariants.{Name, DupUser
 use Rattle.board_commands.specs.Enroll.{enroll_refusals, first_refusal, board_with_user}
 
 -- ---- what size_after asks
-pub places_exist : (b : Board) (choice : Choice) → IsBoard b → places_from choice 0 b.ledger.setup.conferences < 2 ^ length b.conferences
-places_exist b choice ok = subst (λ n. places_from choice 0 b.ledger.setup.conferences < 2 ^ n) (sym (conferences_count b ok)) (few_places choice b.ledger.setup.conferences)
+pub places_exist : (b : Board) (choice : Choice) → IsBoard b → chosen_from choice 0 b.ledger.setup.conferences < 2 ^ length b.conferences
+places_exist b choice ok = subst (λ n. chosen_from choice 0 b.ledger.setup.conferences < 2 ^ n) (sym (conferences_count b ok)) (few_places choice b.ledger.setup.conferences)
 
 joined_few : (members place count : ℕ) → joined_count members place count ≤ count
 joined_few members place zero = omega arith
@@ -69,7 +69,7 @@ pub user_fits : (b : Board) (name : List ℕ) (net : Bool) (choice : Choice) (wo
 unfolding right_members
 user_fits b name net choice word ok reads none =
     let cs = b.ledger.setup.conferences in
-    let members : ℕ = places_from choice 0 cs in
+    let members : ℕ = chosen_from choice 0 cs in
     let size : ℕ = board_size (board_with_user name net choice b) in
     let named = unrefused (not (is_user_name name)) Name _ none in
     let free = unrefused (is_some (user_id name b)) DupUser _ named.1 in

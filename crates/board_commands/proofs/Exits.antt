@@ -18,8 +18,8 @@ use Rattle.board_layout.specs.declared.error.ReadError.{ReadError}
 use Rattle.board_layout.specs.declared.error.ReadError.TheVariants.{Damaged, DiskFault, OutOfMemory}
 use Rattle.mail_board.specs.declared.loading.Loaded.{Loaded}
 use Rattle.board_commands.specs.Damages.{damaged}
-use Rattle.board_commands.specs.Halts.{told, of_read, of_journal}
-use Rattle.board_commands.specs.Kept.{IsFound, found, unread}
+use Rattle.board_commands.specs.Halts.{told, halt_of_read, of_journal}
+use Rattle.board_commands.specs.Kept.{IsStateFound, found, unread}
 use Rattle.board_commands.specs.State.{State, NotMade, Made, Old, Spoiled, Stores, migrated, state_of}
 use Rattle.board_commands.specs.Turns.{Turn, OnState, on_board}
 
@@ -47,8 +47,8 @@ module _ (turns : Shelf.Files → Option Board → Turn → Type 0) {world : Wor
   says_damage held d is damage = (refl, subst (λ (s : State). OnState (turns world.shelf) s (migrated s) (damaged d)) (sym is) (refl, (d, damage, refl)))
 
   -- ---- the board wasn't read, or there is damage
-  pub unfound : {Value : Type 0} {new : Disk} (text : Value → List ℕ) (kept : Option Loaded) (e : ReadError) → Finds Stores unread world.state (migrated world.state) old new (found (Err e)) → IsFound world.state kept (Err e)
-      → Works Stores (on_board turns) unread world old new shelf (told text (Err (of_read e)))
+  pub unfound : {Value : Type 0} {new : Disk} (text : Value → List ℕ) (kept : Option Loaded) (e : ReadError) → Finds Stores unread world.state (migrated world.state) old new (found (Err e)) → IsStateFound world.state kept (Err e)
+      → Works Stores (on_board turns) unread world old new shelf (told text (Err (halt_of_read e)))
   unfound text kept (Damaged d) finds is = answers Stores (on_board turns) at refl finds (says_damage is.0 d is.1 is.2)
   unfound text kept DiskFault finds is = not_found Stores (on_board turns) at refl finds
   unfound text kept OutOfMemory finds is = not_found Stores (on_board turns) at refl finds

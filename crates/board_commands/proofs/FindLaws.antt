@@ -26,7 +26,7 @@ use Rattle.mail_board.proofs.DataLaws.{data_twice, empty_moves, layout_moves}
 use Rattle.mail_board.specs.Loading.{AreOpened, IsTold, Opens, StandsIn}
 use Rattle.mail_board.specs.declared.loading.Loaded.{Loaded}
 use Rattle.mail_board.specs.declared.loading.Loaded.TheVariants.{NotMade, Ready}
-use Rattle.board_commands.specs.Kept.{AreLike, IsFound, IsKept, IsOutlined, found, kept_board, unread}
+use Rattle.board_commands.specs.Kept.{AreLike, IsStateFound, IsKept, IsOutlined, found, kept_board, unread}
 use Rattle.board_commands.specs.State.{AreSpoiled, State, Made, Old, Spoiled, Stores, migrated, state_of}
 use Rattle.board_commands.specs.State as state
 use Rattle.board_commands.proofs.StateLaws.{one_state}
@@ -180,7 +180,7 @@ kept_finds loaded disk s kept stores =
     told_finds (calm_is_settled disk calm) (still disk (Opens disk)) (record { said = refl; files = inl refl }) (calm_is_settled disk calm) stores loaded (kept_stands loaded disk kept) calm
     (inl (sym (calm_recovers disk calm)))
 
-pub load_is_found : (e : ReadError) (old : Disk) (s : State) (kept : Option Loaded) → ((d : Damage) → e ≡ Damaged d → board_in (recovered old.files) ≡ Err d) → Stores s (recovered old.files) → IsFound s kept (Err e)
+pub load_is_found : (e : ReadError) (old : Disk) (s : State) (kept : Option Loaded) → ((d : Damage) → e ≡ Damaged d → board_in (recovered old.files) ≡ Err d) → Stores s (recovered old.files) → IsStateFound s kept (Err e)
 load_is_found (Damaged d) old s kept read stores = damage_is (recovered old.files) s d (recovered_data old.files) (read d refl) stores
 load_is_found DiskFault old s kept read stores = tt
 load_is_found OutOfMemory old s kept read stores = tt

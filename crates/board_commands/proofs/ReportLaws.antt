@@ -10,7 +10,7 @@ use Rattle.board_layout.specs.Valid.{IsBoard}
 use Rattle.jam_layout.specs.Conference.{live_count}
 use Rattle.jam_layout.specs.declared.conference.Conference.{Conference}
 use Rattle.setup_file.specs.declared.conference.Conference.{Conference as SetupConference}
-use Rattle.board_commands.specs.Check.{conference_label, conference_line, conference_lines, slots_text}
+use Rattle.board_commands.specs.Check.{conference_label, conference_line, checked_lines, slots_text}
 
 pub place_within : (b : Board) (place : ℕ) → IsBoard b → place < length b.ledger.setup.conferences → place < length b.conferences
 place_within b place ok within = omega (arith, within, conferences_count b ok)
@@ -24,16 +24,16 @@ no_conference = record { counter = 0; slots = []; pointers = [] }
 
 pub lines_more : (named : List SetupConference) (cs : List Conference) (place slots live : ℕ) (c : SetupConference) (text : List ℕ) → drop place named ≡ c ∷ drop (place + 1) named → place < length cs
     → Some slots ≡ option_map (λ h. length h.slots) (slice_get cs place) → Some live ≡ option_map (λ h. live_count h.slots) (slice_get cs place)
-    → ((text ++ conference_label c) ++ slots_text slots live) ++ conference_lines (drop (place + 1) named) (drop (place + 1) cs) ≡ text ++ conference_lines (drop place named) (drop place cs)
+    → ((text ++ conference_label c) ++ slots_text slots live) ++ checked_lines (drop (place + 1) named) (drop (place + 1) cs) ≡ text ++ checked_lines (drop place named) (drop place cs)
 lines_more named cs place slots live c text first within slots_are live_are =
     let held : Conference = get_or cs place no_conference in
     let here : slice_get cs place ≡ Some held = slice_get-get_or cs place no_conference within in
     let second : drop place cs ≡ held ∷ drop (place + 1) cs = drop_more cs place no_conference within in
     let many = counted (λ h. length h.slots) cs place slots held here slots_are in
     let alive = counted (λ h. live_count h.slots) cs place live held here live_are in
-    let rest : List ℕ = conference_lines (drop (place + 1) named) (drop (place + 1) cs) in
-    let line : conference_lines (drop place named) (drop place cs) ≡ conference_line c slots live ++ rest =
-    (λ i. conference_lines (first i) (second i)) ∙ (λ i. conference_line c (sym many i) (sym alive i) ++ rest) in
+    let rest : List ℕ = checked_lines (drop (place + 1) named) (drop (place + 1) cs) in
+    let line : checked_lines (drop place named) (drop place cs) ≡ conference_line c slots live ++ rest =
+    (λ i. checked_lines (first i) (second i)) ∙ (λ i. conference_line c (sym many i) (sym alive i) ++ rest) in
     ap (λ (front : List ℕ). front ++ rest) (append_assoc text (conference_label c) (slots_text slots live))
     ∙ (append_assoc text (conference_line c slots live) rest
     ∙ ap (λ (lines : List ℕ). text ++ lines) (sym line))

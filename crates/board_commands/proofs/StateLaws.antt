@@ -9,7 +9,7 @@ use Rattle.intent_journal.specs.Patches.{Files, data_files}
 use Rattle.jam_records.specs.declared.damage.Damage.{Damage}
 use Rattle.board_layout.specs.Board.{Board}
 use Rattle.board_layout.specs.Damage.{board_of}
-use Rattle.board_layout.specs.Layout.{AreBytes, AreEmpty, data_size}
+use Rattle.board_layout.specs.Layout.{AreFileBytes, AreEmpty, data_size}
 use Rattle.board_layout.specs.OldLayout.{IsStoredIn}
 use Rattle.board_layout.specs.Valid.{IsBoard}
 use Rattle.board_layout.proofs.BoardLaws.{again, laid_bytes, not_both, not_empty, takes, unique}
@@ -47,11 +47,11 @@ are_bytes (b ∷ text) = elim (cases_lt b 256) [
 abbrev BytesBelow : ℕ → Files → Type 0
 BytesBelow count files = (file : ℕ) → file < count → IsTrue (is_data_file file) → All IsByte (files file)
 
-bytes_below : (count : ℕ) (files : Files) → BytesBelow count files ⊎ (¬ AreBytes files)
+bytes_below : (count : ℕ) (files : Files) → BytesBelow count files ⊎ (¬ AreFileBytes files)
 bytes_below zero files = inl (λ file below. absurd (omega (arith, below)))
 bytes_below (suc count) files = ⊎_elim (λ front. last front (is_data_file count) refl (are_bytes (files count))) (λ some. inr some) (bytes_below count files)
   where
-    last : BytesBelow count files → (held : Bool) → is_data_file count ≡ held → All IsByte (files count) ⊎ (¬ All IsByte (files count)) → BytesBelow (suc count) files ⊎ (¬ AreBytes files)
+    last : BytesBelow count files → (held : Bool) → is_data_file count ≡ held → All IsByte (files count) ⊎ (¬ All IsByte (files count)) → BytesBelow (suc count) files ⊎ (¬ AreFileBytes files)
     last front false other_file bytes = inl (λ file below is. elim (cases_eq file count) [
       | inl same ↦ absurd (true≢false (sym (subst (λ n. IsTrue (is_data_file n)) same is) ∙ other_file))
       | inr other ↦ front file (omega (arith, below, other)) is
@@ -65,7 +65,7 @@ bytes_below (suc count) files = ⊎_elim (λ front. last front (is_data_file cou
 below_all : (file : ℕ) → IsTrue (is_data_file file) → file < 258
 below_all file is = ltb-true file 258 (and_parts _ _ is).0
 
-all_bytes : (files : Files) → AreBytes files ⊎ (¬ AreBytes files)
+all_bytes : (files : Files) → AreFileBytes files ⊎ (¬ AreFileBytes files)
 all_bytes files = ⊎_elim (λ front. inl (λ file is. front file (below_all file is) is)) (λ some. inr some) (bytes_below 258 files)
 
 -- a board in files of either version
@@ -74,7 +74,7 @@ in_version b files (ok, inl laid) = (Made b, (ok, laid))
 in_version b files (ok, inr laid) = (Old b, (ok, laid))
 
 -- the board of files that aren't all empty, where they are bytes
-read_state : (files : Files) → AreBytes files → ¬ AreEmpty files → (read : Result Board Damage) → board_of files ≡ read → (state : State) × Stores state files
+read_state : (files : Files) → AreFileBytes files → ¬ AreEmpty files → (read : Result Board Damage) → board_of files ≡ read → (state : State) × Stores state files
 read_state files bytes some (Ok b) is = in_version b files (takes files b bytes is)
 read_state files bytes some (Err d) is = (
   Spoiled (data_files files),
@@ -87,7 +87,7 @@ read_state files bytes some (Err d) is = (
   ),
 )
 
-some_state_of : (files : Files) → ¬ AreEmpty files → AreBytes files ⊎ (¬ AreBytes files) → (state : State) × Stores state files
+some_state_of : (files : Files) → ¬ AreEmpty files → AreFileBytes files ⊎ (¬ AreFileBytes files) → (state : State) × Stores state files
 some_state_of files some (inl bytes) = read_state files bytes some (board_of files) refl
 some_state_of files some (inr other) = (Spoiled (data_files files), (refl, record { some = some; other = λ b ok laid. other (laid_bytes b files ok laid) }))
 

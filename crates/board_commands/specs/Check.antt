@@ -22,10 +22,10 @@ slots_text slots live = decimal slots ++ (codes " slots, " ++ (decimal live ++ c
 abbrev pub conference_line : SetupConference → ℕ → ℕ → List ℕ
 conference_line named slots live = conference_label named ++ slots_text slots live
 
-abbrev pub conference_lines : List SetupConference → List Conference → List ℕ
-conference_lines [] conferences = []
-conference_lines (named ∷ others) [] = []
-conference_lines (named ∷ others) (c ∷ conferences) = conference_line named (length c.slots) (live_count c.slots) ++ conference_lines others conferences
+abbrev pub checked_lines : List SetupConference → List Conference → List ℕ
+checked_lines [] conferences = []
+checked_lines (named ∷ others) [] = []
+checked_lines (named ∷ others) (c ∷ conferences) = conference_line named (length c.slots) (live_count c.slots) ++ checked_lines others conferences
 
 abbrev pub board_line : Board → List ℕ
 board_line b = codes "board " ++ (b.ledger.setup.bbsid ++ codes "\n")
@@ -37,7 +37,7 @@ board_counts b =
     ++ (decimal (board_size b) ++ codes " bytes\n"))))
 
 abbrev pub report : Board → List ℕ
-report b = board_line b ++ (conference_lines b.ledger.setup.conferences b.conferences ++ board_counts b)
+report b = board_line b ++ (checked_lines b.ledger.setup.conferences b.conferences ++ board_counts b)
 
 abbrev pub checked : Option Board → Turn
 checked None = refuses NotMade None

@@ -6,7 +6,7 @@ use Rattle.board_changes.specs.Changed.{enrolled}
 use Rattle.board_layout.specs.Board.{Board}
 use Rattle.board_layout.specs.Layout.{board_size}
 use Rattle.board_layout.specs.Valid.{board_limit}
-use Rattle.command_words.specs.Choice.{ChoiceReads, has_unknown, places_from}
+use Rattle.command_words.specs.Choice.{ChoiceReads, has_unknown, chosen_from}
 use Rattle.command_words.specs.declared.choice.Choice.{Choice}
 use Rattle.mail_board.specs.Readers.{user_id}
 use Rattle.setup_file.specs.Texts.{is_user_name}
@@ -28,7 +28,7 @@ is_net_flag flags = bytes_eq flags (codes "n")
 
 -- the board with the user, a member of the chosen conferences
 abbrev pub board_with_user : List ℕ → Bool → Choice → Board → Board
-board_with_user name net choice b = enrolled name net (places_from choice 0 b.ledger.setup.conferences) b
+board_with_user name net choice b = enrolled name net (chosen_from choice 0 b.ledger.setup.conferences) b
 
 -- why a user isn't enrolled, in order
 abbrev pub enroll_refusals : List ℕ → Bool → Choice → Board → List (Bool × Refusal)

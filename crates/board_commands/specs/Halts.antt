@@ -33,10 +33,10 @@ StopsBy Why DiskFault = ⊥
 StopsBy Why ShelfFault = ⊥
 
 -- why a command isn't carried out where the board wasn't read
-abbrev pub of_read : ReadError → BoardHalt
-of_read (read.Damaged d) = Damaged d
-of_read read.DiskFault = DiskFault
-of_read read.OutOfMemory = OutOfMemory
+abbrev pub halt_of_read : ReadError → BoardHalt
+halt_of_read (read.Damaged d) = Damaged d
+halt_of_read read.DiskFault = DiskFault
+halt_of_read read.OutOfMemory = OutOfMemory
 
 -- where the change wasn't made
 abbrev pub of_journal : JournalError → BoardHalt

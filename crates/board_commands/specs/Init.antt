@@ -9,7 +9,7 @@ use Rattle.setup_file.specs.Reads.{SetupReads}
 use Rattle.setup_file.specs.declared.error.SetupRule.{SetupRule}
 use Rattle.setup_file.specs.declared.setup.Setup.{Setup}
 use Rattle.shelf_files.specs.Halts.{done}
-use Rattle.shelf_files.specs.ShelfFile.{ReadAs, file_of, file_limit}
+use Rattle.shelf_files.specs.ShelfFile.{ReadAs, file_within, file_limit}
 use Rattle.shelf_files.specs.declared.refusal.Refusal.{Refusal}
 use Rattle.shelf_files.specs.declared.refusal.Refusal.TheVariants as refusal
 use Rattle.board_commands.specs.State.{State}
@@ -21,7 +21,7 @@ BreaksSetup bytes fault = SetupFault bytes fault.0 fault.1
 
 -- what a setup file says, or the first refusal
 abbrev pub SetupOf : Files → List ℕ → Result Setup Refusal → Type 0
-SetupOf shelf name read = ReadAs SetupReads BreaksSetup (λ fault. refusal.Setup fault.0 fault.1) (file_of shelf name file_limit) read
+SetupOf shelf name read = ReadAs SetupReads BreaksSetup (λ fault. refusal.Setup fault.0 fault.1) (file_within shelf name file_limit) read
 
 abbrev pub made_line : ℕ → List ℕ
 made_line count = codes "made " ++ (decimal count ++ codes " conferences\n")

@@ -12,7 +12,7 @@ use Rattle.board_layout.specs.declared.error.ReadError.{ReadError}
 use Rattle.board_layout.specs.declared.error.ReadError.TheVariants.{Damaged, DiskFault, OutOfMemory}
 use Rattle.board_layout.specs.Valid.{IsBoard}
 use Rattle.mail_board.specs.Held.{AreAlike, HeldBoard, RestsOn}
-use Rattle.mail_board.specs.Loading.{IsSure, IsValid}
+use Rattle.mail_board.specs.Loading.{IsSureLoad, IsValid}
 use Rattle.mail_board.specs.declared.loading.Loaded.{Loaded}
 use Rattle.mail_board.specs.declared.loading.Loaded.TheVariants.{NotMade, Ready}
 use Rattle.board_commands.specs.State.{State, Spoiled}
@@ -32,7 +32,7 @@ IsKept (Some (Ready held)) disk = RestsOn held.board disk
 -- and the board is valid, and in no doubt
 abbrev pub AreSure : Option Loaded → Type 0
 AreSure None = Unit {0}
-AreSure (Some loaded) = IsValid loaded × IsSure loaded
+AreSure (Some loaded) = IsValid loaded × IsSureLoad loaded
 
 -- a board is kept, unless it is in doubt
 abbrev pub unless_doubtful : HeldBoard → Option Loaded
@@ -55,9 +55,9 @@ AreLike (Some board) (Some kept) = IsBoard board × AreAlike board kept
 abbrev pub IsOutlined : State → Option Board → Type 0
 IsOutlined s kept = (board : Option Board) × (s ≡ state.state_of board) × AreLike board kept
 
-abbrev pub IsRead : Option Loaded → Type 0
-IsRead None = ⊥
-IsRead (Some loaded) = Unit {0}
+abbrev pub IsBoardRead : Option Loaded → Type 0
+IsBoardRead None = ⊥
+IsBoardRead (Some loaded) = Unit {0}
 
 -- files that are no board's are an answer, and no stop
 abbrev pub found : Result (Unit {0}) ReadError → Result (Unit {0}) Stop
@@ -67,8 +67,8 @@ found (Err DiskFault) = Err stop.DiskFault
 found (Err OutOfMemory) = Err stop.OutOfMemory
 
 -- what was found stands for the state once that is migrated: the outline of the board, or none, or the damage of its files
-abbrev pub IsFound : State → Option Loaded → Result (Unit {0}) ReadError → Type 0
-IsFound s kept (Ok x) = IsOutlined (state.migrated s) (kept_board kept)
-IsFound s kept (Err (Damaged d)) = (held : _) × (s ≡ Spoiled held) × (board_damage held ≡ Some d)
-IsFound s kept (Err DiskFault) = Unit {0}
-IsFound s kept (Err OutOfMemory) = Unit {0}
+abbrev pub IsStateFound : State → Option Loaded → Result (Unit {0}) ReadError → Type 0
+IsStateFound s kept (Ok x) = IsOutlined (state.migrated s) (kept_board kept)
+IsStateFound s kept (Err (Damaged d)) = (held : _) × (s ≡ Spoiled held) × (board_damage held ≡ Some d)
+IsStateFound s kept (Err DiskFault) = Unit {0}
+IsStateFound s kept (Err OutOfMemory) = Unit {0}

@@ -1,7 +1,7 @@
 //! The command `enroll`.
 ghost use Rattle.std.specs.Prelude.{◌≡◌, ◌<◌, IfOk, IsTrue, Option};
 ghost use Rattle.board_layout.specs.Board as Boards;
-ghost use Rattle.command_words.specs.Choice.{ChoiceReads, places_from};
+ghost use Rattle.command_words.specs.Choice.{ChoiceReads, chosen_from};
 ghost use Rattle.command_words.specs.declared.choice.Choice as Choices;
 ghost use Rattle.door_outside.specs.Shelf.{Files};
 ghost use Rattle.entry_runs.specs.Door.{World};
@@ -12,7 +12,7 @@ ghost use Rattle.board_commands.specs.Causes.{HostHasCauses};
 ghost use Rattle.board_commands.specs.Enrolling.{MayEnroll};
 ghost use Rattle.board_commands.specs.Enroll.{enroll_refusals, enrolled_line, enrolls, first_refusal, is_net_flag as is_net_of};
 ghost use Rattle.board_commands.specs.Halts.{told};
-ghost use Rattle.board_commands.specs.Kept.{AreLike, AreSure, IsKept, IsRead, kept_board, unread};
+ghost use Rattle.board_commands.specs.Kept.{AreLike, AreSure, IsKept, IsBoardRead, kept_board, unread};
 ghost use Rattle.board_commands.specs.State.{State, Stores};
 
 use crate::finding::find;
@@ -54,7 +54,7 @@ fn change_of(
     net: bool,
     choice: &Choice,
 ) -> Result<Change, AllocError>
-    ensures { IfOk result (λ change. change ≡ Enroll name.now net (places_from choice.now 0 board.now.board.ledger.setup.conferences)) }
+    ensures { IfOk result (λ change. change ≡ Enroll name.now net (chosen_from choice.now 0 board.now.board.ledger.setup.conferences)) }
 {
     let members = choice.places(board.setup().conferences.as_slice());
     Ok(Change::Enroll {
@@ -73,7 +73,7 @@ fn refusal_of(
     choice: &Choice,
     change: &Change,
 ) -> Option<Refusal>
-    requires { change.now ≡ Enroll name.now net (places_from choice.now 0 board.now.board.ledger.setup.conferences) }
+    requires { change.now ≡ Enroll name.now net (chosen_from choice.now 0 board.now.board.ledger.setup.conferences) }
     ensures { result ≡ first_refusal (enroll_refusals name.now net choice.now board.now.board) }
 {
     if !is_user_name(name) {
@@ -107,7 +107,7 @@ fn prepared(
     conferences: &[u8],
 ) -> Result<Enrolling, BoardHalt>
     requires choice { (choice : Choices.Choice) × ChoiceReads conferences.now choice }
-    requires read { IsRead kept.now }
+    requires read { IsBoardRead kept.now }
     requires sure { AreSure kept.now }
     ensures { (board : Option Boards.Board) → AreLike board (kept_board kept.now) → MayEnroll name.now flags.now conferences.now board result }
 {

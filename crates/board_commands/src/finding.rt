@@ -6,7 +6,7 @@ ghost use Rattle.intent_journal.specs.Journal.{intent_of};
 ghost use Rattle.intent_journal.specs.Patches.{byte_count};
 ghost use Rattle.intent_journal.specs.Recovered.{recovered};
 ghost use Rattle.mail_board.specs.Loading.{AreOld};
-ghost use Rattle.board_commands.specs.Kept.{AreSure, IsFound, IsKept, IsRead, found, unread};
+ghost use Rattle.board_commands.specs.Kept.{AreSure, IsStateFound, IsKept, IsBoardRead, found, unread};
 ghost use Rattle.board_commands.specs.State.{State, Stores, migrated};
 
 use door_outside::Host;
@@ -23,10 +23,10 @@ pub fn find<H: Host>(
     requires sure { AreSure kept.old }
     requires kept { IsTrue H.tells → IsKept kept.old (H.disk host.old) }
     ensures finds { IsTrue H.tells → (state : State) → Stores state (recovered (H.disk host.old).files) → Finds Stores unread state (migrated state) (H.disk host.old) (H.disk host.new) (found result) }
-    ensures state { IsTrue H.tells → (state : State) → Stores state (recovered (H.disk host.old).files) → IsFound state kept.new result }
+    ensures state { IsTrue H.tells → (state : State) → Stores state (recovered (H.disk host.old).files) → IsStateFound state kept.new result }
     ensures kept { IsTrue H.tells → IsKept kept.new (H.disk host.new) }
     ensures sure { AreSure kept.new }
-    ensures read { OnOk result (IsRead kept.new) }
+    ensures read { OnOk result (IsBoardRead kept.new) }
     ensures wrote { IsTrue H.tells → ¬ AreOld (recovered (H.disk host.old).files) → (H.disk host.new).wrote ≤ (H.disk host.old).wrote + byte_count (intent_of (H.disk host.old).files) + 1 }
     ensures cause { HasReadCause (H.disk_faults host.old) (H.disk_faults host.new) result }
     ensures voice { H.voice_faults host.new ≡ H.voice_faults host.old }

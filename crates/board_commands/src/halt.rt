@@ -21,9 +21,9 @@ pub enum BoardHalt {
 
 impl From<LoadError> for BoardHalt {
     ghost use Rattle.std.specs.Prelude.{◌≡◌};
-    ghost use Rattle.board_commands.specs.Halts.{of_read};
+    ghost use Rattle.board_commands.specs.Halts.{halt_of_read};
 
-    ghost from_gives = { λ error e. e ≡ of_read error };
+    ghost from_gives = { λ error e. e ≡ halt_of_read error };
 
     fn from(error: LoadError) -> BoardHalt {
         match error {

@@ -1,5 +1,5 @@
 ghost use Rattle.std.specs.Prelude.{◌≡◌, ◌++◌, IfOk, OnOk};
-ghost use Rattle.board_commands.specs.Check.{report as report_of, board_line, conference_label, conference_lines, board_counts, slots_text};
+ghost use Rattle.board_commands.specs.Check.{report as report_of, board_line, conference_label, checked_lines, board_counts, slots_text};
 
 use board_ledger::Conference;
 use byte_lists::Bytes;
@@ -38,7 +38,7 @@ fn add_tally(text: &mut Bytes, slots: u32, live: u32) -> Result<(), AllocError>
 
 /// Adds the lines of the conferences, in order.
 fn add_conferences(text: &mut Bytes, board: &Board) -> Result<(), AllocError>
-    ensures { OnOk result (text.new ≡ text.old ++ conference_lines board.now.board.ledger.setup.conferences board.now.board.conferences) }
+    ensures { OnOk result (text.new ≡ text.old ++ checked_lines board.now.board.ledger.setup.conferences board.now.board.conferences) }
 {
     let conferences = board.setup().conferences.as_slice();
     for (place, conference) in conferences.iter().enumerate() {

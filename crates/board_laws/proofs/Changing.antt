@@ -25,7 +25,7 @@ use Rattle.mail_board.specs.Changes.{changed}
 use Rattle.mail_board.specs.declared.change.Change.{Change}
 use Rattle.mail_board.specs.declared.change.Change.TheVariants.{Enroll, Append, Spread, Kill, Offer, Acknowledge, Upload}
 use Rattle.offer_changes.proofs.ReadLaws.{all_count as read_count}
-use Rattle.offer_changes.specs.Changed.{all_read, for_user, is_above, offer_in, offered_to, read_up_to}
+use Rattle.offer_changes.specs.Changed.{all_read, for_user, is_high_above, offer_in, offered_to, read_up_to}
 use Rattle.packet_verdicts.specs.Views.{nobody}
 use Rattle.post_changes.proofs.PostLaws.{all_count as posted_count}
 use Rattle.post_changes.specs.Posted.{all_posted}
@@ -147,13 +147,13 @@ module _ (b : Board) (whole : IsWhole b) where
 
     module _ (now : ℕ) (name : List ℕ) where
       one_read : (high : ℕ) (x : Contents) → Reads high (pointer_in id x) (pointer_in id (read_up_to id name now high x))
-      one_read high x = by (is_above high (pointer_in id x)) refl
+      one_read high x = by (is_high_above high (pointer_in id x)) refl
         where
-          own : (o : Option ℕ) → pointer_in id x ≡ o → is_above high o ≡ true → Reads high (pointer_in id x) (pointer_in id (with_acknowledged id name high now x))
+          own : (o : Option ℕ) → pointer_in id x ≡ o → is_high_above high o ≡ true → Reads high (pointer_in id x) (pointer_in id (with_acknowledged id name high now x))
           own None none above = inl (read_pointer_own id name high now x ∙ (ap (option_map (λ _. high)) none ∙ sym none))
           own (Some p) some above = inr (p, some, ltb-true p high above, read_pointer_own id name high now x ∙ ap (option_map (λ _. high)) some)
 
-          by : (above : Bool) → is_above high (pointer_in id x) ≡ above → Reads high (pointer_in id x) (pointer_in id (cond above (with_acknowledged id name high now x) x))
+          by : (above : Bool) → is_high_above high (pointer_in id x) ≡ above → Reads high (pointer_in id x) (pointer_in id (cond above (with_acknowledged id name high now x) x))
           by true above = own (pointer_in id x) refl above
           by false above = inl refl
 

@@ -30,8 +30,8 @@ use Rattle.mail_board.specs.declared.change.Change.TheVariants.{Enroll, Append, 
 use Rattle.offer_changes.proofs.LedgerLaws.{shapes_stay}
 use Rattle.offer_changes.proofs.ReadLaws.{all_shapes}
 use Rattle.offer_changes.proofs.UserLaws.{user_there}
-use Rattle.offer_changes.specs.Changed.{all_read, for_user, is_above, offered_to, read_offer, with_offer, with_user, without_offer}
-use Rattle.post_changes.specs.Posted.{all_posted, posts_in, record_of, with_record}
+use Rattle.offer_changes.specs.Changed.{all_read, for_user, is_high_above, offered_to, read_offer, with_offer, with_user_replaced, without_offer}
+use Rattle.post_changes.specs.Posted.{all_posted, posts_in, upload_record, with_record}
 use Rattle.setup_file.specs.declared.conference.Conference.{Conference as SetupConference}
 use Rattle.slot_changes.proofs.AppendLaws.{shape_stays}
 use Rattle.slot_changes.specs.Changed.{with_identified, with_killed}
@@ -84,7 +84,7 @@ contents_with b whole l bases same shapes = contents_are l bases (shapes ∙ (sh
 -- those of a board on which an offer is acknowledged
 pub read_contents : (b : Board) → IsWhole b → (user now : ℕ) (u : User) (o : OpenOffer) → user_of user b ≡ Some u → contents_of (read_offer user now u o b) ≡ all_read user u.name now (contents_of b) o.highs
 read_contents b whole user now u o here =
-    contents_with b whole (with_user user (without_offer o.number u) b.ledger) (all_read user u.name now (contents_of b) o.highs)
+    contents_with b whole (with_user_replaced user (without_offer o.number u) b.ledger) (all_read user u.name now (contents_of b) o.highs)
     (shapes_stay b.ledger user u (without_offer o.number u) (user_there b user u here) (record { name = refl; members = refl })) (all_shapes user u.name now (contents_of b) o.highs)
 
 -- ---- what a relation says of each base and the one after a change
@@ -170,7 +170,7 @@ module _ (b : Board) (whole : IsWhole b) (R : Contents → Contents → Type 0) 
   zip_read : (user now : ℕ) (name : List ℕ) → ((high : ℕ) (x : Contents) → R x (with_acknowledged user name high now x)) → (bases : List Contents) (highs : List ℕ) → AllZip R bases (all_read user name now bases highs)
   zip_read user now name read [] highs = tt
   zip_read user now name read (x ∷ bases) [] = zip_itself R itself (x ∷ bases)
-  zip_read user now name read (x ∷ bases) (high ∷ highs) = (by (is_above high (pointer_of user x.shape.readers x.conference.pointers)), zip_read user now name read bases highs)
+  zip_read user now name read (x ∷ bases) (high ∷ highs) = (by (is_high_above high (pointer_of user x.shape.readers x.conference.pointers)), zip_read user now name read bases highs)
     where
       by : (above : Bool) → R x (cond above (with_acknowledged user name high now x) x)
       by true = read high x
@@ -189,8 +189,8 @@ module _ (b : Board) (whole : IsWhole b) (R : Contents → Contents → Type 0) 
       by None none = zip_itself R itself (contents_of b)
       by (Some u) here = subst (λ (ss : List Shape). AllZip R (contents_of b) (contents ss b.conferences)) (sym (shapes_stay b.ledger user u (with_offer highs u) (user_there b user u here) (record { name = refl; members = refl }))) (zip_itself R itself (contents_of b))
   zipped (Acknowledge user packet now) suits = after_ack (λ (c : Board). AllZip R (contents_of b) (contents_of c)) user packet now b (zip_itself R itself (contents_of b))
-      (λ u here o. zip_with (with_user user (without_offer o.number u) b.ledger) (all_read user u.name now (contents_of b) o.highs)
+      (λ u here o. zip_with (with_user_replaced user (without_offer o.number u) b.ledger) (all_read user u.name now (contents_of b) o.highs)
       (shapes_stay b.ledger user u (without_offer o.number u) (user_there b user u here) (record { name = refl; members = refl }))
       (all_shapes user u.name now (contents_of b) o.highs) (zip_read user now u.name (suits u.name) (contents_of b) o.highs))
   zipped (Upload user digest refused posts) suits =
-      zip_with (with_record (record_of user digest refused posts) b.ledger) (all_posted b posts 0 (contents_of b)) refl (posted_shapes posts 0 (contents_of b)) (zip_posted posts suits 0 (contents_of b))
+      zip_with (with_record (upload_record user digest refused posts) b.ledger) (all_posted b posts 0 (contents_of b)) refl (posted_shapes posts 0 (contents_of b)) (zip_posted posts suits 0 (contents_of b))

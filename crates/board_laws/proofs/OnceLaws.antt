@@ -16,10 +16,10 @@ use Rattle.board_laws.proofs.OpenOffers.{after_ack}
 use Rattle.board_laws.proofs.Sequences.{AreCommands, IsOfBoard, after_one, does_made, onward, same_made}
 use Rattle.board_laws.proofs.Uploads.{UploadTurns, WasJudged, counts_of, same_counts, upload_turns}
 use Rattle.board_laws.proofs.Users.{same_ledger}
-use Rattle.board_laws.specs.BoardCommand.{BoardCommand, does}
+use Rattle.board_laws.specs.BoardCommand.{BoardCommand, board_does}
 use Rattle.board_laws.specs.BoardCommand as command
 use Rattle.board_laws.specs.History.{ChangesBoard, Deed, Steps, IsHistory, LeadsTo, after}
-use Rattle.board_laws.specs.Once.{ChangesOnce, HasItsCounts, IsUpload, SaysAgain}
+use Rattle.board_laws.specs.Once.{ChangesOnce, HasItsCounts, IsUploadDeed, SaysAgain}
 use Rattle.board_ledger.specs.declared.ledger.Ledger.{Ledger}
 use Rattle.board_ledger.specs.declared.upload.Counts.{Counts}
 use Rattle.board_ledger.specs.declared.upload.UploadRecord.{UploadRecord}
@@ -35,7 +35,7 @@ use Rattle.mail_board.specs.declared.change.Change.{Change}
 use Rattle.mail_board.specs.declared.change.Change.TheVariants.{Enroll, Append, Spread, Kill, Offer, Acknowledge, Upload}
 use Rattle.offer_changes.specs.Changed.{for_user, offered_to}
 use Rattle.packet_verdicts.specs.Judged.{judged, refused_count}
-use Rattle.post_changes.specs.Posted.{record_of}
+use Rattle.post_changes.specs.Posted.{upload_record}
 use Rattle.sha2.specs.Sha256.{sha256}
 use Rattle.shelf_files.specs.declared.refusal.Refusal.{Refusal}
 use Rattle.exchange_commands.specs.Upload.{UploadsFile, UploadsRead, uploaded_text}
@@ -54,7 +54,7 @@ records_more (Offer user highs) b = by (user_of user b)
     by (Some u) = ([], sym (append-nil b.ledger.uploads))
 records_more (Acknowledge user packet now) b = after_ack (λ (c : Board). (more : List UploadRecord) × (c.ledger.uploads ≡ b.ledger.uploads ++ more)) user packet now b
     ([], sym (append-nil b.ledger.uploads)) (λ u here o. ([], sym (append-nil b.ledger.uploads)))
-records_more (Upload user digest refused posts) b = (record_of user digest refused posts ∷ [], refl)
+records_more (Upload user digest refused posts) b = (upload_record user digest refused posts ∷ [], refl)
 
 records_moved : (move : Move) (b : Board) → (more : List UploadRecord) × ((moved move b).ledger.uploads ≡ b.ledger.uploads ++ more)
 records_moved (Makes change) b = records_more change b
@@ -100,22 +100,22 @@ found_last test (z ∷ xs) x none is = by (found_last test xs x) (test z) none
 
 recorded : (user : ℕ) (digest : List ℕ) (refused : ℕ) (posts : List (ℕ × Message)) (b : Board) → upload_of user digest b ≡ None → upload_of user digest (changed (Upload user digest refused posts) b) ≡ Some (record { posted = length posts; refused = refused })
 recorded user digest refused posts b new =
-    ap (option_map (λ (r : UploadRecord). r.counts)) (found_last (is_of user digest) b.ledger.uploads (record_of user digest refused posts) (by (find (is_of user digest) b.ledger.uploads) new) own)
+    ap (option_map (λ (r : UploadRecord). r.counts)) (found_last (is_of user digest) b.ledger.uploads (upload_record user digest refused posts) (by (find (is_of user digest) b.ledger.uploads) new) own)
   where
     by : (o : Option UploadRecord) → option_map (λ (r : UploadRecord). r.counts) o ≡ None → option_map (λ (r : UploadRecord). r) o ≡ None
     by None none = refl
     by (Some r) none = absurd (none-some r.counts (sym none))
 
-    own : is_of user digest (record_of user digest refused posts) ≡ true
+    own : is_of user digest (upload_record user digest refused posts) ≡ true
     own = and_from (eqb user user) (bytes_eq digest digest) (eq-eqb user user refl) ((bytes_eq-Decides digest digest).1 refl)
 
 -- ---- one upload
 module _ {Entry : Type 0} (command_of : Entry → BoardCommand) (Step : Steps Entry) (commands : AreCommands command_of Step) (start : State) (deeds : List (Deed Entry)) (are : IsHistory Step start deeds) where
   -- what it makes of its board
-  turns : (n user : ℕ) (digest : List ℕ) (up : IsUpload command_of start deeds n user digest) → UploadTurns up.deed.now up.board user digest up.deed.stepped.world.state (record { text = up.deed.stepped.reply; class = up.deed.stepped.class })
+  turns : (n user : ℕ) (digest : List ℕ) (up : IsUploadDeed command_of start deeds n user digest) → UploadTurns up.deed.now up.board user digest up.deed.stepped.world.state (record { text = up.deed.stepped.reply; class = up.deed.stepped.class })
   turns n user digest up =
-      let step : does up.deed.now (command.Upload up.name up.file) (here (Made up.board) up.deed.shelf) up.deed.stepped =
-      subst (λ (c : BoardCommand). does up.deed.now c (here (Made up.board) up.deed.shelf) up.deed.stepped) up.command
+      let step : board_does up.deed.now (command.Upload up.name up.file) (here (Made up.board) up.deed.shelf) up.deed.stepped =
+      subst (λ (c : BoardCommand). board_does up.deed.now c (here (Made up.board) up.deed.shelf) up.deed.stepped) up.command
       (does_made command_of Step commands start deeds are n up.deed up.board (subst IsOfBoard (sym up.command) tt) up.there up.board_is) in
       subst (λ (d : List ℕ). UploadTurns up.deed.now up.board user d up.deed.stepped.world.state (record { text = up.deed.stepped.reply; class = up.deed.stepped.class })) up.digest_is (by step)
     where
@@ -125,13 +125,13 @@ module _ {Entry : Type 0} (command_of : Entry → BoardCommand) (Step : Steps En
       by_bytes : (turn : Turn) → UploadsRead user up.deed.now up.board (Ok up.bytes) turn → up.deed.stepped.world.state ≡ state_of turn.board → told ≡ turn.reply → UploadTurns up.deed.now up.board user (sha256 up.bytes) up.deed.stepped.world.state told
       by_bytes turn (r, comes, is) next reply = upload_turns up.deed.now up.board user up.bytes up.deed.stepped.world.state told turn next reply r comes is
 
-      by : does up.deed.now (command.Upload up.name up.file) (here (Made up.board) up.deed.shelf) up.deed.stepped → UploadTurns up.deed.now up.board user (sha256 up.bytes) up.deed.stepped.world.state told
+      by : board_does up.deed.now (command.Upload up.name up.file) (here (Made up.board) up.deed.shelf) up.deed.stepped → UploadTurns up.deed.now up.board user (sha256 up.bytes) up.deed.stepped.world.state told
       by (same, (turn, takes, next, reply)) =
           let of_user : UploadsFile up.file up.deed.now up.deed.shelf up.board (Some user) turn = subst (λ (o : Option ℕ). UploadsFile up.file up.deed.now up.deed.shelf up.board o turn) up.user_is takes in
           by_bytes turn (subst (λ (read : Result (List ℕ) Refusal). UploadsRead user up.deed.now up.board read turn) up.read of_user) next reply
 
   -- one that changes the board was judged
-  judged_where : (n user : ℕ) (digest : List ℕ) (up : IsUpload command_of start deeds n user digest) → ChangesBoard start deeds n → WasJudged up.deed.now up.board user digest up.deed.stepped.world.state (record { text = up.deed.stepped.reply; class = up.deed.stepped.class })
+  judged_where : (n user : ℕ) (digest : List ℕ) (up : IsUploadDeed command_of start deeds n user digest) → ChangesBoard start deeds n → WasJudged up.deed.now up.board user digest up.deed.stepped.world.state (record { text = up.deed.stepped.reply; class = up.deed.stepped.class })
   judged_where n user digest up changes = by (turns n user digest up)
     where
       stays : up.deed.stepped.world.state ≡ Made up.board → ⊥
@@ -144,7 +144,7 @@ module _ {Entry : Type 0} (command_of : Entry → BoardCommand) (Step : Steps En
       by (inr (inr judgement)) = judgement
 
   -- ---- the record that it leaves
-  module _ (user : ℕ) (digest : List ℕ) (i : ℕ) (up : IsUpload command_of start deeds i user digest) (changes : ChangesBoard start deeds i) where
+  module _ (user : ℕ) (digest : List ℕ) (i : ℕ) (up : IsUploadDeed command_of start deeds i user digest) (changes : ChangesBoard start deeds i) where
     judgement : WasJudged up.deed.now up.board user digest up.deed.stepped.world.state (record { text = up.deed.stepped.reply; class = up.deed.stepped.class })
     judgement = judged_where i user digest up changes
 
@@ -165,17 +165,17 @@ module _ {Entry : Type 0} (command_of : Entry → BoardCommand) (Step : Steps En
     known_at j order =
         onward command_of Step commands start deeds are IsKnown (suc i) (λ n d b move from is board because known. known_stays move b user digest counts known) (λ n b known. known) j (omega (arith, order)) first_board
 
-    known_then : (j : ℕ) → i < j → (later : IsUpload command_of start deeds j user digest) → upload_of user digest later.board ≡ Some counts
+    known_then : (j : ℕ) → i < j → (later : IsUploadDeed command_of start deeds j user digest) → upload_of user digest later.board ≡ Some counts
     known_then j order later =
         let reached = known_at j order in
         let same : Made reached.0 ≡ Made later.board = sym reached.1 ∙ later.board_is in
         subst (λ (b : Board). upload_of user digest b ≡ Some counts) (same_made reached.0 later.board same) reached.2
 
     -- a later upload doesn't change the board
-    pub none_later : (j : ℕ) → i < j → IsUpload command_of start deeds j user digest → ChangesBoard start deeds j → ⊥
+    pub none_later : (j : ℕ) → i < j → IsUploadDeed command_of start deeds j user digest → ChangesBoard start deeds j → ⊥
     none_later j order later too = let other = judged_where j user digest later too in none-some counts (sym other.new ∙ known_then j order later)
 
-    pub again_later : (j : ℕ) → i < j → (later : IsUpload command_of start deeds j user digest) → later.deed.stepped.class ≡ class.Done → (migrated (after start deeds (suc j)) ≡ migrated (after start deeds j)) × HasItsCounts up.deed.stepped.reply later.deed.stepped.reply
+    pub again_later : (j : ℕ) → i < j → (later : IsUploadDeed command_of start deeds j user digest) → later.deed.stepped.class ≡ class.Done → (migrated (after start deeds (suc j)) ≡ migrated (after start deeds j)) × HasItsCounts up.deed.stepped.reply later.deed.stepped.reply
     unfolding counts
     again_later j order later done = by (turns j user digest later)
       where

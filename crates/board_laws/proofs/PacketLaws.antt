@@ -8,11 +8,11 @@ use Rattle.board_layout.specs.Lookups.{user_of}
 use Rattle.board_laws.proofs.Moves.{Move, moved, users_moved}
 use Rattle.board_laws.proofs.Sequences.{AreCommands, IsOfBoard, after_one, does_made, onward, same_made}
 use Rattle.board_laws.proofs.Users.{offered_there, user_still}
-use Rattle.board_laws.specs.BoardCommand.{BoardCommand, Export, does}
+use Rattle.board_laws.specs.BoardCommand.{BoardCommand, Export, board_does}
 use Rattle.board_laws.specs.History.{Deed, IsHistory, LeadsTo, Steps}
 use Rattle.board_laws.specs.Passed.{IsExport, PacketsRise}
 use Rattle.board_ledger.specs.declared.user.User.{User}
-use Rattle.door_export.specs.Export.{ExportRefusal, Handout, export_as, export_of, export_to, packet_to, unless_refused, user_refusal}
+use Rattle.door_export.specs.Export.{ExportRefusal, Handout, export_as, export_of, export_to, packet_to, handed_unless_refused, user_refusal}
 use Rattle.entry_runs.specs.Door.{here}
 use Rattle.exchange_commands.specs.Export.{handing_of}
 use Rattle.exchange_commands.specs.Handing.{Handing}
@@ -27,7 +27,7 @@ module _ (name : List ℕ) (limit now : ℕ) (b : Board) (id : ℕ) (p : Handout
   abbrev IsHanded : Type 0
   IsHanded = (u : User) × (user_of id b ≡ Some u) × (p ≡ packet_to limit now b id u)
 
-  by_refusal : (u : User) → user_of id b ≡ Some u → (why : Option ExportRefusal) → unless_refused (packet_to limit now b id u) why ≡ Ok p → IsHanded
+  by_refusal : (u : User) → user_of id b ≡ Some u → (why : Option ExportRefusal) → handed_unless_refused (packet_to limit now b id u) why ≡ Ok p → IsHanded
   by_refusal u there None is = let same : packet_to limit now b id u ≡ p = cc in (u, there, sym same)
   by_refusal u there (Some why) is = absurd (cc is)
 
@@ -58,10 +58,10 @@ module _ {Entry : Type 0} (command_of : Entry → BoardCommand) (Step : Steps En
 
     -- the board after it
     made : e.deed.stepped.world.state ≡ Made e.handout.board
-    made = by (subst (λ (c : BoardCommand). does e.deed.now c (here (Made e.board) e.deed.shelf) e.deed.stepped) e.command
+    made = by (subst (λ (c : BoardCommand). board_does e.deed.now c (here (Made e.board) e.deed.shelf) e.deed.stepped) e.command
         (does_made command_of Step commands start deeds are n e.deed e.board (subst IsOfBoard (sym e.command) tt) e.carried.there e.carried.board_is))
       where
-        by : does e.deed.now (Export e.name e.limit e.folder) (here (Made e.board) e.deed.shelf) e.deed.stepped → e.deed.stepped.world.state ≡ Made e.handout.board
+        by : board_does e.deed.now (Export e.name e.limit e.folder) (here (Made e.board) e.deed.shelf) e.deed.stepped → e.deed.stepped.world.state ≡ Made e.handout.board
         by (handing, is, next, new, reply) =
             next ∙ (ap (λ (h : Handing). state_of h.board) is ∙ ap (λ (r : Result Handout ExportRefusal). state_of (handing_of e.folder e.deed.shelf e.board r).board) e.export)
 

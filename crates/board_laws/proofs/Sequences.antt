@@ -9,7 +9,7 @@ use Rattle.board_layout.specs.Valid.{IsBoard}
 use Rattle.door_outside.specs.Shelf.{Files}
 use Rattle.board_laws.proofs.Moves.{Move, moved}
 use Rattle.board_laws.proofs.Turns.{BecauseOf, FromNone, Turns, from_none, turn_on}
-use Rattle.board_laws.specs.BoardCommand.{BoardCommand, does}
+use Rattle.board_laws.specs.BoardCommand.{BoardCommand, board_does}
 use Rattle.board_laws.specs.BoardCommand as command
 use Rattle.board_laws.specs.History.{Deed, Steps, IsBeginning, IsHistory, LeadsTo, after, left_by}
 use Rattle.entry_runs.specs.Door.{World, here}
@@ -18,7 +18,7 @@ use Rattle.setup_file.specs.declared.setup.Setup.{Setup}
 
 -- each entry does to a board what its command does
 abbrev pub AreCommands : {Entry : Type 0} → (Entry → BoardCommand) → Steps Entry → Type 0
-AreCommands {Entry} command_of Step = (now : ℕ) (entry : Entry) (world : World State) (stepped : Stepped (World State)) → Step now entry world stepped → does now (command_of entry) world stepped
+AreCommands {Entry} command_of Step = (now : ℕ) (entry : Entry) (world : World State) (stepped : Stepped (World State)) → Step now entry world stepped → board_does now (command_of entry) world stepped
 
 -- one board
 pub same_made : (b c : Board) → Made b ≡ Made c → b ≡ c
@@ -40,7 +40,7 @@ IsOfBoard (command.Upload name file) = Unit {0}
 IsOfBoard (command.Sample seed count) = Unit {0}
 IsOfBoard command.Other = ⊥
 
-of_board : (c : BoardCommand) → IsOfBoard c ⊎ ((now : ℕ) (world : World State) (stepped : Stepped (World State)) → does now c world stepped → stepped.world.state ≡ world.state)
+of_board : (c : BoardCommand) → IsOfBoard c ⊎ ((now : ℕ) (world : World State) (stepped : Stepped (World State)) → board_does now c world stepped → stepped.world.state ≡ world.state)
 of_board (command.Init file) = inl tt
 of_board (command.Enroll name flags conferences) = inl tt
 of_board command.Check = inl tt
@@ -56,7 +56,7 @@ of_board (command.Sample seed count) = inl tt
 of_board command.Other = inr (λ now world stepped same. same)
 
 -- what it does to a board in files of the first version it does to that board
-as_today : (now : ℕ) (c : BoardCommand) (b : Board) (shelf : Files) (stepped : Stepped (World State)) → IsOfBoard c → does now c (here (Old b) shelf) stepped → does now c (here (Made b) shelf) stepped
+as_today : (now : ℕ) (c : BoardCommand) (b : Board) (shelf : Files) (stepped : Stepped (World State)) → IsOfBoard c → board_does now c (here (Old b) shelf) stepped → board_does now c (here (Made b) shelf) stepped
 as_today now (command.Init file) b shelf stepped own step = step
 as_today now (command.Enroll name flags conferences) b shelf stepped own step = step
 as_today now command.Check b shelf stepped own step = step
@@ -72,10 +72,10 @@ as_today now (command.Sample seed count) b shelf stepped own step = step
 as_today now command.Other b shelf stepped own step = absurd own
 
 -- so it does to any state what it does to the board that the state is of
-as_made : (now : ℕ) (c : BoardCommand) (s : State) (b : Board) (shelf : Files) (stepped : Stepped (World State)) → IsOfBoard c → migrated s ≡ Made b → does now c (here s shelf) stepped → does now c (here (Made b) shelf) stepped
+as_made : (now : ℕ) (c : BoardCommand) (s : State) (b : Board) (shelf : Files) (stepped : Stepped (World State)) → IsOfBoard c → migrated s ≡ Made b → board_does now c (here s shelf) stepped → board_does now c (here (Made b) shelf) stepped
 as_made now c NotMade b shelf stepped own is step = absurd (cc is)
-as_made now c (Made a) b shelf stepped own is step = subst (λ (s : State). does now c (here s shelf) stepped) is step
-as_made now c (Old a) b shelf stepped own is step = subst (λ (s : State). does now c (here s shelf) stepped) is (as_today now c a shelf stepped own step)
+as_made now c (Made a) b shelf stepped own is step = subst (λ (s : State). board_does now c (here s shelf) stepped) is step
+as_made now c (Old a) b shelf stepped own is step = subst (λ (s : State). board_does now c (here s shelf) stepped) is (as_today now c a shelf stepped own step)
 as_made now c (Spoiled files) b shelf stepped own is step = absurd (cc is)
 
 module _ {Entry : Type 0} (command_of : Entry → BoardCommand) (Step : Steps Entry) (commands : AreCommands command_of Step) (start : State) (deeds : List (Deed Entry)) (are : IsHistory Step start deeds) where
@@ -86,11 +86,11 @@ module _ {Entry : Type 0} (command_of : Entry → BoardCommand) (Step : Steps En
   pub after_one : (n : ℕ) (d : Deed Entry) → slice_get deeds n ≡ Some d → after start deeds (suc n) ≡ d.stepped.world.state
   after_one n d is = ap (left_by (after start deeds n)) is
 
-  pub does_on : (n : ℕ) (d : Deed Entry) (s : State) → slice_get deeds n ≡ Some d → after start deeds n ≡ s → does d.now (command_of d.entry) (here s d.shelf) d.stepped
-  does_on n d s is state = subst (λ (t : State). does d.now (command_of d.entry) (here t d.shelf) d.stepped) state (commands d.now d.entry (here (after start deeds n) d.shelf) d.stepped (are n d is))
+  pub does_on : (n : ℕ) (d : Deed Entry) (s : State) → slice_get deeds n ≡ Some d → after start deeds n ≡ s → board_does d.now (command_of d.entry) (here s d.shelf) d.stepped
+  does_on n d s is state = subst (λ (t : State). board_does d.now (command_of d.entry) (here t d.shelf) d.stepped) state (commands d.now d.entry (here (after start deeds n) d.shelf) d.stepped (are n d is))
 
   -- what a command that touches the board does to it
-  pub does_made : (n : ℕ) (d : Deed Entry) (b : Board) → IsOfBoard (command_of d.entry) → slice_get deeds n ≡ Some d → LeadsTo start deeds n b → does d.now (command_of d.entry) (here (Made b) d.shelf) d.stepped
+  pub does_made : (n : ℕ) (d : Deed Entry) (b : Board) → IsOfBoard (command_of d.entry) → slice_get deeds n ≡ Some d → LeadsTo start deeds n b → board_does d.now (command_of d.entry) (here (Made b) d.shelf) d.stepped
   does_made n d b own is leads = as_made d.now (command_of d.entry) (after start deeds n) b d.shelf d.stepped own leads (does_on n d (after start deeds n) is refl)
 
   -- a deed leaves the state, or is a turn of the board
@@ -100,7 +100,7 @@ module _ {Entry : Type 0} (command_of : Entry → BoardCommand) (Step : Steps En
   turn_at : (n : ℕ) (d : Deed Entry) (b : Board) → slice_get deeds n ≡ Some d → LeadsTo start deeds n b → TurnsAt n d b
   turn_at n d b is leads = by (of_board (command_of d.entry))
     where
-      by : IsOfBoard (command_of d.entry) ⊎ ((now : ℕ) (world : World State) (stepped : Stepped (World State)) → does now (command_of d.entry) world stepped → stepped.world.state ≡ world.state) → TurnsAt n d b
+      by : IsOfBoard (command_of d.entry) ⊎ ((now : ℕ) (world : World State) (stepped : Stepped (World State)) → board_does now (command_of d.entry) world stepped → stepped.world.state ≡ world.state) → TurnsAt n d b
       by (inl own) = inr (turn_on d.now b (command_of d.entry) d.shelf d.stepped (does_made n d b own is leads))
       by (inr off) = inl (off d.now (here (after start deeds n) d.shelf) d.stepped (does_on n d (after start deeds n) is refl))
 

@@ -13,14 +13,14 @@ use Rattle.board_layout.specs.Board.{Board}
 use Rattle.board_layout.specs.Lookups.{user_of}
 use Rattle.board_laws.proofs.Moves.{Makes, Move, Packs, moved}
 use Rattle.board_laws.proofs.Uploads.{UploadTurns, upload_turns}
-use Rattle.board_laws.specs.BoardCommand.{BoardCommand, does}
+use Rattle.board_laws.specs.BoardCommand.{BoardCommand, board_does}
 use Rattle.board_laws.specs.BoardCommand as command
 use Rattle.board_ledger.specs.declared.user.User.{User}
-use Rattle.command_words.specs.Choice.{places_from}
+use Rattle.command_words.specs.Choice.{chosen_from}
 use Rattle.command_words.specs.declared.choice.Choice.{Choice}
 use Rattle.door_export.specs.Ack.{AckRefusal, NoPacket, ack_as, ack_of}
 use Rattle.door_export.specs.Ack as why
-use Rattle.door_export.specs.Export.{ExportRefusal, Handout, NoUser, export_as, export_of, export_to, packet_to, unless_refused, user_refusal}
+use Rattle.door_export.specs.Export.{ExportRefusal, Handout, NoUser, export_as, export_of, export_to, packet_to, handed_unless_refused, user_refusal}
 use Rattle.door_outside.specs.Shelf.{Files}
 use Rattle.entry_runs.specs.Door.{World, here}
 use Rattle.entry_runs.specs.Entry.{Reply}
@@ -46,7 +46,7 @@ use Rattle.pack_commands.specs.Pack.{pack_at}
 use Rattle.packet_verdicts.specs.Judged.{judged, refused_count}
 use Rattle.message_commands.specs.Sample.{sample_refusals, sampled_posts, sampling}
 use Rattle.setup_file.specs.declared.setup.Setup.{Setup}
-use Rattle.shelf_files.specs.ShelfFile.{file_of, rep_limit}
+use Rattle.shelf_files.specs.ShelfFile.{file_within, rep_limit}
 use Rattle.shelf_files.specs.Halts.{done}
 use Rattle.shelf_files.specs.declared.refusal.Refusal.{Refusal}
 use Rattle.shelf_files.specs.declared.refusal.Refusal.TheVariants.{NoMessage}
@@ -61,7 +61,7 @@ use Rattle.toss_commands.specs.Tossed.{tossed}
 abbrev pub FromNone : ℕ → State → Type 0
 FromNone now next = (next ≡ NotMade) ⊎ ((setup : Setup) × (next ≡ Made (made setup now)))
 
-pub from_none : (now : ℕ) (c : BoardCommand) (shelf : Files) (stepped : Stepped (World State)) → does now c (here NotMade shelf) stepped → FromNone now stepped.world.state
+pub from_none : (now : ℕ) (c : BoardCommand) (shelf : Files) (stepped : Stepped (World State)) → board_does now c (here NotMade shelf) stepped → FromNone now stepped.world.state
 from_none now (command.Init file) shelf stepped (same, (turn, (read, reads, is), next, reply)) = by read is
   where
     by : (read : Result Setup Refusal) → turn ≡ made_of now read → FromNone now stepped.world.state
@@ -126,7 +126,7 @@ Turns now b c next class = (next ≡ Made b) ⊎ ((move : Move) × (next ≡ Mad
 module _ (now : ℕ) (b : Board) (c : BoardCommand) (next : State) (class : Class) where
   -- ---- users and messages
   by_enroll : (name : List ℕ) (net : Bool) (choice : Choice) (why : Option Refusal) (turn : Turn) → turn ≡ enrolling name net choice b why → next ≡ state_of turn.board → Turns now b c next class
-  by_enroll name net choice None turn is then = inr (Makes (Enroll name net (places_from choice 0 b.ledger.setup.conferences)), then ∙ ap (λ (t : Turn). state_of t.board) is, tt)
+  by_enroll name net choice None turn is then = inr (Makes (Enroll name net (chosen_from choice 0 b.ledger.setup.conferences)), then ∙ ap (λ (t : Turn). state_of t.board) is, tt)
   by_enroll name net choice (Some why) turn is then = inl (then ∙ ap (λ (t : Turn). state_of t.board) is)
 
   by_append : (conference place : ℕ) (messages : List Message) (why : Option Refusal) (turn : Turn) → turn ≡ appending conference place messages b why → next ≡ state_of turn.board → Turns now b c next class
@@ -184,7 +184,7 @@ module _ (now : ℕ) (b : Board) (c : BoardCommand) (next : State) (class : Clas
       refused : (why : ExportRefusal) → Ends (Err why)
       refused why given is = inl (then ∙ ap (λ (h : Handing). state_of h.board) is)
 
-      by_refusal : (id : ℕ) (u : User) → user_id name b ≡ Some id → user_of id b ≡ Some u → (why : Option ExportRefusal) → Ends (unless_refused (packet_to limit now b id u) why)
+      by_refusal : (id : ℕ) (u : User) → user_id name b ≡ Some id → user_of id b ≡ Some u → (why : Option ExportRefusal) → Ends (handed_unless_refused (packet_to limit now b id u) why)
       by_refusal id u user there (Some why) given is = refused why given is
       by_refusal id u user there None given is = inr (
         Makes (Offer id (highs b (offered b id limit))),
@@ -252,10 +252,10 @@ module _ (now : ℕ) (b : Board) (c : BoardCommand) (next : State) (class : Clas
 
   by_file : (file : List ℕ) (shelf : Files) (o : Option ℕ) (turn : Turn) → UploadsFile file now shelf b o turn → next ≡ state_of turn.board → Turns now b c next class
   by_file file shelf None turn is then = inl (then ∙ ap (λ (t : Turn). state_of t.board) is)
-  by_file file shelf (Some user) turn is then = by_read user (file_of shelf file rep_limit) turn is then
+  by_file file shelf (Some user) turn is then = by_read user (file_within shelf file rep_limit) turn is then
 
 -- Each command on a board.
-pub turn_on : (now : ℕ) (b : Board) (c : BoardCommand) (shelf : Files) (stepped : Stepped (World State)) → does now c (here (Made b) shelf) stepped → Turns now b c stepped.world.state stepped.class
+pub turn_on : (now : ℕ) (b : Board) (c : BoardCommand) (shelf : Files) (stepped : Stepped (World State)) → board_does now c (here (Made b) shelf) stepped → Turns now b c stepped.world.state stepped.class
 turn_on now b (command.Init file) shelf stepped (same, (turn, is, next, reply)) = inl (next ∙ ap (λ (t : Turn). state_of t.board) is)
 turn_on now b (command.Enroll name flags conferences) shelf stepped (same, (turn, (choice, reads, is), next, reply)) =
     by_enroll now b (command.Enroll name flags conferences) stepped.world.state stepped.class name (is_net_flag flags) choice (first_refusal (enroll_refusals name (is_net_flag flags) choice b)) turn is next

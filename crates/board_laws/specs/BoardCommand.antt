@@ -44,17 +44,17 @@ pub data BoardCommand : Type 0 where
   Other : BoardCommand
 
 -- what it does at a moment
-abbrev pub does : ℕ → BoardCommand → World State → Stepped (World State) → Type 0
-does now (Init file) world stepped = (inits file now).Step world stepped
-does now (Enroll name flags conferences) world stepped = (enrolls name flags conferences).Step world stepped
-does now Check world stepped = checks.Step world stepped
-does now (Import conference file) world stepped = (imports conference file now).Step world stepped
-does now (Adopt conference prefix) world stepped = (adopts conference prefix).Step world stepped
-does now (Toss file) world stepped = (tosses file now).Step world stepped
-does now (Kill conference number) world stepped = (kills conference number).Step world stepped
-does now (Pack conference) world stepped = (packs conference).Step world stepped
-does now (Export name limit folder) world stepped = (exports name limit folder now).Step world stepped
-does now (Ack name packet) world stepped = (acknowledges name packet now).Step world stepped
-does now (Upload name file) world stepped = (uploads name file now).Step world stepped
-does now (Sample seed count) world stepped = (samples seed count now).Step world stepped
-does now Other world stepped = stepped.world.state ≡ world.state
+abbrev pub board_does : ℕ → BoardCommand → World State → Stepped (World State) → Type 0
+board_does now (Init file) world stepped = (inits file now).Step world stepped
+board_does now (Enroll name flags conferences) world stepped = (enrolls name flags conferences).Step world stepped
+board_does now Check world stepped = checks.Step world stepped
+board_does now (Import conference file) world stepped = (imports conference file now).Step world stepped
+board_does now (Adopt conference prefix) world stepped = (adopts conference prefix).Step world stepped
+board_does now (Toss file) world stepped = (tosses file now).Step world stepped
+board_does now (Kill conference number) world stepped = (kills conference number).Step world stepped
+board_does now (Pack conference) world stepped = (packs conference).Step world stepped
+board_does now (Export name limit folder) world stepped = (exports name limit folder now).Step world stepped
+board_does now (Ack name packet) world stepped = (acknowledges name packet now).Step world stepped
+board_does now (Upload name file) world stepped = (uploads name file now).Step world stepped
+board_does now (Sample seed count) world stepped = (samples seed count now).Step world stepped
+board_does now Other world stepped = stepped.world.state ≡ world.state

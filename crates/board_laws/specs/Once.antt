@@ -8,7 +8,7 @@ use Rattle.entry_runs.specs.declared.class.Class.TheVariants.{Done}
 use Rattle.mail_board.specs.Readers.{user_id}
 use Rattle.packet_verdicts.specs.declared.outcome.Outcome.{Outcome}
 use Rattle.sha2.specs.Sha256.{sha256}
-use Rattle.shelf_files.specs.ShelfFile.{file_of, rep_limit}
+use Rattle.shelf_files.specs.ShelfFile.{file_within, rep_limit}
 use Rattle.exchange_commands.specs.Upload.{outcome_lines, tally}
 
 -- One reply tells what became of each message of a packet, and the other says again how many were posted and refused.
@@ -19,7 +19,7 @@ pub record HasItsCounts (first again : List ℕ) : Type 0 where
 
 module _ {Entry : Type 0} (command_of : Entry → BoardCommand) where
   -- The deed in a place is an upload of a packet with this digest by the user of this id.
-  pub record IsUpload (start : State) (deeds : List (Deed Entry)) (n user : ℕ) (digest : List ℕ) : Type 0 where
+  pub record IsUploadDeed (start : State) (deeds : List (Deed Entry)) (n user : ℕ) (digest : List ℕ) : Type 0 where
     pub deed : Deed Entry
     pub there : slice_get deeds n ≡ Some deed
     pub board : Board
@@ -29,17 +29,17 @@ module _ {Entry : Type 0} (command_of : Entry → BoardCommand) where
     pub command : command_of deed.entry ≡ Upload name file
     pub user_is : user_id name board ≡ Some user
     pub bytes : List ℕ
-    pub read : file_of deed.shelf file rep_limit ≡ Ok bytes
+    pub read : file_within deed.shelf file rep_limit ≡ Ok bytes
     pub digest_is : sha256 bytes ≡ digest
 
   module _ (Step : Steps Entry) where
     -- For each user and digest at most one deed changes the board by an upload.
     abbrev pub ChangesOnce : Type 0
     ChangesOnce = (start : State) (deeds : List (Deed Entry)) → IsHistory Step start deeds → (user : ℕ) (digest : List ℕ) (i j : ℕ)
-        → IsUpload start deeds i user digest → ChangesBoard start deeds i → IsUpload start deeds j user digest → ChangesBoard start deeds j → i ≡ j
+        → IsUploadDeed start deeds i user digest → ChangesBoard start deeds i → IsUploadDeed start deeds j user digest → ChangesBoard start deeds j → i ≡ j
 
     -- Each later upload of them that isn't refused changes nothing, and has the counts of that one.
     abbrev pub SaysAgain : Type 0
     SaysAgain = (start : State) (deeds : List (Deed Entry)) → IsHistory Step start deeds → (user : ℕ) (digest : List ℕ) (i j : ℕ) → i < j
-        → (first : IsUpload start deeds i user digest) → ChangesBoard start deeds i → (later : IsUpload start deeds j user digest) → later.deed.stepped.class ≡ Done
+        → (first : IsUploadDeed start deeds i user digest) → ChangesBoard start deeds i → (later : IsUploadDeed start deeds j user digest) → later.deed.stepped.class ≡ Done
         → (migrated (after start deeds (suc j)) ≡ migrated (after start deeds j)) × HasItsCounts first.deed.stepped.reply later.deed.stepped.reply

@@ -18,7 +18,7 @@ use Rattle.damage_rules.proofs.KeptRules.{bind_ok, kept_rules, ok_is, rules_kept
 use Rattle.door_outside.specs.File.{is_data_file, ledger_file, jhr_file, jdt_file, jdx_file, jlr_file}
 use Rattle.intent_journal.specs.Patches.{Files}
 use Rattle.jam_base.specs.Change.{files_of_place}
-use Rattle.jam_layout.specs.Valid.{FilesFit, IsConference}
+use Rattle.jam_layout.specs.Valid.{BaseFilesFit, IsConference}
 use Rattle.jam_layout.specs.declared.conference.Conference.{Conference}
 use Rattle.jam_layout.specs.declared.files.BaseFiles.{BaseFiles}
 use Rattle.jam_layout.specs.declared.shape.Shape.{Shape}
@@ -28,7 +28,7 @@ use Rattle.jam_records.specs.declared.damage.DamageRule.TheVariants.{Size}
 use Rattle.open_offers.specs.Versions.{version_of}
 use Rattle.board_layout.specs.Board.{Board, shapes_of}
 use Rattle.board_layout.specs.Damage.{parts_behind, parts_of, size_limit, board_of, board_damage}
-use Rattle.board_layout.specs.Layout.{no_base, layouts, base_files, HasPlaces, IsLayout, AreEmpty, AreAt, AreBytes, data_size, board_size}
+use Rattle.board_layout.specs.Layout.{no_base, layouts, base_files, HasPlaces, IsLayout, AreEmpty, AreAt, AreFileBytes, data_size, board_size}
 use Rattle.board_layout.specs.OldLayout.{old_size, IsOldLayout, IsStoredIn}
 use Rattle.board_layout.specs.Valid.{board_limit, IsBoard}
 use Rattle.board_layout.proofs.BasePlaces.{same_place, at_place, all_at, shapes_count, layouts_count}
@@ -43,7 +43,7 @@ use Rattle.board_layout.proofs.StoredLedgers.{in_either, kept, laid_as, limit_mo
 is_data : (file : ℕ) → 1 < file → file < 258 → IsTrue (is_data_file file)
 is_data file above below = and_from (ltb file 258) (not (eqb file 1)) (lt-ltb file 258 below) (not_from_false (eqb file 1) (ne_eqb file 1 (λ e. omega arith)))
 
-all_fit : (files : Files) → AreBytes files → data_size files ≤ board_limit → (k : ℕ) → k < 64 → FilesFit (files_of_place k files)
+all_fit : (files : Files) → AreFileBytes files → data_size files ≤ board_limit → (k : ℕ) → k < 64 → BaseFilesFit (files_of_place k files)
 all_fit files bytes small k within =
     let some = place_within 64 files k within in
     let jhr : length (files (jhr_file k)) < 2 ^ 31 = omega (arith, some, small) in
@@ -56,16 +56,16 @@ all_fit files bytes small k within =
       jlr = bytes (jlr_file k) (is_data (jlr_file k) (omega arith) (omega arith));
     }
 
-no_base_fits : FilesFit no_base
+no_base_fits : BaseFilesFit no_base
 no_base_fits = record { jhr = (All-nil IsByte, omega arith); jdt = (All-nil IsByte, omega arith); jdx = (All-nil IsByte, omega arith); jlr = All-nil IsByte }
 
-layouts_fit : (shapes : List Shape) (conferences : List Conference) → AllZip IsConference shapes conferences → (k : ℕ) → FilesFit (get_or (layouts shapes conferences) k no_base)
+layouts_fit : (shapes : List Shape) (conferences : List Conference) → AllZip IsConference shapes conferences → (k : ℕ) → BaseFilesFit (get_or (layouts shapes conferences) k no_base)
 layouts_fit [] conferences zip k = no_base_fits
 layouts_fit (s ∷ shapes) [] zip k = absurd zip
 layouts_fit (s ∷ shapes) (c ∷ conferences) zip zero = layout_fits s c zip.0
 layouts_fit (s ∷ shapes) (c ∷ conferences) zip (suc k) = layouts_fit shapes conferences zip.1 k
 
-bytes_at : (files : Files) (file k : ℕ) → FilesFit (files_of_place k files) → jhr_file k ≤ file → file ≤ jlr_file k → All IsByte (files file)
+bytes_at : (files : Files) (file k : ℕ) → BaseFilesFit (files_of_place k files) → jhr_file k ≤ file → file ≤ jlr_file k → All IsByte (files file)
 bytes_at files file k fit from upto =
     let P : ℕ → Type 0 = λ n. All IsByte (files n) in
     elim (cases_eq file (jhr_file k)) [
@@ -79,7 +79,7 @@ bytes_at files file k fit from upto =
       ]
     ]
 
-pub laid_bytes : (b : Board) (files : Files) → IsBoard b → IsStoredIn b files → AreBytes files
+pub laid_bytes : (b : Board) (files : Files) → IsBoard b → IsStoredIn b files → AreFileBytes files
 laid_bytes b files ok laid file is =
     let parts = and_parts (ltb file 258) (not (eqb file 1)) is in
     let below = ltb-true file 258 parts.0 in
@@ -90,7 +90,7 @@ laid_bytes b files ok laid file is =
       | inr other ↦
           let place : ℕ = (file - 2) / 4 in
           let within : place < 64 = omega arith in
-          let fit = subst FilesFit (sym (stored_places b files laid place within)) (layouts_fit (shapes_of b.ledger) b.conferences ok.conferences place) in
+          let fit = subst BaseFilesFit (sym (stored_places b files laid place within)) (layouts_fit (shapes_of b.ledger) b.conferences ok.conferences place) in
           bytes_at files file place fit (omega arith) (omega arith)
     ]
 
@@ -118,7 +118,7 @@ old_sized b files ok laid = old_same_size b files (few_bases b ok) laid.ledger l
 abbrev board_made : Ledger → List Conference → Board
 board_made l conferences = record { ledger = l; conferences = conferences }
 
-parts_take : (files : Files) (b : Board) → AreBytes files → data_size files ≤ size_limit (files ledger_file) → parts_of files ≡ Ok b → IsBoard b × IsStoredIn b files
+parts_take : (files : Files) (b : Board) → AreFileBytes files → data_size files ≤ size_limit (files ledger_file) → parts_of files ≡ Ok b → IsBoard b × IsStoredIn b files
 parts_take files b bytes short e =
     let p = board_parts files b e in
     let raw : Ledger = p.ledger in
@@ -163,7 +163,7 @@ parts_again b files ok laid =
 abbrev pub size_rules : Files → Rules
 size_rules files = (Size, ltb (size_limit (files ledger_file)) (data_size files)) ∷ []
 
-pub takes : (files : Files) (b : Board) → AreBytes files → board_of files ≡ Ok b → IsBoard b × IsStoredIn b files
+pub takes : (files : Files) (b : Board) → AreFileBytes files → board_of files ≡ Ok b → IsBoard b × IsStoredIn b files
 unfolding board_of
 takes files b bytes e =
     let a = bind_ok (by_rules ledger_file 0 (size_rules files) (tt {0})) (λ sized. parts_of files) b e in
@@ -181,7 +181,7 @@ no_damage : {A : Type 0} (r : Result A Damage) → damage_of r ≡ None → (x :
 no_damage (Ok x) e = (x, refl)
 no_damage (Err d) e = absurd cc
 
-pub undamaged : (files : Files) → AreBytes files → (board_damage files ≡ None) ↔ ((b : Board) × IsBoard b × IsStoredIn b files)
+pub undamaged : (files : Files) → AreFileBytes files → (board_damage files ≡ None) ↔ ((b : Board) × IsBoard b × IsStoredIn b files)
 undamaged files bytes = (
   λ e. let r = no_damage (board_of files) e in let t = takes files r.0 bytes r.1 in (r.0, t.0, t.1),
   λ (b, ok, laid). ap damage_of (again b files ok laid),

@@ -8,7 +8,7 @@ use Rattle.damage_rules.proofs.KeptRules.{bind_ok, ok_is}
 use Rattle.intent_journal.specs.Patches.{Files}
 use Rattle.jam_base.specs.Change.{files_of_place}
 use Rattle.jam_layout.specs.Layout.{conference_of}
-use Rattle.jam_layout.specs.Valid.{FilesFit, IsConference}
+use Rattle.jam_layout.specs.Valid.{BaseFilesFit, IsConference}
 use Rattle.jam_layout.specs.declared.conference.Conference.{Conference}
 use Rattle.jam_layout.specs.declared.shape.Shape.{Shape}
 use Rattle.jam_layout.proofs.ConferenceLayout.{layout_is, is_layout}
@@ -19,7 +19,7 @@ use Rattle.board_layout.specs.Layout.{layouts, AreAt}
 use Rattle.board_layout.proofs.LedgerShapes.{shape_fits}
 
 pub conferences_take : (l : Ledger) (place : ℕ) (setup : List SetupConference) (files : Files) (conferences : List Conference)
-    → ((k : ℕ) → k < 64 → FilesFit (files_of_place k files)) → place + length setup ≤ 64 → conferences_of (shapes_from l place setup) files ≡ Ok conferences
+    → ((k : ℕ) → k < 64 → BaseFilesFit (files_of_place k files)) → place + length setup ≤ 64 → conferences_of (shapes_from l place setup) files ≡ Ok conferences
     → AllZip IsConference (shapes_from l place setup) conferences × AreAt place (layouts (shapes_from l place setup) conferences) files
 conferences_take l place [] files conferences fit few e = subst (λ (xs : List Conference). AllZip IsConference [] xs × AreAt place (layouts [] xs) files) (ok_is [] conferences e) (tt, tt)
 conferences_take l place (c ∷ setup) files conferences fit few e =

@@ -65,5 +65,5 @@ abbrev pub base_size : Contents → ℕ
 base_size base = files_size (files_in base)
 
 -- each data file is a list of bytes
-abbrev pub AreBytes : Files → Type 0
-AreBytes files = (file : ℕ) → IsTrue (is_data_file file) → All IsByte (files file)
+abbrev pub AreFileBytes : Files → Type 0
+AreFileBytes files = (file : ℕ) → IsTrue (is_data_file file) → All IsByte (files file)

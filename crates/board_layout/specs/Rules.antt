@@ -27,10 +27,10 @@ use Rattle.board_layout.specs.declared.error.ReadError.{ReadError}
 use Rattle.board_layout.specs.declared.error.ReadError.TheVariants.{Damaged, DiskFault, OutOfMemory}
 
 -- the damage that an error tells of, or none where a file call failed or memory ran out
-abbrev pub told : ReadError → Option Damage
-told (Damaged d) = Some d
-told DiskFault = None
-told OutOfMemory = None
+abbrev pub damage_of_read : ReadError → Option Damage
+damage_of_read (Damaged d) = Some d
+damage_of_read DiskFault = None
+damage_of_read OutOfMemory = None
 
 -- the error for a ledger that couldn't be read, and for a base
 abbrev pub of_ledger : LedgerError → ReadError
@@ -42,8 +42,8 @@ of_base (BaseDamaged d) = Damaged d
 of_base BaseStarved = OutOfMemory
 
 -- what a function answered, seen by view, is what is read, unless a file call failed or memory ran out
-abbrev pub Gives : {X Y : Type 0} → (X → Y) → Result X ReadError → Result Y Damage → Type 0
-Gives view result read = Answers told view result read
+abbrev pub ReadGives : {X Y : Type 0} → (X → Y) → Result X ReadError → Result Y Damage → Type 0
+ReadGives view result read = Answers damage_of_read view result read
 
 -- something is read to which an answer stands so
 pub record ReadSo {X Y : Type 0} (stands : X → Y → Type 0) (x : X) (read : Result Y Damage) : Type 0 where
@@ -54,7 +54,7 @@ pub record ReadSo {X Y : Type 0} (stands : X → Y → Type 0) (x : X) (read : R
 -- what a function answered stands so to what is read, unless a file call failed or memory ran out
 abbrev pub GivesSo : {X Y : Type 0} → (X → Y → Type 0) → Result X ReadError → Result Y Damage → Type 0
 GivesSo stands (Ok x) read = ReadSo stands x read
-GivesSo stands (Err e) read = Stops (told e) read
+GivesSo stands (Err e) read = Stops (damage_of_read e) read
 
 -- The count of disk faults doesn't fall. It rose where a fault is answered, and any other answer leaves it.
 pub record HasReadCause {T : Type 0} (before now : ℕ) (result : Result T ReadError) : Type 0 where

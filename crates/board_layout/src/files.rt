@@ -1,6 +1,6 @@
 // Reading files whole.
 ghost use Rattle.std.specs.Prelude.{◌≡◌, ◌<◌, ◌^◌, length, Ok, IfOk, IsTrue};
-ghost use Rattle.board_layout.specs.Rules.{Gives, HasReadCause};
+ghost use Rattle.board_layout.specs.Rules.{ReadGives, HasReadCause};
 ghost use Rattle.door_outside.specs.Disk.{Unchanged};
 ghost use Rattle.jam_base.specs.Change.{files_of_place};
 
@@ -18,7 +18,7 @@ pub(crate) fn read_file<H: Host>(
 ) -> Result<Bytes, ReadError>
     ensures short { IfOk result (λ bytes. length bytes < 2 ^ 31) }
     ensures unchanged { IsTrue H.tells → Unchanged (H.disk host.old) (H.disk host.new) }
-    ensures gives { IsTrue H.tells → Gives (λ bytes. bytes) result (Ok ((H.disk host.old).files file)) }
+    ensures gives { IsTrue H.tells → ReadGives (λ bytes. bytes) result (Ok ((H.disk host.old).files file)) }
     ensures cause { HasReadCause (H.disk_faults host.old) (H.disk_faults host.new) result }
     ensures voice { H.voice_faults host.new ≡ H.voice_faults host.old }
 {
@@ -41,7 +41,7 @@ pub(crate) fn read_files<H: Host>(
     ensures jdx { IfOk result (λ files. length files.jdx < 2 ^ 31) }
     ensures jlr { IfOk result (λ files. length files.jlr < 2 ^ 31) }
     ensures unchanged { IsTrue H.tells → Unchanged (H.disk host.old) (H.disk host.new) }
-    ensures gives { IsTrue H.tells → Gives (λ files. files) result (Ok (files_of_place place (H.disk host.old).files)) }
+    ensures gives { IsTrue H.tells → ReadGives (λ files. files) result (Ok (files_of_place place (H.disk host.old).files)) }
     ensures cause { HasReadCause (H.disk_faults host.old) (H.disk_faults host.new) result }
     ensures voice { H.voice_faults host.new ≡ H.voice_faults host.old }
 {

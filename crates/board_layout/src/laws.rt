@@ -3,7 +3,7 @@ ghost use Rattle.std.specs.Prelude.{◌≡◌, ◌↔◌, None, Ok};
 ghost use Rattle.intent_journal.specs.Patches.{Files};
 ghost use Rattle.board_layout.specs.Board.{Board};
 ghost use Rattle.board_layout.specs.Damage.{board_of, board_damage};
-ghost use Rattle.board_layout.specs.Layout.{AreBytes, AreEmpty, IsLayout, board_size, data_size};
+ghost use Rattle.board_layout.specs.Layout.{AreFileBytes, AreEmpty, IsLayout, board_size, data_size};
 ghost use Rattle.board_layout.specs.OldLayout.{old_size, IsOldLayout, IsStoredIn};
 ghost use Rattle.board_layout.specs.Valid.{IsBoard};
 
@@ -11,13 +11,13 @@ ghost use Rattle.board_layout.specs.Valid.{IsBoard};
 /// version are unique, and the board is the one that the files are read as. A layout is bytes, as many as its size says,
 /// and so not empty.
 pub fn unique_board()
-    ensures undamaged { (files : Files) → AreBytes files → (board_damage files ≡ None) ↔ ((b : Board) × IsBoard b × IsStoredIn b files) }
+    ensures undamaged { (files : Files) → AreFileBytes files → (board_damage files ≡ None) ↔ ((b : Board) × IsBoard b × IsStoredIn b files) }
     ensures unique { (a b : Board) (files : Files) → IsBoard a → IsBoard b → IsStoredIn a files → IsStoredIn b files → a ≡ b }
     ensures version { (a b : Board) (files : Files) → IsBoard a → IsBoard b → IsLayout a files → ¬ IsOldLayout b files }
     ensures read { (b : Board) (files : Files) → IsBoard b → IsStoredIn b files → board_of files ≡ Ok b }
     ensures size { (b : Board) (files : Files) → IsBoard b → IsLayout b files → data_size files ≡ board_size b }
     ensures old_size { (b : Board) (files : Files) → IsBoard b → IsOldLayout b files → data_size files ≡ old_size b }
-    ensures bytes { (b : Board) (files : Files) → IsBoard b → IsStoredIn b files → AreBytes files }
+    ensures bytes { (b : Board) (files : Files) → IsBoard b → IsStoredIn b files → AreFileBytes files }
     ensures some { (b : Board) (files : Files) → IsBoard b → IsStoredIn b files → ¬ AreEmpty files }
     ensures empty { (files : Files) → (data_size files ≡ 0) ↔ AreEmpty files }
 {}

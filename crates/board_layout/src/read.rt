@@ -5,7 +5,7 @@ ghost use Rattle.board_ledger.specs.Valid.{IsLedger, IsStored};
 ghost use Rattle.board_layout.specs.Board.{conferences_in, shapes_in, shapes_of};
 ghost use Rattle.board_layout.specs.Damage.{board_in, parts_behind, parts_of, size_limit as limit_of};
 ghost use Rattle.board_layout.specs.Layout.{data_size as size_of_data};
-ghost use Rattle.board_layout.specs.Rules.{AreFoundOf, ArePartsOf, Gives, GivesSo, HasReadCause, IsFoundOf};
+ghost use Rattle.board_layout.specs.Rules.{AreFoundOf, ArePartsOf, ReadGives, GivesSo, HasReadCause, IsFoundOf};
 ghost use Rattle.board_layout.specs.Valid.{offers_fit};
 ghost use Rattle.door_outside.specs.Disk.{Unchanged};
 ghost use Rattle.door_outside.specs.File.{ledger_file};
@@ -47,7 +47,7 @@ fn too_long() -> ReadError
 fn read_ledger<H: Host>(alloc: Global, host: &mut H) -> Result<Ledger, ReadError>
     ensures ledger { IfOk result IsStored }
     ensures unchanged { IsTrue H.tells → Unchanged (H.disk host.old) (H.disk host.new) }
-    ensures gives { IsTrue H.tells → Gives (λ ledger. ledger) result (ledger_of ((H.disk host.old).files ledger_file)) }
+    ensures gives { IsTrue H.tells → ReadGives (λ ledger. ledger) result (ledger_of ((H.disk host.old).files ledger_file)) }
     ensures layout { IsTrue H.tells → IfOk result (λ ledger. (H.disk host.old).files ledger_file ≡ stored_text ledger) }
     ensures cause { HasReadCause (H.disk_faults host.old) (H.disk_faults host.new) result }
     ensures voice { H.voice_faults host.new ≡ H.voice_faults host.old }

@@ -1,7 +1,7 @@
 // The files of the places past the conferences.
 ghost use Rattle.std.specs.Prelude.{◌≡◌, ◌-◌, ◌≤◌, ◌<◌, IsTrue};
 ghost use Rattle.board_layout.specs.Damage.{is_rest, is_rest_place, are_rest};
-ghost use Rattle.board_layout.specs.Rules.{Gives, HasReadCause};
+ghost use Rattle.board_layout.specs.Rules.{ReadGives, HasReadCause};
 ghost use Rattle.door_outside.specs.Disk.{Unchanged};
 
 use crate::damaged::damage;
@@ -12,7 +12,7 @@ use jam_records::DamageRule;
 /// Tests that a file is empty.
 fn check_rest<H: Host>(host: &mut H, file: FileId) -> Result<(), ReadError>
     ensures unchanged { IsTrue H.tells → Unchanged (H.disk host.old) (H.disk host.new) }
-    ensures gives { IsTrue H.tells → Gives (λ x. x) result (is_rest file (H.disk host.old).files) }
+    ensures gives { IsTrue H.tells → ReadGives (λ x. x) result (is_rest file (H.disk host.old).files) }
     ensures cause { HasReadCause (H.disk_faults host.old) (H.disk_faults host.new) result }
     ensures voice { H.voice_faults host.new ≡ H.voice_faults host.old }
 {
@@ -26,7 +26,7 @@ fn check_rest<H: Host>(host: &mut H, file: FileId) -> Result<(), ReadError>
 fn check_place<H: Host>(host: &mut H, place: u8) -> Result<(), ReadError>
     requires { place < 64 }
     ensures unchanged { IsTrue H.tells → Unchanged (H.disk host.old) (H.disk host.new) }
-    ensures gives { IsTrue H.tells → Gives (λ x. x) result (is_rest_place place (H.disk host.old).files) }
+    ensures gives { IsTrue H.tells → ReadGives (λ x. x) result (is_rest_place place (H.disk host.old).files) }
     ensures cause { HasReadCause (H.disk_faults host.old) (H.disk_faults host.new) result }
     ensures voice { H.voice_faults host.new ≡ H.voice_faults host.old }
 {
@@ -40,7 +40,7 @@ fn check_place<H: Host>(host: &mut H, place: u8) -> Result<(), ReadError>
 pub(crate) fn check_rests<H: Host>(host: &mut H, first: u8) -> Result<(), ReadError>
     requires { first ≤ 64 }
     ensures unchanged { IsTrue H.tells → Unchanged (H.disk host.old) (H.disk host.new) }
-    ensures gives { IsTrue H.tells → Gives (λ x. x) result (are_rest first (64 - first) (H.disk host.old).files) }
+    ensures gives { IsTrue H.tells → ReadGives (λ x. x) result (are_rest first (64 - first) (H.disk host.old).files) }
     ensures cause { HasReadCause (H.disk_faults host.old) (H.disk_faults host.new) result }
     ensures voice { H.voice_faults host.new ≡ H.voice_faults host.old }
 {

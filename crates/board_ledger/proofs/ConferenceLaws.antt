@@ -16,7 +16,7 @@ use Rattle.setup_file.specs.declared.conference.Conference.{Conference}
 use Rattle.board_ledger.specs.Records.{EachBehind}
 use Rattle.open_offers.specs.Texts.{sized_text, text_at, text_end}
 use Rattle.board_ledger.specs.Conferences.{kind_number, kind_of_number, rules_number, conference_text, conference_fields, out_of_order, conference_record_rules, conference_at}
-use Rattle.board_ledger.proofs.BoolTests.{passes, both_pass}
+use Rattle.damage_rules.proofs.BoolTests.{not_not, both_pass}
 use Rattle.board_ledger.proofs.SetupBounds.{name_small}
 use Rattle.board_ledger.proofs.SizeLaws.{conference_length}
 use Rattle.board_ledger.proofs.OpeningTests.{end_above}
@@ -89,7 +89,7 @@ conference_takes before bytes x all e =
     let long : text_end 4 bytes ≤ length bytes = ltb-false (length bytes) (text_end 4 bytes) k.0.0 in
     let kind = ltb-false 2 (get_or bytes 2 0) k.0.1.0 in
     let rules = ltb-false 3 (get_or bytes 3 0) k.0.1.1.0 in
-    let name : IsTrue (is_conference_name (conference_fields bytes).name) = ap is_conference_name (name_is bytes) ∙ passes _ k.0.1.1.1.0 in
+    let name : IsTrue (is_conference_name (conference_fields bytes).name) = ap is_conference_name (name_is bytes) ∙ not_not _ k.0.1.1.1.0 in
     let order : out_of_order before (conference_fields bytes).number ≡ false = ap (out_of_order before) (number_is bytes) ∙ k.0.1.1.1.1.0 in
     let ok : IsSetupConference (conference_fields bytes) = record { number = number_small bytes all; name = name } in
     subst (λ (y : Conference × ℕ). (bytes ≡ conference_text y.0 ++ drop y.1 bytes) × ConferenceRight before y.0) k.1 (conference_front bytes all long kind rules, (ok, order))

@@ -22,7 +22,7 @@ use Rattle.open_offers.specs.declared.version.Version.TheVariants.{Second}
 use Rattle.board_ledger.proofs.LedgerParts.{numbers, numbers_long, middle, parts_are, text_long}
 use Rattle.board_ledger.proofs.SizeLaws.{fixed_length, flat_length, upload_length}
 use Rattle.board_ledger.proofs.TwoPuts.{two_turn, two_bytes}
-use Rattle.board_ledger.proofs.Writes.{written_before, written_over}
+use Rattle.intent_journal.proofs.Writes.{written_before, written_over}
 
 count_written : (l : Ledger) (uploads old new : ℕ) → written (numbers l old uploads) 8 (u16_text new) ≡ numbers l new uploads
 unfolding numbers

@@ -27,7 +27,7 @@ use Rattle.board_ledger.specs.declared.upload.UploadRecord.{UploadRecord}
 use Rattle.board_ledger.specs.declared.user.User.{User}
 use Rattle.open_offers.specs.declared.version.Version.{Version}
 use Rattle.open_offers.specs.declared.version.Version.TheVariants.{First}
-use Rattle.board_ledger.proofs.BoolTests.{passes}
+use Rattle.damage_rules.proofs.BoolTests.{not_not}
 use Rattle.board_ledger.proofs.ConferenceLaws.{ConferenceRight, conference_takes, conference_again, order_rises, rising_order}
 use Rattle.board_ledger.proofs.OpeningLaws.{fixed_of, opening_takes, opening_in, opening_again, opening_behind}
 use Rattle.board_ledger.proofs.ReadingSteps.{conferences_in, users_in, uploads_in, ledger_parts, at_end}
@@ -68,7 +68,7 @@ ledger_takes bytes l all e =
     let first : ℕ = 1 + o.conferences + o.users in
     let r = records_take (upload_at first o.users) upload_text (UploadRight o.users) (upload_takes first o.users) o.uploads [] x.users.1 x.uploads u.rest x.at_uploads in
     let end = rules_kept 0 (1 + o.conferences + o.users + o.uploads) ((Rest, not (eqb (length x.uploads.1) 0)) ∷ []) (ledger_with o x.conferences.0 x.users.0 x.uploads.0) l x.at_end in
-    let none : x.uploads.1 ≡ [] = nil_from_length x.uploads.1 (eqb-true (length x.uploads.1) 0 (passes (eqb (length x.uploads.1) 0) end.0.0)) in
+    let none : x.uploads.1 ≡ [] = nil_from_length x.uploads.1 (eqb-true (length x.uploads.1) 0 (not_not (eqb (length x.uploads.1) 0) end.0.0)) in
     let s : Setup = with_conferences o.setup c.new in
     let made : Ledger = ledger_with o c.new u.new r.new in
     let is : made ≡ l = (λ i. ledger_with o (sym c.all i) (sym u.all i) (sym r.all i)) ∙ end.1 in

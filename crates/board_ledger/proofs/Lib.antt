@@ -2,7 +2,6 @@ pub mod RecordLaws
 pub mod MetLaws
 pub mod UserTests
 pub mod ConferenceTests
-pub mod BoolTests
 pub mod SetupBounds
 pub mod VersionLaws
 pub mod OpeningTests
@@ -17,7 +16,6 @@ pub mod OpeningLaws
 pub mod LedgerLaws
 pub mod ReadingClauses
 pub mod LedgerBounds
-pub mod Writes
 pub mod LedgerParts
 pub mod TwoPuts
 pub mod UploadPutLaws

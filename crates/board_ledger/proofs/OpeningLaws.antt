@@ -25,7 +25,7 @@ use Rattle.open_offers.specs.Versions.{version_number, version_of, wrong_version
 use Rattle.board_ledger.specs.declared.ledger.Ledger.{Ledger}
 use Rattle.board_ledger.specs.declared.opening.Opening.{Opening}
 use Rattle.open_offers.specs.declared.version.Version.{Version}
-use Rattle.board_ledger.proofs.BoolTests.{passes, both_pass, both_false}
+use Rattle.damage_rules.proofs.BoolTests.{not_not, both_pass, both_false}
 use Rattle.board_ledger.proofs.OpeningTests.{PlacesFit, places_fit, CountsFit, counts_fit}
 use Rattle.board_ledger.proofs.SetupBounds.{board_small, user_small, bbsid_small, zones_few, zones_small}
 use Rattle.board_ledger.proofs.SizeLaws.{setup_length}
@@ -77,7 +77,7 @@ pub record SetupFits (s : Setup) : Type 0 where
 texts_fit : (s : Setup) → wrong_texts s ≡ false → (is_board_text s.board ≡ true) × (is_board_text s.city ≡ true) × (is_board_text s.phone ≡ true) × (is_user_name s.sysop ≡ true)
 unfolding wrong_texts
 texts_fit s e =
-    let all = passes (is_board_text s.board && (is_board_text s.city && (is_board_text s.phone && is_user_name s.sysop))) e in
+    let all = not_not (is_board_text s.board && (is_board_text s.city && (is_board_text s.phone && is_user_name s.sysop))) e in
     let a = and_parts (is_board_text s.board) (is_board_text s.city && (is_board_text s.phone && is_user_name s.sysop)) all in
     let b = and_parts (is_board_text s.city) (is_board_text s.phone && is_user_name s.sysop) a.1 in
     let d = and_parts (is_board_text s.phone) (is_user_name s.sysop) b.1 in
@@ -116,7 +116,7 @@ unfolding fixed_rules setup_rules opening_of
 opening_fits bytes all fixed behind =
     let s : Setup = setup_of bytes in
     let long : 24 ≤ length bytes = ltb-false (length bytes) 24 fixed.0 in
-    let letters : bytes_eq (take 4 bytes) magic ≡ true = passes (bytes_eq (take 4 bytes) magic) fixed.1.0 in
+    let letters : bytes_eq (take 4 bytes) magic ≡ true = not_not (bytes_eq (take 4 bytes) magic) fixed.1.0 in
     let v : Version = version_of (u16_at 4 bytes) in
     let version : version_number v ≡ u16_at 4 bytes = version_back (u16_at 4 bytes) fixed.1.1.0 in
     let counts = counts_fit bytes fixed.1.1.1.0 in
@@ -136,9 +136,9 @@ opening_fits bytes all fixed behind =
         city = texts.1;
         phone = texts.2;
         sysop = texts.3;
-        bbsid = passes (is_bbsid s.bbsid) behind.1.1.0;
+        bbsid = not_not (is_bbsid s.bbsid) behind.1.1.0;
         serial = subst (λ (n : ℕ). n ≤ 99999) number serial;
-        zones = passes (are_zones s.zones) behind.1.1.1.0;
+        zones = not_not (are_zones s.zones) behind.1.1.1.0;
       };
       created = u32_small 16 bytes all;
       some = omega (arith, counts.some);

@@ -9,9 +9,9 @@ use Rattle.byte_lists.specs.Byte.{IsByte}
 use Rattle.record_numbers.specs.Numbers.{u16_at, u32_at, u16_text, u32_text}
 use Rattle.record_numbers.proofs.NumberFronts.{u16_front, u32_front}
 use Rattle.damage_rules.proofs.KeptRules.{Kept, rules_kept, kept_rules}
-use Rattle.board_ledger.specs.Uploads.{upload_text, upload_of, wrong_user, too_many, is_repeated, upload_rules, upload_at, IsUpload}
+use Rattle.board_ledger.specs.Uploads.{upload_text, upload_in_record, wrong_user, too_many, is_repeated, upload_rules, upload_at, IsUpload}
 use Rattle.board_ledger.specs.declared.upload.UploadRecord.{UploadRecord}
-use Rattle.board_ledger.proofs.BoolTests.{or_false, both_false}
+use Rattle.damage_rules.proofs.BoolTests.{or_false, both_false}
 use Rattle.board_ledger.proofs.SizeLaws.{upload_length}
 use Rattle.open_offers.proofs.TextLaws.{glue, split, u16_again, u32_again}
 
@@ -19,8 +19,8 @@ use Rattle.open_offers.proofs.TextLaws.{glue, split, u16_again, u32_again}
 abbrev pub UploadRight : ℕ → List UploadRecord → UploadRecord → Type 0
 UploadRight users before r = IsUpload users r × (is_repeated before r ≡ false)
 
-upload_front : (bytes : List ℕ) → All IsByte bytes → 42 ≤ length bytes → bytes ≡ upload_text (upload_of bytes) ++ drop 42 bytes
-unfolding upload_text upload_of
+upload_front : (bytes : List ℕ) → All IsByte bytes → 42 ≤ length bytes → bytes ≡ upload_text (upload_in_record bytes) ++ drop 42 bytes
+unfolding upload_text upload_in_record
 upload_front bytes all long =
     let digest : drop 2 bytes ≡ take 32 (drop 2 bytes) ++ drop 34 bytes = sym (take-append-drop 32 (drop 2 bytes)) ∙ ap (λ xs. take 32 (drop 2 bytes) ++ xs) (drop-drop 32 2 bytes) in
     let posted = u32_front 34 bytes all (omega arith) in
@@ -32,14 +32,14 @@ upload_front bytes all long =
 above_zero : (n : ℕ) → eqb n 0 ≡ false → 1 ≤ n
 above_zero n e = grind (arith, nat_tests)
 
-digest_fits : (bytes : List ℕ) → All IsByte bytes → 42 ≤ length bytes → (length (upload_of bytes).digest ≡ 32) × All IsByte (upload_of bytes).digest
-unfolding upload_of
+digest_fits : (bytes : List ℕ) → All IsByte bytes → 42 ≤ length bytes → (length (upload_in_record bytes).digest ≡ 32) × All IsByte (upload_in_record bytes).digest
+unfolding upload_in_record
 digest_fits bytes all long = (omega (arith, length-take 32 (drop 2 bytes), length-drop 2 bytes), All-take IsByte 32 (drop 2 bytes) (All-drop IsByte 2 bytes all))
 
 pub upload_takes : (first users : ℕ) (before : List UploadRecord) (bytes : List ℕ) (x : UploadRecord × ℕ) → All IsByte bytes → upload_at first users before bytes ≡ Ok x → (bytes ≡ upload_text x.0 ++ drop x.1 bytes) × UploadRight users before x.0
 unfolding upload_at upload_rules
 upload_takes first users before bytes x all e =
-    let r : UploadRecord = upload_of bytes in
+    let r : UploadRecord = upload_in_record bytes in
     let k = rules_kept 0 (first + length before) (upload_rules users before bytes) (r, 42) x e in
     let long : 42 ≤ length bytes = ltb-false (length bytes) 42 k.0.0 in
     let user = or_false (eqb r.user 0) (ltb users r.user) k.0.1.0 in
@@ -60,8 +60,8 @@ not_zero n some = grind (arith, nat_tests)
 abbrev made : ℕ → List ℕ → ℕ → ℕ → UploadRecord
 made user digest posted refused = record { user = user; digest = digest; counts = record { posted = posted; refused = refused } }
 
-upload_back : (r : UploadRecord) (rest : List ℕ) → r.user < 2 ^ 16 → length r.digest ≡ 32 → r.counts.posted < 2 ^ 32 → r.counts.refused < 2 ^ 32 → upload_of (upload_text r ++ rest) ≡ r
-unfolding upload_of upload_text
+upload_back : (r : UploadRecord) (rest : List ℕ) → r.user < 2 ^ 16 → length r.digest ≡ 32 → r.counts.posted < 2 ^ 32 → r.counts.refused < 2 ^ 32 → upload_in_record (upload_text r ++ rest) ≡ r
+unfolding upload_in_record upload_text
 upload_back r rest user digest posted refused =
     let counts : List ℕ = u32_text r.counts.posted ++ u32_text r.counts.refused in
     let whole : List ℕ = (u16_text r.user ++ (r.digest ++ counts)) ++ rest in
@@ -78,7 +78,7 @@ unfolding upload_at upload_rules
 upload_again first users before r rest few right =
     let ok = right.0 in
     let whole : List ℕ = upload_text r ++ rest in
-    let is : upload_of whole ≡ r = upload_back r rest (omega (arith, ok.user)) ok.digest (omega (arith, ok.counts)) (omega (arith, ok.counts)) in
+    let is : upload_in_record whole ≡ r = upload_back r rest (omega (arith, ok.user)) ok.digest (omega (arith, ok.counts)) (omega (arith, ok.counts)) in
     let size = upload_length r ok.digest in
     let long : 42 ≤ length whole = omega (arith, length-append (upload_text r) rest, size) in
     let user : wrong_user users r ≡ false = both_false (eqb r.user 0) (ltb users r.user) (not_zero r.user ok.some) (le-ltb _ _ ok.user) in
@@ -92,4 +92,4 @@ upload_again first users before r rest few right =
         ),
       ),
     ) in
-    kept_rules 0 (first + length before) (upload_rules users before whole) (upload_of whole, 42) kept ∙ λ i. Ok (is i, sym size i)
+    kept_rules 0 (first + length before) (upload_rules users before whole) (upload_in_record whole, 42) kept ∙ λ i. Ok (is i, sym size i)

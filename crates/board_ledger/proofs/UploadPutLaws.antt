@@ -17,7 +17,7 @@ use Rattle.board_ledger.specs.declared.upload.UploadRecord.{UploadRecord}
 use Rattle.board_ledger.proofs.LedgerParts.{numbers, numbers_long, middle, parts_are, text_long}
 use Rattle.board_ledger.proofs.SizeLaws.{upload_length}
 use Rattle.board_ledger.proofs.TwoPuts.{two_turn, two_bytes}
-use Rattle.board_ledger.proofs.Writes.{written_before, written_end}
+use Rattle.intent_journal.proofs.Writes.{written_before, written_end}
 
 count_written : (l : Ledger) (users old new : ℕ) → written (numbers l users old) 12 (u32_text new) ≡ numbers l users new
 unfolding numbers

@@ -13,21 +13,21 @@ use Rattle.record_numbers.proofs.NumberFronts.{u16_front}
 use Rattle.record_numbers.proofs.NumberLemmas.{number_of_bytes}
 use Rattle.jam_records.specs.declared.damage.DamageRule.TheVariants.{Short, User as NoUser, Twice, Counts as WrongCounts}
 use Rattle.damage_rules.specs.Rules.{by_rules}
-use Rattle.board_ledger.specs.Uploads.{upload_of, wrong_user, too_many, is_repeated, upload_rules, upload_at}
+use Rattle.board_ledger.specs.Uploads.{upload_in_record, wrong_user, too_many, is_repeated, upload_rules, upload_at}
 use Rattle.board_ledger.specs.declared.upload.UploadRecord.{UploadRecord}
-use Rattle.board_ledger.proofs.BoolTests.{both_pass, same_tests}
+use Rattle.damage_rules.proofs.BoolTests.{both_pass, same_tests}
 use Rattle.open_offers.proofs.TextLaws.{u16_small}
 
 -- the bytes of a user and a digest, by which records are told apart
 abbrev pub pair_of : UploadRecord → List ℕ
 pair_of r = u16_text r.user ++ r.digest
 
-pub pair_front : (bytes : List ℕ) → All IsByte bytes → 42 ≤ length bytes → take 34 bytes ≡ pair_of (upload_of bytes)
-unfolding upload_of
+pub pair_front : (bytes : List ℕ) → All IsByte bytes → 42 ≤ length bytes → take 34 bytes ≡ pair_of (upload_in_record bytes)
+unfolding upload_in_record
 pair_front bytes all long = ap (take 34) (u16_front 0 bytes all (omega arith))
 
-pub user_small : (bytes : List ℕ) → All IsByte bytes → (upload_of bytes).user < 2 ^ 16
-unfolding upload_of
+pub user_small : (bytes : List ℕ) → All IsByte bytes → (upload_in_record bytes).user < 2 ^ 16
+unfolding upload_in_record
 user_small bytes all = u16_small 0 bytes all
 
 same_pair : (e r : UploadRecord) → e.user < 2 ^ 16 → r.user < 2 ^ 16 → bytes_eq (pair_of e) (pair_of r) ≡ (eqb e.user r.user && bytes_eq e.digest r.digest)
@@ -53,8 +53,8 @@ pairs_met (e ∷ before) r fit few =
 
 -- the reading by what the tests answer
 pub by_tests : (first users : ℕ) (before : List UploadRecord) (bytes : List ℕ) (short user twice counts : Bool)
-    → short ≡ ltb (length bytes) 42 → user ≡ wrong_user users (upload_of bytes) → twice ≡ is_repeated before (upload_of bytes) → counts ≡ too_many (upload_of bytes).counts
-    → upload_at first users before bytes ≡ by_rules 0 (first + length before) ((Short, short) ∷ (NoUser, user) ∷ (Twice, twice) ∷ (WrongCounts, counts) ∷ []) (upload_of bytes, 42)
+    → short ≡ ltb (length bytes) 42 → user ≡ wrong_user users (upload_in_record bytes) → twice ≡ is_repeated before (upload_in_record bytes) → counts ≡ too_many (upload_in_record bytes).counts
+    → upload_at first users before bytes ≡ by_rules 0 (first + length before) ((Short, short) ∷ (NoUser, user) ∷ (Twice, twice) ∷ (WrongCounts, counts) ∷ []) (upload_in_record bytes, 42)
 unfolding upload_at upload_rules
 by_tests first users before bytes short user twice counts a b c d =
-    λ i. by_rules 0 (first + length before) ((Short, sym a i) ∷ (NoUser, sym b i) ∷ (Twice, sym c i) ∷ (WrongCounts, sym d i) ∷ []) (upload_of bytes, 42)
+    λ i. by_rules 0 (first + length before) ((Short, sym a i) ∷ (NoUser, sym b i) ∷ (Twice, sym c i) ∷ (WrongCounts, sym d i) ∷ []) (upload_in_record bytes, 42)

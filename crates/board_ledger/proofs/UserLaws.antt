@@ -10,12 +10,12 @@ use Rattle.damage_rules.proofs.KeptRules.{Kept, rules_kept, kept_rules}
 use Rattle.setup_file.specs.Texts.{is_user_name}
 use Rattle.open_offers.specs.Offers.{behind_last, behind_size, cell_count, cells_behind, cells_for, members_at, open_in}
 use Rattle.open_offers.specs.Texts.{sized_text, text_at, text_end}
-use Rattle.board_ledger.specs.Users.{behind_name, user_text, user_end, record_of, user_of, with_open, is_taken, right_members, right_offers, user_rules, user_at, IsUser, IsOldUser}
+use Rattle.board_ledger.specs.Users.{behind_name, user_text, user_end, user_record_of, user_in_record, with_open, is_taken, right_members, right_offers, user_rules, user_at, IsUser, IsOldUser}
 use Rattle.open_offers.specs.declared.offer.OpenOffer.{OpenOffer}
 use Rattle.board_ledger.specs.declared.user.User.{User}
 use Rattle.open_offers.specs.declared.version.Version.{Version}
 use Rattle.open_offers.specs.declared.version.Version.TheVariants.{First}
-use Rattle.board_ledger.proofs.BoolTests.{passes}
+use Rattle.damage_rules.proofs.BoolTests.{not_not}
 use Rattle.open_offers.proofs.CellBytes.{behind_again, behind_front, has_read}
 use Rattle.open_offers.proofs.OfferLaws.{HasCells, has_cells, offers_again, read_offers, read_old, right_again, written_cells}
 use Rattle.board_ledger.proofs.SetupBounds.{user_small}
@@ -49,13 +49,13 @@ name_front v place count bytes all long flag =
     a ∙ ap (λ xs. cond (eqb (get_or bytes place 0) 1) 1 0 ∷ xs) (glue (drop (place + 1) bytes) last rest end (drop (place + 5) bytes) b d)
 
 -- the numbers and the cells that are read
-numbers_fit : (v : Version) (count : ℕ) (bytes : List ℕ) → All IsByte bytes → IsU32 (record_of v count bytes).last × HasCells v count (record_of v count bytes).offers
-unfolding record_of
+numbers_fit : (v : Version) (count : ℕ) (bytes : List ℕ) → All IsByte bytes → IsU32 (user_record_of v count bytes).last × HasCells v count (user_record_of v count bytes).offers
+unfolding user_record_of
 numbers_fit v count bytes all = (u32_small (text_end 0 bytes + 1) bytes all, has_read v (text_end 0 bytes + 5) count bytes all)
 
-user_front : (v : Version) (count : ℕ) (bytes : List ℕ) → All IsByte bytes → user_end v count bytes ≤ length bytes → get_or bytes (text_end 0 bytes) 0 ≤ 1 → right_offers v (record_of v count bytes) ≡ true
-    → bytes ≡ user_text v count (user_of v count bytes) ++ drop (user_end v count bytes) bytes
-unfolding user_text record_of user_end
+user_front : (v : Version) (count : ℕ) (bytes : List ℕ) → All IsByte bytes → user_end v count bytes ≤ length bytes → get_or bytes (text_end 0 bytes) 0 ≤ 1 → right_offers v (user_record_of v count bytes) ≡ true
+    → bytes ≡ user_text v count (user_in_record v count bytes) ++ drop (user_end v count bytes) bytes
+unfolding user_text user_record_of user_end
 user_front v count bytes all long flag right =
     let place : ℕ = text_end 0 bytes in
     let cells : List OpenOffer = cells_behind v (place + 5) count bytes in
@@ -69,19 +69,19 @@ user_front v count bytes all long flag right =
 pub user_takes : (v : Version) (count : ℕ) (before : List User) (bytes : List ℕ) (x : User × ℕ) → All IsByte bytes → user_at v count before bytes ≡ Ok x → (bytes ≡ user_text v count x.0 ++ drop x.1 bytes) × UserRight v count before x.0
 unfolding user_at user_rules
 user_takes v count before bytes x all e =
-    let u : User = record_of v count bytes in
-    let k = rules_kept 0 (1 + count + length before) (user_rules v count before bytes) (user_of v count bytes, user_end v count bytes) x e in
+    let u : User = user_record_of v count bytes in
+    let k = rules_kept 0 (1 + count + length before) (user_rules v count before bytes) (user_in_record v count bytes, user_end v count bytes) x e in
     let long : user_end v count bytes ≤ length bytes = ltb-false (length bytes) (user_end v count bytes) k.0.0 in
     let flag = ltb-false 1 (get_or bytes (text_end 0 bytes) 0) k.0.1.1.1.0 in
-    let right : right_offers v u ≡ true = passes _ k.0.1.1.1.1.1.0 in
+    let right : right_offers v u ≡ true = not_not _ k.0.1.1.1.1.1.0 in
     let fit = numbers_fit v count bytes all in
-    let ok : IsUser count (user_of v count bytes) = record {
-      name = passes _ k.0.1.0;
-      members = passes _ k.0.1.1.1.1.0;
+    let ok : IsUser count (user_in_record v count bytes) = record {
+      name = not_not _ k.0.1.0;
+      members = not_not _ k.0.1.1.1.1.0;
       last = fit.0;
       offers = read_offers v count u.members u.last u.offers fit.1 right;
     } in
-    let old : v ≡ First → IsOldUser (user_of v count bytes) = read_old v count u.members u.last u.offers fit.1 right in
+    let old : v ≡ First → IsOldUser (user_in_record v count bytes) = read_old v count u.members u.last u.offers fit.1 right in
     subst (λ (y : User × ℕ). (bytes ≡ user_text v count y.0 ++ drop y.1 bytes) × UserRight v count before y.0) k.1 (user_front v count bytes all long flag right, ((ok, old), k.0.1.1.0))
 
 -- ---- what is written is read
@@ -107,12 +107,12 @@ abbrev with_cells : Version → ℕ → User → User
 with_cells v count u = record u { offers = cells_for count (cell_count v) u.offers }
 
 pub record Stands (v : Version) (count : ℕ) (bytes : List ℕ) (u : User) : Type 0 where
-  pub is : record_of v count bytes ≡ with_cells v count u
+  pub is : user_record_of v count bytes ≡ with_cells v count u
   pub flag : get_or bytes (text_end 0 bytes) 0 ≤ 1
   pub end : user_end v count bytes ≡ (2 + length u.name) + behind_name v count
 
 user_back : (v : Version) (count : ℕ) (u : User) (rest : List ℕ) → length u.name < 2 ^ 16 → u.members < 2 ^ 64 → IsU32 u.last → HasCells v count (cells_for count (cell_count v) u.offers) → Stands v count (user_text v count u ++ rest) u
-unfolding user_text record_of user_end
+unfolding user_text user_record_of user_end
 user_back v count u rest name members last cells =
     let flag : ℕ = cond u.net 1 0 in
     let l : List ℕ = u32_text u.last in
@@ -143,7 +143,7 @@ user_again v count before u rest few right =
     let size = user_length v count u ok in
     let end : user_end v count whole ≡ length (user_text v count u) = omega (arith, back.end, size) in
     let long : user_end v count whole ≤ length whole = omega (arith, length-append (user_text v count u) rest, end) in
-    let is : user_of v count whole ≡ u = ap with_open back.is ∙ ap (λ (os : List OpenOffer). made u.name u.net u.members u.last os) (offers_again v count u.members u.last u.offers ok.offers old) in
+    let is : user_in_record v count whole ≡ u = ap with_open back.is ∙ ap (λ (os : List OpenOffer). made u.name u.net u.members u.last os) (offers_again v count u.members u.last u.offers ok.offers old) in
     let kept : Kept (user_rules v count before whole) = (
       le-ltb _ _ long,
       (
@@ -160,4 +160,4 @@ user_again v count before u rest few right =
         ),
       ),
     ) in
-    kept_rules 0 (1 + count + length before) (user_rules v count before whole) (user_of v count whole, user_end v count whole) kept ∙ λ i. Ok (is i, end i)
+    kept_rules 0 (1 + count + length before) (user_rules v count before whole) (user_in_record v count whole, user_end v count whole) kept ∙ λ i. Ok (is i, end i)

@@ -25,7 +25,7 @@ use Rattle.board_ledger.specs.declared.user.User.{User}
 use Rattle.open_offers.specs.declared.version.Version.TheVariants.{Second}
 use Rattle.board_ledger.proofs.SetupBounds.{user_small}
 use Rattle.board_ledger.proofs.SizeLaws.{user_length, behind_most}
-use Rattle.board_ledger.proofs.Writes.{no_gap, written_before, written_behind, written_in}
+use Rattle.intent_journal.proofs.Writes.{no_gap, written_before, written_behind, written_in}
 
 -- the user of a place whose name is as long, where there is one
 pub room_there : (o : Option User) (new : User) → IsSomeAnd o (λ old. length new.name ≡ length old.name) → (old : User) × (o ≡ Some old) × (length new.name ≡ length old.name)

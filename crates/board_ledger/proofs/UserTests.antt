@@ -12,7 +12,7 @@ use Rattle.jam_records.specs.declared.damage.DamageRule.{DamageRule}
 use Rattle.jam_records.specs.declared.damage.DamageRule.TheVariants.{Short, Name, Twice, Flags, Member, Offer}
 use Rattle.setup_file.specs.Texts.{is_user_name}
 use Rattle.open_offers.specs.Texts.{text_end}
-use Rattle.board_ledger.specs.Users.{behind_name, is_taken, record_of, right_members, right_offers, user_at, user_end, user_of, user_rules}
+use Rattle.board_ledger.specs.Users.{behind_name, is_taken, user_record_of, right_members, right_offers, user_at, user_end, user_in_record, user_rules}
 use Rattle.board_ledger.specs.declared.user.User.{User}
 use Rattle.open_offers.specs.declared.version.Version.{Version}
 
@@ -72,15 +72,15 @@ rules_behind v count met flags u =
     ∷ []
 
 pub user_broken : (v : Version) (count : ℕ) (before : List User) (bytes : List ℕ) (u : User) (met : Bool) (from place behind : ℕ) (rule : DamageRule)
-    → from ≡ count → u ≡ record_of v count bytes → place ≡ text_end 0 bytes → behind ≡ behind_name v count → place + behind ≤ length bytes → met ≡ is_taken before u.name
+    → from ≡ count → u ≡ user_record_of v count bytes → place ≡ text_end 0 bytes → behind ≡ behind_name v count → place + behind ≤ length bytes → met ≡ is_taken before u.name
     → first_broken (rules_behind v count met (slice_index bytes place) u) ≡ Some rule → user_at v count before bytes ≡ Err (record { file = 0; item = 1 + from + length before; rule = rule })
 unfolding user_at user_rules user_end
 user_broken v count before bytes u met from place behind rule counted is at size whole taken broken =
     let all : text_end 0 bytes + behind_name v count ≤ length bytes = omega (arith, at, size, whole) in
     let short : first_broken ((Short, nat_lt (length bytes) (text_end 0 bytes + behind_name v count)) ∷ []) ≡ none = kept_none ((Short, nat_lt (length bytes) (text_end 0 bytes + behind_name v count)) ∷ []) (le-ltb _ _ all, tt) in
-    let named : met ≡ is_taken before (record_of v count bytes).name = taken ∙ ap (λ (w : User). is_taken before w.name) is in
-    let same : first_broken (rules_behind v count met (slice_index bytes place) u) ≡ first_broken (rules_behind v count (is_taken before (record_of v count bytes).name) (slice_index bytes (text_end 0 bytes)) (record_of v count bytes)) =
+    let named : met ≡ is_taken before (user_record_of v count bytes).name = taken ∙ ap (λ (w : User). is_taken before w.name) is in
+    let same : first_broken (rules_behind v count met (slice_index bytes place) u) ≡ first_broken (rules_behind v count (is_taken before (user_record_of v count bytes).name) (slice_index bytes (text_end 0 bytes)) (user_record_of v count bytes)) =
     λ i. first_broken (rules_behind v count (named i) (slice_index bytes (at i)) (is i)) in
     then_fails 0 (1 + count + length before) ((Short, nat_lt (length bytes) (text_end 0 bytes + behind_name v count)) ∷ [])
-    (rules_behind v count (is_taken before (record_of v count bytes).name) (slice_index bytes (text_end 0 bytes)) (record_of v count bytes)) rule (user_of v count bytes, user_end v count bytes) short (sym same ∙ broken)
+    (rules_behind v count (is_taken before (user_record_of v count bytes).name) (slice_index bytes (text_end 0 bytes)) (user_record_of v count bytes)) rule (user_in_record v count bytes, user_end v count bytes) short (sym same ∙ broken)
     ∙ ap (λ (n : ℕ). fails (record { file = 0; item = 1 + n + length before; rule = rule })) (sym counted)

@@ -10,7 +10,7 @@ use Rattle.open_offers.specs.Versions.{version_number, version_of, wrong_version
 use Rattle.board_ledger.specs.declared.ledger.Ledger.{Ledger}
 use Rattle.open_offers.specs.declared.version.Version.{Version}
 use Rattle.open_offers.specs.declared.version.Version.TheVariants.{First, Second}
-use Rattle.board_ledger.proofs.BoolTests.{passes}
+use Rattle.damage_rules.proofs.BoolTests.{not_not}
 
 -- ---- numbers
 pub number_back : (v : Version) → version_of (version_number v) ≡ v
@@ -29,7 +29,7 @@ pub version_back : (n : ℕ) → wrong_version n ≡ false → version_number (v
 version_back n e = elim (cases_eq n 1) [
   | inl is ↦ ap version_number (cond-true (eqb n 1) First Second (eq-eqb n 1 is)) ∙ sym is
   | inr other ↦
-      let two : eqb n 2 ≡ true = sym (ap (λ b. b || eqb n 2) (ne_eqb n 1 other)) ∙ passes (eqb n 1 || eqb n 2) e in
+      let two : eqb n 2 ≡ true = sym (ap (λ b. b || eqb n 2) (ne_eqb n 1 other)) ∙ not_not (eqb n 1 || eqb n 2) e in
       ap version_number (cond-false (eqb n 1) First Second (ne_eqb n 1 other)) ∙ sym (eqb-true n 2 two)
 ]
 

@@ -6,14 +6,14 @@ use Rattle.board_ledger.specs.declared.error.LedgerError.{LedgerError}
 use Rattle.board_ledger.specs.declared.error.LedgerError.TheVariants.{Damaged, OutOfMemory}
 
 -- the damage that an error tells of, or none where memory ran out
-abbrev pub told : LedgerError → Option Damage
-told OutOfMemory = None
-told (Damaged d) = Some d
+abbrev pub damage_of_ledger : LedgerError → Option Damage
+damage_of_ledger OutOfMemory = None
+damage_of_ledger (Damaged d) = Some d
 
 -- what a function answered, seen by view, is what is read, unless memory ran out
-abbrev pub Gives : {X Y : Type 0} → (X → Y) → Result X LedgerError → Result Y Damage → Type 0
-Gives view result read = Answers told view result read
+abbrev pub LedgerGives : {X Y : Type 0} → (X → Y) → Result X LedgerError → Result Y Damage → Type 0
+LedgerGives view result read = Answers damage_of_ledger view result read
 
 -- the answer, or want of memory
-abbrev pub UnlessMemory : {T : Type 0} → Result T LedgerError → Result T LedgerError → Type 0
-UnlessMemory result answer = (result ≡ answer) ⊎ (result ≡ Err OutOfMemory)
+abbrev pub LedgerUnlessMemory : {T : Type 0} → Result T LedgerError → Result T LedgerError → Type 0
+LedgerUnlessMemory result answer = (result ≡ answer) ⊎ (result ≡ Err OutOfMemory)

@@ -13,8 +13,8 @@ use Rattle.board_ledger.specs.declared.upload.UploadRecord.{UploadRecord}
 unfoldable pub upload_text : UploadRecord → List ℕ
 upload_text r = u16_text r.user ++ (r.digest ++ (u32_text r.counts.posted ++ u32_text r.counts.refused))
 
-unfoldable pub upload_of : List ℕ → UploadRecord
-upload_of bytes = record {
+unfoldable pub upload_in_record : List ℕ → UploadRecord
+upload_in_record bytes = record {
   user = u16_at 0 bytes;
   digest = take 32 (drop 2 bytes);
   counts = record { posted = u32_at 34 bytes; refused = u32_at 38 bytes };
@@ -36,14 +36,14 @@ is_repeated before r = list_any (λ e. e.user == r.user && bytes_eq e.digest r.d
 unfoldable pub upload_rules : ℕ → List UploadRecord → List ℕ → Rules
 upload_rules users before bytes =
     (Short, nat_lt (length bytes) 42)
-    ∷ (NoUser, wrong_user users (upload_of bytes))
-    ∷ (Twice, is_repeated before (upload_of bytes))
-    ∷ (WrongCounts, too_many (upload_of bytes).counts)
+    ∷ (NoUser, wrong_user users (upload_in_record bytes))
+    ∷ (Twice, is_repeated before (upload_in_record bytes))
+    ∷ (WrongCounts, too_many (upload_in_record bytes).counts)
     ∷ []
 
 -- the upload record at the front, and its length, where the first upload record has this number
 unfoldable pub upload_at : ℕ → ℕ → List UploadRecord → List ℕ → Result (UploadRecord × ℕ) Damage
-upload_at first users before bytes = by_rules 0 (first + length before) (upload_rules users before bytes) (upload_of bytes, 42)
+upload_at first users before bytes = by_rules 0 (first + length before) (upload_rules users before bytes) (upload_in_record bytes, 42)
 
 -- an upload record of a board of so many users
 pub record IsUpload (users : ℕ) (r : UploadRecord) : Type 0 where

@@ -34,8 +34,8 @@ unfoldable pub user_end : Version → ℕ → List ℕ → ℕ
 user_end v count bytes = text_end 0 bytes + behind_name v count
 
 -- the user at the front as the record has him, with all cells as his offers
-unfoldable pub record_of : Version → ℕ → List ℕ → User
-record_of v count bytes =
+unfoldable pub user_record_of : Version → ℕ → List ℕ → User
+user_record_of v count bytes =
     let place = text_end 0 bytes in
     record {
       name = text_at 0 bytes;
@@ -49,8 +49,8 @@ record_of v count bytes =
 abbrev pub with_open : User → User
 with_open u = record u { offers = open_in u.offers }
 
-abbrev pub user_of : Version → ℕ → List ℕ → User
-user_of v count bytes = with_open (record_of v count bytes)
+abbrev pub user_in_record : Version → ℕ → List ℕ → User
+user_in_record v count bytes = with_open (user_record_of v count bytes)
 
 -- the name without regard to ASCII case
 abbrev pub lowered : List ℕ → List ℕ
@@ -76,17 +76,17 @@ right_offers v u = right_cells v u.members u.last u.offers
 unfoldable pub user_rules : Version → ℕ → List User → List ℕ → Rules
 user_rules v count before bytes =
     (Short, nat_lt (length bytes) (user_end v count bytes))
-    ∷ (Name, not (is_user_name (record_of v count bytes).name))
-    ∷ (Twice, is_taken before (record_of v count bytes).name)
+    ∷ (Name, not (is_user_name (user_record_of v count bytes).name))
+    ∷ (Twice, is_taken before (user_record_of v count bytes).name)
     ∷ (Flags, nat_lt 1 (slice_index bytes (text_end 0 bytes)))
-    ∷ (Member, not (right_members count (record_of v count bytes).members))
-    ∷ (Offer, not (right_offers v (record_of v count bytes)))
+    ∷ (Member, not (right_members count (user_record_of v count bytes).members))
+    ∷ (Offer, not (right_offers v (user_record_of v count bytes)))
     ∷ []
 
 -- the user at the front, and the length of the record
 unfoldable pub user_at : Version → ℕ → List User → List ℕ → Result (User × ℕ) Damage
 user_at v count before bytes =
-    by_rules 0 (1 + count + length before) (user_rules v count before bytes) (user_of v count bytes, user_end v count bytes)
+    by_rules 0 (1 + count + length before) (user_rules v count before bytes) (user_in_record v count bytes, user_end v count bytes)
 
 -- a user of a board of so many conferences
 pub record IsUser (count : ℕ) (u : User) : Type 0 where

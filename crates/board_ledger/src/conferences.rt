@@ -1,6 +1,6 @@
 ghost use Rattle.std.specs.Prelude.{◌≡◌, ◌≤◌, ◌<◌, ◌+◌, ◌++◌, [], length, map, IfOk, OnOk, All, if◌then◌else◌};
 ghost use Rattle.std.specs.List.{flat_map};
-ghost use Rattle.board_ledger.specs.Rules.{Gives};
+ghost use Rattle.board_ledger.specs.Rules.{LedgerGives};
 ghost use Rattle.board_ledger.specs.Records.{records_at};
 ghost use Rattle.board_ledger.specs.Conferences.{kind_number as number_of_kind, rules_number as number_of_rules, kind_of_number as kind_in, conference_text, out_of_order as order_wrong, conference_at};
 ghost use Rattle.setup_file.specs.Valid.{IsSetupConference};
@@ -63,7 +63,7 @@ fn conference_of(
     bytes: &[u8],
 ) -> Result<(Conference, usize), LedgerError>
     requires { length before.now < 64 }
-    ensures gives { Gives (λ x. x) result (conference_at before.now bytes.now) }
+    ensures gives { LedgerGives (λ x. x) result (conference_at before.now bytes.now) }
     ensures size { IfOk result (λ x. x.1 ≤ length bytes.now) }
 {
     let item = 1 + before.len() as u32;
@@ -104,7 +104,7 @@ pub(crate) fn conferences_of(
     bytes: &[u8],
 ) -> Result<(Conferences, &[u8]), LedgerError>
     requires { count ≤ 64 }
-    ensures { Gives (λ x. (x.0, x.1.now)) result (records_at conference_at count [] bytes.now) }
+    ensures { LedgerGives (λ x. (x.0, x.1.now)) result (records_at conference_at count [] bytes.now) }
 {
     let mut conferences = Conferences::new(alloc);
     let mut rest = bytes;

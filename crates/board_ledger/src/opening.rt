@@ -3,7 +3,7 @@ ghost use Rattle.damage_rules.specs.Rules.{first_broken, by_rules};
 ghost use Rattle.setup_file.specs.Texts.{is_bbsid as is_bbsid_text};
 ghost use Rattle.setup_file.specs.Zones.{are_zones as are_zone_numbers};
 ghost use Rattle.record_numbers.specs.Numbers.{u16_at as u16_in};
-ghost use Rattle.board_ledger.specs.Rules.{Gives};
+ghost use Rattle.board_ledger.specs.Rules.{LedgerGives};
 ghost use Rattle.open_offers.specs.Versions.{wrong_version as version_wrong};
 ghost use Rattle.board_ledger.specs.Opening.{places_of as places_in, setup_of as setup_in, opening_of as opening_in, opening_at as opening_read, wrong_counts as counts_wrong, wrong_texts as texts_wrong, fixed_rules, setup_rules};
 
@@ -164,7 +164,7 @@ fn broken_setup(setup: &Setup) -> Option<DamageRule>
 #[tactic(auto, unfolding(crate::specs::Opening::setup_rules))]
 fn setup_behind(alloc: Global, bytes: &[u8]) -> Result<(Setup, usize), LedgerError>
     requires { 24 ≤ length bytes.now }
-    ensures gives { Gives (λ x. x) result (by_rules 0 0 (setup_rules bytes.now (setup_in bytes.now)) (setup_in bytes.now, (places_in bytes.now).end)) }
+    ensures gives { LedgerGives (λ x. x) result (by_rules 0 0 (setup_rules bytes.now (setup_in bytes.now)) (setup_in bytes.now, (places_in bytes.now).end)) }
     ensures size { IfOk result (λ x. x.1 ≤ length bytes.now) }
 {
     let Some(places) = places_of(bytes) else {
@@ -179,7 +179,7 @@ fn setup_behind(alloc: Global, bytes: &[u8]) -> Result<(Setup, usize), LedgerErr
 
 /// Record 0, or the first rule that it breaks.
 pub(crate) fn opening_of(alloc: Global, bytes: &[u8]) -> Result<Opening, LedgerError>
-    ensures gives { Gives (λ x. x) result (opening_read bytes.now) }
+    ensures gives { LedgerGives (λ x. x) result (opening_read bytes.now) }
     ensures size { IfOk result (λ opening. opening.size ≤ length bytes.now) }
     ensures counts { IfOk result (λ opening. (opening.conferences ≤ 64) × (opening.users ≤ 500) × (opening.uploads ≤ 100000)) }
 {

@@ -1,5 +1,5 @@
 ghost use Rattle.std.specs.Prelude.{◌≡◌, ◌≤◌, length, Ok};
-ghost use Rattle.board_ledger.specs.Rules.{Gives};
+ghost use Rattle.board_ledger.specs.Rules.{LedgerGives};
 ghost use Rattle.board_ledger.specs.Ledger.{with_conferences as setup_with, ledger_with, ledger_of as ledger_in};
 ghost use Rattle.board_ledger.specs.Opening.{opening_at as opening_read};
 
@@ -35,7 +35,7 @@ fn records_of(
     requires opening { opening_read bytes.now ≡ Ok opening.now }
     requires size { opening.now.size ≤ length bytes.now }
     requires counts { (opening.now.conferences ≤ 64) × (opening.now.users ≤ 500) × (opening.now.uploads ≤ 100000) }
-    ensures { Gives (λ x. ledger_with opening.now x.0 x.1 x.2) result (ledger_in bytes.now) }
+    ensures { LedgerGives (λ x. ledger_with opening.now x.0 x.1 x.2) result (ledger_in bytes.now) }
 {
     let (conferences, rest) = conferences_of(alloc, opening.conferences, &bytes[opening.size..])?;
     let (users, rest) = users_of(
@@ -55,7 +55,7 @@ fn records_of(
 
 /// The ledger of the bytes, or the first rule that they break.
 pub(crate) fn ledger_of(alloc: Global, bytes: &[u8]) -> Result<Ledger, LedgerError>
-    ensures { Gives (λ x. x) result (ledger_in bytes.now) }
+    ensures { LedgerGives (λ x. x) result (ledger_in bytes.now) }
 {
     let opening = opening_of(alloc, bytes)?;
     let (conferences, users, uploads) = records_of(alloc, &opening, bytes)?;

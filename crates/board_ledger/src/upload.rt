@@ -1,5 +1,5 @@
 ghost use Rattle.std.specs.Prelude.{◌≡◌, ◌≤◌, ◌<◌, ◌^◌, ◌++◌, length, IfOk, OnOk};
-ghost use Rattle.board_ledger.specs.Uploads.{upload_text, upload_of as upload_in, wrong_user as user_wrong, too_many as counts_wrong};
+ghost use Rattle.board_ledger.specs.Uploads.{upload_text, upload_in_record as upload_in, wrong_user as user_wrong, too_many as counts_wrong};
 
 use byte_lists::{Bytes, Duplicate, List};
 use open_offers::{add_u16, add_u32};
@@ -53,7 +53,7 @@ impl UploadRecord {
     }
 
     /// The record at the front.
-    #[tactic(auto, unfolding(crate::specs::Uploads::upload_of))]
+    #[tactic(auto, unfolding(crate::specs::Uploads::upload_in_record))]
     pub(crate) fn read(bytes: &[u8]) -> UploadRecord
         requires { 42 ≤ length bytes.now }
         ensures { result ≡ upload_in bytes.now }

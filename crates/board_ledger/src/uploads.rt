@@ -2,7 +2,7 @@ ghost use Rattle.std.specs.Prelude.{◌≡◌, ◌≤◌, ◌<◌, ◌+◌, ◌^
 ghost use Rattle.std.specs.List.{flat_map, list_any};
 ghost use Rattle.std.specs.Str.{bytes_eq};
 ghost use Rattle.record_numbers.specs.Numbers.{u16_text};
-ghost use Rattle.board_ledger.specs.Rules.{Gives};
+ghost use Rattle.board_ledger.specs.Rules.{LedgerGives};
 ghost use Rattle.board_ledger.specs.Met.{is_met};
 ghost use Rattle.board_ledger.specs.Records.{records_at};
 ghost use Rattle.board_ledger.specs.Uploads.{upload_text, upload_at};
@@ -36,7 +36,7 @@ fn upload_of(
     requires few { length before.now < 100000 }
     requires fit { All (λ e. e.user < 2 ^ 16) before.now }
     requires met { (key : List ℕ) → is_met pairs.old key ≡ list_any (λ e. bytes_eq (u16_text e.user ++ e.digest) key) before.now }
-    ensures gives { Gives (λ x. (x, 42)) result (upload_at first users before.now bytes.now) }
+    ensures gives { LedgerGives (λ x. (x, 42)) result (upload_at first users before.now bytes.now) }
     ensures size { IfOk result (λ _. 42 ≤ length bytes.now) }
     ensures fits { IfOk result (λ x. x.user < 2 ^ 16) }
     ensures added { IfOk result (λ x. (key : List ℕ) → is_met pairs.new key ≡ (bytes_eq (u16_text x.user ++ x.digest) key || is_met pairs.old key)) }
@@ -69,7 +69,7 @@ pub(crate) fn uploads_of(
 ) -> Result<(Uploads, &[u8]), LedgerError>
     requires first { first ≤ 1000 }
     requires count { count ≤ 100000 }
-    ensures { Gives (λ x. (x.0, x.1.now)) result (records_at (upload_at first users) count [] bytes.now) }
+    ensures { LedgerGives (λ x. (x.0, x.1.now)) result (records_at (upload_at first users) count [] bytes.now) }
 {
     let mut uploads = Uploads::new(alloc);
     let mut pairs = Met::new(alloc);

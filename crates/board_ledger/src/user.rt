@@ -1,6 +1,6 @@
 ghost use Rattle.std.specs.Prelude.{◌≡◌, ◌≤◌, ◌<◌, ◌+◌, ◌^◌, ◌++◌, length, nat_lt, All, IfOk, OnOk};
 ghost use Rattle.open_offers.specs.Texts.{text_end as end_of};
-ghost use Rattle.board_ledger.specs.Users.{user_text, behind_name as size_behind_name, record_of as record_in, user_end, right_members as members_right, right_offers as offers_right, is_member as member_at, with_open as with_open_offers};
+ghost use Rattle.board_ledger.specs.Users.{user_text, behind_name as size_behind_name, user_record_of as record_in, user_end, right_members as members_right, right_offers as offers_right, is_member as member_at, with_open as with_open_offers};
 ghost use Rattle.open_offers.specs.declared.version.Version.TheVariants.{Second};
 
 use byte_lists::{Bytes, Duplicate, List};
@@ -74,7 +74,7 @@ impl User {
 
     /// The user of the record at the front, whose name ends at a place, where there are so many conferences. His offers
     /// are all cells of the record.
-    #[tactic(auto, unfolding(crate::specs::Users::record_of, crate::specs::Users::user_end))]
+    #[tactic(auto, unfolding(crate::specs::Users::user_record_of, crate::specs::Users::user_end))]
     pub(crate) fn read(
         alloc: Global,
         version: Version,

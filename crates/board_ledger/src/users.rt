@@ -3,7 +3,7 @@ ghost use Rattle.std.specs.List.{list_any};
 ghost use Rattle.std.specs.Str.{bytes_eq};
 ghost use Rattle.damage_rules.specs.Rules.{first_broken};
 ghost use Rattle.setup_file.specs.Texts.{is_user_name as is_name};
-ghost use Rattle.board_ledger.specs.Rules.{Gives};
+ghost use Rattle.board_ledger.specs.Rules.{LedgerGives};
 ghost use Rattle.board_ledger.specs.Met.{is_met};
 ghost use Rattle.board_ledger.specs.Records.{records_at};
 ghost use Rattle.board_ledger.specs.Users.{lowered as lowered_name, right_members, right_offers, users_text, user_at};
@@ -74,7 +74,7 @@ fn broken_user(
 }
 
 /// The user at the front, behind those before, whose names were met, and the length of the record.
-#[tactic(auto, unfolding(crate::specs::Users::user_at, crate::specs::Users::user_rules, crate::specs::Users::user_end, crate::specs::Users::record_of))]
+#[tactic(auto, unfolding(crate::specs::Users::user_at, crate::specs::Users::user_rules, crate::specs::Users::user_end, crate::specs::Users::user_record_of))]
 fn user_of(
     alloc: Global,
     version: Version,
@@ -86,7 +86,7 @@ fn user_of(
     requires conferences { conferences ≤ 64 }
     requires few { length before.now < 500 }
     requires met { (key : List ℕ) → is_met names.old key ≡ list_any (λ u. bytes_eq (lowered_name u.name) key) before.now }
-    ensures gives { Gives (λ x. x) result (user_at version conferences before.now bytes.now) }
+    ensures gives { LedgerGives (λ x. x) result (user_at version conferences before.now bytes.now) }
     ensures size { IfOk result (λ x. x.1 ≤ length bytes.now) }
     ensures added { IfOk result (λ x. (key : List ℕ) → is_met names.new key ≡ (bytes_eq (lowered_name x.0.name) key || is_met names.old key)) }
 {
@@ -115,7 +115,7 @@ pub(crate) fn users_of(
 ) -> Result<(Users, &[u8]), LedgerError>
     requires conferences { conferences ≤ 64 }
     requires count { count ≤ 500 }
-    ensures { Gives (λ x. (x.0, x.1.now)) result (records_at (user_at version conferences) count [] bytes.now) }
+    ensures { LedgerGives (λ x. (x.0, x.1.now)) result (records_at (user_at version conferences) count [] bytes.now) }
 {
     let mut users = Users::new(alloc);
     let mut names = Met::new(alloc);

@@ -7,7 +7,7 @@ use Rattle.std.proofs.lemmas.Str.Parse.{digit_at}
 use Rattle.std.specs.Prelude.{codes}
 use Rattle.std.specs.List.{AllZip, list_all, list_any, onto_first, slice_split}
 use Rattle.setup_file.specs.declared.conference.Conference.{Conference}
-use Rattle.command_words.specs.Choice.{ChoiceReads, is_chosen, is_known, has_unknown, place_bit, places_from}
+use Rattle.command_words.specs.Choice.{ChoiceReads, is_chosen, is_known, has_unknown, place_bit, chosen_from}
 use Rattle.command_words.specs.NumberWord.{NumberWord, JoinedNumbers}
 use Rattle.text_fields.proofs.Numbers.{digits_unique}
 use Rattle.command_words.specs.declared.choice.Choice.{Choice}
@@ -18,7 +18,7 @@ bit_most : (b : Bool) (n : ℕ) → cond b n 0 ≤ n
 bit_most true n = omega arith
 bit_most false n = omega arith
 
-few_from : (choice : Choice) (place : ℕ) (cs : List Conference) → places_from choice place cs + 2 ^ place ≤ 2 ^ (place + length cs)
+few_from : (choice : Choice) (place : ℕ) (cs : List Conference) → chosen_from choice place cs + 2 ^ place ≤ 2 ^ (place + length cs)
 few_from choice place [] = let same : 2 ^ (place + 0) ≡ 2 ^ place = ap (λ n. 2 ^ n) (omega arith) in omega (arith, same)
 few_from choice place (c ∷ cs) =
     let others = few_from choice (place + 1) cs in
@@ -27,7 +27,7 @@ few_from choice place (c ∷ cs) =
     let same : 2 ^ (place + 1 + length cs) ≡ 2 ^ (place + length (c ∷ cs)) = ap (λ n. 2 ^ n) (omega arith) in
     omega (arith, others, here, next, same)
 
-pub few_places : (choice : Choice) (cs : List Conference) → places_from choice 0 cs < 2 ^ length cs
+pub few_places : (choice : Choice) (cs : List Conference) → chosen_from choice 0 cs < 2 ^ length cs
 few_places choice cs =
     let most = few_from choice 0 cs in
     let same : 2 ^ (0 + length cs) ≡ 2 ^ length cs = ap (λ n. 2 ^ n) (omega arith) in
@@ -41,7 +41,7 @@ or_cases : (a b : Bool) → (a || b) ≡ true → (a ≡ true) ⊎ (b ≡ true)
 or_cases true b e = inl refl
 or_cases false b e = inr e
 
-known_place : (choice : Choice) (n place : ℕ) (cs : List Conference) → is_chosen choice n ≡ true → is_known cs n ≡ true → 0 < places_from choice place cs
+known_place : (choice : Choice) (n place : ℕ) (cs : List Conference) → is_chosen choice n ≡ true → is_known cs n ≡ true → 0 < chosen_from choice place cs
 known_place choice n place [] chosen known = absurd cc
 known_place choice n place (c ∷ cs) chosen known = ⊎_elim
     (λ here. let bit = chosen_bit choice place c (subst (λ m. is_chosen choice m ≡ true) (sym (eqb-true c.number n here)) chosen) in omega (arith, bit))
@@ -70,7 +70,7 @@ none_unknown : (b : Bool) → not b ≡ false → b ≡ true
 none_unknown true e = refl
 none_unknown false e = absurd cc
 
-pub some_places : (word : List ℕ) (choice : Choice) (cs : List Conference) → ChoiceReads word choice → has_unknown choice cs ≡ false → 0 < length cs → 0 < places_from choice 0 cs
+pub some_places : (word : List ℕ) (choice : Choice) (cs : List Conference) → ChoiceReads word choice → has_unknown choice cs ≡ false → 0 < length cs → 0 < chosen_from choice 0 cs
 some_places word Every [] reads none some = absurd (omega (arith, some))
 some_places word Every (c ∷ cs) reads none some = let bit = chosen_bit Every 0 c refl in omega (arith, bit)
 some_places word (Numbers numbers) cs reads none some =

@@ -30,6 +30,6 @@ abbrev pub place_bit : Choice → ℕ → Conference → ℕ
 place_bit choice place c = if is_chosen choice c.number then 2 ^ place else 0
 
 -- the set of their places from this one on, bit k for place k
-abbrev pub places_from : Choice → ℕ → List Conference → ℕ
-places_from choice place [] = 0
-places_from choice place (c ∷ conferences) = place_bit choice place c + places_from choice (place + 1) conferences
+abbrev pub chosen_from : Choice → ℕ → List Conference → ℕ
+chosen_from choice place [] = 0
+chosen_from choice place (c ∷ conferences) = place_bit choice place c + chosen_from choice (place + 1) conferences

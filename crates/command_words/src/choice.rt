@@ -1,6 +1,6 @@
 ghost use Rattle.std.specs.Prelude.{◌≡◌, ◌≤◌, ◌<◌, ◌^◌, length, ◌==◌, IfOk, MatchOption};
 ghost use Rattle.std.specs.List.{list_all, list_any};
-ghost use Rattle.command_words.specs.Choice.{ChoiceReads, is_known as is_known_of, has_unknown as has_unknown_of, is_chosen, places_from};
+ghost use Rattle.command_words.specs.Choice.{ChoiceReads, is_known as is_known_of, has_unknown as has_unknown_of, is_chosen, chosen_from};
 ghost use Rattle.command_words.specs.declared.choice.Choice as Choices;
 
 use crate::number::numbers_of;
@@ -75,7 +75,7 @@ impl Choice {
     /// The places of the conferences that are meant, bit k for place k from 0. It takes no memory.
     pub fn places(&self, conferences: &[Conference]) -> u64
         requires { length conferences.now ≤ 64 }
-        ensures { result ≡ places_from self.now 0 conferences.now }
+        ensures { result ≡ chosen_from self.now 0 conferences.now }
     {
         let mut places = 0;
         for (place, conference) in conferences.iter().enumerate() {

@@ -1,2 +1,3 @@
 pub mod KeptRules
 pub mod RecordWalks
+pub mod BoolTests

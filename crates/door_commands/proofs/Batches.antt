@@ -7,7 +7,7 @@ use Rattle.line_words.specs.Line.{LineReads}
 use Rattle.setup_file.specs.Reads.{is_skipped}
 use Rattle.shelf_files.specs.declared.refusal.Refusal.{Refusal}
 use Rattle.door_commands.proofs.OneCommand.{command_unique}
-use Rattle.door_commands.specs.Batch.{BatchReads, IsNoLine, LineEntry, LineIs, LinesRead}
+use Rattle.door_commands.specs.Batch.{BatchReads, IsNoLine, LineEntry, LineIs, BatchLinesRead}
 use Rattle.door_commands.specs.Entries.{EntriesFrom, IsWrong}
 use Rattle.door_commands.specs.Words.{CommandReads, IsBatch}
 use Rattle.door_commands.specs.declared.command.Command.{Command}
@@ -40,17 +40,17 @@ line_unique line c d x y = line_command line y.words d c y.are_words y.are_comma
 -- ---- the lines that are left
 module _ (number : ℕ) (line : List ℕ) (behind : List (List ℕ)) where
   -- a line that is skipped
-  pub lines_skip : (entries : List Entry) → is_skipped line ≡ true → LinesRead (number + 1) behind entries → LinesRead number (line ∷ behind) entries
+  pub lines_skip : (entries : List Entry) → is_skipped line ≡ true → BatchLinesRead (number + 1) behind entries → BatchLinesRead number (line ∷ behind) entries
   lines_skip entries skipped reads = inl (skipped, reads)
 
   -- a line that is a command
-  pub lines_run : (entry : Entry) (rest : List Entry) → is_skipped line ≡ false → LineEntry number line entry → ¬ IsWrong entry → LinesRead (number + 1) behind rest → LinesRead number (line ∷ behind) (entry ∷ rest)
+  pub lines_run : (entry : Entry) (rest : List Entry) → is_skipped line ≡ false → LineEntry number line entry → ¬ IsWrong entry → BatchLinesRead (number + 1) behind rest → BatchLinesRead number (line ∷ behind) (entry ∷ rest)
   lines_run (Run c) rest counts is right reads = inr (counts, inl (c, rest, is, reads, refl))
   lines_run (Wrong which) rest counts is right reads = absurd (right tt)
   lines_run (Refuse why) rest counts is right reads = absurd is
 
   -- one that is none, which is the last
-  pub lines_wrong : (entry : Entry) → is_skipped line ≡ false → LineEntry number line entry → IsWrong entry → LinesRead number (line ∷ behind) (entry ∷ [])
+  pub lines_wrong : (entry : Entry) → is_skipped line ≡ false → LineEntry number line entry → IsWrong entry → BatchLinesRead number (line ∷ behind) (entry ∷ [])
   lines_wrong (Run c) counts is wrong = absurd wrong
   lines_wrong (Wrong which) counts is wrong = inr (counts, inr (is.0, λ i. Wrong (is.1 i) ∷ []))
   lines_wrong (Refuse why) counts is wrong = absurd is
@@ -58,23 +58,23 @@ module _ (number : ℕ) (line : List ℕ) (behind : List (List ℕ)) where
 -- ---- the entries so far
 -- whatever the lines that are left are, all lines are that behind these entries
 abbrev pub SoFar : List (List ℕ) → ℕ → List (List ℕ) → List Entry → Type 0
-SoFar all number left entries = (more : List Entry) → LinesRead number left more → LinesRead 1 all (entries ++ more)
+SoFar all number left entries = (more : List Entry) → BatchLinesRead number left more → BatchLinesRead 1 all (entries ++ more)
 
 module _ (all left behind : List (List ℕ)) (number : ℕ) (line : List ℕ) (entries : List Entry) (is : left ≡ line ∷ behind) (so_far : SoFar all number left entries) where
   pub skips_on : is_skipped line ≡ true → SoFar all (number + 1) behind entries
-  skips_on skipped more reads = so_far more (subst (λ (lines : List (List ℕ)). LinesRead number lines more) (sym is) (lines_skip number line behind more skipped reads))
+  skips_on skipped more reads = so_far more (subst (λ (lines : List (List ℕ)). BatchLinesRead number lines more) (sym is) (lines_skip number line behind more skipped reads))
 
   pub runs_on : (entry : Entry) → is_skipped line ≡ false → LineEntry number line entry → ¬ IsWrong entry → SoFar all (number + 1) behind (entries ++ entry ∷ [])
   runs_on entry counts reads_as right more reads =
-      subst (LinesRead 1 all) (sym (append_assoc entries (entry ∷ []) more))
-      (so_far (entry ∷ more) (subst (λ (lines : List (List ℕ)). LinesRead number lines (entry ∷ more)) (sym is) (lines_run number line behind entry more counts reads_as right reads)))
+      subst (BatchLinesRead 1 all) (sym (append_assoc entries (entry ∷ []) more))
+      (so_far (entry ∷ more) (subst (λ (lines : List (List ℕ)). BatchLinesRead number lines (entry ∷ more)) (sym is) (lines_run number line behind entry more counts reads_as right reads)))
 
-  pub ends_wrong : (entry : Entry) → is_skipped line ≡ false → LineEntry number line entry → IsWrong entry → LinesRead 1 all (entries ++ entry ∷ [])
+  pub ends_wrong : (entry : Entry) → is_skipped line ≡ false → LineEntry number line entry → IsWrong entry → BatchLinesRead 1 all (entries ++ entry ∷ [])
   ends_wrong entry counts reads_as wrong =
-      so_far (entry ∷ []) (subst (λ (lines : List (List ℕ)). LinesRead number lines (entry ∷ [])) (sym is) (lines_wrong number line behind entry counts reads_as wrong))
+      so_far (entry ∷ []) (subst (λ (lines : List (List ℕ)). BatchLinesRead number lines (entry ∷ [])) (sym is) (lines_wrong number line behind entry counts reads_as wrong))
 
 -- ---- one list of entries at most
-lines_unique : (number : ℕ) (all : List (List ℕ)) (a b : List Entry) → LinesRead number all a → LinesRead number all b → a ≡ b
+lines_unique : (number : ℕ) (all : List (List ℕ)) (a b : List Entry) → BatchLinesRead number all a → BatchLinesRead number all b → a ≡ b
 lines_unique number [] a b x y = x ∙ sym y
 lines_unique number (line ∷ behind) a b (inl (skipped, x)) (inl (again, y)) = lines_unique (number + 1) behind a b x y
 lines_unique number (line ∷ behind) a b (inl (skipped, x)) (inr (counts, y)) = absurd (true≢false (sym skipped ∙ counts))

@@ -9,12 +9,12 @@ use Rattle.command_words.specs.NumberWord.{NumberWord}
 use Rattle.command_words.specs.declared.choice.Choice.{Choice}
 use Rattle.command_words.specs.declared.choice.Choice.TheVariants.{Every, Numbers}
 use Rattle.door_commands.proofs.OneCommand.{behind_verb, no_verb, verbs}
-use Rattle.door_commands.specs.Words.{CommandReads, IsFlags, IsNoCommand, NamesConferences, ReadsBehind, WritingReads, first_word}
+use Rattle.door_commands.specs.Words.{CommandReads, IsFlags, IsNoCommand, NamesConferences, ReadsBehind, WritingReads, verb_word}
 use Rattle.door_commands.specs.declared.command.Command.{Command}
 use Rattle.door_commands.specs.declared.command.Command.TheVariants as command
 use Rattle.door_commands.specs.declared.verb.Verb.{Verb}
 use Rattle.door_commands.specs.declared.verb.Verb.TheVariants.{AckPacket, AdoptBase, BatchFile, CheckBoard, ComposeSheet, EnrollUser, ExportPacket, ImportSheet, InitBoard, KillMessage, ListFile, PackConference, ReadFolder, ReplyTo, SampleMessages, ScanFile, TossFile, UploadPacket}
-use Rattle.door_outside.specs.Name.{HasParts, IsNameByte, IsPart, IsShelfName, parts}
+use Rattle.door_outside.specs.Name.{HasParts, IsNameByte, IsNamePart, IsShelfName, parts}
 use Rattle.line_words.proofs.LineLaws.{SoFar, bare_line, bare_word, badly_ended, begun, breaks_off, ends, goes_on, open_quote, well_ended}
 use Rattle.line_words.specs.Line.{Begins, BeginsBare, BeginsQuoted, EndsWord, LineReads, SkipsSpaces}
 use Rattle.text_fields.specs.Split.{Lacks, SplitsAt}
@@ -87,10 +87,10 @@ name_byte_or_not b =
     (one_of (both (at_most 65 b) (at_most b 90))
     (one_of (both (at_most 97 b) (at_most b 122)) (one_of (equal b 46) (one_of (equal b 95) (equal b 45)))))
 
-part_or_not : (part : List ℕ) → Decided (IsPart part)
+part_or_not : (part : List ℕ) → Decided (IsNamePart part)
 part_or_not part = by (at_most 1 (length part)) (at_most (length part) 32) (each_of IsNameByte name_byte_or_not part) (equal (slice_index part 0) 46)
   where
-    by : Decided (1 ≤ length part) → Decided (length part ≤ 32) → Decided (All IsNameByte part) → Decided (slice_index part 0 ≡ 46) → Decided (IsPart part)
+    by : Decided (1 ≤ length part) → Decided (length part ≤ 32) → Decided (All IsNameByte part) → Decided (slice_index part 0 ≡ 46) → Decided (IsNamePart part)
     by (inl some) (inl short) (inl allowed) (inr visible) = inl (record { some = some; short = short; allowed = allowed; visible = visible })
     by (inl some) (inl short) (inl allowed) (inl hidden) = inr (λ x. x.visible hidden)
     by (inl some) (inl short) (inr refuted) first = inr (λ x. refuted x.allowed)
@@ -98,9 +98,9 @@ part_or_not part = by (at_most 1 (length part)) (at_most (length part) 32) (each
     by (inr refuted) short allowed first = inr (λ x. refuted x.some)
 
 parts_or_not : (most : ℕ) (text : List ℕ) → Decided (HasParts most text)
-parts_or_not most text = by (at_most (length (parts text)) most) (each_of IsPart part_or_not (parts text))
+parts_or_not most text = by (at_most (length (parts text)) most) (each_of IsNamePart part_or_not (parts text))
   where
-    by : Decided (length (parts text) ≤ most) → Decided (All IsPart (parts text)) → Decided (HasParts most text)
+    by : Decided (length (parts text) ≤ most) → Decided (All IsNamePart (parts text)) → Decided (HasParts most text)
     by (inl few) (inl each) = inl (record { few = few; each = each })
     by (inl few) (inr refuted) = inr (λ x. refuted x.each)
     by (inr refuted) each = inr (λ x. refuted x.few)
@@ -397,11 +397,11 @@ behind_or_not ScanFile words = elim (file_alone words) [ inl f ↦ inl (command.
 behind_or_not TossFile words = elim (file_alone words) [ inl f ↦ inl (command.Toss f.0, (f.0, f.1, f.2, refl)) | inr none ↦ inr (λ c x. none x.0 x.1 x.2) ]
 behind_or_not UploadPacket words = elim (text_and_file words) [ inl w ↦ inl (command.Upload w.0 w.1, (w.0, w.1, w.2, w.3, refl)) | inr none ↦ inr (λ c x. none x.0 x.1 x.2 x.3) ]
 
-verb_among : (word : List ℕ) (some : List Verb) → ((verb : Verb) × (word ≡ first_word verb)) ⊎ All (λ verb. word ≡ first_word verb → ⊥) some
-verb_among word [] = inr (All-nil (λ verb. word ≡ first_word verb → ⊥))
-verb_among word (verb ∷ some) = elim (same_text word (first_word verb)) [
+verb_among : (word : List ℕ) (some : List Verb) → ((verb : Verb) × (word ≡ verb_word verb)) ⊎ All (λ verb. word ≡ verb_word verb → ⊥) some
+verb_among word [] = inr (All-nil (λ verb. word ≡ verb_word verb → ⊥))
+verb_among word (verb ∷ some) = elim (same_text word (verb_word verb)) [
   | inl is ↦ inl (verb, is)
-  | inr refuted ↦ elim (verb_among word some) [ inl found ↦ inl found | inr none ↦ inr (All-cons (λ verb. word ≡ first_word verb → ⊥) verb some refuted none) ]
+  | inr refuted ↦ elim (verb_among word some) [ inl found ↦ inl found | inr none ↦ inr (All-cons (λ verb. word ≡ verb_word verb → ⊥) verb some refuted none) ]
 ]
 
 abbrev pub IsCommand : List (List ℕ) → Type 0
@@ -410,11 +410,11 @@ IsCommand words = ((c : Command) × CommandReads words c) ⊎ IsNoCommand words
 pub command_or_none : (words : List (List ℕ)) → IsCommand words
 command_or_none [] = inr (λ c x. let e = x.2 in cc e)
 command_or_none (word ∷ words) = elim (verb_among word verbs) [
-  | inr none ↦ inr (λ c x. let e = x.2 in let same : word ≡ first_word x.0 = cc in no_verb word none x.0 same)
+  | inr none ↦ inr (λ c x. let e = x.2 in let same : word ≡ verb_word x.0 = cc in no_verb word none x.0 same)
   | inl found ↦ elim (behind_or_not found.0 words) [
     | inl c ↦ inl (c.0, (found.0, words, (λ i. found.1 i ∷ words), c.1))
     | inr none ↦ inr (λ c x.
-        let reads : CommandReads (first_word found.0 ∷ words) c = subst (λ (w : List ℕ). CommandReads (w ∷ words) c) found.1 x in
+        let reads : CommandReads (verb_word found.0 ∷ words) c = subst (λ (w : List ℕ). CommandReads (w ∷ words) c) found.1 x in
         none c (behind_verb found.0 words c reads))
   ]
 ]

@@ -3,7 +3,7 @@ use Rattle.std.proofs.Common.{◌≡◌, inl, inr, ℕ, List, [], ◌∷◌, sym
 use Rattle.std.proofs.lemmas.List.Elements.{All-cons, All-nil}
 use Rattle.std.specs.Prelude.{Result, Ok, Err, All, IfOk}
 use Rattle.shelf_files.specs.declared.refusal.Refusal.TheVariants.{NoFile}
-use Rattle.door_commands.specs.Batch.{IsRead}
+use Rattle.door_commands.specs.Batch.{AreReadEntries}
 use Rattle.door_commands.specs.Entries.{AreEntries, BeginsWrong, CanRun, EntryCanRun}
 use Rattle.door_commands.specs.Words.{CommandReads, IsBatch, IsNoCommand, ReadsBehind}
 use Rattle.door_commands.specs.declared.command.Command.{Command}
@@ -53,6 +53,6 @@ begins_wrong words entries (read, inr (inr (never, is))) none = ([], Wrong Words
 pub command_entries : (words : List (List ℕ)) (c : Command) (entries : List Entry) → CommandReads words c → ¬ IsBatch c → entries ≡ Run c ∷ [] → AreEntries words entries
 command_entries words c entries reads single is = ((λ file. Err (NoFile file)), inl (c, reads, single, is))
 
-pub batch_entries : {E : Type 0} (words : List (List ℕ)) (file : List ℕ) (result : Result (List Entry) E) → CommandReads words (command.Batch file) → IfOk result IsRead → IfOk result (AreEntries words)
+pub batch_entries : {E : Type 0} (words : List (List ℕ)) (file : List ℕ) (result : Result (List Entry) E) → CommandReads words (command.Batch file) → IfOk result AreReadEntries → IfOk result (AreEntries words)
 batch_entries words file (Ok entries) reads some = ((λ name. some.0), inr (inl (file, reads, some.1)))
 batch_entries words file (Err e) reads some = tt

@@ -8,7 +8,7 @@ use Rattle.door_commands.specs.declared.command.Command.{Command}
 use Rattle.door_commands.specs.declared.command.Command.TheVariants as command
 use Rattle.door_commands.specs.declared.verb.Verb.{Verb}
 use Rattle.door_commands.specs.declared.verb.Verb.TheVariants.{AckPacket, AdoptBase, BatchFile, CheckBoard, ComposeSheet, EnrollUser, ExportPacket, ImportSheet, InitBoard, KillMessage, ListFile, PackConference, ReadFolder, ReplyTo, SampleMessages, ScanFile, TossFile, UploadPacket}
-use Rattle.door_commands.specs.Words.{first_word, ReadsBehind, CommandReads, WritingReads}
+use Rattle.door_commands.specs.Words.{verb_word, ReadsBehind, CommandReads, WritingReads}
 
 -- all verbs in order
 abbrev pub verbs : List Verb
@@ -16,10 +16,10 @@ verbs = AckPacket ∷ AdoptBase ∷ BatchFile ∷ CheckBoard ∷ ComposeSheet �
 
 -- the verb of a first word
 verb_of : List ℕ → Option Verb
-verb_of word = find (λ verb. bytes_eq (first_word verb) word) verbs
+verb_of word = find (λ verb. bytes_eq (verb_word verb) word) verbs
 
 -- a line for each: its first word is that of no verb before it
-verb_back : (verb : Verb) → verb_of (first_word verb) ≡ Some verb
+verb_back : (verb : Verb) → verb_of (verb_word verb) ≡ Some verb
 unfolding verb_of
 verb_back AckPacket = refl
 verb_back AdoptBase = refl
@@ -41,7 +41,7 @@ verb_back TossFile = refl
 verb_back UploadPacket = refl
 
 -- a word that none of them begins with is that of no verb
-pub no_verb : (word : List ℕ) → All (λ verb. ¬ (word ≡ first_word verb)) verbs → (verb : Verb) → ¬ (word ≡ first_word verb)
+pub no_verb : (word : List ℕ) → All (λ verb. ¬ (word ≡ verb_word verb)) verbs → (verb : Verb) → ¬ (word ≡ verb_word verb)
 no_verb word none AckPacket = none 0 AckPacket (omega arith)
 no_verb word none AdoptBase = none 1 AckPacket (omega arith)
 no_verb word none BatchFile = none 2 AckPacket (omega arith)
@@ -61,7 +61,7 @@ no_verb word none ScanFile = none 15 AckPacket (omega arith)
 no_verb word none TossFile = none 16 AckPacket (omega arith)
 no_verb word none UploadPacket = none 17 AckPacket (omega arith)
 
-one_verb : (a b : Verb) → first_word a ≡ first_word b → a ≡ b
+one_verb : (a b : Verb) → verb_word a ≡ verb_word b → a ≡ b
 one_verb a b same = let e : Some a ≡ Some b = sym (verb_back a) ∙ ap verb_of same ∙ verb_back b in cc
 
 one_number : (word other : List ℕ) (m n : ℕ) → word ≡ other → NumberWord word m → NumberWord other n → m ≡ n
@@ -159,14 +159,14 @@ behind_unique UploadPacket words a b x y =
     x.4 ∙ (λ i. command.Upload (user i) (file i)) ∙ sym y.4
 
 -- what stands behind a first word is read by its verb
-pub behind_verb : (verb : Verb) (rest : List (List ℕ)) (c : Command) → CommandReads (first_word verb ∷ rest) c → ReadsBehind verb rest c
+pub behind_verb : (verb : Verb) (rest : List (List ℕ)) (c : Command) → CommandReads (verb_word verb ∷ rest) c → ReadsBehind verb rest c
 behind_verb verb rest c reads =
     let words = reads.2 in
-    let first : first_word verb ≡ first_word reads.0 = cc in
+    let first : verb_word verb ≡ verb_word reads.0 = cc in
     let others : rest ≡ reads.1 = cc in
     subst (λ (v : Verb). ReadsBehind v rest c) (sym (one_verb verb reads.0 first)) (subst (λ (words : List (List ℕ)). ReadsBehind reads.0 words c) (sym others) reads.3)
 
 pub command_unique : (words : List (List ℕ)) (a b : Command) → CommandReads words a → CommandReads words b → a ≡ b
 command_unique words a b x y =
-    let again : CommandReads (first_word x.0 ∷ x.1) b = subst (λ (w : List (List ℕ)). CommandReads w b) x.2 y in
+    let again : CommandReads (verb_word x.0 ∷ x.1) b = subst (λ (w : List (List ℕ)). CommandReads w b) x.2 y in
     behind_unique x.0 x.1 a b x.3 (behind_verb x.0 x.1 b again)

@@ -6,7 +6,7 @@ use Rattle.setup_file.specs.Reads.{is_skipped}
 use Rattle.shelf_files.specs.declared.refusal.Refusal.{Refusal}
 use Rattle.door_commands.proofs.Batches.{no_inner, no_line, no_words}
 use Rattle.door_commands.proofs.Deciding.{command_or_none, line_or_none}
-use Rattle.door_commands.specs.Batch.{BatchReads, IsNoLine, LineIs, LinesRead}
+use Rattle.door_commands.specs.Batch.{BatchReads, IsNoLine, LineIs, BatchLinesRead}
 use Rattle.door_commands.specs.Entries.{EntriesFrom}
 use Rattle.door_commands.specs.Words.{CommandReads, IsBatch}
 use Rattle.door_commands.specs.declared.command.Command.{Command}
@@ -31,15 +31,15 @@ line_command line = elim (line_or_none line) [
   ]
 ]
 
-some_lines : (number : ℕ) (all : List (List ℕ)) → (entries : List Entry) × LinesRead number all entries
+some_lines : (number : ℕ) (all : List (List ℕ)) → (entries : List Entry) × BatchLinesRead number all entries
 some_lines number [] = ([], refl)
 some_lines number (line ∷ behind) = by (is_skipped line) refl (some_lines (number + 1) behind)
   where
-    counted : is_skipped line ≡ false → (rest : List Entry) → LinesRead (number + 1) behind rest → ((c : Command) × LineIs line c) ⊎ IsNoLine line → (entries : List Entry) × LinesRead number (line ∷ behind) entries
+    counted : is_skipped line ≡ false → (rest : List Entry) → BatchLinesRead (number + 1) behind rest → ((c : Command) × LineIs line c) ⊎ IsNoLine line → (entries : List Entry) × BatchLinesRead number (line ∷ behind) entries
     counted counts rest reads (inl c) = (Run c.0 ∷ rest, inr (counts, inl (c.0, rest, c.1, reads, refl)))
     counted counts rest reads (inr none) = (Wrong (Line number) ∷ [], inr (counts, inr (none, refl)))
 
-    by : (b : Bool) → is_skipped line ≡ b → (rest : List Entry) × LinesRead (number + 1) behind rest → (entries : List Entry) × LinesRead number (line ∷ behind) entries
+    by : (b : Bool) → is_skipped line ≡ b → (rest : List Entry) × BatchLinesRead (number + 1) behind rest → (entries : List Entry) × BatchLinesRead number (line ∷ behind) entries
     by true skipped more = (more.0, inl (skipped, more.1))
     by false counts more = counted counts more.0 more.1 (line_command line)
 

@@ -33,19 +33,19 @@ LineEntry number line (Refuse why) = ⊥
 
 -- The lines from a number on are these entries: empty ones and comments are none, and the first that is no command is
 -- the last that is taken.
-abbrev pub LinesRead : ℕ → List (List ℕ) → List Entry → Type 0
-LinesRead number [] entries = entries ≡ []
-LinesRead number (line ∷ behind) entries =
-    (IsTrue (is_skipped line) × LinesRead (number + 1) behind entries)
+abbrev pub BatchLinesRead : ℕ → List (List ℕ) → List Entry → Type 0
+BatchLinesRead number [] entries = entries ≡ []
+BatchLinesRead number (line ∷ behind) entries =
+    (IsTrue (is_skipped line) × BatchLinesRead (number + 1) behind entries)
     ⊎ ((is_skipped line ≡ false)
-    × (((c : Command) × (rest : List Entry) × LineIs line c × LinesRead (number + 1) behind rest × (entries ≡ Run c ∷ rest))
+    × (((c : Command) × (rest : List Entry) × LineIs line c × BatchLinesRead (number + 1) behind rest × (entries ≡ Run c ∷ rest))
     ⊎ (IsNoLine line × (entries ≡ Wrong (Line number) ∷ []))))
 
 -- the entries of what was read of a batch's file, or why nothing was
 abbrev pub BatchReads : Result (List ℕ) Refusal → List Entry → Type 0
 BatchReads (Err why) entries = entries ≡ Refuse why ∷ []
-BatchReads (Ok bytes) entries = LinesRead 1 (lines bytes) entries
+BatchReads (Ok bytes) entries = BatchLinesRead 1 (lines bytes) entries
 
 -- they are those of some bytes, or of a refusal
-abbrev pub IsRead : List Entry → Type 0
-IsRead entries = (read : Result (List ℕ) Refusal) × BatchReads read entries
+abbrev pub AreReadEntries : List Entry → Type 0
+AreReadEntries entries = (read : Result (List ℕ) Refusal) × BatchReads read entries

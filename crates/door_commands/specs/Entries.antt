@@ -3,7 +3,7 @@ use Rattle.std.specs.Prelude.{◌≡◌, ◌⊎◌, ◌≤◌, ℕ, List, [], �
 use Rattle.door_outside.specs.Cause.{Rose}
 use Rattle.door_outside.specs.Name.{HasParts, IsShelfName}
 use Rattle.door_outside.specs.Shelf.{Files}
-use Rattle.shelf_files.specs.ShelfFile.{file_of}
+use Rattle.shelf_files.specs.ShelfFile.{file_within}
 use Rattle.shelf_files.specs.declared.refusal.Refusal.{Refusal}
 use Rattle.door_commands.specs.Batch.{BatchReads, batch_limit}
 use Rattle.door_commands.specs.Words.{CommandReads, IsBatch, IsNoCommand, NamesConferences}
@@ -25,7 +25,7 @@ EntriesFrom words read entries =
 
 -- the entries that words are, with the batch as the shelf holds it
 abbrev pub EntriesRead : List (List ℕ) → Files → List Entry → Type 0
-EntriesRead words shelf entries = EntriesFrom words (λ file. file_of shelf file batch_limit) entries
+EntriesRead words shelf entries = EntriesFrom words (λ file. file_within shelf file batch_limit) entries
 
 -- those that they are, whatever was read of a batch
 abbrev pub AreEntries : List (List ℕ) → List Entry → Type 0

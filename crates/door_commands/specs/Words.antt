@@ -19,25 +19,25 @@ abbrev pub NamesConferences : List ℕ → Type 0
 NamesConferences word = (choice : Choice) × ChoiceReads word choice
 
 -- the first word of a verb: no two are alike
-abbrev pub first_word : Verb → List ℕ
-first_word AckPacket = codes "ack"
-first_word AdoptBase = codes "adopt"
-first_word BatchFile = codes "batch"
-first_word CheckBoard = codes "check"
-first_word ComposeSheet = codes "compose"
-first_word EnrollUser = codes "enroll"
-first_word ExportPacket = codes "export"
-first_word ImportSheet = codes "import"
-first_word InitBoard = codes "init"
-first_word KillMessage = codes "kill"
-first_word ListFile = codes "list"
-first_word PackConference = codes "pack"
-first_word ReadFolder = codes "read"
-first_word ReplyTo = codes "reply"
-first_word SampleMessages = codes "sample"
-first_word ScanFile = codes "scan"
-first_word TossFile = codes "toss"
-first_word UploadPacket = codes "upload"
+abbrev pub verb_word : Verb → List ℕ
+verb_word AckPacket = codes "ack"
+verb_word AdoptBase = codes "adopt"
+verb_word BatchFile = codes "batch"
+verb_word CheckBoard = codes "check"
+verb_word ComposeSheet = codes "compose"
+verb_word EnrollUser = codes "enroll"
+verb_word ExportPacket = codes "export"
+verb_word ImportSheet = codes "import"
+verb_word InitBoard = codes "init"
+verb_word KillMessage = codes "kill"
+verb_word ListFile = codes "list"
+verb_word PackConference = codes "pack"
+verb_word ReadFolder = codes "read"
+verb_word ReplyTo = codes "reply"
+verb_word SampleMessages = codes "sample"
+verb_word ScanFile = codes "scan"
+verb_word TossFile = codes "toss"
+verb_word UploadPacket = codes "upload"
 
 -- a folder, a number, a file and a reply packet
 pub record WritingReads (words : List (List ℕ)) (folder : List ℕ) (number : ℕ) (file rep : List ℕ) : Type 0 where
@@ -84,7 +84,7 @@ ReadsBehind UploadPacket words c = (user file : List ℕ) × (words ≡ user ∷
 
 -- the words are this command
 abbrev pub CommandReads : List (List ℕ) → Command → Type 0
-CommandReads words c = (verb : Verb) × (rest : List (List ℕ)) × (words ≡ first_word verb ∷ rest) × ReadsBehind verb rest c
+CommandReads words c = (verb : Verb) × (rest : List (List ℕ)) × (words ≡ verb_word verb ∷ rest) × ReadsBehind verb rest c
 
 -- the command that the words behind a verb are, or none where they are none
 abbrev pub BehindOf : Verb → List (List ℕ) → Option Command → Type 0

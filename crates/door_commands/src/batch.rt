@@ -2,7 +2,7 @@
 ghost use Rattle.std.specs.Prelude.{◌≡◌, ◌<◌, ◌^◌, All, IfOk, IsTrue, length};
 ghost use Rattle.std.specs.Str.Lines.{lines};
 ghost use Rattle.setup_file.specs.Reads.{is_skipped as skipped_test};
-ghost use Rattle.door_commands.specs.Batch.{LineEntry, LinesRead};
+ghost use Rattle.door_commands.specs.Batch.{LineEntry, BatchLinesRead};
 ghost use Rattle.door_commands.specs.Entries.{EntryCanRun};
 
 use crate::command::Command;
@@ -39,7 +39,7 @@ fn entry_of(alloc: Global, number: u32, line: &[u8]) -> Result<Entry, AllocError
 /// The entries of a batch, up to and with the first line that is no command.
 pub(crate) fn entries_in(alloc: Global, text: &[u8]) -> Result<Entries, AllocError>
     requires { length text.now < 2 ^ 31 }
-    ensures reads { IfOk result (LinesRead 1 (lines text.now)) }
+    ensures reads { IfOk result (BatchLinesRead 1 (lines text.now)) }
     ensures can_run { IfOk result (All EntryCanRun) }
 {
     let mut entries = Entries::new(alloc);

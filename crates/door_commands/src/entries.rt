@@ -1,7 +1,7 @@
 //! The entries that words are.
 ghost use Rattle.std.specs.Prelude.{◌≡◌, ◌∷◌, [], ℕ, List, All, IfOk, IsErrOf, IsTrue};
-ghost use Rattle.shelf_files.specs.ShelfFile.{file_of};
-ghost use Rattle.door_commands.specs.Batch.{BatchReads, IsRead, batch_limit};
+ghost use Rattle.shelf_files.specs.ShelfFile.{file_within};
+ghost use Rattle.door_commands.specs.Batch.{BatchReads, AreReadEntries, batch_limit};
 ghost use Rattle.door_commands.specs.Entries.{AreEntries, EntriesRead, EntryCanRun, UnreadCauses};
 ghost use Rattle.door_commands.specs.Words.{CommandReads, IsNoCommand};
 
@@ -32,8 +32,8 @@ fn entries_of_batch<S: Shelf>(
     shelf: &mut S,
     file: &ShelfName,
 ) -> Result<Entries, Unread>
-    ensures reads { IsTrue S.tells → IfOk result (BatchReads (file_of (S.files shelf.old) file.now batch_limit)) }
-    ensures some { IfOk result IsRead }
+    ensures reads { IsTrue S.tells → IfOk result (BatchReads (file_within (S.files shelf.old) file.now batch_limit)) }
+    ensures some { IfOk result AreReadEntries }
     ensures can_run { IfOk result (All EntryCanRun) }
     ensures unchanged { IsTrue S.tells → S.files shelf.new ≡ S.files shelf.old }
     ensures causes { UnreadCauses (S.faults shelf.old) (S.faults shelf.new) result }

@@ -62,12 +62,12 @@ const VERBS: [Verb; 18] = [
 
 impl Verb {
     ghost use Rattle.std.specs.Prelude.{◌≡◌, ◌≢◌, MatchOption};
-    ghost use Rattle.door_commands.specs.Words.{first_word};
+    ghost use Rattle.door_commands.specs.Words.{verb_word};
     ghost use Rattle.door_commands.specs.declared.verb.Verb.{Verb};
 
     /// The verb's first word.
     fn word(self) -> &'static [u8]
-        ensures { result.now ≡ first_word self }
+        ensures { result.now ≡ verb_word self }
     {
         match self {
             Verb::AckPacket => b"ack",
@@ -93,7 +93,7 @@ impl Verb {
 
     /// The verb whose first word this is, or None exactly where it is that of no verb.
     pub fn of(word: &[u8]) -> Option<Verb>
-        ensures { MatchOption result ((verb : Verb) → word.now ≢ first_word verb) (λ verb. word.now ≡ first_word verb) }
+        ensures { MatchOption result ((verb : Verb) → word.now ≢ verb_word verb) (λ verb. word.now ≡ verb_word verb) }
     {
         for verb in VERBS {
             if word == verb.word() {

@@ -20,7 +20,7 @@ use Rattle.offered_packets.specs.declared.offered_message.OfferedMessage.{Offere
 use Rattle.qwk_blocks.specs.Written.{spelling}
 use Rattle.qwk_control.specs.Written.{control_text}
 use Rattle.door_export.specs.Ack.{NoPacket, ack_as, ack_of, ack_offer}
-use Rattle.door_export.specs.Export.{ExportRefusal, Handout, control_file, export_as, export_of, export_to, packet_to, unless_refused, user_refusal}
+use Rattle.door_export.specs.Export.{ExportRefusal, Handout, control_file, export_as, export_of, export_to, packet_to, handed_unless_refused, user_refusal}
 use Rattle.door_export.specs.Exporting as exporting
 use Rattle.door_export.specs.declared.exporting.Exporting.{Exporting}
 
@@ -48,7 +48,7 @@ module _ (a b : Board) (alike : AreAlike a b) where
 
   -- ---- what is refused, and what is answered
   unless_alike : (p q : Handout) (why : Option ExportRefusal) → p.answer ≡ q.answer
-      → (result_err (unless_refused p why) ≡ result_err (unless_refused q why)) × (option_map (λ (x : Handout). x.answer) (result_ok (unless_refused p why)) ≡ option_map (λ (x : Handout). x.answer) (result_ok (unless_refused q why)))
+      → (result_err (handed_unless_refused p why) ≡ result_err (handed_unless_refused q why)) × (option_map (λ (x : Handout). x.answer) (result_ok (handed_unless_refused p why)) ≡ option_map (λ (x : Handout). x.answer) (result_ok (handed_unless_refused q why)))
   unless_alike p q None same = (refl, ap Some same)
   unless_alike p q (Some why) same = (refl, refl)
 

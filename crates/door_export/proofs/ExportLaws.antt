@@ -16,8 +16,8 @@ use Rattle.offer_changes.proofs.LedgerLaws.{user_was}
 use Rattle.offer_changes.proofs.UserLaws.{Alike, user_there}
 use Rattle.offered_packets.specs.Offered.{highs, offered}
 use Rattle.door_export.proofs.HighsFit.{offer_may}
-use Rattle.door_export.specs.Export.{ExportRefusal, NoUser, Limit, Packets, after_export, export_as, export_of, export_to, packet_to, unless_refused, user_refusal}
-use Rattle.door_export.specs.Exporting.{KeepsOffer, LeavesAll, error_of, of_change, refusal_of}
+use Rattle.door_export.specs.Export.{ExportRefusal, NoUser, Limit, Packets, after_export, export_as, export_of, export_to, packet_to, handed_unless_refused, user_refusal}
+use Rattle.door_export.specs.Exporting.{KeepsOffer, ExportLeavesAll, export_error, export_change_error, refusal_of}
 use Rattle.door_export.specs.declared.exporting.ExportError.{ExportError}
 
 -- ---- a user who isn't refused
@@ -65,7 +65,7 @@ last_small b id u ok here =
 pub export_board : (name : List ℕ) (limit now : ℕ) (b : Board) → IsBoard b → IsBoard (after_export b (export_of name limit now b))
 export_board name limit now b ok = by_id (user_id name b)
   where
-    by_refusal : (id : ℕ) (u : User) → user_of id b ≡ Some u → (why : Option ExportRefusal) → user_refusal limit u ≡ why → IsBoard (after_export b (unless_refused (packet_to limit now b id u) why))
+    by_refusal : (id : ℕ) (u : User) → user_of id b ≡ Some u → (why : Option ExportRefusal) → user_refusal limit u ≡ why → IsBoard (after_export b (handed_unless_refused (packet_to limit now b id u) why))
     by_refusal id u here None none = (offer_may_be b id limit u ok here (may_export limit u (last_small b id u ok here) none)).1
     by_refusal id u here (Some why) is = ok
 
@@ -78,23 +78,23 @@ export_board name limit now b ok = by_id (user_id name b)
     by_id (Some id) = by_user id (user_of id b) refl
 
 -- ---- what is answered
-pub error_back : (why : ExportRefusal) → refusal_of (error_of why) ≡ Some why
+pub error_back : (why : ExportRefusal) → refusal_of (export_error why) ≡ Some why
 error_back NoUser = refl
 error_back Limit = refl
 error_back Packets = refl
 
 -- what an export comes to, once the user is found
-pub export_found : (name : List ℕ) (limit now : ℕ) (b : Board) (id : ℕ) (u : User) → user_id name b ≡ Some id → user_of id b ≡ Some u → export_of name limit now b ≡ unless_refused (packet_to limit now b id u) (user_refusal limit u)
+pub export_found : (name : List ℕ) (limit now : ℕ) (b : Board) (id : ℕ) (u : User) → user_id name b ≡ Some id → user_of id b ≡ Some u → export_of name limit now b ≡ handed_unless_refused (packet_to limit now b id u) (user_refusal limit u)
 export_found name limit now b id u id_is user_is = ap (export_as limit now b) id_is ∙ ap (export_to limit now b id) user_is
 
 -- an error of the board's change that leaves all as it was
-pub undone : {T : Type 0} (e : ChangeError) (result : Result T ExportError) → result ≡ Err (of_change e) → LeavesAll result → (e ≡ change.Doubt) ⊎ (e ≡ change.OutOfMemory)
-undone change.DiskFault result is early = absurd (subst LeavesAll is early)
+pub undone : {T : Type 0} (e : ChangeError) (result : Result T ExportError) → result ≡ Err (export_change_error e) → ExportLeavesAll result → (e ≡ change.Doubt) ⊎ (e ≡ change.OutOfMemory)
+undone change.DiskFault result is early = absurd (subst ExportLeavesAll is early)
 undone change.Doubt result is early = inl refl
 undone change.OutOfMemory result is early = inr refl
 
 -- none of them keeps the offer
-pub kept_never : {T : Type 0} (e : ChangeError) (result : Result T ExportError) → result ≡ Err (of_change e) → KeepsOffer result → ⊥
+pub kept_never : {T : Type 0} (e : ChangeError) (result : Result T ExportError) → result ≡ Err (export_change_error e) → KeepsOffer result → ⊥
 kept_never change.DiskFault result is kept = subst KeepsOffer is kept
 kept_never change.Doubt result is kept = subst KeepsOffer is kept
 kept_never change.OutOfMemory result is kept = subst KeepsOffer is kept

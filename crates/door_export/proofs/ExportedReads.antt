@@ -6,7 +6,7 @@ use Rattle.board_layout.specs.Lookups.{user_of}
 use Rattle.board_layout.specs.Valid.{IsBoard}
 use Rattle.board_ledger.specs.declared.user.User.{User}
 use Rattle.door_export.proofs.ExportLaws.{MayExport, last_small, may_export}
-use Rattle.door_export.specs.Export.{ExportRefusal, Handout, export_as, export_of, export_to, packet_to, unless_refused, user_refusal}
+use Rattle.door_export.specs.Export.{ExportRefusal, Handout, export_as, export_of, export_to, packet_to, handed_unless_refused, user_refusal}
 use Rattle.mail_board.specs.Readers.{user_id}
 use Rattle.long_names.specs.Plain.{plain}
 use Rattle.offered_packets.proofs.Offers.{taken_few}
@@ -41,7 +41,7 @@ abbrev ReadsAs : Board → ℕ → ℕ → Handout → Type 0
 ReadsAs b id limit p = (messages : List QwkMessage) → PacketReads p.messages messages ↔ (messages ≡ packet b id limit)
 
 module _ (limit now : ℕ) (b : Board) (p : Handout) (ok : IsBoard b) where
-  by_refusal : (id : ℕ) (u : User) → user_of id b ≡ Some u → (why : Option ExportRefusal) → user_refusal limit u ≡ why → unless_refused (packet_to limit now b id u) why ≡ Ok p → ReadsAs b id limit p
+  by_refusal : (id : ℕ) (u : User) → user_of id b ≡ Some u → (why : Option ExportRefusal) → user_refusal limit u ≡ why → handed_unless_refused (packet_to limit now b id u) why ≡ Ok p → ReadsAs b id limit p
   by_refusal id u here None none is =
       let same : packet_to limit now b id u ≡ p = cc in
       subst (ReadsAs b id limit) same (reads_as b id limit now u ok here (may_export limit u (last_small b id u ok here) none))

@@ -20,14 +20,14 @@ use Rattle.qwk_blocks.specs.declared.message.QwkMessage.{QwkMessage}
 
 -- ---- a message that is there
 module _ (b : Board) (place number : ℕ) (ok : IsBoard b) where
-  pub outline_there : (m : Message) → option_map message_outline (Some m) ≡ option_map message_outline (read.message_at place number b) → message_at (board_outline b) place number ≡ Some (message_outline m)
+  pub outline_there : (m : Message) → option_map message_outline (Some m) ≡ option_map message_outline (read.held_message place number b) → message_at (board_outline b) place number ≡ Some (message_outline m)
   outline_there m found = outline_message b place number ∙ sym (found ∙ ap (option_map message_outline) (message_is b place number ok))
 
-  pub shown_there : (logical : ℕ) (m : Message) (q : QwkMessage) → Some m ≡ read.message_at place number b → q ≡ shown_message b place number logical m → Some q ≡ shown b place number logical
+  pub shown_there : (logical : ℕ) (m : Message) (q : QwkMessage) → Some m ≡ read.held_message place number b → q ≡ shown_message b place number logical m → Some q ≡ shown b place number logical
   unfolding shown
   shown_there logical m q found is = ap Some is ∙ ap (option_map (shown_message b place number logical)) (found ∙ message_is b place number ok)
 
-  pub shown_nowhere : (logical : ℕ) → None ≡ read.message_at place number b → None ≡ shown b place number logical
+  pub shown_nowhere : (logical : ℕ) → None ≡ read.held_message place number b → None ≡ shown b place number logical
   unfolding shown
   shown_nowhere logical found = ap (option_map (shown_message b place number logical)) (found ∙ message_is b place number ok)
 

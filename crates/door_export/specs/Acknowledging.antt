@@ -8,10 +8,10 @@ use Rattle.door_export.specs.declared.acknowledging.AckError.{AckError}
 use Rattle.door_export.specs.declared.acknowledging.AckError.TheVariants.{NoUser, NoPacket, DiskFault, Doubt, OutOfMemory}
 
 -- the error as which the board's change ended
-abbrev pub of_change : ChangeError → AckError
-of_change change.DiskFault = DiskFault
-of_change change.Doubt = Doubt
-of_change change.OutOfMemory = OutOfMemory
+abbrev pub ack_change_error : ChangeError → AckError
+ack_change_error change.DiskFault = DiskFault
+ack_change_error change.Doubt = Doubt
+ack_change_error change.OutOfMemory = OutOfMemory
 
 -- the refusal that an error is, where it is one
 abbrev pub refusal_of : AckError → Option AckRefusal
@@ -27,14 +27,14 @@ refusal_in (Ok value) = None
 refusal_in (Err e) = refusal_of e
 
 -- an error that comes before anything is changed
-abbrev pub IsEarly : AckError → Type 0
-IsEarly NoUser = Unit {0}
-IsEarly (NoPacket offer) = Unit {0}
-IsEarly DiskFault = ⊥
-IsEarly Doubt = Unit {0}
-IsEarly OutOfMemory = Unit {0}
+abbrev pub IsEarlyAck : AckError → Type 0
+IsEarlyAck NoUser = Unit {0}
+IsEarlyAck (NoPacket offer) = Unit {0}
+IsEarlyAck DiskFault = ⊥
+IsEarlyAck Doubt = Unit {0}
+IsEarlyAck OutOfMemory = Unit {0}
 
 -- such an answer leaves all as it was
-abbrev pub LeavesAll : {T : Type 0} → Result T AckError → Type 0
-LeavesAll (Ok value) = ⊥
-LeavesAll (Err e) = IsEarly e
+abbrev pub AckLeavesAll : {T : Type 0} → Result T AckError → Type 0
+AckLeavesAll (Ok value) = ⊥
+AckLeavesAll (Err e) = IsEarlyAck e

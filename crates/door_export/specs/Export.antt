@@ -23,7 +23,7 @@ pub data ExportRefusal : Type 0 where
 
 -- the board on which the user of an id is offered one packet more, up to what is offered to him
 abbrev pub exported : ℕ → ℕ → Board → Board
-exported id limit b = change.offered id (highs b (offered b id limit)) b
+exported id limit b = change.offer_made id (highs b (offered b id limit)) b
 
 -- the control of the user's packet, and the notice and the messages that are offered to him
 abbrev pub control_file : Board → ℕ → User → ℕ → ℕ → List ℕ
@@ -51,13 +51,13 @@ packet_to limit now b id u = record {
 abbrev pub user_refusal : ℕ → User → Option ExportRefusal
 user_refusal limit u = if limit == 0 || nat_lt 2000 limit then Some Limit else (if u.last == 0xFFFF_FFFF then Some Packets else None)
 
-abbrev pub unless_refused : Handout → Option ExportRefusal → Result Handout ExportRefusal
-unless_refused p None = Ok p
-unless_refused p (Some why) = Err why
+abbrev pub handed_unless_refused : Handout → Option ExportRefusal → Result Handout ExportRefusal
+handed_unless_refused p None = Ok p
+handed_unless_refused p (Some why) = Err why
 
 abbrev pub export_to : ℕ → ℕ → Board → ℕ → Option User → Result Handout ExportRefusal
 export_to limit now b id None = Err NoUser
-export_to limit now b id (Some u) = unless_refused (packet_to limit now b id u) (user_refusal limit u)
+export_to limit now b id (Some u) = handed_unless_refused (packet_to limit now b id u) (user_refusal limit u)
 
 abbrev pub export_as : ℕ → ℕ → Board → Option ℕ → Result Handout ExportRefusal
 export_as limit now b None = Err NoUser

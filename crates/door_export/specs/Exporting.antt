@@ -1,12 +1,10 @@
 -- What an export answers, and what it has prepared before it changes the board.
-use Rattle.std.specs.Prelude.{◌≡◌, ℕ, ◌+◌, List, length, Bool, IsTrue, Option, Some, None, Result, Ok, Err}
+use Rattle.std.specs.Prelude.{◌≡◌, ℕ, ◌+◌, List, length, Option, Some, None, Result, Ok, Err}
 use Rattle.board_layout.specs.Board.{Board}
 use Rattle.board_layout.specs.declared.error.ReadError.{ReadError}
 use Rattle.board_layout.specs.declared.error.ReadError.TheVariants as read
 use Rattle.board_ledger.specs.declared.user.User.{User}
-use Rattle.door_outside.specs.Disk.{Disk, Unchanged}
 use Rattle.mail_board.specs.Changes.{changed}
-use Rattle.mail_board.specs.Held.{HeldBoard}
 use Rattle.mail_board.specs.declared.change.Change.TheVariants.{Offer}
 use Rattle.mail_board.specs.declared.change.ChangeError.{ChangeError}
 use Rattle.mail_board.specs.declared.change.ChangeError.TheVariants as change
@@ -21,16 +19,16 @@ use Rattle.door_export.specs.declared.exporting.ExportError.TheVariants.{NoUser,
 use Rattle.door_export.specs.declared.exporting.Exporting.{Exporting}
 
 -- the error as which the board's change ended
-abbrev pub of_change : ChangeError → ExportError
-of_change change.DiskFault = DiskFault
-of_change change.Doubt = Doubt
-of_change change.OutOfMemory = OutOfMemory
+abbrev pub export_change_error : ChangeError → ExportError
+export_change_error change.DiskFault = DiskFault
+export_change_error change.Doubt = Doubt
+export_change_error change.OutOfMemory = OutOfMemory
 
 -- the error as which the fetching of a message ended
-abbrev pub of_read : ReadError → ExportError
-of_read (read.Damaged d) = Damaged d
-of_read read.DiskFault = DiskFault
-of_read read.OutOfMemory = OutOfMemory
+abbrev pub export_read_error : ReadError → ExportError
+export_read_error (read.Damaged d) = Damaged d
+export_read_error read.DiskFault = DiskFault
+export_read_error read.OutOfMemory = OutOfMemory
 
 -- the packet that is prepared for a board
 abbrev pub packet_of : Exporting → Board → Handout
@@ -47,10 +45,10 @@ abbrev pub HasMessages : List QwkMessage → User → Exporting → Type 0
 HasMessages messages u e = e.messages ≡ spelling (notice (u.last + 1)) messages
 
 -- the error as which a refusal is answered
-abbrev pub error_of : ExportRefusal → ExportError
-error_of refusal.NoUser = NoUser
-error_of refusal.Limit = Limit
-error_of refusal.Packets = Packets
+abbrev pub export_error : ExportRefusal → ExportError
+export_error refusal.NoUser = NoUser
+export_error refusal.Limit = Limit
+export_error refusal.Packets = Packets
 
 -- the refusal that an error is, where it is one
 abbrev pub refusal_of : ExportError → Option ExportRefusal
@@ -96,25 +94,20 @@ IsBefore ShelfFault = ⊥
 IsBefore OutOfMemory = Unit {0}
 
 -- one that comes only before it: all but a disk fault
-abbrev pub IsEarly : ExportError → Type 0
-IsEarly NoUser = Unit {0}
-IsEarly Limit = Unit {0}
-IsEarly Packets = Unit {0}
-IsEarly DiskFault = ⊥
-IsEarly Doubt = Unit {0}
-IsEarly (Damaged d) = Unit {0}
-IsEarly ShelfFault = ⊥
-IsEarly OutOfMemory = Unit {0}
+abbrev pub IsEarlyExport : ExportError → Type 0
+IsEarlyExport NoUser = Unit {0}
+IsEarlyExport Limit = Unit {0}
+IsEarlyExport Packets = Unit {0}
+IsEarlyExport DiskFault = ⊥
+IsEarlyExport Doubt = Unit {0}
+IsEarlyExport (Damaged d) = Unit {0}
+IsEarlyExport ShelfFault = ⊥
+IsEarlyExport OutOfMemory = Unit {0}
 
 -- such an answer leaves all as it was
-abbrev pub LeavesAll : {T : Type 0} → Result T ExportError → Type 0
-LeavesAll (Ok value) = ⊥
-LeavesAll (Err e) = IsEarly e
-
--- the board is as it was, and so is the disk of a host that tells
-pub record AreLeft (tells : Bool) (before after : HeldBoard) (old new : Disk) : Type 0 where
-  pub board : after ≡ before
-  pub disk : IsTrue tells → Unchanged old new
+abbrev pub ExportLeavesAll : {T : Type 0} → Result T ExportError → Type 0
+ExportLeavesAll (Ok value) = ⊥
+ExportLeavesAll (Err e) = IsEarlyExport e
 
 -- the offer is kept
 abbrev pub KeepsOffer : {T : Type 0} → Result T ExportError → Type 0

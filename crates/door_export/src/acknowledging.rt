@@ -9,7 +9,7 @@ ghost use Rattle.mail_board.specs.Causes.{HasFault};
 ghost use Rattle.mail_board.specs.Changes.{changed, Fits};
 ghost use Rattle.mail_board.specs.Held.{AreAlike, BeforeOrNext, Follows, Holds, Rests, RestsOn};
 ghost use Rattle.door_export.specs.Ack.{ack_of, after_ack};
-ghost use Rattle.door_export.specs.Acknowledging.{IsEarly, LeavesAll, refusal_in};
+ghost use Rattle.door_export.specs.Acknowledging.{IsEarlyAck, AckLeavesAll, refusal_in};
 
 use crate::reader::reader_of;
 use door_outside::Host;
@@ -39,9 +39,9 @@ pub enum AckError {
 
 impl From<ChangeError> for AckError {
     ghost use Rattle.std.specs.Prelude.{◌≡◌};
-    ghost use Rattle.door_export.specs.Acknowledging.{of_change};
+    ghost use Rattle.door_export.specs.Acknowledging.{ack_change_error};
 
-    ghost from_gives = { λ error e. e ≡ of_change error };
+    ghost from_gives = { λ error e. e ≡ ack_change_error error };
 
     fn from(error: ChangeError) -> AckError {
         match error {
@@ -55,7 +55,7 @@ impl From<ChangeError> for AckError {
 /// The change by which the user of a name acknowledges a packet, or why he can't.
 fn prepared(board: &Board, name: &[u8], packet: u32, now: u32) -> Result<Change, AckError>
     ensures refused { refusal_in result ≡ result_err (ack_of name.now packet now board.now.board) }
-    ensures early { IfErr result IsEarly }
+    ensures early { IfErr result IsEarlyAck }
     ensures doubt { (result ≡ Err AckError.Doubt) ↔ (IsOk (ack_of name.now packet now board.now.board) × IsTrue board.now.doubtful) }
     ensures sure { OnOk result (IsFalse board.now.doubtful) }
     ensures fits { IfOk result (λ change. Fits change board.now.board) }
@@ -103,7 +103,7 @@ pub fn acknowledge<H: Host>(
 
     ensures refused { refusal_in result ≡ result_err (ack_of user.now packet now board.old.board) }
     ensures doubt { (result ≡ Err AckError.Doubt) ↔ (IsOk (ack_of user.now packet now board.old.board) × IsTrue board.old.doubtful) }
-    ensures unchanged { LeavesAll result → (board.new ≡ board.old) × (host.new ≡ host.old) }
+    ensures unchanged { AckLeavesAll result → (board.new ≡ board.old) × (host.new ≡ host.old) }
     ensures board { OnOk result (Follows (after_ack board.old.board (ack_of user.now packet now board.old.board)) board.new) }
     ensures next { OnOk result (IsTrue H.tells → (b : Boards.Board) → Holds b (H.disk host.old) → Rests (after_ack b (ack_of user.now packet now b)) (H.disk host.new)) }
     ensures rests { OnOk result (IsTrue H.tells → RestsOn board.new.board (H.disk host.new)) }

@@ -12,11 +12,11 @@ ghost use Rattle.intent_journal.specs.Hosts.{IsSettled};
 ghost use Rattle.jam_records.specs.declared.damage.Damage.{Damage};
 ghost use Rattle.mail_board.specs.Causes.{HasFault};
 ghost use Rattle.mail_board.specs.Changes.{changed, Fits};
-ghost use Rattle.mail_board.specs.Held.{BeforeOrNext, Follows, Holds, Rests, RestsOn};
+ghost use Rattle.mail_board.specs.Held.{AreLeft, BeforeOrNext, Follows, Holds, Rests, RestsOn};
 ghost use Rattle.offered_packets.specs.Offered.{offered as offered_of};
 ghost use Rattle.offered_packets.specs.Shown.{shown_all};
 ghost use Rattle.door_export.specs.Export.{after_export, export_of, user_refusal};
-ghost use Rattle.door_export.specs.Exporting.{error_of, AreLeft, AsksNothing, HasMessages, IsBefore, IsPreparedFor, KeepsOffer, LeavesAll, packet_of as packet_made, refusal_in};
+ghost use Rattle.door_export.specs.Exporting.{export_error, AsksNothing, HasMessages, IsBefore, IsPreparedFor, KeepsOffer, ExportLeavesAll, packet_of as packet_made, refusal_in};
 ghost use Rattle.door_export.specs.Folder.{folder_names, with_packet};
 ghost use Rattle.door_export.specs.declared.exporting.ExportError.TheVariants.{OutOfMemory};
 
@@ -77,9 +77,9 @@ pub enum ExportError {
 
 impl From<ChangeError> for ExportError {
     ghost use Rattle.std.specs.Prelude.{◌≡◌};
-    ghost use Rattle.door_export.specs.Exporting.{of_change};
+    ghost use Rattle.door_export.specs.Exporting.{export_change_error};
 
-    ghost from_gives = { λ error e. e ≡ of_change error };
+    ghost from_gives = { λ error e. e ≡ export_change_error error };
 
     fn from(error: ChangeError) -> ExportError {
         match error {
@@ -92,9 +92,9 @@ impl From<ChangeError> for ExportError {
 
 impl From<ReadError> for ExportError {
     ghost use Rattle.std.specs.Prelude.{◌≡◌};
-    ghost use Rattle.door_export.specs.Exporting.{of_read};
+    ghost use Rattle.door_export.specs.Exporting.{export_read_error};
 
-    ghost from_gives = { λ error e. e ≡ of_read error };
+    ghost from_gives = { λ error e. e ≡ export_read_error error };
 
     fn from(error: ReadError) -> ExportError {
         match error {
@@ -125,7 +125,7 @@ struct Exporting {
 /// Why no packet is handed out to a user: the limit isn't 1 to 2,000, or his last packet's number is the last that
 /// there is.
 fn refusal_of(limit: u32, user: &User) -> Option<ExportError>
-    ensures { result ≡ option_map error_of (user_refusal limit user.now) }
+    ensures { result ≡ option_map export_error (user_refusal limit user.now) }
 {
     if limit == 0 || limit > MESSAGE_LIMIT {
         return Some(ExportError::Limit);
@@ -247,7 +247,7 @@ pub fn export<H: Host, S: Shelf>(
     ensures doubt { (result ≡ Err ExportError.Doubt) ↔ (IsOk (export_of user.now limit now board.old.board) × IsTrue board.old.doubtful) }
     ensures undamaged { IsTrue H.tells → (damage : Damage) → ¬ (result ≡ Err (ExportError.Damaged damage)) }
     ensures asked { AsksNothing result → host.new ≡ host.old }
-    ensures unchanged { LeavesAll result → AreLeft H.tells board.old board.new (H.disk host.old) (H.disk host.new) × (shelf.new ≡ shelf.old) }
+    ensures unchanged { ExportLeavesAll result → AreLeft H.tells board.old board.new (H.disk host.old) (H.disk host.new) × (shelf.new ≡ shelf.old) }
     ensures fault { IsErrOf result ExportError.DiskFault → (AreLeft H.tells board.old board.new (H.disk host.old) (H.disk host.new) ⊎ (board.new ≡ record { board = board.old.board; doubtful = true })) × (shelf.new ≡ shelf.old) }
 
     // The packet, and its files, which show the board that the host holds.

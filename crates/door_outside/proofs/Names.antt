@@ -4,7 +4,7 @@ use Rattle.std.specs.List.{slice_split, onto_first}
 use Rattle.std.proofs.lemmas.Bool.{ne_eqb}
 use Rattle.std.proofs.lemmas.List.Elements.{All-append, All-nil, All-cons}
 use Rattle.std.proofs.lemmas.List.Splits.{slice_split_none, length-slice_split}
-use Rattle.door_outside.specs.Name.{IsNameByte, IsPart, parts, HasParts}
+use Rattle.door_outside.specs.Name.{IsNameByte, IsNamePart, parts, HasParts}
 
 onto_first-append : (x : ℕ) (a b : List (List ℕ)) → 1 ≤ length a → onto_first x (a ++ b) ≡ onto_first x a ++ b
 onto_first-append x [] b some = absurd (omega (arith, some))
@@ -28,10 +28,10 @@ unsplit b allowed = ne_eqb b 47 (λ slash. by_kind (subst IsNameByte slash allow
     by_kind : IsNameByte 47 → ⊥
     by_kind kind = omega (arith, kind)
 
-pub file_named : (folder part : List ℕ) → HasParts 3 folder → IsPart part → HasParts 4 (folder ++ 47 ∷ part)
+pub file_named : (folder part : List ℕ) → HasParts 3 folder → IsNamePart part → HasParts 4 (folder ++ 47 ∷ part)
 file_named folder part named is_part = record {
   few = omega (arith, ap length split, length-append (parts folder) (part ∷ []), named.few);
-  each = subst (All IsPart) (sym split) (All-append IsPart (parts folder) (part ∷ []) named.each (All-cons IsPart part [] is_part (All-nil IsPart)));
+  each = subst (All IsNamePart) (sym split) (All-append IsNamePart (parts folder) (part ∷ []) named.each (All-cons IsNamePart part [] is_part (All-nil IsNamePart)));
 }
   where
     split : parts (folder ++ 47 ∷ part) ≡ parts folder ++ part ∷ []

@@ -7,7 +7,7 @@ abbrev pub IsNameByte : ℕ → Type 0
 IsNameByte b = ((48 ≤ b) × (b ≤ 57)) ⊎ ((65 ≤ b) × (b ≤ 90)) ⊎ ((97 ≤ b) × (b ≤ 122)) ⊎ (b ≡ 46) ⊎ (b ≡ 95) ⊎ (b ≡ 45)
 
 -- 1 to 32 such bytes, of which the first is no `.`
-pub record IsPart (part : List ℕ) : Type 0 where
+pub record IsNamePart (part : List ℕ) : Type 0 where
   pub some : 1 ≤ length part
   pub short : length part ≤ 32
   pub allowed : All IsNameByte part
@@ -20,7 +20,7 @@ parts text = slice_split (λ b. b == 47) text
 -- so many parts at most, joined by `/`
 pub record HasParts (most : ℕ) (text : List ℕ) : Type 0 where
   pub few : length (parts text) ≤ most
-  pub each : All IsPart (parts text)
+  pub each : All IsNamePart (parts text)
 
 abbrev pub IsShelfName : List ℕ → Type 0
 IsShelfName text = HasParts 4 text

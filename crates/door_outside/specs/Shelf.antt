@@ -28,8 +28,8 @@ PieceIs (Some file) at old new Missing = ⊥
 PieceIs (Some file) at old new (Count n) = (n ≡ read_count file at (length old)) × (new ≡ read_into file at old)
 
 -- the file is made empty, or left as it was
-abbrev pub Begins : {E : Type 0} → List ℕ → Files → Files → Result (Unit {0}) E → Type 0
-Begins name old new result = MatchResult result (λ _. new ≡ map.insert old name []) (λ _. (new ≡ old) ⊎ (new ≡ map.insert old name []))
+abbrev pub BeginsFile : {E : Type 0} → List ℕ → Files → Files → Result (Unit {0}) E → Type 0
+BeginsFile name old new result = MatchResult result (λ _. new ≡ map.insert old name []) (λ _. (new ≡ old) ⊎ (new ≡ map.insert old name []))
 
 -- the bytes are at its end, or some of them
 abbrev pub Appends : {E : Type 0} → List ℕ → List ℕ → Files → Files → Result (Unit {0}) E → Type 0

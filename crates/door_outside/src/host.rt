@@ -1,6 +1,6 @@
 ghost use Rattle.std.specs.Prelude.{◌≡◌, ℕ, ◌+◌, ◌-◌, ◌<◌, ◌≤◌, ◌^◌, Bool, List, ◌++◌, length, take, min, IfOk, OnOk, IsTrue};
 ghost use Rattle.door_outside.specs.Cause.{HasCause};
-ghost use Rattle.door_outside.specs.Disk.{Disk, Image, Now, as_read, Passes, InFile, Same, Torn, Cut, Says, Holds, Unchanged, written, read_count, read_into};
+ghost use Rattle.door_outside.specs.Disk.{Disk, Image, Now, as_read, Passes, InFile, Same, Torn, Cut, Says, HoldsBytes, Unchanged, written, read_count, read_into};
 
 use crate::fault::{DiskFault, VoiceFault};
 use crate::file::FileId;
@@ -46,7 +46,7 @@ pub trait Host {
     /// range are as they were.
     fn write_at(&mut self, file: FileId, at: u32, bytes: &[u8]) -> Result<(), DiskFault>
         requires { at + length bytes.now < 2 ^ 31 }
-        ensures done { OnOk result (IsTrue tells → Holds file (written ((disk self.old).files file) at bytes.now) (disk self.old).files (disk self.new).files) }
+        ensures done { OnOk result (IsTrue tells → HoldsBytes file (written ((disk self.old).files file) at bytes.now) (disk self.old).files (disk self.new).files) }
         ensures torn { IsTrue tells → InFile file (Torn at (length bytes.now)) (as_read (disk self.old)) (as_read (disk self.new)) }
         ensures crash { IsTrue tells → Passes (InFile file (Torn at (length bytes.now))) (InFile file (Torn at (length bytes.now))) (disk self.old) (disk self.new) }
         ensures wrote { IsTrue tells → (disk self.new).wrote ≡ min ((disk self.old).wrote + length bytes.now) (2 ^ 64 - 1) }
@@ -55,7 +55,7 @@ pub trait Host {
 
     /// Shortens a file that is longer than `len` bytes to that length, and leaves any other as it is.
     fn cut(&mut self, file: FileId, len: u32) -> Result<(), DiskFault>
-        ensures done { OnOk result (IsTrue tells → Holds file (take len ((disk self.old).files file)) (disk self.old).files (disk self.new).files) }
+        ensures done { OnOk result (IsTrue tells → HoldsBytes file (take len ((disk self.old).files file)) (disk self.old).files (disk self.new).files) }
         ensures torn { IsTrue tells → InFile file (Cut len) (as_read (disk self.old)) (as_read (disk self.new)) }
         ensures crash { IsTrue tells → Passes (InFile file (Cut len)) (InFile file (Cut len)) (disk self.old) (disk self.new) }
         ensures wrote { IsTrue tells → (disk self.new).wrote ≡ (disk self.old).wrote }

@@ -1,5 +1,5 @@
 ghost use Rattle.std.specs.Prelude.{◌≡◌, ℕ, List, ◌∷◌, ◌++◌, ◌<◌, ◌≤◌, ◌==◌, ◌↔◌, length, count_by, All, IsTrue, IfOk, MatchOption};
-ghost use Rattle.door_outside.specs.Name.{IsNameByte, IsPart, parts, HasParts, IsShelfName};
+ghost use Rattle.door_outside.specs.Name.{IsNameByte, IsNamePart, parts, HasParts, IsShelfName};
 
 use byte_lists::{Bytes, Duplicate};
 use std::alloc::{AllocError, Global};
@@ -33,7 +33,7 @@ fn is_name_byte(b: u8) -> bool
 }
 
 fn is_part(part: &[u8]) -> bool
-    ensures { IsTrue result ↔ IsPart part.now }
+    ensures { IsTrue result ↔ IsNamePart part.now }
 {
     let [first, ..] = part else {
         return false;
@@ -56,7 +56,7 @@ fn has_few_parts(text: &[u8], most: usize) -> bool
 
 /// Whether each of them may stand in a name.
 fn are_parts(text: &[u8]) -> bool
-    ensures { IsTrue result ↔ All IsPart (parts text.now) }
+    ensures { IsTrue result ↔ All IsNamePart (parts text.now) }
 {
     text.split(|b| *b == b'/').all(is_part)
 }
@@ -96,7 +96,7 @@ impl ShelfName {
     /// The name of a file in this folder.
     pub fn file(&self, alloc: Global, part: &[u8]) -> Result<ShelfName, AllocError>
         requires folder { HasParts 3 self.now }
-        requires part { IsPart part.now }
+        requires part { IsNamePart part.now }
         ensures { IfOk result (λ name. name ≡ self.now ++ 47 ∷ part.now) }
     {
         let mut text = self.text.copy(alloc)?;

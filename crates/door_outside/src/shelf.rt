@@ -1,6 +1,6 @@
 ghost use Rattle.std.specs.Prelude.{◌≡◌, ℕ, Bool, length, IfOk, IsTrue};
 ghost use Rattle.door_outside.specs.Cause.{HasCause};
-ghost use Rattle.door_outside.specs.Shelf.{Files, held, PieceIs, PieceWithin, Begins, Appends};
+ghost use Rattle.door_outside.specs.Shelf.{Files, held, PieceIs, PieceWithin, BeginsFile, Appends};
 
 use crate::fault::ShelfFault;
 use crate::name::ShelfName;
@@ -36,7 +36,7 @@ pub trait Shelf {
 
     /// Makes the file empty, new or old. Where it fails, the file is as it was or empty.
     fn begin(&mut self, name: &ShelfName) -> Result<(), ShelfFault>
-        ensures done { IsTrue tells → Begins name.now (files self.old) (files self.new) result }
+        ensures done { IsTrue tells → BeginsFile name.now (files self.old) (files self.new) result }
         ensures cause { HasCause (faults self.old) (faults self.new) result };
 
     /// Adds bytes at the end of the file, and makes it first where it is missing. Where it fails, a front

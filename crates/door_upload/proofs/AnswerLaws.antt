@@ -6,7 +6,7 @@ use Rattle.board_layout.specs.Valid.{IsBoard}
 use Rattle.board_ledger.specs.declared.upload.Counts.{Counts}
 use Rattle.door_upload.proofs.OneUpload.{one_upload}
 use Rattle.door_upload.specs.Upload.{Again, Broken, Judged, NoBoardId, NoUser, OtherBoard, Size, Upload, UploadGives, UploadRefusal, Uploads, after_upload}
-use Rattle.door_upload.specs.Uploading.{Answers, FindsIn, IsFound, IsKeptFrom, IsNew, LeavesAll, error_of, of_change}
+use Rattle.door_upload.specs.Uploading.{UploadAnswers, FindsIn, IsUploadFound, IsKeptFrom, IsNew, UploadLeavesAll, upload_error, upload_change_error}
 use Rattle.door_upload.specs.declared.answer.UploadError.{UploadError}
 use Rattle.door_upload.specs.declared.answer.UploadError.TheVariants as error
 use Rattle.door_upload.specs.declared.answer.Uploaded.TheVariants as answer
@@ -24,7 +24,7 @@ use Rattle.mail_board.specs.declared.change.ChangeError.TheVariants as change_er
 use Rattle.packet_verdicts.specs.declared.outcome.Outcome.{Outcome}
 
 -- a refusal and doubt leave all as it was
-early : (why : UploadRefusal) → LeavesAll (Err (error_of why))
+early : (why : UploadRefusal) → UploadLeavesAll (Err (upload_error why))
 early NoUser = tt
 early (Broken fault) = tt
 early NoBoardId = tt
@@ -33,7 +33,7 @@ early Uploads = tt
 early (Size bytes) = tt
 
 -- neither it nor an error of the board's change is damage
-never_damage : (damage : Damage) (why : UploadRefusal) → error_of why ≡ error.Damaged damage → ⊥
+never_damage : (damage : Damage) (why : UploadRefusal) → upload_error why ≡ error.Damaged damage → ⊥
 never_damage damage NoUser is = cc is
 never_damage damage (Broken fault) is = cc is
 never_damage damage NoBoardId is = cc is
@@ -41,35 +41,35 @@ never_damage damage OtherBoard is = cc is
 never_damage damage Uploads is = cc is
 never_damage damage (Size bytes) is = cc is
 
-pub change_undamaged : (damage : Damage) (e : ChangeError) → of_change e ≡ error.Damaged damage → ⊥
+pub change_undamaged : (damage : Damage) (e : ChangeError) → upload_change_error e ≡ error.Damaged damage → ⊥
 change_undamaged damage change_error.DiskFault is = cc is
 change_undamaged damage change_error.Doubt is = cc is
 change_undamaged damage change_error.OutOfMemory is = cc is
 
-kept_early : (h : HeldBoard) (e : UploadError) (r : Result Upload UploadRefusal) → IsKeptFrom h e r → LeavesAll (Err e)
-kept_early h e r (inl (why, is, same)) = subst (λ (x : UploadError). LeavesAll (Err x)) (sym same) (early why)
-kept_early h e r (inr (new, doubt, same)) = subst (λ (x : UploadError). LeavesAll (Err x)) (sym same) tt
+kept_early : (h : HeldBoard) (e : UploadError) (r : Result Upload UploadRefusal) → IsKeptFrom h e r → UploadLeavesAll (Err e)
+kept_early h e r (inl (why, is, same)) = subst (λ (x : UploadError). UploadLeavesAll (Err x)) (sym same) (early why)
+kept_early h e r (inr (new, doubt, same)) = subst (λ (x : UploadError). UploadLeavesAll (Err x)) (sym same) tt
 
 -- an answer to a new packet where the board is in doubt
-doubt_answers : (r : Result Upload UploadRefusal) (t : Bool) → t ≡ true → IsNew r → Answers t r (Err error.Doubt)
+doubt_answers : (r : Result Upload UploadRefusal) (t : Bool) → t ≡ true → IsNew r → UploadAnswers t r (Err error.Doubt)
 doubt_answers (Ok (Again counts)) t is new = absurd new
 doubt_answers (Ok (Judged next outcomes)) true is new = inl refl
 doubt_answers (Ok (Judged next outcomes)) false is new = absurd (cc is)
 doubt_answers (Err why) t is new = absurd new
 
-memory_answers : (t : Bool) (r : Result Upload UploadRefusal) → Answers t r (Err error.OutOfMemory)
+memory_answers : (t : Bool) (r : Result Upload UploadRefusal) → UploadAnswers t r (Err error.OutOfMemory)
 memory_answers t (Err why) = inr refl
 memory_answers t (Ok (Again counts)) = inr refl
 memory_answers true (Ok (Judged next outcomes)) = inr refl
 memory_answers false (Ok (Judged next outcomes)) = inl (inr refl)
 
-refusal_answers : (t : Bool) (r : Result Upload UploadRefusal) (why : UploadRefusal) → r ≡ Err why → Answers t r (Err (error_of why))
-refusal_answers t (Err other) why is = let same : why ≡ other = cc in inl (ap (λ (x : UploadRefusal). Err (error_of x)) same)
+refusal_answers : (t : Bool) (r : Result Upload UploadRefusal) (why : UploadRefusal) → r ≡ Err why → UploadAnswers t r (Err (upload_error why))
+refusal_answers t (Err other) why is = let same : why ≡ other = cc in inl (ap (λ (x : UploadRefusal). Err (upload_error x)) same)
 refusal_answers t (Ok u) why is = absurd (cc is)
 
-kept_answers : (h : HeldBoard) (e : UploadError) (r : Result Upload UploadRefusal) → IsKeptFrom h e r → Answers h.doubtful r (Err e)
-kept_answers h e r (inl (why, is, same)) = subst (λ (x : UploadError). Answers h.doubtful r (Err x)) (sym same) (refusal_answers h.doubtful r why is)
-kept_answers h e r (inr (new, doubt, same)) = subst (λ (x : UploadError). Answers h.doubtful r (Err x)) (sym same) (doubt_answers r h.doubtful doubt new)
+kept_answers : (h : HeldBoard) (e : UploadError) (r : Result Upload UploadRefusal) → IsKeptFrom h e r → UploadAnswers h.doubtful r (Err e)
+kept_answers h e r (inl (why, is, same)) = subst (λ (x : UploadError). UploadAnswers h.doubtful r (Err x)) (sym same) (refusal_answers h.doubtful r why is)
+kept_answers h e r (inr (new, doubt, same)) = subst (λ (x : UploadError). UploadAnswers h.doubtful r (Err x)) (sym same) (doubt_answers r h.doubtful doubt new)
 
 module _ (name bytes : List ℕ) (now : ℕ) (h : HeldBoard) where
   -- ---- nothing was found to be done
@@ -81,11 +81,11 @@ module _ (name bytes : List ℕ) (now : ℕ) (h : HeldBoard) where
         by (inl starved) = inl (cc starved)
         by (inr (r, gives, kept)) = inr (r, gives)
 
-    pub unprepared_early : LeavesAll (Err e)
+    pub unprepared_early : UploadLeavesAll (Err e)
     unprepared_early = by finds
       where
-        by : FindsIn name bytes now h (Err e) → LeavesAll (Err e)
-        by (inl starved) = let one : e ≡ error.OutOfMemory = cc starved in subst (λ (x : UploadError). LeavesAll (Err x)) (sym one) tt
+        by : FindsIn name bytes now h (Err e) → UploadLeavesAll (Err e)
+        by (inl starved) = let one : e ≡ error.OutOfMemory = cc starved in subst (λ (x : UploadError). UploadLeavesAll (Err x)) (sym one) tt
         by (inr (r, gives, kept)) = kept_early h e r kept
 
     pub unprepared_undamaged : (damage : Damage) → e ≡ error.Damaged damage → ⊥
@@ -96,12 +96,12 @@ module _ (name bytes : List ℕ) (now : ℕ) (h : HeldBoard) where
         by (inr (r, gives, inl (why, refused, same))) = never_damage damage why (sym same ∙ is)
         by (inr (r, gives, inr (new, doubt, same))) = cc (sym same ∙ is)
 
-    pub unprepared_answers : (r : Result Upload UploadRefusal) → UploadGives name bytes now h.board r → Answers h.doubtful r (Err e)
+    pub unprepared_answers : (r : Result Upload UploadRefusal) → UploadGives name bytes now h.board r → UploadAnswers h.doubtful r (Err e)
     unprepared_answers r gives = by finds
       where
-        by : FindsIn name bytes now h (Err e) → Answers h.doubtful r (Err e)
-        by (inl starved) = let one : e ≡ error.OutOfMemory = cc starved in subst (λ (x : UploadError). Answers h.doubtful r (Err x)) (sym one) (memory_answers h.doubtful r)
-        by (inr (other, given, kept)) = subst (λ (x : Result Upload UploadRefusal). Answers h.doubtful x (Err e)) (one_upload name bytes now h.board other r given gives) (kept_answers h e other kept)
+        by : FindsIn name bytes now h (Err e) → UploadAnswers h.doubtful r (Err e)
+        by (inl starved) = let one : e ≡ error.OutOfMemory = cc starved in subst (λ (x : UploadError). UploadAnswers h.doubtful r (Err x)) (sym one) (memory_answers h.doubtful r)
+        by (inr (other, given, kept)) = subst (λ (x : Result Upload UploadRefusal). UploadAnswers h.doubtful x (Err e)) (one_upload name bytes now h.board other r given gives) (kept_answers h e other kept)
 
     pub unprepared_valid : h.doubtful ≡ false → (r : Result Upload UploadRefusal) → UploadGives name bytes now h.board r → IsNew r → (e ≡ error.OutOfMemory) ⊎ IsBoard (after_upload h.board r)
     unprepared_valid certain r gives new = by finds
@@ -120,10 +120,10 @@ module _ (name bytes : List ℕ) (now : ℕ) (h : HeldBoard) where
         by (inl starved) = absurd (cc starved)
         by (inr (r, gives, finds_it)) = (r, gives)
 
-    found_is : (r : Result Upload UploadRefusal) → UploadGives name bytes now h.board r → (is : Upload) × (r ≡ Ok is) × IsFound h u is
+    found_is : (r : Result Upload UploadRefusal) → UploadGives name bytes now h.board r → (is : Upload) × (r ≡ Ok is) × IsUploadFound h u is
     found_is r gives = by finds
       where
-        by : FindsIn name bytes now h (Ok u) → (is : Upload) × (r ≡ Ok is) × IsFound h u is
+        by : FindsIn name bytes now h (Ok u) → (is : Upload) × (r ≡ Ok is) × IsUploadFound h u is
         by (inl starved) = absurd (cc starved)
         by (inr (other, given, (is, same, it))) = (is, one_upload name bytes now h.board r other gives given ∙ same, it)
 
@@ -132,8 +132,8 @@ module _ (name bytes : List ℕ) (now : ℕ) (h : HeldBoard) where
     again_is : (r : Result Upload UploadRefusal) → UploadGives name bytes now h.board r → Ok (Again counts) ≡ r
     again_is r gives = let is = found_is (found.Again counts) finds r gives in sym (is.1 ∙ ap Ok is.2)
 
-    pub again_answers : (r : Result Upload UploadRefusal) → UploadGives name bytes now h.board r → Answers h.doubtful r (Ok (answer.Again counts))
-    again_answers r gives = subst (λ (x : Result Upload UploadRefusal). Answers h.doubtful x (Ok (answer.Again counts))) (again_is r gives) (inl refl)
+    pub again_answers : (r : Result Upload UploadRefusal) → UploadGives name bytes now h.board r → UploadAnswers h.doubtful r (Ok (answer.Again counts))
+    again_answers r gives = subst (λ (x : Result Upload UploadRefusal). UploadAnswers h.doubtful x (Ok (answer.Again counts))) (again_is r gives) (inl refl)
 
     pub again_board : (r : Result Upload UploadRefusal) → UploadGives name bytes now h.board r → h.board ≡ after_upload h.board r
     again_board r gives = ap (after_upload h.board) (again_is r gives)
@@ -171,18 +171,18 @@ module _ (name bytes : List ℕ) (now : ℕ) (h : HeldBoard) where
     pub new_valid : (r : Result Upload UploadRefusal) → UploadGives name bytes now h.board r → IsBoard (after_upload h.board r)
     new_valid r gives = subst IsBoard (new_board r gives) (fits_board change h.board new_fits)
 
-    pub new_answers : (r : Result Upload UploadRefusal) → UploadGives name bytes now h.board r → Answers h.doubtful r (Ok (answer.Judged outcomes))
+    pub new_answers : (r : Result Upload UploadRefusal) → UploadGives name bytes now h.board r → UploadAnswers h.doubtful r (Ok (answer.Judged outcomes))
     new_answers r gives =
-        subst (λ (x : Result Upload UploadRefusal). Answers h.doubtful x (Ok (answer.Judged outcomes))) (new_is r gives)
-        (subst (λ (t : Bool). Answers t (Ok (Judged (changed change h.board) outcomes)) (Ok (answer.Judged outcomes))) (sym new_certain) (inl (inl refl)))
+        subst (λ (x : Result Upload UploadRefusal). UploadAnswers h.doubtful x (Ok (answer.Judged outcomes))) (new_is r gives)
+        (subst (λ (t : Bool). UploadAnswers t (Ok (Judged (changed change h.board) outcomes)) (Ok (answer.Judged outcomes))) (sym new_certain) (inl (inl refl)))
 
     -- the change wasn't made
-    pub unchanged_answers : (r : Result Upload UploadRefusal) → UploadGives name bytes now h.board r → (e : ChangeError) → e ≢ change_error.Doubt → Answers h.doubtful r (Err (of_change e))
+    pub unchanged_answers : (r : Result Upload UploadRefusal) → UploadGives name bytes now h.board r → (e : ChangeError) → e ≢ change_error.Doubt → UploadAnswers h.doubtful r (Err (upload_change_error e))
     unchanged_answers r gives e certain =
-        subst (λ (x : Result Upload UploadRefusal). Answers h.doubtful x (Err (of_change e))) (new_is r gives)
-        (subst (λ (t : Bool). Answers t (Ok (Judged (changed change h.board) outcomes)) (Err (of_change e))) (sym new_certain) (by e certain))
+        subst (λ (x : Result Upload UploadRefusal). UploadAnswers h.doubtful x (Err (upload_change_error e))) (new_is r gives)
+        (subst (λ (t : Bool). UploadAnswers t (Ok (Judged (changed change h.board) outcomes)) (Err (upload_change_error e))) (sym new_certain) (by e certain))
       where
-        by : (e : ChangeError) → e ≢ change_error.Doubt → Answers false (Ok (Judged (changed change h.board) outcomes)) (Err (of_change e))
+        by : (e : ChangeError) → e ≢ change_error.Doubt → UploadAnswers false (Ok (Judged (changed change h.board) outcomes)) (Err (upload_change_error e))
         by change_error.DiskFault certain = inr refl
         by change_error.Doubt certain = absurd (certain refl)
         by change_error.OutOfMemory certain = inl (inr refl)

@@ -16,8 +16,8 @@ use Rattle.door_upload.specs.Upload.{UploadRefusal, Uploads, Size, record_refusa
 use Rattle.jam_records.specs.declared.message.Message.{Message}
 use Rattle.mail_board.specs.Readers.{upload_of}
 use Rattle.offer_changes.proofs.UserLaws.{id_above, user_there}
-use Rattle.post_changes.specs.Posted.{record_of}
-use Rattle.post_changes.specs.Recorded.{is_new, may_record}
+use Rattle.post_changes.specs.Posted.{upload_record}
+use Rattle.post_changes.specs.Recorded.{is_new_upload, may_record}
 
 -- ---- there is room
 unrefused : (many long : Bool) (why : UploadRefusal) → cond many (Some Uploads) (cond long (Some why) None) ≡ None → (many ≡ false) × (long ≡ false)
@@ -44,7 +44,7 @@ none_passes test value (x ∷ items) none =
 
 module _ (b : Board) (id refused : ℕ) (digest : List ℕ) (posts : List (ℕ × Message)) where
   record_is : UploadRecord
-  record_is = record_of id digest refused posts
+  record_is = upload_record id digest refused posts
 
   known : (o : Option User) → user_of id b ≡ o → IsSome o → wrong_user (length b.ledger.users) record_is ≡ false
   unfolding record_is
@@ -54,10 +54,10 @@ module _ (b : Board) (id refused : ℕ) (digest : List ℕ) (posts : List (ℕ �
       let within : id - 1 < length b.ledger.users = slice_get_within b.ledger.users (id - 1) u (user_there b id u here) in
       λ i. ne_eqb id 0 (λ e. omega (arith, e, above)) i || le-ltb (length b.ledger.users) id (omega (arith, above, within)) i
 
-  pub record_may : IsSome (user_of id b) → upload_of id digest b ≡ None → length b.ledger.uploads < 100000 → length posts + refused ≤ 8191 → may_record b.ledger (record_of id digest refused posts) ≡ true
+  pub record_may : IsSome (user_of id b) → upload_of id digest b ≡ None → length b.ledger.uploads < 100000 → length posts + refused ≤ 8191 → may_record b.ledger (upload_record id digest refused posts) ≡ true
   unfolding record_is
   record_may there new few counts =
       let free : is_repeated b.ledger.uploads record_is ≡ false = none_passes (λ (e : UploadRecord). eqb e.user id && bytes_eq e.digest digest) (λ (e : UploadRecord). e.counts) b.ledger.uploads new in
-      and_from (not (wrong_user (length b.ledger.users) record_is) && not (too_many record_is.counts)) (is_new b.ledger record_is)
+      and_from (not (wrong_user (length b.ledger.users) record_is) && not (too_many record_is.counts)) (is_new_upload b.ledger record_is)
       (and_from (not (wrong_user (length b.ledger.users) record_is)) (not (too_many record_is.counts)) (not_from_false (wrong_user (length b.ledger.users) record_is) (known (user_of id b) refl there)) (not_from_false (too_many record_is.counts) (le-ltb 8191 (length posts + refused) counts)))
       (and_from (nat_lt (length b.ledger.uploads) 100000) (not (is_repeated b.ledger.uploads record_is)) (lt-ltb (length b.ledger.uploads) 100000 few) (not_from_false (is_repeated b.ledger.uploads record_is) free))

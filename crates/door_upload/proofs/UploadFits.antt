@@ -10,7 +10,7 @@ use Rattle.door_upload.proofs.PacketSizes.{all_short}
 use Rattle.door_upload.proofs.Placing.{drafts_are_placed}
 use Rattle.door_upload.proofs.Recording.{few_records, record_may, room_for_record}
 use Rattle.door_upload.specs.Upload.{Judged, judged_upload, record_refusal}
-use Rattle.door_upload.specs.Uploading.{IsFound}
+use Rattle.door_upload.specs.Uploading.{IsUploadFound}
 use Rattle.door_upload.specs.declared.preparing.Uploading.TheVariants as found
 use Rattle.jam_records.specs.declared.message.Message.{Message}
 use Rattle.mail_board.specs.Changes.{Fits}
@@ -50,7 +50,7 @@ module _ (b : Board) (id now : ℕ) (digest : List ℕ) (messages : List QwkMess
 -- what was judged is such a change, of a board in no doubt
 pub upload_found : (h : HeldBoard) (id now : ℕ) (digest : List ℕ) (messages : List QwkMessage) → IsBoard h.board → h.doubtful ≡ false → IsSome (user_of id h.board) → upload_of id digest h.board ≡ None → record_refusal h.board ≡ None → length messages ≤ 8191
     → All Writable messages → length digest ≡ 32 → All IsByte digest → (outcomes : List Outcome) (posts : List (ℕ × Message)) (refused : ℕ) → (outcomes, posts) ≡ judged h.board id now messages → refused ≡ refused_count outcomes → All IsTypedPost posts
-    → IsFound h (found.Judged (Upload id digest refused posts) outcomes) (judged_upload id digest now h.board messages)
+    → IsUploadFound h (found.Judged (Upload id digest refused posts) outcomes) (judged_upload id digest now h.board messages)
 upload_found h id now digest messages ok certain there new free few writable whole bytes outcomes posts refused are count typed =
     let b : Board = h.board in
     let outcomes_are : outcomes ≡ (judged b id now messages).0 = ap (λ (p : List Outcome × List (ℕ × Message)). p.0) are in

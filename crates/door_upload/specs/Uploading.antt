@@ -23,13 +23,13 @@ use Rattle.door_upload.specs.declared.preparing.Uploading.TheVariants as found
 
 -- ---- errors
 -- the refusal as an error
-abbrev pub error_of : UploadRefusal → UploadError
-error_of upload.NoUser = NoUser
-error_of (upload.Broken fault) = Broken fault
-error_of upload.NoBoardId = NoBoardId
-error_of upload.OtherBoard = OtherBoard
-error_of upload.Uploads = Uploads
-error_of (upload.Size bytes) = Size bytes
+abbrev pub upload_error : UploadRefusal → UploadError
+upload_error upload.NoUser = NoUser
+upload_error (upload.Broken fault) = Broken fault
+upload_error upload.NoBoardId = NoBoardId
+upload_error upload.OtherBoard = OtherBoard
+upload_error upload.Uploads = Uploads
+upload_error (upload.Size bytes) = Size bytes
 
 -- the error as which the packet wasn't read
 abbrev pub of_rep : RepError → UploadError
@@ -38,16 +38,16 @@ of_rep rep.NoBoardId = NoBoardId
 of_rep rep.OutOfMemory = OutOfMemory
 
 -- the error as which the board's change ended
-abbrev pub of_change : ChangeError → UploadError
-of_change change.DiskFault = DiskFault
-of_change change.Doubt = Doubt
-of_change change.OutOfMemory = OutOfMemory
+abbrev pub upload_change_error : ChangeError → UploadError
+upload_change_error change.DiskFault = DiskFault
+upload_change_error change.Doubt = Doubt
+upload_change_error change.OutOfMemory = OutOfMemory
 
 -- ---- before the board is changed
 -- what was found of a packet that isn't refused, of a board in no doubt: a change that posts its messages, on a valid board
-abbrev pub IsFound : HeldBoard → Uploading → Upload → Type 0
-IsFound h (found.Again counts) u = u ≡ upload.Again counts
-IsFound h (found.Judged change outcomes) u =
+abbrev pub IsUploadFound : HeldBoard → Uploading → Upload → Type 0
+IsUploadFound h (found.Again counts) u = u ≡ upload.Again counts
+IsUploadFound h (found.Judged change outcomes) u =
     Fits change h.board × (u ≡ upload.Judged (changed change h.board) outcomes) × (h.doubtful ≡ false) × IsPosting change × IsBoard h.board
 
 -- the change posts what was judged on this board, and these are the outcomes
@@ -69,46 +69,46 @@ IsNew (Err why) = ⊥
 
 -- the refusal, or doubt where the packet is a new one
 abbrev pub IsKeptFrom : HeldBoard → UploadError → Result Upload UploadRefusal → Type 0
-IsKeptFrom h e r = ((why : UploadRefusal) × (r ≡ Err why) × (e ≡ error_of why)) ⊎ (IsNew r × (h.doubtful ≡ true) × (e ≡ Doubt))
+IsKeptFrom h e r = ((why : UploadRefusal) × (r ≡ Err why) × (e ≡ upload_error why)) ⊎ (IsNew r × (h.doubtful ≡ true) × (e ≡ Doubt))
 
-abbrev pub Finds : HeldBoard → Result Upload UploadRefusal → Result Uploading UploadError → Type 0
-Finds h r (Ok u) = (is : Upload) × (r ≡ Ok is) × IsFound h u is
-Finds h r (Err e) = IsKeptFrom h e r
+abbrev pub UploadFinds : HeldBoard → Result Upload UploadRefusal → Result Uploading UploadError → Type 0
+UploadFinds h r (Ok u) = (is : Upload) × (r ≡ Ok is) × IsUploadFound h u is
+UploadFinds h r (Err e) = IsKeptFrom h e r
 
 -- what is found, unless memory runs out
 abbrev pub FindsFor : HeldBoard → Result Upload UploadRefusal → Result Uploading UploadError → Type 0
-FindsFor h r result = (result ≡ Err OutOfMemory) ⊎ Finds h r result
+FindsFor h r result = (result ≡ Err OutOfMemory) ⊎ UploadFinds h r result
 
 -- what is found of the bytes that the user of a name uploads at a moment
 abbrev pub FindsIn : List ℕ → List ℕ → ℕ → HeldBoard → Result Uploading UploadError → Type 0
-FindsIn name bytes now h result = (result ≡ Err OutOfMemory) ⊎ ((r : Result Upload UploadRefusal) × UploadGives name bytes now h.board r × Finds h r result)
+FindsIn name bytes now h result = (result ≡ Err OutOfMemory) ⊎ ((r : Result Upload UploadRefusal) × UploadGives name bytes now h.board r × UploadFinds h r result)
 
 -- ---- the answer
-abbrev pub UnlessMemory : Result Uploaded UploadError → Result Uploaded UploadError → Type 0
-UnlessMemory result answer = (result ≡ answer) ⊎ (result ≡ Err OutOfMemory)
+abbrev pub UploadUnlessMemory : Result Uploaded UploadError → Result Uploaded UploadError → Type 0
+UploadUnlessMemory result answer = (result ≡ answer) ⊎ (result ≡ Err OutOfMemory)
 
 abbrev pub UnlessFault : Result Uploaded UploadError → Result Uploaded UploadError → Type 0
-UnlessFault result answer = UnlessMemory result answer ⊎ (result ≡ Err DiskFault)
+UnlessFault result answer = UploadUnlessMemory result answer ⊎ (result ≡ Err DiskFault)
 
 -- The answer to what the bytes come to: the refusal, or what became of the packet when it was sent before; else doubt
 -- where the board is doubtful, and what became of the messages.
-abbrev pub Answers : Bool → Result Upload UploadRefusal → Result Uploaded UploadError → Type 0
-Answers doubtful (Err why) result = UnlessMemory result (Err (error_of why))
-Answers doubtful (Ok (upload.Again counts)) result = UnlessMemory result (Ok (Again counts))
-Answers true (Ok (upload.Judged next outcomes)) result = UnlessMemory result (Err Doubt)
-Answers false (Ok (upload.Judged next outcomes)) result = UnlessFault result (Ok (Judged outcomes))
+abbrev pub UploadAnswers : Bool → Result Upload UploadRefusal → Result Uploaded UploadError → Type 0
+UploadAnswers doubtful (Err why) result = UploadUnlessMemory result (Err (upload_error why))
+UploadAnswers doubtful (Ok (upload.Again counts)) result = UploadUnlessMemory result (Ok (Again counts))
+UploadAnswers true (Ok (upload.Judged next outcomes)) result = UploadUnlessMemory result (Err Doubt)
+UploadAnswers false (Ok (upload.Judged next outcomes)) result = UnlessFault result (Ok (Judged outcomes))
 
 -- an answer that leaves all as it was: any but what became of messages, and a disk fault
-abbrev pub LeavesAll : Result Uploaded UploadError → Type 0
-LeavesAll (Ok (Again counts)) = Unit {0}
-LeavesAll (Ok (Judged outcomes)) = ⊥
-LeavesAll (Err NoUser) = Unit {0}
-LeavesAll (Err (Broken fault)) = Unit {0}
-LeavesAll (Err NoBoardId) = Unit {0}
-LeavesAll (Err OtherBoard) = Unit {0}
-LeavesAll (Err Uploads) = Unit {0}
-LeavesAll (Err (Size bytes)) = Unit {0}
-LeavesAll (Err DiskFault) = ⊥
-LeavesAll (Err Doubt) = Unit {0}
-LeavesAll (Err (Damaged damage)) = Unit {0}
-LeavesAll (Err OutOfMemory) = Unit {0}
+abbrev pub UploadLeavesAll : Result Uploaded UploadError → Type 0
+UploadLeavesAll (Ok (Again counts)) = Unit {0}
+UploadLeavesAll (Ok (Judged outcomes)) = ⊥
+UploadLeavesAll (Err NoUser) = Unit {0}
+UploadLeavesAll (Err (Broken fault)) = Unit {0}
+UploadLeavesAll (Err NoBoardId) = Unit {0}
+UploadLeavesAll (Err OtherBoard) = Unit {0}
+UploadLeavesAll (Err Uploads) = Unit {0}
+UploadLeavesAll (Err (Size bytes)) = Unit {0}
+UploadLeavesAll (Err DiskFault) = ⊥
+UploadLeavesAll (Err Doubt) = Unit {0}
+UploadLeavesAll (Err (Damaged damage)) = Unit {0}
+UploadLeavesAll (Err OutOfMemory) = Unit {0}

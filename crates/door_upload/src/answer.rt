@@ -70,9 +70,9 @@ impl From<RepError> for UploadError {
 
 impl From<ChangeError> for UploadError {
     ghost use Rattle.std.specs.Prelude.{◌≡◌};
-    ghost use Rattle.door_upload.specs.Uploading.{of_change};
+    ghost use Rattle.door_upload.specs.Uploading.{upload_change_error};
 
-    ghost from_gives = { λ error e. e ≡ of_change error };
+    ghost from_gives = { λ error e. e ≡ upload_change_error error };
 
     fn from(error: ChangeError) -> UploadError {
         match error {

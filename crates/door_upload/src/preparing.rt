@@ -5,7 +5,7 @@ ghost use Rattle.mail_board.specs.Readers.{upload_of, user_id};
 ghost use Rattle.qwk_blocks.specs.Written.{Writable};
 ghost use Rattle.rep_packet.specs.Written.{IsRep};
 ghost use Rattle.door_upload.specs.Upload.{judged_upload, record_refusal, upload_read};
-ghost use Rattle.door_upload.specs.Uploading.{error_of, FindsFor, FindsIn, IsFound, IsJudged, OfEach};
+ghost use Rattle.door_upload.specs.Uploading.{upload_error, FindsFor, FindsIn, IsUploadFound, IsJudged, OfEach};
 
 use crate::answer::UploadError;
 use board_layout::BOARD_LIMIT;
@@ -34,7 +34,7 @@ pub(crate) enum Uploading {
 
 /// Why no record more is kept: there are as many as there may be, or the data files would be too long with it.
 fn refusal_of(board: &Board) -> Option<UploadError>
-    ensures { result ≡ option_map error_of (record_refusal board.now.board) }
+    ensures { result ≡ option_map upload_error (record_refusal board.now.board) }
 {
     if board.upload_count() >= RECORD_LIMIT {
         return Some(UploadError::Uploads);
@@ -62,7 +62,7 @@ fn judged(
     requires record { record_refusal board.now.board ≡ None }
     requires few { length messages.now ≤ 8191 }
     requires writable { All Writable messages.now }
-    ensures found { IfOk result (λ found. IsFound board.now found (judged_upload user digest.now now board.now.board messages.now)) }
+    ensures found { IfOk result (λ found. IsUploadFound board.now found (judged_upload user digest.now now board.now.board messages.now)) }
     ensures judged { IfOk result (IsJudged user digest.now now board.now.board messages.now) }
 {
     let Judged {

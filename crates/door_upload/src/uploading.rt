@@ -11,7 +11,7 @@ ghost use Rattle.mail_board.specs.Held.{BeforeOrNext, Follows, Holds, Rests, Res
 ghost use Rattle.mail_board.specs.Readers.{user_id};
 ghost use Rattle.mail_board.specs.Written.{KeepsBoundOf};
 ghost use Rattle.door_upload.specs.Upload.{UploadGives, after_upload};
-ghost use Rattle.door_upload.specs.Uploading.{Answers, IsNew, LeavesAll, OfEach};
+ghost use Rattle.door_upload.specs.Uploading.{UploadAnswers, IsNew, UploadLeavesAll, OfEach};
 
 use crate::answer::{UploadError, Uploaded};
 use crate::preparing::{Uploading, prepared};
@@ -49,9 +49,9 @@ pub fn upload<H: Host>(
     // What the bytes come to, and the answer to that.
     ensures gives { IsErrOf result UploadError.OutOfMemory ⊎ ((r : _) × UploadGives user.now bytes.now now board.old.board r) }
     ensures no_user { user_id user.now board.old.board ≡ None → result ≡ Err UploadError.NoUser }
-    ensures answer { OfEach board.old (λ h. (r : _) → UploadGives user.now bytes.now now h.board r → Answers h.doubtful r result) }
+    ensures answer { OfEach board.old (λ h. (r : _) → UploadGives user.now bytes.now now h.board r → UploadAnswers h.doubtful r result) }
     ensures undamaged { (damage : Damage) → ¬ (result ≡ Err (UploadError.Damaged damage)) }
-    ensures unchanged { LeavesAll result → (board.new ≡ board.old) × (host.new ≡ host.old) }
+    ensures unchanged { UploadLeavesAll result → (board.new ≡ board.old) × (host.new ≡ host.old) }
     ensures board { OnOk result (IsFalse board.old.doubtful → IsBoard board.old.board → (r : _) → UploadGives user.now bytes.now now board.old.board r → Follows (after_upload board.old.board r) board.new) }
     ensures next { OnOk result (IsTrue H.tells → IsFalse board.old.doubtful → (b : Boards.Board) → Holds b (H.disk host.old) → (r : _) → UploadGives user.now bytes.now now b r → Rests (after_upload b r) (H.disk host.new)) }
     ensures rests { OnOk result (IsTrue H.tells → IsFalse board.old.doubtful → RestsOn board.new.board (H.disk host.new)) }

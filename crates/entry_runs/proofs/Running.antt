@@ -12,7 +12,7 @@ use Rattle.intent_journal.specs.Patches as Data
 use Rattle.intent_journal.specs.Recovered.{recovered}
 use Rattle.entry_runs.specs.Door.{World, Door, Step, touches, any_touches, AreLawful}
 use Rattle.entry_runs.specs.Entry.{Known, IsAt, Carried, InReply, OffBoard, InEntry, Performs}
-use Rattle.entry_runs.specs.Promise.{AsThen, AllSince, carried_out, Counts, HasCauses, Before, After, Replies, Stopped, IsWhole, IsCutShort, Leaves, Completes, Heard, IsHeld, IsMigrating, IsUntouched, Survives}
+use Rattle.entry_runs.specs.Promise.{AsThen, AllSince, carried_out, Counts, HasCauses, Before, After, Replies, Stopped, IsWhole, IsRunCutShort, Leaves, Completes, Heard, IsHeld, IsMigrating, IsUntouched, Survives}
 use Rattle.entry_runs.specs.Runs.{Stepped, Outcome, Runs, GoesOn, IsReached, AreTaken, is_last, with_class, status_after, status_of, stopped_status}
 use Rattle.entry_runs.specs.declared.class.Class.{Class}
 use Rattle.entry_runs.specs.declared.class.Class.TheVariants.{Done, Refused, Usage, Damaged}
@@ -358,7 +358,7 @@ module _ {State Entry : Type 0} (door : Door State Entry) where
 
       -- the entry was stopped
       pub stops : {after : Known State} {new : Disk} {later : Files} {stop : Stop} → Performs door.Stores (door.act entry) after world mid new later (Err stop)
-          → IsCutShort door (stopped_status stop) start entries old new later
+          → IsRunCutShort door (stopped_status stop) start entries old new later
       stops {after = after} {new = new} {later = later} {stop = stop} performs = record {
         front = running.done;
         entry = entry;

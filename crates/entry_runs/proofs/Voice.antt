@@ -9,7 +9,7 @@ use Rattle.intent_journal.specs.Journal.{IsClosed}
 use Rattle.intent_journal.specs.Patches as Data
 use Rattle.intent_journal.specs.Recovered.{recovered}
 use Rattle.entry_runs.specs.Promise.{IsFront, AsThen}
-use Rattle.entry_runs.specs.Saying.{SaysIn, Voiced, Gathers, text_of}
+use Rattle.entry_runs.specs.Saying.{SaysIn, Voiced, Gathers, text_of_pieces}
 use Rattle.std.specs.Borrow.{Bor}
 
 -- every image is as it could be then
@@ -216,25 +216,25 @@ module _ {T E : Type 0} {front gathered : List ℕ} {old now : Disk} (so_far : S
   said_all is voiced = voiced_as (sym (is ∙ so_far.whole)) (voiced_on (voiced_so_far so_far) so_far.said voiced)
 
 -- the text of the pieces from one on
-pub text_from : (pieces : List (Bor (List ℕ))) (i : ℕ) (piece : Bor (List ℕ)) → i < length pieces → text_of (drop i pieces) ≡ (get_or pieces i piece).now ++ text_of (drop (i + 1) pieces)
-text_from pieces i piece below = ap text_of (drop_more pieces i piece below)
+pub text_from : (pieces : List (Bor (List ℕ))) (i : ℕ) (piece : Bor (List ℕ)) → i < length pieces → text_of_pieces (drop i pieces) ≡ (get_or pieces i piece).now ++ text_of_pieces (drop (i + 1) pieces)
+text_from pieces i piece below = ap text_of_pieces (drop_more pieces i piece below)
 
 -- The pieces before one were gathered, and what isn't gathered any more was said. This is the invariant of saying them all.
 abbrev pub PiecesSaid : List (Bor (List ℕ)) → ℕ → List ℕ → Disk → Disk → Type 0
-PiecesSaid pieces i gathered old now = (front : List ℕ) × (text_of pieces ≡ front ++ text_of (drop i pieces)) × SaidSoFar front gathered old now
+PiecesSaid pieces i gathered old now = (front : List ℕ) × (text_of_pieces pieces ≡ front ++ text_of_pieces (drop i pieces)) × SaidSoFar front gathered old now
 
 module _ (pieces : List (Bor (List ℕ))) (i : ℕ) where
   module _ {gathered : List ℕ} {old now : Disk} (piece : Bor (List ℕ)) (so_far : PiecesSaid pieces i gathered old now) (below : i < length pieces) where
-    next_piece : text_of pieces ≡ (so_far.0 ++ (get_or pieces i piece).now) ++ text_of (drop (i + 1) pieces)
-    next_piece = so_far.1 ∙ ap (λ (l : List ℕ). so_far.0 ++ l) (text_from pieces i piece below) ∙ sym (append_assoc so_far.0 (get_or pieces i piece).now (text_of (drop (i + 1) pieces)))
+    next_piece : text_of_pieces pieces ≡ (so_far.0 ++ (get_or pieces i piece).now) ++ text_of_pieces (drop (i + 1) pieces)
+    next_piece = so_far.1 ∙ ap (λ (l : List ℕ). so_far.0 ++ l) (text_from pieces i piece below) ∙ sym (append_assoc so_far.0 (get_or pieces i piece).now (text_of_pieces (drop (i + 1) pieces)))
 
     pub pieces_more : {E : Type 0} {after : List ℕ} {new : Disk} {value : Unit {0}} → Gathers {E = E} gathered (get_or pieces i piece).now after now new (Ok value) → PiecesSaid pieces (i + 1) after old new
     pieces_more gathers = (so_far.0 ++ (get_or pieces i piece).now, next_piece, said_more so_far.2 gathers)
 
-    pub pieces_cut : {E : Type 0} {after : List ℕ} {new : Disk} {fault : E} → Gathers {T = Unit {0}} gathered (get_or pieces i piece).now after now new (Err fault) → Voiced {T = Unit {0}} (text_of pieces) old new (Err fault)
-    pieces_cut gathers = said_cut so_far.2 (text_of (drop (i + 1) pieces)) next_piece gathers
+    pub pieces_cut : {E : Type 0} {after : List ℕ} {new : Disk} {fault : E} → Gathers {T = Unit {0}} gathered (get_or pieces i piece).now after now new (Err fault) → Voiced {T = Unit {0}} (text_of_pieces pieces) old new (Err fault)
+    pieces_cut gathers = said_cut so_far.2 (text_of_pieces (drop (i + 1) pieces)) next_piece gathers
 
   -- no piece is left
   pub pieces_all : {T E : Type 0} {gathered : List ℕ} {old now new : Disk} {spoken : Result T E} → PiecesSaid pieces i gathered old now
-      → drop i pieces ≡ [] → Voiced gathered now new spoken → Voiced (text_of pieces) old new spoken
-  pieces_all so_far none voiced = said_all so_far.2 (so_far.1 ∙ ap (λ (ps : List (Bor (List ℕ))). so_far.0 ++ text_of ps) none ∙ append-nil so_far.0) voiced
+      → drop i pieces ≡ [] → Voiced gathered now new spoken → Voiced (text_of_pieces pieces) old new spoken
+  pieces_all so_far none voiced = said_all so_far.2 (so_far.1 ∙ ap (λ (ps : List (Bor (List ℕ))). so_far.0 ++ text_of_pieces ps) none ∙ append-nil so_far.0) voiced

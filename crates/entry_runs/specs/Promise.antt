@@ -125,7 +125,7 @@ module _ {State Entry : Type 0} (door : Door State Entry) where
     pub durable : IsFirm old ⊎ IsTrue (any_touches door taken) → AllNow new (λ image. door.Stores outcome.world.state (recovered image.files))
 
   -- Some entries were carried out or refused, and the next one was stopped.
-  pub record IsCutShort (result : Status) (start : World State) (entries : List Entry) (old new : Disk) (shelf : Files) : Type 0 where
+  pub record IsRunCutShort (result : Status) (start : World State) (entries : List Entry) (old new : Disk) (shelf : Files) : Type 0 where
     pub front : List Entry
     pub entry : Entry
     pub back : List Entry
@@ -151,7 +151,7 @@ module _ {State Entry : Type 0} (door : Door State Entry) where
 
   -- what a run leaves: the whole, or a part by its status
   abbrev pub Leaves : Status → World State → List Entry → Disk → Disk → Files → Type 0
-  Leaves result start entries old new shelf = IsWhole result start entries old new shelf ⊎ IsCutShort result start entries old new shelf
+  Leaves result start entries old new shelf = IsWhole result start entries old new shelf ⊎ IsRunCutShort result start entries old new shelf
 
   -- Where no count rose, the run is whole, or memory ran out.
   abbrev pub Completes : Counts → Counts → Status → World State → List Entry → Disk → Disk → Files → Type 0

@@ -11,8 +11,8 @@ use Rattle.entry_runs.specs.declared.class.Class.{Class}
 use Rattle.entry_runs.specs.declared.stop.Stop.{Stop}
 
 -- a text that is given in pieces
-abbrev pub text_of : List (Bor (List ℕ)) → List ℕ
-text_of pieces = concat (map (λ piece. piece.now) pieces)
+abbrev pub text_of_pieces : List (Bor (List ℕ)) → List ℕ
+text_of_pieces pieces = concat (map (λ piece. piece.now) pieces)
 
 -- a front of a text was said, and the files are as a crash could leave them then
 pub record SaysIn (text : List ℕ) (then : Disk) (image : Image) : Type 0 where

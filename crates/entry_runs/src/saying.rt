@@ -1,7 +1,7 @@
 //! Saying a text that is given in pieces.
 ghost use Rattle.std.specs.Prelude.{◌≡◌, IsTrue};
 ghost use Rattle.door_outside.specs.Cause.{HasCause};
-ghost use Rattle.entry_runs.specs.Saying.{Voiced, Gathers, text_of};
+ghost use Rattle.entry_runs.specs.Saying.{Voiced, Gathers, text_of_pieces};
 
 use arrayvec::ArrayVec;
 use door_outside::{Host, VoiceFault};
@@ -47,7 +47,7 @@ fn add_piece<H: Host>(
 /// Says a text that is given in pieces. It takes no memory: the pieces are gathered in a fixed array, so that
 /// a line is said in one call, and a text that is longer in few.
 pub fn say_all<H: Host>(host: &mut H, pieces: &[&[u8]]) -> Result<(), VoiceFault>
-    ensures voiced { IsTrue H.tells → Voiced (text_of pieces.now) (H.disk host.old) (H.disk host.new) result }
+    ensures voiced { IsTrue H.tells → Voiced (text_of_pieces pieces.now) (H.disk host.old) (H.disk host.new) result }
     ensures cause { HasCause (H.voice_faults host.old) (H.voice_faults host.new) result }
     ensures disk { H.disk_faults host.new ≡ H.disk_faults host.old }
 {

@@ -14,7 +14,7 @@ use Rattle.board_layout.specs.Valid.{IsBoard}
 use Rattle.door_export.proofs.AckLaws.{ack_board}
 use Rattle.door_export.specs.Ack.{AckRefusal, ack_of, after_ack}
 use Rattle.door_export.specs.Ack as why
-use Rattle.door_export.specs.Acknowledging.{LeavesAll, refusal_in}
+use Rattle.door_export.specs.Acknowledging.{AckLeavesAll, refusal_in}
 use Rattle.door_export.specs.declared.acknowledging.AckError.{AckError}
 use Rattle.door_export.specs.declared.acknowledging.AckError.TheVariants.{NoUser, NoPacket, DiskFault, Doubt, OutOfMemory}
 use Rattle.door_outside.specs.Disk.{Disk, AllNow, Between, Unchanged}
@@ -28,7 +28,7 @@ use Rattle.intent_journal.specs.declared.recovery.JournalError.TheVariants as jo
 use Rattle.mail_board.specs.Held.{BeforeOrNext, Rests}
 use Rattle.shelf_files.specs.Halts.{refused as says_refusal}
 use Rattle.exchange_commands.specs.Ack.{ack_turn, acknowledged_line, acknowledges, ack_refusal, turn_of}
-use Rattle.exchange_commands.specs.Acknowledging.{halted}
+use Rattle.exchange_commands.specs.Acknowledging.{ack_halted}
 
 abbrev turns : List ℕ → ℕ → ℕ → Files → Option Board → Turn → Type 0
 turns name packet now files board turn = turn ≡ ack_turn name packet now board
@@ -40,7 +40,7 @@ pub record Leaves (b : Board) (mid new : Disk) (r : Result Board AckRefusal) (re
   pub settled : IsSettled new
   pub refused_is : refusal_in result ≡ result_err r
   pub certain : result ≢ Err Doubt
-  pub same : LeavesAll result → Unchanged mid new
+  pub same : AckLeavesAll result → Unchanged mid new
   pub rests : OnOk result (Rests (after_ack b r) new)
 
 module _ (name : List ℕ) (packet now : ℕ) (small : now < 2 ^ 32) (b : Board) (ok : IsBoard b) where
@@ -72,7 +72,7 @@ module _ (name : List ℕ) (packet now : ℕ) (small : now < 2 ^ 32) (b : Board)
         refused same reason (r_is ∙ ap Err one)
 
     pub works : {new : Disk} (r : Result Board AckRefusal) → ack_of name packet now b ≡ r → (result : Result (Unit {0}) AckError) → Leaves b mid new r result
-        → Works Stores (acknowledges name packet now) unread world old new shelf (told (λ _. acknowledged_line packet) (halted result))
+        → Works Stores (acknowledges name packet now) unread world old new shelf (told (λ _. acknowledged_line packet) (ack_halted result))
     works (Ok next) r_is (Ok x) leaves =
         turned (turns name packet now) at {board = Some b} finds is (turn_of packet b (Ok next)) (takes world.shelf (Ok next) r_is) (changes (Ok next) r_is (Ok x) leaves {E = JournalError} (Ok (tt {0})) leaves.rests)
     works (Ok next) r_is (Err NoUser) leaves = absurd (cc leaves.refused_is)

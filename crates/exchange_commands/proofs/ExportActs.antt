@@ -18,7 +18,7 @@ use Rattle.shelf_files.specs.declared.refusal.Refusal.TheVariants.{NotMade}
 use Rattle.exchange_commands.proofs.HandingActs.{AreHandings, keeps_handing, lawful_handing}
 use Rattle.exchange_commands.specs.Ack.{ack_turn, acknowledged_line, ack_refusal, turn_of}
 use Rattle.exchange_commands.specs.Export.{export_handing, exports, handing_of, packet_line, export_refusal}
-use Rattle.exchange_commands.specs.Handing.{Handing, refuses}
+use Rattle.exchange_commands.specs.Handing.{Handing, refused_handing}
 
 -- ---- export
 packet_said : (e : Exported) → packet_line e ≢ []
@@ -32,7 +32,7 @@ record IsHanding (names : List (List ℕ)) (shelf : Files) (board : Option Board
   undamaged : h.reply.class ≢ class.Damaged
   within : SameBut names shelf h.shelf
 
-refuses_is : (names : List (List ℕ)) (why : Refusal) (shelf : Files) (board : Option Board) → IsHanding names shelf board (refuses why shelf board)
+refuses_is : (names : List (List ℕ)) (why : Refusal) (shelf : Files) (board : Option Board) → IsHanding names shelf board (refused_handing why shelf board)
 refuses_is names why shelf board = record {
   says = some_refusal why;
   refused_board = λ is. refl;

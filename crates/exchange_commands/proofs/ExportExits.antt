@@ -12,7 +12,7 @@ use Rattle.board_layout.specs.Valid.{IsBoard}
 use Rattle.door_export.proofs.ExportLaws.{export_board}
 use Rattle.door_export.specs.Export.{ExportRefusal, Handout, after_export, export_of}
 use Rattle.door_export.specs.Export as why
-use Rattle.door_export.specs.Exporting.{KeepsOffer, LeavesAll, refusal_in}
+use Rattle.door_export.specs.Exporting.{KeepsOffer, ExportLeavesAll, refusal_in}
 use Rattle.door_export.specs.Folder.{folder_names, with_packet}
 use Rattle.door_export.specs.declared.exporting.ExportError.{ExportError}
 use Rattle.door_export.specs.declared.exporting.ExportError.TheVariants.{NoUser, Limit, Packets, DiskFault, Doubt, Damaged, ShelfFault, OutOfMemory}
@@ -31,8 +31,8 @@ use Rattle.mail_board.specs.Held.{BeforeOrNext, Rests}
 use Rattle.shelf_files.specs.Halts.{done, refused as says_refusal}
 use Rattle.exchange_commands.proofs.HandingExits.{answered, cut_short, handed, starved, unchanged}
 use Rattle.exchange_commands.specs.Export.{export_handing, exports, handing_of, packet_line, export_refusal}
-use Rattle.exchange_commands.specs.Exporting.{halted}
-use Rattle.exchange_commands.specs.Handing.{Handing, refuses}
+use Rattle.exchange_commands.specs.Exporting.{export_halted}
+use Rattle.exchange_commands.specs.Handing.{Handing, refused_handing}
 
 abbrev hands : List ℕ → ℕ → List ℕ → ℕ → Files → Option Board → Handing → Type 0
 hands name limit folder now files board h = h ≡ export_handing name limit folder now files board
@@ -45,7 +45,7 @@ pub record Leaves (b : Board) (folder : List ℕ) (mid new : Disk) (shelf later 
   pub refused_is : refusal_in result ≡ result_err r
   pub certain : result ≢ Err Doubt
   pub undamaged : (d : Damage) → result ≢ Err (Damaged d)
-  pub same : LeavesAll result → Unchanged mid new × (later ≡ shelf)
+  pub same : ExportLeavesAll result → Unchanged mid new × (later ≡ shelf)
   pub answer : IfOk result (λ e. option_map (λ p. p.answer) (result_ok r) ≡ Some e)
   pub files : OnOk result (Some later ≡ option_map (λ p. with_packet folder p.controls p.messages shelf) (result_ok r))
   pub others : IsErrOf result ShelfFault → SameBut (folder_names folder) shelf later
@@ -74,7 +74,7 @@ module _ (name : List ℕ) (limit : ℕ) (folder : List ℕ) (now : ℕ) (b : Bo
         → Works Stores (exports name limit folder now) unread world old new later (Ok (says_refusal (export_refusal reason)))
     refused {new} same reason r_is =
         subst (λ (f : Files). Works Stores (exports name limit folder now) unread world old new f (Ok (says_refusal (export_refusal reason)))) (sym same.1)
-        (answered (folder_names folder) (hands name limit folder now) at {board = Some b} (still same.0) is (refuses (export_refusal reason) world.shelf (Some b)) (takes world.shelf (Err reason) r_is) refl refl)
+        (answered (folder_names folder) (hands name limit folder now) at {board = Some b} (still same.0) is (refused_handing (export_refusal reason) world.shelf (Some b)) (takes world.shelf (Err reason) r_is) refl refl)
 
     no_memory : {new : Disk} {later : Files} → Unchanged mid new × (later ≡ shelf) → Works Stores (exports name limit folder now) unread world old new later (Err stop.OutOfMemory)
     no_memory {new} same =
@@ -99,7 +99,7 @@ module _ (name : List ℕ) (limit : ℕ) (folder : List ℕ) (now : ℕ) (b : Bo
         (written ∙ ap (with_packet folder p.controls p.messages) at.shelf_is))
 
     pub works : {new : Disk} {later : Files} (r : Result Handout ExportRefusal) → export_of name limit now b ≡ r → (result : Result Exported ExportError) → Leaves b folder mid new shelf later r result
-        → Works Stores (exports name limit folder now) unread world old new later (told packet_line (halted result))
+        → Works Stores (exports name limit folder now) unread world old new later (told packet_line (export_halted result))
     works (Ok p) r_is (Ok e) leaves = exported p e r_is leaves
     works (Ok p) r_is (Err NoUser) leaves = absurd (cc leaves.refused_is)
     works (Ok p) r_is (Err Limit) leaves = absurd (cc leaves.refused_is)

@@ -14,7 +14,7 @@ use Rattle.entry_runs.specs.Entry.{Reply}
 use Rattle.entry_runs.specs.Runs.{Stepped}
 use Rattle.entry_runs.specs.declared.class.Class.TheVariants as class
 use Rattle.intent_journal.specs.Patches as Data
-use Rattle.exchange_commands.specs.Handing.{Handing, OnState, on_board_then_shelf}
+use Rattle.exchange_commands.specs.Handing.{Handing, HandsOnState, on_board_then_shelf}
 
 -- what the handings of a command give, for it to be lawful
 pub record AreHandings (names : List (List ℕ)) (hands : Files → Option Board → Handing → Type 0) : Type 0 where
@@ -36,55 +36,55 @@ damage_is files one other first second =
     first.2 ∙ (ap damaged damage ∙ sym second.2)
 
 module _ (names : List (List ℕ)) (hands : Files → Option Board → Handing → Type 0) (laws : AreHandings names hands) where
-  says : (shelf later : Files) (s next : State) (reply : Reply) → OnState (hands shelf) s shelf next later reply → reply.text ≢ []
+  says : (shelf later : Files) (s next : State) (reply : Reply) → HandsOnState (hands shelf) s shelf next later reply → reply.text ≢ []
   says shelf later NotMade next reply step none = laws.says shelf None step.0 step.1 (ap (λ (r : Reply). r.text) (sym step.4) ∙ none)
   says shelf later (Made b) next reply step none = laws.says shelf (Some b) step.0 step.1 (ap (λ (r : Reply). r.text) (sym step.4) ∙ none)
   says shelf later (Old b) next reply step none = laws.says shelf (Some b) step.0 step.1 (ap (λ (r : Reply). r.text) (sym step.4) ∙ none)
   says shelf later (Spoiled files) next reply step none = let text : (damaged step.2.0).text ≡ [] = ap (λ (r : Reply). r.text) (sym step.2.2) ∙ none in absurd (cc text)
 
-  refused_state : (shelf later : Files) (s next : State) (reply : Reply) → OnState (hands shelf) s shelf next later reply → reply.class ≡ class.Refused → next ≡ migrated s
+  refused_state : (shelf later : Files) (s next : State) (reply : Reply) → HandsOnState (hands shelf) s shelf next later reply → reply.class ≡ class.Refused → next ≡ migrated s
   refused_state shelf later NotMade next reply step is = step.2 ∙ ap state_of (laws.refused_board shelf None step.0 step.1 (ap (λ (r : Reply). r.class) (sym step.4) ∙ is))
   refused_state shelf later (Made b) next reply step is = step.2 ∙ ap state_of (laws.refused_board shelf (Some b) step.0 step.1 (ap (λ (r : Reply). r.class) (sym step.4) ∙ is))
   refused_state shelf later (Old b) next reply step is = step.2 ∙ ap state_of (laws.refused_board shelf (Some b) step.0 step.1 (ap (λ (r : Reply). r.class) (sym step.4) ∙ is))
   refused_state shelf later (Spoiled files) next reply step is = step.0
 
-  refused_files : (shelf later : Files) (s next : State) (reply : Reply) → OnState (hands shelf) s shelf next later reply → reply.class ≡ class.Refused → later ≡ shelf
+  refused_files : (shelf later : Files) (s next : State) (reply : Reply) → HandsOnState (hands shelf) s shelf next later reply → reply.class ≡ class.Refused → later ≡ shelf
   refused_files shelf later NotMade next reply step is = step.3 ∙ laws.refused_shelf shelf None step.0 step.1 (ap (λ (r : Reply). r.class) (sym step.4) ∙ is)
   refused_files shelf later (Made b) next reply step is = step.3 ∙ laws.refused_shelf shelf (Some b) step.0 step.1 (ap (λ (r : Reply). r.class) (sym step.4) ∙ is)
   refused_files shelf later (Old b) next reply step is = step.3 ∙ laws.refused_shelf shelf (Some b) step.0 step.1 (ap (λ (r : Reply). r.class) (sym step.4) ∙ is)
   refused_files shelf later (Spoiled files) next reply step is = step.1
 
-  same_but : (shelf later : Files) (s next : State) (reply : Reply) → OnState (hands shelf) s shelf next later reply → SameBut names shelf later
+  same_but : (shelf later : Files) (s next : State) (reply : Reply) → HandsOnState (hands shelf) s shelf next later reply → SameBut names shelf later
   same_but shelf later NotMade next reply step = subst (SameBut names shelf) (sym step.3) (laws.within shelf None step.0 step.1)
   same_but shelf later (Made b) next reply step = subst (SameBut names shelf) (sym step.3) (laws.within shelf (Some b) step.0 step.1)
   same_but shelf later (Old b) next reply step = subst (SameBut names shelf) (sym step.3) (laws.within shelf (Some b) step.0 step.1)
   same_but shelf later (Spoiled files) next reply step = λ name other. ap (λ (f : Files). held f name) step.1
 
-  spoiled_only : (shelf later : Files) (s next : State) (reply : Reply) → OnState (hands shelf) s shelf next later reply → reply.class ≡ class.Damaged → IsSpoiled s
+  spoiled_only : (shelf later : Files) (s next : State) (reply : Reply) → HandsOnState (hands shelf) s shelf next later reply → reply.class ≡ class.Damaged → IsSpoiled s
   spoiled_only shelf later NotMade next reply step is = absurd (laws.undamaged shelf None step.0 step.1 (ap (λ (r : Reply). r.class) (sym step.4) ∙ is))
   spoiled_only shelf later (Made b) next reply step is = absurd (laws.undamaged shelf (Some b) step.0 step.1 (ap (λ (r : Reply). r.class) (sym step.4) ∙ is))
   spoiled_only shelf later (Old b) next reply step is = absurd (laws.undamaged shelf (Some b) step.0 step.1 (ap (λ (r : Reply). r.class) (sym step.4) ∙ is))
   spoiled_only shelf later (Spoiled files) next reply step is = tt
 
-  spoiled_still : (shelf later : Files) (s next : State) (reply : Reply) → OnState (hands shelf) s shelf next later reply → IsSpoiled next → IsSpoiled s
+  spoiled_still : (shelf later : Files) (s next : State) (reply : Reply) → HandsOnState (hands shelf) s shelf next later reply → IsSpoiled next → IsSpoiled s
   spoiled_still shelf later NotMade next reply step spoiled = made_unspoiled step.0.board (subst IsSpoiled step.2 spoiled)
   spoiled_still shelf later (Made b) next reply step spoiled = made_unspoiled step.0.board (subst IsSpoiled step.2 spoiled)
   spoiled_still shelf later (Old b) next reply step spoiled = made_unspoiled step.0.board (subst IsSpoiled step.2 spoiled)
   spoiled_still shelf later (Spoiled files) next reply step spoiled = tt
 
-  state_is : (shelf f g : Files) (s one other : State) (r q : Reply) → OnState (hands shelf) s shelf one f r → OnState (hands shelf) s shelf other g q → one ≡ other
+  state_is : (shelf f g : Files) (s one other : State) (r q : Reply) → HandsOnState (hands shelf) s shelf one f r → HandsOnState (hands shelf) s shelf other g q → one ≡ other
   state_is shelf f g NotMade one other r q first second = first.2 ∙ (ap (λ (h : Handing). state_of h.board) (laws.one_handing shelf None first.0 second.0 first.1 second.1) ∙ sym second.2)
   state_is shelf f g (Made b) one other r q first second = first.2 ∙ (ap (λ (h : Handing). state_of h.board) (laws.one_handing shelf (Some b) first.0 second.0 first.1 second.1) ∙ sym second.2)
   state_is shelf f g (Old b) one other r q first second = first.2 ∙ (ap (λ (h : Handing). state_of h.board) (laws.one_handing shelf (Some b) first.0 second.0 first.1 second.1) ∙ sym second.2)
   state_is shelf f g (Spoiled files) one other r q first second = first.0 ∙ sym second.0
 
-  files_are : (shelf f g : Files) (s one other : State) (r q : Reply) → OnState (hands shelf) s shelf one f r → OnState (hands shelf) s shelf other g q → f ≡ g
+  files_are : (shelf f g : Files) (s one other : State) (r q : Reply) → HandsOnState (hands shelf) s shelf one f r → HandsOnState (hands shelf) s shelf other g q → f ≡ g
   files_are shelf f g NotMade one other r q first second = first.3 ∙ (ap (λ (h : Handing). h.shelf) (laws.one_handing shelf None first.0 second.0 first.1 second.1) ∙ sym second.3)
   files_are shelf f g (Made b) one other r q first second = first.3 ∙ (ap (λ (h : Handing). h.shelf) (laws.one_handing shelf (Some b) first.0 second.0 first.1 second.1) ∙ sym second.3)
   files_are shelf f g (Old b) one other r q first second = first.3 ∙ (ap (λ (h : Handing). h.shelf) (laws.one_handing shelf (Some b) first.0 second.0 first.1 second.1) ∙ sym second.3)
   files_are shelf f g (Spoiled files) one other r q first second = first.1 ∙ sym second.1
 
-  reply_is : (shelf f g : Files) (s one other : State) (r q : Reply) → OnState (hands shelf) s shelf one f r → OnState (hands shelf) s shelf other g q → r ≡ q
+  reply_is : (shelf f g : Files) (s one other : State) (r q : Reply) → HandsOnState (hands shelf) s shelf one f r → HandsOnState (hands shelf) s shelf other g q → r ≡ q
   reply_is shelf f g NotMade one other r q first second = first.4 ∙ (ap (λ (h : Handing). h.reply) (laws.one_handing shelf None first.0 second.0 first.1 second.1) ∙ sym second.4)
   reply_is shelf f g (Made b) one other r q first second = first.4 ∙ (ap (λ (h : Handing). h.reply) (laws.one_handing shelf (Some b) first.0 second.0 first.1 second.1) ∙ sym second.4)
   reply_is shelf f g (Old b) one other r q first second = first.4 ∙ (ap (λ (h : Handing). h.reply) (laws.one_handing shelf (Some b) first.0 second.0 first.1 second.1) ∙ sym second.4)
@@ -93,13 +93,13 @@ module _ (names : List (List ℕ)) (hands : Files → Option Board → Handing �
   abbrev reply_in : Stepped (World State) → Reply
   reply_in stepped = record { text = stepped.reply; class = stepped.class }
 
-  same_migrated : (shelf later : Files) (s next : State) (reply : Reply) → OnState (hands shelf) (migrated s) shelf next later reply ↔ OnState (hands shelf) s shelf next later reply
+  same_migrated : (shelf later : Files) (s next : State) (reply : Reply) → HandsOnState (hands shelf) (migrated s) shelf next later reply ↔ HandsOnState (hands shelf) s shelf next later reply
   same_migrated shelf later NotMade next reply = ((λ step. step), (λ step. step))
   same_migrated shelf later (Made b) next reply = ((λ step. step), (λ step. step))
   same_migrated shelf later (Old b) next reply = ((λ step. step), (λ step. step))
   same_migrated shelf later (Spoiled files) next reply = ((λ step. step), (λ step. step))
 
-  left_migrated : (shelf later : Files) (s next : State) (reply : Reply) → OnState (hands shelf) s shelf next later reply → migrated next ≡ next
+  left_migrated : (shelf later : Files) (s next : State) (reply : Reply) → HandsOnState (hands shelf) s shelf next later reply → migrated next ≡ next
   left_migrated shelf later NotMade next reply step = subst (λ (n : State). migrated n ≡ n) (sym step.2) (made_migrated step.0.board)
   left_migrated shelf later (Made b) next reply step = subst (λ (n : State). migrated n ≡ n) (sym step.2) (made_migrated step.0.board)
   left_migrated shelf later (Old b) next reply step = subst (λ (n : State). migrated n ≡ n) (sym step.2) (made_migrated step.0.board)

@@ -2,8 +2,8 @@
 -- what its contract gives.
 use Rattle.std.proofs.Common.{◌≡◌, List, ℕ, Option, Some, None, Ok, Err, refl, sym, ◌∙◌, ap, subst}
 use Rattle.board_commands.specs.Damages.{damaged}
-use Rattle.board_commands.specs.Halts.{told, of_read, of_journal}
-use Rattle.board_commands.specs.Kept.{IsFound, found, unread}
+use Rattle.board_commands.specs.Halts.{told, halt_of_read, of_journal}
+use Rattle.board_commands.specs.Kept.{IsStateFound, found, unread}
 use Rattle.board_commands.specs.State.{State, NotMade, Made, Old, Spoiled, Stores, migrated, state_of}
 use Rattle.board_layout.specs.Board.{Board}
 use Rattle.board_layout.specs.Damage.{board_damage}
@@ -21,33 +21,33 @@ use Rattle.intent_journal.specs.declared.recovery.JournalError.{JournalError}
 use Rattle.intent_journal.specs.declared.recovery.JournalError.TheVariants as journal
 use Rattle.jam_records.specs.declared.damage.Damage.{Damage}
 use Rattle.mail_board.specs.declared.loading.Loaded.{Loaded}
-use Rattle.exchange_commands.specs.Handing.{Handing, OnState, on_board_then_shelf}
+use Rattle.exchange_commands.specs.Handing.{Handing, HandsOnState, on_board_then_shelf}
 
 abbrev stepped_to : World State → Reply → Stepped (World State)
 stepped_to world reply = record { world = world; reply = reply.text; class = reply.class }
 
 module _ (names : List (List ℕ)) (hands : Files → Option Board → Handing → Type 0) {world : World State} {old : Disk} {shelf : Files} (at : IsAt Stores unread world old shelf) where
   -- ---- the steps
-  hands_to : (board : Option Board) (h : Handing) → hands world.shelf board h → OnState (hands world.shelf) (state_of board) world.shelf (state_of h.board) h.shelf h.reply
+  hands_to : (board : Option Board) (h : Handing) → hands world.shelf board h → HandsOnState (hands world.shelf) (state_of board) world.shelf (state_of h.board) h.shelf h.reply
   hands_to None h takes = (h, takes, refl, refl, refl)
   hands_to (Some b) h takes = (h, takes, refl, refl, refl)
 
   -- from the migrated board, and so from the board
-  unmigrated : (s next : State) (later : Files) (reply : Reply) → OnState (hands world.shelf) (migrated s) world.shelf next later reply → OnState (hands world.shelf) s world.shelf next later reply
+  unmigrated : (s next : State) (later : Files) (reply : Reply) → HandsOnState (hands world.shelf) (migrated s) world.shelf next later reply → HandsOnState (hands world.shelf) s world.shelf next later reply
   unmigrated NotMade next later reply step = step
   unmigrated (Made b) next later reply step = step
   unmigrated (Old b) next later reply step = step
   unmigrated (Spoiled held) next later reply step = step
 
   step_to : (board : Option Board) (h : Handing) → migrated world.state ≡ state_of board → hands world.shelf board h → (on_board_then_shelf names hands).Step world (stepped_to (here (state_of h.board) h.shelf) h.reply)
-  step_to board h is takes = unmigrated world.state (state_of h.board) h.shelf h.reply (subst (λ (s : State). OnState (hands world.shelf) s world.shelf (state_of h.board) h.shelf h.reply) (sym is) (hands_to board h takes))
+  step_to board h is takes = unmigrated world.state (state_of h.board) h.shelf h.reply (subst (λ (s : State). HandsOnState (hands world.shelf) s world.shelf (state_of h.board) h.shelf h.reply) (sym is) (hands_to board h takes))
 
   says_damage : (files : _) (d : Damage) → world.state ≡ Spoiled files → board_damage files ≡ Some d → (on_board_then_shelf names hands).Step world (stepped_to (migrated_world (on_board_then_shelf names hands) world) (damaged d))
-  says_damage files d is damage = subst (λ (s : State). OnState (hands world.shelf) s world.shelf (migrated s) world.shelf (damaged d)) (sym is) (refl, refl, (d, damage, refl))
+  says_damage files d is damage = subst (λ (s : State). HandsOnState (hands world.shelf) s world.shelf (migrated s) world.shelf (damaged d)) (sym is) (refl, refl, (d, damage, refl))
 
   -- ---- the board wasn't read, or there is damage
-  pub unfound : {Value : Type 0} {new : Disk} (text : Value → List ℕ) (kept : Option Loaded) (e : ReadError) → Finds Stores unread world.state (migrated world.state) old new (found (Err e)) → IsFound world.state kept (Err e)
-      → Works Stores (on_board_then_shelf names hands) unread world old new shelf (told text (Err (of_read e)))
+  pub unfound : {Value : Type 0} {new : Disk} (text : Value → List ℕ) (kept : Option Loaded) (e : ReadError) → Finds Stores unread world.state (migrated world.state) old new (found (Err e)) → IsStateFound world.state kept (Err e)
+      → Works Stores (on_board_then_shelf names hands) unread world old new shelf (told text (Err (halt_of_read e)))
   unfound text kept (Damaged d) finds is = answers Stores (on_board_then_shelf names hands) at refl finds (says_damage is.0 d is.1 is.2)
   unfound text kept DiskFault finds is = not_found Stores (on_board_then_shelf names hands) at refl finds
   unfound text kept OutOfMemory finds is = not_found Stores (on_board_then_shelf names hands) at refl finds

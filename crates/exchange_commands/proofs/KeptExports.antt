@@ -32,7 +32,7 @@ answered_alike x y of (Err e) same is = tt
 
 -- the board before, the one that a call makes of it, and what it left
 module _ (before after : HeldBoard) (next : Board) (certain : before.doubtful ≡ false) where
-  pub export_sure : (result : Result Exported ExportError) → IsBoard before.board → (export.KeepsOffer result → Follows next after) → (export.LeavesAll result → after ≡ before)
+  pub export_sure : (result : Result Exported ExportError) → IsBoard before.board → (export.KeepsOffer result → Follows next after) → (export.ExportLeavesAll result → after ≡ before)
       → (IsErrOf result error.DiskFault → (after ≡ before) ⊎ (after ≡ doubted before)) → AreSure (unless_doubtful after)
   export_sure (Ok e) ok board same fault = next_sure before after certain next (board tt)
   export_sure (Err error.NoUser) ok board same fault = same_sure before after certain (same tt) ok
@@ -44,7 +44,7 @@ module _ (before after : HeldBoard) (next : Board) (certain : before.doubtful �
   export_sure (Err error.ShelfFault) ok board same fault = next_sure before after certain next (board tt)
   export_sure (Err error.OutOfMemory) ok board same fault = same_sure before after certain (same tt) ok
 
-  pub ack_kept : (result : Result (Unit {0}) AckError) (disk : Disk) → OnOk result (Follows next after) → OnOk result (RestsOn after.board disk) → (ack.LeavesAll result → after ≡ before) → (ack.LeavesAll result → RestsOn before.board disk)
+  pub ack_kept : (result : Result (Unit {0}) AckError) (disk : Disk) → OnOk result (Follows next after) → OnOk result (RestsOn after.board disk) → (ack.AckLeavesAll result → after ≡ before) → (ack.AckLeavesAll result → RestsOn before.board disk)
       → (IsErrOf result ack_error.DiskFault → after ≡ doubted before) → IsSettled disk → IsKept (unless_doubtful after) disk
   ack_kept (Ok x) disk board rests same still fault settled = next_kept before after certain next disk board rests
   ack_kept (Err ack_error.NoUser) disk board rests same still fault settled = same_kept before after certain disk (same tt) (still tt)
@@ -53,7 +53,7 @@ module _ (before after : HeldBoard) (next : Board) (certain : before.doubtful �
   ack_kept (Err ack_error.Doubt) disk board rests same still fault settled = same_kept before after certain disk (same tt) (still tt)
   ack_kept (Err ack_error.OutOfMemory) disk board rests same still fault settled = same_kept before after certain disk (same tt) (still tt)
 
-  pub ack_sure : (result : Result (Unit {0}) AckError) → IsBoard before.board → OnOk result (Follows next after) → (ack.LeavesAll result → after ≡ before) → (IsErrOf result ack_error.DiskFault → after ≡ doubted before) → AreSure (unless_doubtful after)
+  pub ack_sure : (result : Result (Unit {0}) AckError) → IsBoard before.board → OnOk result (Follows next after) → (ack.AckLeavesAll result → after ≡ before) → (IsErrOf result ack_error.DiskFault → after ≡ doubted before) → AreSure (unless_doubtful after)
   ack_sure (Ok x) ok board same fault = next_sure before after certain next board
   ack_sure (Err ack_error.NoUser) ok board same fault = same_sure before after certain (same tt) ok
   ack_sure (Err (ack_error.NoPacket offer)) ok board same fault = same_sure before after certain (same tt) ok

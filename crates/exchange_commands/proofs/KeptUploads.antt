@@ -6,7 +6,7 @@ use Rattle.board_commands.specs.Kept.{AreSure, IsKept, unless_doubtful}
 use Rattle.board_layout.specs.Valid.{IsBoard}
 use Rattle.door_outside.specs.Disk.{Disk}
 use Rattle.door_upload.specs.Upload.{Upload, UploadRefusal, after_upload}
-use Rattle.door_upload.specs.Uploading.{LeavesAll}
+use Rattle.door_upload.specs.Uploading.{UploadLeavesAll}
 use Rattle.door_upload.specs.declared.answer.UploadError.{UploadError}
 use Rattle.door_upload.specs.declared.answer.UploadError.TheVariants.{NoUser, Broken, NoBoardId, OtherBoard, Uploads, Size, DiskFault, Doubt, Damaged, OutOfMemory}
 use Rattle.door_upload.specs.declared.answer.Uploaded.{Uploaded}
@@ -14,7 +14,7 @@ use Rattle.intent_journal.specs.Hosts.{IsSettled}
 use Rattle.mail_board.specs.Held.{Follows, HeldBoard, RestsOn}
 
 -- an error that isn't a disk fault leaves all
-early_or_fault : (e : UploadError) → LeavesAll (Err e) ⊎ (e ≡ DiskFault)
+early_or_fault : (e : UploadError) → UploadLeavesAll (Err e) ⊎ (e ≡ DiskFault)
 early_or_fault NoUser = inl tt
 early_or_fault (Broken fault) = inl tt
 early_or_fault NoBoardId = inl tt
@@ -35,7 +35,7 @@ module _ (before after : HeldBoard) (certain : before.doubtful ≡ false) (Gives
   follows x (inr (r, gives)) board = (r, board r gives)
 
   pub upload_kept : (result : Result Uploaded UploadError) (disk : Disk) → (result ≡ Err OutOfMemory) ⊎ ((r : Result Upload UploadRefusal) × Gives r) → OnOk result ((r : Result Upload UploadRefusal) → Gives r → Follows (after_upload before.board r) after)
-      → OnOk result (RestsOn after.board disk) → (LeavesAll result → after ≡ before) → (LeavesAll result → RestsOn before.board disk) → (IsErrOf result DiskFault → after ≡ doubted before) → IsSettled disk → IsKept (unless_doubtful after) disk
+      → OnOk result (RestsOn after.board disk) → (UploadLeavesAll result → after ≡ before) → (UploadLeavesAll result → RestsOn before.board disk) → (IsErrOf result DiskFault → after ≡ doubted before) → IsSettled disk → IsKept (unless_doubtful after) disk
   upload_kept (Ok x) disk gives board rests same still fault settled =
       let made = follows x gives board in
       next_kept before after certain (after_upload before.board made.0) disk made.1 rests
@@ -45,7 +45,7 @@ module _ (before after : HeldBoard) (certain : before.doubtful ≡ false) (Gives
       (early_or_fault e)
 
   pub upload_sure : (result : Result Uploaded UploadError) → IsBoard before.board → (result ≡ Err OutOfMemory) ⊎ ((r : Result Upload UploadRefusal) × Gives r) → OnOk result ((r : Result Upload UploadRefusal) → Gives r → Follows (after_upload before.board r) after)
-      → (LeavesAll result → after ≡ before) → (IsErrOf result DiskFault → after ≡ doubted before) → AreSure (unless_doubtful after)
+      → (UploadLeavesAll result → after ≡ before) → (IsErrOf result DiskFault → after ≡ doubted before) → AreSure (unless_doubtful after)
   upload_sure (Ok x) ok gives board same fault =
       let made = follows x gives board in
       next_sure before after certain (after_upload before.board made.0) made.1

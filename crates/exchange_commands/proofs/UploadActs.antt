@@ -10,7 +10,7 @@ use Rattle.door_upload.specs.Upload.{Again, Judged, Upload, UploadRefusal}
 use Rattle.door_upload.specs.declared.answer.Uploaded.{Uploaded}
 use Rattle.door_upload.specs.declared.answer.Uploaded.TheVariants as answer
 use Rattle.mail_board.specs.Readers.{user_id}
-use Rattle.shelf_files.specs.ShelfFile.{file_of, rep_limit}
+use Rattle.shelf_files.specs.ShelfFile.{file_within, rep_limit}
 use Rattle.shelf_files.specs.declared.refusal.Refusal.{Refusal}
 use Rattle.shelf_files.specs.declared.refusal.Refusal.TheVariants.{NotMade, NoUser}
 use Rattle.exchange_commands.specs.Upload.{Uploads, UploadsFile, UploadsRead, outcome_lines, upload_refusal, tally, turn_of, uploaded_text}
@@ -36,7 +36,7 @@ module _ (name file : List ℕ) (now : ℕ) where
 
   file_is : (shelf : Files) (b : Board) (id : Option ℕ) (turn : Turn) → UploadsFile file now shelf b id turn → IsTurn (Some b) turn
   file_is shelf b None turn is = subst (IsTurn (Some b)) (sym is) (refuses_is NoUser (Some b))
-  file_is shelf b (Some id) turn is = read_is id b (file_of shelf file rep_limit) turn is
+  file_is shelf b (Some id) turn is = read_is id b (file_within shelf file rep_limit) turn is
 
   uploads_is : (shelf : Files) (board : Option Board) (turn : Turn) → Uploads name file now shelf board turn → IsTurn board turn
   uploads_is shelf None turn is = subst (IsTurn None) (sym is) (refuses_is NotMade None)
@@ -49,7 +49,7 @@ module _ (name file : List ℕ) (now : ℕ) where
 
   file_once : (shelf : Files) (b : Board) (id : Option ℕ) (one other : Turn) → UploadsFile file now shelf b id one → UploadsFile file now shelf b id other → one ≡ other
   file_once shelf b None one other first second = first ∙ sym second
-  file_once shelf b (Some id) one other first second = read_once id b (file_of shelf file rep_limit) one other first second
+  file_once shelf b (Some id) one other first second = read_once id b (file_within shelf file rep_limit) one other first second
 
   uploads_once : (shelf : Files) (board : Option Board) (one other : Turn) → Uploads name file now shelf board one → Uploads name file now shelf board other → one ≡ other
   uploads_once shelf None one other first second = first ∙ sym second

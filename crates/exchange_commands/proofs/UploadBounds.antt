@@ -14,7 +14,7 @@ use Rattle.intent_journal.specs.Recovered.{recovered}
 use Rattle.mail_board.specs.Held.{AreAlike}
 use Rattle.mail_board.specs.Readers.{user_id}
 use Rattle.mail_board.specs.Written.{KeepsBoundOf}
-use Rattle.shelf_files.specs.ShelfFile.{file_of, rep_limit}
+use Rattle.shelf_files.specs.ShelfFile.{file_within, rep_limit}
 use Rattle.shelf_files.specs.declared.refusal.Refusal.{Refusal}
 use Rattle.exchange_commands.proofs.UploadActs.{upload_turns}
 use Rattle.exchange_commands.specs.Upload.{Uploads, UploadsFile, UploadsRead, turn_of, uploads}
@@ -37,7 +37,7 @@ after_alike a b alike (Ok (Judged next outcomes)) (Ok (Judged other others)) sam
 
 module _ (name file : List ℕ) (now : ℕ) (old mid new : Disk) (shelf : Shelf.Files) (closed : IsClosed (old.files 1)) (found : WritesFound old mid.wrote) (kept : Option Board)
     (stands : (state : State) → Stores state (recovered old.files) → IsOutlined (migrated state) kept) (b : Board) (kept_is : kept ≡ Some b) where
-  module _ (id : ℕ) (id_is : user_id name b ≡ Some id) (bytes : List ℕ) (bytes_is : file_of shelf file rep_limit ≡ Ok bytes) where
+  module _ (id : ℕ) (id_is : user_id name b ≡ Some id) (bytes : List ℕ) (bytes_is : file_within shelf file rep_limit ≡ Ok bytes) where
     pub upload_within : (r : Result Upload UploadRefusal) → UploadsFor id bytes now b r → KeepsBoundOf b (after_upload b r) mid.wrote new.wrote → KeepsWriteBound (uploads name file now) old new shelf
     upload_within r gives bound =
         let each = each_upload id bytes now b r gives in

@@ -16,7 +16,7 @@ use Rattle.door_outside.specs.Disk.{Disk, AllNow, Between, Unchanged}
 use Rattle.door_outside.specs.Shelf as Shelf
 use Rattle.door_upload.specs.Upload.{Upload, UploadRefusal, UploadsFor, after_upload}
 use Rattle.door_upload.specs.Upload as upload
-use Rattle.door_upload.specs.Uploading.{Answers, IsNew, LeavesAll, error_of}
+use Rattle.door_upload.specs.Uploading.{UploadAnswers, IsNew, UploadLeavesAll, upload_error}
 use Rattle.door_upload.specs.declared.answer.UploadError.{UploadError}
 use Rattle.door_upload.specs.declared.answer.UploadError.TheVariants.{DiskFault, OutOfMemory}
 use Rattle.door_upload.specs.declared.answer.Uploaded.{Uploaded}
@@ -32,21 +32,21 @@ use Rattle.mail_board.specs.Held.{BeforeOrNext, Rests}
 use Rattle.mail_board.specs.Readers.{user_id}
 use Rattle.packet_verdicts.specs.declared.outcome.Outcome.{Outcome}
 use Rattle.shelf_files.specs.Halts.{Comes, refused as says_refusal}
-use Rattle.shelf_files.specs.ShelfFile.{file_of, rep_limit}
+use Rattle.shelf_files.specs.ShelfFile.{file_within, rep_limit}
 use Rattle.shelf_files.specs.declared.halt.Halt.{Halt}
 use Rattle.shelf_files.specs.declared.halt.Halt.TheVariants as halt
 use Rattle.shelf_files.specs.declared.refusal.Refusal.{Refusal}
 use Rattle.shelf_files.specs.declared.refusal.Refusal.TheVariants.{NoUser}
 use Rattle.exchange_commands.specs.Upload.{Uploads, UploadsFile, UploadsRead, upload_refusal, turn_of, uploaded_text, uploads}
-use Rattle.exchange_commands.specs.Uploading.{halted}
+use Rattle.exchange_commands.specs.Uploading.{upload_halted}
 
 -- what an upload to a board in no doubt left, by what the bytes come to
 pub record Leaves (b : Board) (mid new : Disk) (r : Result Upload UploadRefusal) (result : Result Uploaded UploadError) : Type 0 where
   pub moments : Between mid new (BeforeOrNext (IsLayout b) (after_upload b r) mid)
   pub now_is : AllNow new (BeforeOrNext (IsLayout b) (after_upload b r) mid)
   pub settled : IsSettled new
-  pub answers : Answers false r result
-  pub same : LeavesAll result → Unchanged mid new
+  pub answers : UploadAnswers false r result
+  pub same : UploadLeavesAll result → Unchanged mid new
   pub rests : OnOk result (Rests (after_upload b r) new)
   pub valid : IsNew r → IsErrOf result OutOfMemory ⊎ IsBoard (after_upload b r)
 
@@ -60,7 +60,7 @@ some_is None some = absurd (cc some)
 some_is (Some n) some = (n, refl)
 
 -- a refusal is told as one, and leaves all
-refused_told : (why : UploadRefusal) → told uploaded_text (halted (Err (error_of why))) ≡ Ok (says_refusal (upload_refusal why))
+refused_told : (why : UploadRefusal) → told uploaded_text (upload_halted (Err (upload_error why))) ≡ Ok (says_refusal (upload_refusal why))
 refused_told upload.NoUser = refl
 refused_told (upload.Broken fault) = refl
 refused_told upload.NoBoardId = refl
@@ -68,7 +68,7 @@ refused_told upload.OtherBoard = refl
 refused_told upload.Uploads = refl
 refused_told (upload.Size bytes) = refl
 
-refusal_leaves : (why : UploadRefusal) → LeavesAll (Err (error_of why))
+refusal_leaves : (why : UploadRefusal) → UploadLeavesAll (Err (upload_error why))
 refusal_leaves upload.NoUser = tt
 refusal_leaves (upload.Broken fault) = tt
 refusal_leaves upload.NoBoardId = tt
@@ -88,11 +88,11 @@ module _ (name file : List ℕ) (now : ℕ) (b : Board) {world : World State} {o
       (answered (Uploads name file now) at {board = Some b} finds is (refuses NoUser (Some b)) (takes_file None none (refuses NoUser (Some b)) refl) refl)
 
   module _ {later : Shelf.Files} (id : ℕ) (id_is : user_id name b ≡ Some id) (same_shelf : later ≡ shelf) where
-    takes : (read : Result (List ℕ) Refusal) → file_of shelf file rep_limit ≡ read → (turn : Turn) → UploadsRead id now b read turn → Uploads name file now world.shelf (Some b) turn
+    takes : (read : Result (List ℕ) Refusal) → file_within shelf file rep_limit ≡ read → (turn : Turn) → UploadsRead id now b read turn → Uploads name file now world.shelf (Some b) turn
     takes read read_is turn taken = takes_file (Some id) id_is turn (subst (λ (r : Result (List ℕ) Refusal). UploadsRead id now b r turn) (sym read_is) taken)
 
     -- the file isn't there or is too long, or couldn't be read
-    pub no_file : (h : Halt) → Comes {Value = List ℕ} (Err h) (λ read. read ≡ file_of shelf file rep_limit) → Works Stores (uploads name file now) unread world old mid later (told uploaded_text (Err (of_shelf h)))
+    pub no_file : (h : Halt) → Comes {Value = List ℕ} (Err h) (λ read. read ≡ file_within shelf file rep_limit) → Works Stores (uploads name file now) unread world old mid later (told uploaded_text (Err (of_shelf h)))
     no_file (halt.Refused why) comes = works_same Stores (uploads name file now) same_shelf
         (answered (Uploads name file now) at {board = Some b} finds is (refuses why (Some b)) (takes (Err why) (sym comes) (refuses why (Some b)) refl) refl)
     no_file halt.ShelfFault comes = works_same Stores (uploads name file now) same_shelf (shelf_fails (Uploads name file now) at finds)
@@ -103,19 +103,19 @@ module _ (name file : List ℕ) (now : ℕ) (b : Board) {world : World State} {o
     still same = found_still Stores at.board (Ok (tt {0})) finds same (λ never. absurd (cc never))
 
     -- memory ran out
-    pub out_of_memory : {new : Disk} (result : Result Uploaded UploadError) → result ≡ Err OutOfMemory → (LeavesAll result → Unchanged mid new) → Works Stores (uploads name file now) unread world old new later (told uploaded_text (halted result))
+    pub out_of_memory : {new : Disk} (result : Result Uploaded UploadError) → result ≡ Err OutOfMemory → (UploadLeavesAll result → Unchanged mid new) → Works Stores (uploads name file now) unread world old new later (told uploaded_text (upload_halted result))
     out_of_memory {new} result e same =
-        subst (λ (r : Result Uploaded UploadError). Works Stores (uploads name file now) unread world old new later (told uploaded_text (halted r))) (sym e)
-        (works_same Stores (uploads name file now) same_shelf (starved (Uploads name file now) at (still (same (subst LeavesAll (sym e) tt)))))
+        subst (λ (r : Result Uploaded UploadError). Works Stores (uploads name file now) unread world old new later (told uploaded_text (upload_halted r))) (sym e)
+        (works_same Stores (uploads name file now) same_shelf (starved (Uploads name file now) at (still (same (subst UploadLeavesAll (sym e) tt)))))
 
-    module _ (ok : IsBoard b) (bytes : List ℕ) (bytes_is : file_of shelf file rep_limit ≡ Ok bytes) {new : Disk} (result : Result Uploaded UploadError) where
+    module _ (ok : IsBoard b) (bytes : List ℕ) (bytes_is : file_within shelf file rep_limit ≡ Ok bytes) {new : Disk} (result : Result Uploaded UploadError) where
       -- the board stays, and this is answered
-      stays : (r : Result Upload UploadRefusal) → UploadsFor id bytes now b r → (answer : Result Uploaded UploadError) → LeavesAll answer → (turn_of b r).board ≡ Some b → told uploaded_text (halted answer) ≡ Ok (turn_of b r).reply → result ≡ answer → Leaves b mid new r result
-          → Works Stores (uploads name file now) unread world old new later (told uploaded_text (halted result))
+      stays : (r : Result Upload UploadRefusal) → UploadsFor id bytes now b r → (answer : Result Uploaded UploadError) → UploadLeavesAll answer → (turn_of b r).board ≡ Some b → told uploaded_text (upload_halted answer) ≡ Ok (turn_of b r).reply → result ≡ answer → Leaves b mid new r result
+          → Works Stores (uploads name file now) unread world old new later (told uploaded_text (upload_halted result))
       stays r gives answer early board says e leaves =
-          subst (Works Stores (uploads name file now) unread world old new later) (sym (ap (λ (x : Result Uploaded UploadError). told uploaded_text (halted x)) e ∙ says))
+          subst (Works Stores (uploads name file now) unread world old new later) (sym (ap (λ (x : Result Uploaded UploadError). told uploaded_text (upload_halted x)) e ∙ says))
           (works_same Stores (uploads name file now) same_shelf
-          (answered (Uploads name file now) at {board = Some b} (still (leaves.same (subst LeavesAll (sym e) early))) is (turn_of b r) (takes (Ok bytes) bytes_is (turn_of b r) (r, gives, refl)) board))
+          (answered (Uploads name file now) at {board = Some b} (still (leaves.same (subst UploadLeavesAll (sym e) early))) is (turn_of b r) (takes (Ok bytes) bytes_is (turn_of b r) (r, gives, refl)) board))
 
       -- the packet is a new one
       module _ (next : Board) (outcomes : List Outcome) (gives : UploadsFor id bytes now b (Ok (upload.Judged next outcomes))) (leaves : Leaves b mid new (Ok (upload.Judged next outcomes)) result) where
@@ -134,24 +134,24 @@ module _ (name file : List ℕ) (now : ℕ) (b : Board) {world : World State} {o
             subst (λ (s : State). Changes Stores unread s (Made next) mid new part) (sym is)
             (changes_to (Made b) (IsLayout b) (λ files laid. (ok, laid)) next valid part leaves.moments leaves.now_is leaves.settled rests)
 
-        posts : result ≡ Ok (Judged outcomes) → Works Stores (uploads name file now) unread world old new later (told uploaded_text (halted result))
+        posts : result ≡ Ok (Judged outcomes) → Works Stores (uploads name file now) unread world old new later (told uploaded_text (upload_halted result))
         unfolding turn
         posts e =
             let valid : IsBoard next = next_board (λ oom. cc (sym e ∙ oom)) in
             let rests : Rests next new = subst (λ (x : Result Uploaded UploadError). OnOk x (Rests next new)) e leaves.rests in
-            subst (λ (x : Result Uploaded UploadError). Works Stores (uploads name file now) unread world old new later (told uploaded_text (halted x))) (sym e)
+            subst (λ (x : Result Uploaded UploadError). Works Stores (uploads name file now) unread world old new later (told uploaded_text (upload_halted x))) (sym e)
             (works_same Stores (uploads name file now) same_shelf (turned (Uploads name file now) at {board = Some b} finds is turn taken (changes {E = JournalError} (Ok (tt {0})) valid rests)))
 
-        fails : result ≡ Err DiskFault → Works Stores (uploads name file now) unread world old new later (told uploaded_text (halted result))
+        fails : result ≡ Err DiskFault → Works Stores (uploads name file now) unread world old new later (told uploaded_text (upload_halted result))
         unfolding turn
         fails e =
             let valid : IsBoard next = next_board (λ oom. cc (sym e ∙ oom)) in
-            subst (λ (x : Result Uploaded UploadError). Works Stores (uploads name file now) unread world old new later (told uploaded_text (halted x))) (sym e)
+            subst (λ (x : Result Uploaded UploadError). Works Stores (uploads name file now) unread world old new later (told uploaded_text (upload_halted x))) (sym e)
             (works_same Stores (uploads name file now) same_shelf
             (unturned (Uploads name file now) at {board = Some b} finds is turn taken uploaded_text journal.DiskFault (changes {T = Unit {0}} (Err journal.DiskFault) valid tt) (λ never. absurd (cc never))))
 
-      pub works : (r : Result Upload UploadRefusal) → UploadsFor id bytes now b r → Leaves b mid new r result → Works Stores (uploads name file now) unread world old new later (told uploaded_text (halted result))
-      works (Err why) gives leaves = ⊎_elim (λ e. stays (Err why) gives (Err (error_of why)) (refusal_leaves why) refl (refused_told why) e leaves) (λ oom. out_of_memory result oom leaves.same) leaves.answers
+      pub works : (r : Result Upload UploadRefusal) → UploadsFor id bytes now b r → Leaves b mid new r result → Works Stores (uploads name file now) unread world old new later (told uploaded_text (upload_halted result))
+      works (Err why) gives leaves = ⊎_elim (λ e. stays (Err why) gives (Err (upload_error why)) (refusal_leaves why) refl (refused_told why) e leaves) (λ oom. out_of_memory result oom leaves.same) leaves.answers
       works (Ok (upload.Again counts)) gives leaves = ⊎_elim (λ e. stays (Ok (upload.Again counts)) gives (Ok (Again counts)) tt refl refl e leaves) (λ oom. out_of_memory result oom leaves.same) leaves.answers
       works (Ok (upload.Judged next outcomes)) gives leaves =
           ⊎_elim (λ e. ⊎_elim (λ done. posts next outcomes gives leaves done) (λ oom. out_of_memory result oom leaves.same) e) (λ fault. fails next outcomes gives leaves fault) leaves.answers

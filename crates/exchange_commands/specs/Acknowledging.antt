@@ -7,13 +7,13 @@ use Rattle.door_export.specs.declared.acknowledging.AckError.TheVariants as erro
 use Rattle.shelf_files.specs.declared.refusal.Refusal.TheVariants.{NoUser, NoPacket}
 
 -- (A board that is kept is in no doubt.)
-abbrev pub halt_of : AckError → BoardHalt
-halt_of error.NoUser = Refused NoUser
-halt_of (error.NoPacket offer) = Refused (NoPacket offer)
-halt_of error.DiskFault = DiskFault
-halt_of error.Doubt = DiskFault
-halt_of error.OutOfMemory = OutOfMemory
+abbrev pub ack_halt : AckError → BoardHalt
+ack_halt error.NoUser = Refused NoUser
+ack_halt (error.NoPacket offer) = Refused (NoPacket offer)
+ack_halt error.DiskFault = DiskFault
+ack_halt error.Doubt = DiskFault
+ack_halt error.OutOfMemory = OutOfMemory
 
-abbrev pub halted : {T : Type 0} → Result T AckError → Result T BoardHalt
-halted (Ok value) = Ok value
-halted (Err e) = Err (halt_of e)
+abbrev pub ack_halted : {T : Type 0} → Result T AckError → Result T BoardHalt
+ack_halted (Ok value) = Ok value
+ack_halted (Err e) = Err (ack_halt e)

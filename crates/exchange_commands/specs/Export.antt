@@ -11,7 +11,7 @@ use Rattle.entry_runs.specs.Door.{Act}
 use Rattle.shelf_files.specs.Halts.{done}
 use Rattle.shelf_files.specs.declared.refusal.Refusal.{Refusal}
 use Rattle.shelf_files.specs.declared.refusal.Refusal.TheVariants.{NotMade, NoUser, Limit, Packets}
-use Rattle.exchange_commands.specs.Handing.{Handing, refuses, on_board_then_shelf}
+use Rattle.exchange_commands.specs.Handing.{Handing, refused_handing, on_board_then_shelf}
 
 -- the number of the packet, and how many messages it has
 abbrev pub packet_line : Exported → List ℕ
@@ -30,10 +30,10 @@ handing_of folder shelf b (Ok p) = record {
   shelf = with_packet folder p.controls p.messages shelf;
   reply = done (packet_line p.answer);
 }
-handing_of folder shelf b (Err refusal) = refuses (export_refusal refusal) shelf (Some b)
+handing_of folder shelf b (Err refusal) = refused_handing (export_refusal refusal) shelf (Some b)
 
 abbrev pub export_handing : List ℕ → ℕ → List ℕ → ℕ → Files → Option Board → Handing
-export_handing name limit folder now shelf None = refuses NotMade shelf None
+export_handing name limit folder now shelf None = refused_handing NotMade shelf None
 export_handing name limit folder now shelf (Some b) = handing_of folder shelf b (export_of name limit now b)
 
 abbrev pub exports : List ℕ → ℕ → List ℕ → ℕ → Act State

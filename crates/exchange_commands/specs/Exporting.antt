@@ -7,16 +7,16 @@ use Rattle.door_export.specs.declared.exporting.ExportError.TheVariants as error
 use Rattle.shelf_files.specs.declared.refusal.Refusal.TheVariants.{NoUser, Limit, Packets}
 
 -- (A board that is kept is in no doubt.)
-abbrev pub halt_of : ExportError → BoardHalt
-halt_of error.NoUser = Refused NoUser
-halt_of error.Limit = Refused Limit
-halt_of error.Packets = Refused Packets
-halt_of error.DiskFault = DiskFault
-halt_of error.Doubt = DiskFault
-halt_of (error.Damaged d) = Damaged d
-halt_of error.ShelfFault = ShelfFault
-halt_of error.OutOfMemory = OutOfMemory
+abbrev pub export_halt : ExportError → BoardHalt
+export_halt error.NoUser = Refused NoUser
+export_halt error.Limit = Refused Limit
+export_halt error.Packets = Refused Packets
+export_halt error.DiskFault = DiskFault
+export_halt error.Doubt = DiskFault
+export_halt (error.Damaged d) = Damaged d
+export_halt error.ShelfFault = ShelfFault
+export_halt error.OutOfMemory = OutOfMemory
 
-abbrev pub halted : {T : Type 0} → Result T ExportError → Result T BoardHalt
-halted (Ok value) = Ok value
-halted (Err e) = Err (halt_of e)
+abbrev pub export_halted : {T : Type 0} → Result T ExportError → Result T BoardHalt
+export_halted (Ok value) = Ok value
+export_halted (Err e) = Err (export_halt e)

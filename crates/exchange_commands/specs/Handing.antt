@@ -16,8 +16,8 @@ pub record Handing : Type 0 where
   pub reply : Reply
 
 -- it is refused, and leaves both
-abbrev pub refuses : Refusal → Files → Option Board → Handing
-refuses why shelf board = record { board = board; shelf = shelf; reply = refused why }
+abbrev pub refused_handing : Refusal → Files → Option Board → Handing
+refused_handing why shelf board = record { board = board; shelf = shelf; reply = refused why }
 
 -- a board, or none, is handed out so
 abbrev pub Hands : (Option Board → Handing → Type 0) → Option Board → State → Files → Reply → Type 0
@@ -25,17 +25,17 @@ Hands hands board next shelf reply =
     (handing : Handing) × hands board handing × (next ≡ state_of handing.board) × (shelf ≡ handing.shelf) × (reply ≡ handing.reply)
 
 -- Damage comes before all else, as for every command that touches the board.
-abbrev pub OnState : (Option Board → Handing → Type 0) → State → Files → State → Files → Reply → Type 0
-OnState hands NotMade old next new reply = Hands hands None next new reply
-OnState hands (Made b) old next new reply = Hands hands (Some b) next new reply
-OnState hands (Old b) old next new reply = Hands hands (Some b) next new reply
-OnState hands (Spoiled held) old next new reply = (next ≡ Spoiled held) × (new ≡ old) × SaysDamage held reply
+abbrev pub HandsOnState : (Option Board → Handing → Type 0) → State → Files → State → Files → Reply → Type 0
+HandsOnState hands NotMade old next new reply = Hands hands None next new reply
+HandsOnState hands (Made b) old next new reply = Hands hands (Some b) next new reply
+HandsOnState hands (Old b) old next new reply = Hands hands (Some b) next new reply
+HandsOnState hands (Spoiled held) old next new reply = (next ≡ Spoiled held) × (new ≡ old) × SaysDamage held reply
 
 -- a command that changes the board, and then writes these names
 abbrev pub on_board_then_shelf : List (List ℕ) → (Files → Option Board → Handing → Type 0) → Act State
 on_board_then_shelf names hands = record {
   Step = λ world stepped.
-      OnState (hands world.shelf) world.state world.shelf stepped.world.state stepped.world.shelf (record { text = stepped.reply; class = stepped.class });
+      HandsOnState (hands world.shelf) world.state world.shelf stepped.world.state stepped.world.shelf (record { text = stepped.reply; class = stepped.class });
   reach = board_then_shelf names;
   migrated = migrated;
 }

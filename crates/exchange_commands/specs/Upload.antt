@@ -16,7 +16,7 @@ use Rattle.packet_verdicts.specs.Judged.{refused_count}
 use Rattle.packet_verdicts.specs.declared.outcome.Outcome.{Outcome}
 use Rattle.packet_verdicts.specs.declared.outcome.Outcome.TheVariants.{Posted, Refused}
 use Rattle.shelf_files.specs.Halts.{done}
-use Rattle.shelf_files.specs.ShelfFile.{file_of, rep_limit}
+use Rattle.shelf_files.specs.ShelfFile.{file_within, rep_limit}
 use Rattle.shelf_files.specs.declared.refusal.Refusal.{Refusal}
 use Rattle.shelf_files.specs.declared.refusal.Refusal.TheVariants as refusal
 
@@ -63,7 +63,7 @@ UploadsRead id now b (Ok bytes) turn = (r : Result Upload UploadRefusal) × Uplo
 -- the user, who is looked for before the file
 abbrev pub UploadsFile : List ℕ → ℕ → Files → Board → Option ℕ → Turn → Type 0
 UploadsFile file now shelf b None turn = turn ≡ refuses refusal.NoUser (Some b)
-UploadsFile file now shelf b (Some id) turn = UploadsRead id now b (file_of shelf file rep_limit) turn
+UploadsFile file now shelf b (Some id) turn = UploadsRead id now b (file_within shelf file rep_limit) turn
 
 abbrev pub Uploads : List ℕ → List ℕ → ℕ → Files → Option Board → Turn → Type 0
 Uploads name file now shelf None turn = turn ≡ refuses refusal.NotMade None

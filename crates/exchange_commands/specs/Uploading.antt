@@ -7,18 +7,18 @@ use Rattle.door_upload.specs.declared.answer.UploadError.TheVariants as error
 use Rattle.shelf_files.specs.declared.refusal.Refusal.TheVariants as refusal
 
 -- (A board that is kept is in no doubt.)
-abbrev pub halt_of : UploadError → BoardHalt
-halt_of error.NoUser = Refused refusal.NoUser
-halt_of (error.Broken fault) = Refused (refusal.Broken fault)
-halt_of error.NoBoardId = Refused refusal.NoBoardId
-halt_of error.OtherBoard = Refused refusal.OtherBoard
-halt_of error.Uploads = Refused refusal.Uploads
-halt_of (error.Size bytes) = Refused (refusal.Size bytes)
-halt_of error.DiskFault = DiskFault
-halt_of error.Doubt = DiskFault
-halt_of (error.Damaged d) = Damaged d
-halt_of error.OutOfMemory = OutOfMemory
+abbrev pub upload_halt : UploadError → BoardHalt
+upload_halt error.NoUser = Refused refusal.NoUser
+upload_halt (error.Broken fault) = Refused (refusal.Broken fault)
+upload_halt error.NoBoardId = Refused refusal.NoBoardId
+upload_halt error.OtherBoard = Refused refusal.OtherBoard
+upload_halt error.Uploads = Refused refusal.Uploads
+upload_halt (error.Size bytes) = Refused (refusal.Size bytes)
+upload_halt error.DiskFault = DiskFault
+upload_halt error.Doubt = DiskFault
+upload_halt (error.Damaged d) = Damaged d
+upload_halt error.OutOfMemory = OutOfMemory
 
-abbrev pub halted : {T : Type 0} → Result T UploadError → Result T BoardHalt
-halted (Ok value) = Ok value
-halted (Err e) = Err (halt_of e)
+abbrev pub upload_halted : {T : Type 0} → Result T UploadError → Result T BoardHalt
+upload_halted (Ok value) = Ok value
+upload_halted (Err e) = Err (upload_halt e)

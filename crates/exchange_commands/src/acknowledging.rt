@@ -10,7 +10,7 @@ ghost use Rattle.entry_runs.specs.Door.{World};
 ghost use Rattle.entry_runs.specs.Entry.{IsAt, Works};
 ghost use Rattle.entry_runs.specs.Promise.{ended};
 ghost use Rattle.exchange_commands.specs.Ack.{acknowledged_line, acknowledges};
-ghost use Rattle.exchange_commands.specs.Acknowledging.{halted};
+ghost use Rattle.exchange_commands.specs.Acknowledging.{ack_halted};
 
 use board_commands::{BoardHalt, find, keep_board, take_board};
 use door_export::{AckError, acknowledge};
@@ -22,7 +22,7 @@ use std::alloc::Global;
 /// What an acknowledgement on a board in no doubt answers, or why the command isn't carried out.
 fn answered(acknowledged: Result<(), AckError>) -> Result<(), BoardHalt>
     requires { acknowledged ≢ Err Doubt }
-    ensures { result ≡ halted acknowledged }
+    ensures { result ≡ ack_halted acknowledged }
 {
     match acknowledged {
         Ok(()) => Ok(()),

@@ -10,7 +10,7 @@ ghost use Rattle.entry_runs.specs.Door.{World};
 ghost use Rattle.entry_runs.specs.Entry.{IsAt, Works};
 ghost use Rattle.entry_runs.specs.Promise.{ended};
 ghost use Rattle.exchange_commands.specs.Export.{exports, packet_line};
-ghost use Rattle.exchange_commands.specs.Exporting.{halted};
+ghost use Rattle.exchange_commands.specs.Exporting.{export_halted};
 
 use board_commands::{BoardHalt, find, keep_board, take_board};
 use door_export::{ExportError, Exported};
@@ -22,7 +22,7 @@ use std::alloc::Global;
 /// What an export of a board in no doubt answers, or why the command isn't carried out.
 fn answered(exported: Result<Exported, ExportError>) -> Result<Exported, BoardHalt>
     requires { exported ≢ Err Doubt }
-    ensures { result ≡ halted exported }
+    ensures { result ≡ export_halted exported }
 {
     match exported {
         Ok(packet) => Ok(packet),

@@ -14,7 +14,7 @@ ghost use Rattle.intent_journal.specs.Journal.{IsClosed};
 ghost use Rattle.mail_board.specs.Readers.{user_id};
 ghost use Rattle.shelf_files.specs.declared.refusal.Refusal.TheVariants as refusal;
 ghost use Rattle.exchange_commands.specs.Upload.{uploaded_text, uploads};
-ghost use Rattle.exchange_commands.specs.Uploading.{halted};
+ghost use Rattle.exchange_commands.specs.Uploading.{upload_halted};
 
 use board_commands::{BoardHalt, board_in, find, keep_board, take_board};
 use door_outside::{Host, Shelf, ShelfName};
@@ -36,7 +36,7 @@ fn look_for(board: &Board, name: &[u8]) -> Result<(), BoardHalt>
 /// What an upload to a board in no doubt answers, or why the command isn't carried out.
 fn answered(uploaded: Result<Uploaded, UploadError>) -> Result<Uploaded, BoardHalt>
     requires { uploaded ≢ Err Doubt }
-    ensures { result ≡ halted uploaded }
+    ensures { result ≡ upload_halted uploaded }
 {
     match uploaded {
         Ok(answer) => Ok(answer),

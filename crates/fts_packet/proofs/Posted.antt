@@ -8,7 +8,7 @@ use Rattle.jam_records.specs.declared.message.Kind.{Kind}
 use Rattle.jam_records.specs.declared.message.Kind.TheVariants.{Local, Echo, Net}
 use Rattle.jam_records.specs.declared.message.Message.{Message}
 use Rattle.jam_layout.proofs.AddressLaws.{is_test}
-use Rattle.jam_layout.proofs.BoolTests.{or_false, not_not}
+use Rattle.damage_rules.proofs.BoolTests.{or_false, not_not}
 use Rattle.jam_layout.specs.Address.{is_address}
 use Rattle.jam_layout.specs.Fields.{is_text}
 use Rattle.jam_layout.specs.Marks.{is_net}
@@ -21,8 +21,8 @@ use Rattle.netmail_rules.specs.Fits.{with_msgid}
 use Rattle.netmail_rules.specs.Rules.{names_nobody, first_refusing}
 use Rattle.fts_packet.specs.Packet.{are_parts, fts_address, PackedMessageReads, PackedMessagesRead, FtsReads}
 use Rattle.fts_packet.specs.Lines.{is_kludge, is_id, id_or_none, body_line, body_of_lines, behind_tag, tag_of, first_value}
-use Rattle.fts_packet.specs.Draft.{is_netmail, draft_of}
-use Rattle.fts_packet.specs.Tossed.{is_echo, takes, place_for, rules_of, unless_refused, verdict_at, toss_verdict}
+use Rattle.fts_packet.specs.Draft.{is_net_letter, tossed_draft}
+use Rattle.fts_packet.specs.Tossed.{is_echo, takes_tag, place_for, toss_rules, tossed_unless_refused, verdict_by_place, toss_verdict}
 use Rattle.fts_packet.specs.declared.packet.FtsMessage.{FtsMessage}
 use Rattle.fts_packet.specs.declared.rule.TossRule.{TossRule}
 use Rattle.fts_packet.specs.declared.toss.TossDraft.TheVariants.{Post}
@@ -135,7 +135,7 @@ not_first : (b : Bool) (r : TossRule) (o : Option TossRule) → cond b (Some r) 
 not_first true r o e = absurd (cc)
 not_first false r o e = (refl, e)
 
-passed_in : (m : FtsMessage) (draft : Message) → first_refusing (rules_of m draft) ≡ None → Passed m draft
+passed_in : (m : FtsMessage) (draft : Message) → first_refusing (toss_rules m draft) ≡ None → Passed m draft
 passed_in m draft e =
     let a = not_first (names_nobody m.to) _ _ e in
     let b = not_first (names_nobody m.from) _ _ a.1 in
@@ -149,18 +149,18 @@ record WasPosted (s : Setup) (m : FtsMessage) (made draft : Message) (place : �
   same : made ≡ draft
   passed : Passed m made
 
-posted_in : (s : Setup) (m : FtsMessage) (made draft : Message) (p : Option ℕ) (place : ℕ) (o : Option TossRule) → place_for (tag_of m.lines) s ≡ p → first_refusing (rules_of m made) ≡ o
-    → verdict_at m made p ≡ Post place draft → WasPosted s m made draft place
+posted_in : (s : Setup) (m : FtsMessage) (made draft : Message) (p : Option ℕ) (place : ℕ) (o : Option TossRule) → place_for (tag_of m.lines) s ≡ p → first_refusing (toss_rules m made) ≡ o
+    → verdict_by_place m made p ≡ Post place draft → WasPosted s m made draft place
 posted_in s m made draft None place o at rules e = absurd (cc)
-posted_in s m made draft (Some n) place (Some r) at rules e = absurd (let refuses : unless_refused (Some r) n made ≡ Post place draft = ap (λ x. unless_refused x n made) (sym rules) ∙ e in cc)
+posted_in s m made draft (Some n) place (Some r) at rules e = absurd (let refuses : tossed_unless_refused (Some r) n made ≡ Post place draft = ap (λ x. tossed_unless_refused x n made) (sym rules) ∙ e in cc)
 posted_in s m made draft (Some n) place None at rules e =
-    let posted : Post n made ≡ Post place draft = ap (λ x. unless_refused x n made) (sym rules) ∙ e in
+    let posted : Post n made ≡ Post place draft = ap (λ x. tossed_unless_refused x n made) (sym rules) ∙ e in
     let here : n ≡ place = cc in
     record { found = at ∙ ap Some here; same = cc; passed = passed_in m made rules }
 
-was_posted : (s : Setup) (m : FtsMessage) (now place : ℕ) (draft : Message) → toss_verdict s m now ≡ Post place draft → WasPosted s m (draft_of m now) draft place
+was_posted : (s : Setup) (m : FtsMessage) (now place : ℕ) (draft : Message) → toss_verdict s m now ≡ Post place draft → WasPosted s m (tossed_draft m now) draft place
 unfolding toss_verdict
-was_posted s m now place draft e = posted_in s m (draft_of m now) draft (place_for (tag_of m.lines) s) place (first_refusing (rules_of m (draft_of m now))) refl refl e
+was_posted s m now place draft e = posted_in s m (tossed_draft m now) draft (place_for (tag_of m.lines) s) place (first_refusing (toss_rules m (tossed_draft m now))) refl refl e
 
 -- ---- the conference
 taken_at : (n : ℕ) (all : List Conference) (i : ℕ) (d c : Conference) → i < length (take n all) → slice_get all i ≡ Some c → get_or (take n all) i d ≡ c
@@ -169,10 +169,10 @@ taken_at (suc n) [] i d c within e = absurd (omega (arith, within))
 taken_at (suc n) (x ∷ all) zero d c within e = cc
 taken_at (suc n) (x ∷ all) (suc i) d c within e = taken_at n all i d c (omega (arith, within)) e
 
-takes_it : (o : Option (List ℕ)) (s : Setup) (place : ℕ) (c : Conference) → place_for o s ≡ Some place → slice_get s.conferences place ≡ Some c → takes o c ≡ true
+takes_it : (o : Option (List ℕ)) (s : Setup) (place : ℕ) (c : Conference) → place_for o s ≡ Some place → slice_get s.conferences place ≡ Some c → takes_tag o c ≡ true
 takes_it o s place c found here =
-    let p = position-Some (takes o) (take 255 s.conferences) place c found in
-    sym (ap (takes o) (taken_at 255 s.conferences place c c p.0 here)) ∙ p.1
+    let p = position-Some (takes_tag o) (take 255 s.conferences) place c found in
+    sym (ap (takes_tag o) (taken_at 255 s.conferences place c c p.0 here)) ∙ p.1
 
 is_echo_alone : (k : Kind) → is_echo k ≡ true → is_net k ≡ true → ⊥
 is_echo_alone Local e n = cc
@@ -180,7 +180,7 @@ is_echo_alone Echo e n = cc
 is_echo_alone Net e n = cc
 
 -- what a net conference takes is net mail
-net_mail : (o : Option (List ℕ)) (c : Conference) → takes o c ≡ true → is_net c.kind ≡ true → not (is_some o) ≡ true
+net_mail : (o : Option (List ℕ)) (c : Conference) → takes_tag o c ≡ true → is_net c.kind ≡ true → not (is_some o) ≡ true
 net_mail None c t n = refl
 net_mail (Some tag) c t n = absurd (is_echo_alone c.kind (and_parts (is_echo c.kind) _ t).0 n)
 
@@ -189,13 +189,13 @@ destination_fits : (b : Bool) (text : List ℕ) → EmptyOr is_address text → 
 destination_fits true text fits = fits
 destination_fits false text fits = inl refl
 
-draft_fits : (m : FtsMessage) (c : Conference) (now : ℕ) (msgid : List ℕ) → IsRead m → Passed m (draft_of m now) → takes (tag_of m.lines) c ≡ true
-    → IsTrue (is_text 80 msgid) → IsTyped (with_msgid msgid (draft_of m now)) → IsMessage c.kind (with_msgid msgid (draft_of m now))
-unfolding draft_of
+draft_fits : (m : FtsMessage) (c : Conference) (now : ℕ) (msgid : List ℕ) → IsRead m → Passed m (tossed_draft m now) → takes_tag (tag_of m.lines) c ≡ true
+    → IsTrue (is_text 80 msgid) → IsTyped (with_msgid msgid (tossed_draft m now)) → IsMessage c.kind (with_msgid msgid (tossed_draft m now))
+unfolding tossed_draft
 draft_fits m c now msgid read passed takes_m id types = record {
   bytes = types.bytes;
   origin = read.origin;
-  destination = destination_fits (is_netmail m) m.destination read.destination;
+  destination = destination_fits (is_net_letter m) m.destination read.destination;
   from = name_text 36 m.from (omega (arith, read.from)) passed.from;
   to = name_text 36 m.to (omega (arith, read.to)) passed.to;
   msgid = id;
@@ -214,11 +214,11 @@ pub posted_is_message : (bytes : List ℕ) (ms : List FtsMessage) (m : FtsMessag
 posted_is_message bytes ms m s c now place draft msgid reads among posted here id types =
     let w = was_posted s m now place draft posted in
     let read = read_at reads.header reads.body ms m among.0 reads.each among.1 among.2 in
-    let own : IsTyped (with_msgid msgid (draft_of m now)) = subst (λ (d : Message). IsTyped (with_msgid msgid d)) (sym w.same) types in
+    let own : IsTyped (with_msgid msgid (tossed_draft m now)) = subst (λ (d : Message). IsTyped (with_msgid msgid d)) (sym w.same) types in
     subst (λ (d : Message). IsMessage c.kind (with_msgid msgid d)) w.same (draft_fits m c now msgid read w.passed (takes_it (tag_of m.lines) s place c w.found here) id own)
 
-own_id : (m : FtsMessage) (now : ℕ) → EmptyOr (is_text 80) (draft_of m now).msgid
-unfolding draft_of
+own_id : (m : FtsMessage) (now : ℕ) → EmptyOr (is_text 80) (tossed_draft m now).msgid
+unfolding tossed_draft
 own_id m now = id_fits (first_value (1 ∷ codes "MSGID: ") m.lines)
 
 pub posted_id : (s : Setup) (m : FtsMessage) (now place : ℕ) (draft : Message) → toss_verdict s m now ≡ Post place draft → EmptyOr (is_text 80) draft.msgid

@@ -11,13 +11,13 @@ use Rattle.fts_packet.specs.declared.packet.FtsMessage.{FtsMessage}
 use Rattle.fts_packet.specs.declared.parts.Parts.{Parts}
 
 -- the answer, or want of memory, which may come at any time
-abbrev pub UnlessMemory : {T : Type 0} → Result T FtsError → Result T FtsError → Type 0
-UnlessMemory result answer = (result ≡ answer) ⊎ (result ≡ Err OutOfMemory)
+abbrev pub FtsUnlessMemory : {T : Type 0} → Result T FtsError → Result T FtsError → Type 0
+FtsUnlessMemory result answer = (result ≡ answer) ⊎ (result ≡ Err OutOfMemory)
 
 -- a rule is broken so at a place, or there was no memory
-abbrev pub FaultOrMemory : (FtsRule → ℕ → Type 0) → FtsError → Type 0
-FaultOrMemory P (Fault rule at) = P rule at
-FaultOrMemory P OutOfMemory = Unit {0}
+abbrev pub FtsFaultOrMemory : (FtsRule → ℕ → Type 0) → FtsError → Type 0
+FtsFaultOrMemory P (Fault rule at) = P rule at
+FtsFaultOrMemory P OutOfMemory = Unit {0}
 
 -- 34 bytes of a message, and what follows them
 pub record FrontTaken (bytes front behind : List ℕ) : Type 0 where

@@ -1,15 +1,8 @@
 -- The text of a packed message (FTS-0001, "Message text"): a carriage return ends a line, and line feeds are dropped.
-use Rattle.std.specs.Prelude.{ℕ, List, [], ◌∷◌, filter, not, ◌==◌, if◌then◌else◌}
+use Rattle.std.specs.Prelude.{ℕ, List, [], ◌∷◌, ◌==◌, if◌then◌else◌}
 use Rattle.std.specs.List.{onto_first}
-
--- without the line feeds
-abbrev pub without_feeds : List ℕ → List ℕ
-without_feeds text = filter (λ b. not (b == 0x0A)) text
-
--- a line that is there where it isn't empty
-abbrev pub if_any : List ℕ → List (List ℕ)
-if_any [] = []
-if_any (b ∷ line) = (b ∷ line) ∷ []
+pub use Rattle.qwk_blocks.specs.Text.{if_any}
+pub use Rattle.text_fields.specs.Lines.{without_feeds}
 
 -- The lines. What follows the last carriage return is one more where it isn't empty.
 abbrev pub text_lines : List ℕ → List (List ℕ)

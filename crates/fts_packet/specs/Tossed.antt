@@ -10,7 +10,7 @@ use Rattle.netmail_rules.specs.AddressLine.{is_plain}
 use Rattle.netmail_rules.specs.Rules.{names_nobody, first_refusing}
 use Rattle.setup_file.specs.declared.conference.Conference.{Conference}
 use Rattle.setup_file.specs.declared.setup.Setup.{Setup}
-use Rattle.fts_packet.specs.Draft.{draft_of}
+use Rattle.fts_packet.specs.Draft.{tossed_draft}
 use Rattle.fts_packet.specs.Lines.{tag_of}
 use Rattle.fts_packet.specs.declared.packet.FtsMessage.{FtsMessage}
 use Rattle.fts_packet.specs.declared.rule.TossRule.{TossRule}
@@ -24,13 +24,13 @@ is_echo Echo = true
 is_echo Net = false
 
 -- echomail goes to an echo conference of the tag's name, and net mail to a net conference
-abbrev pub takes : Option (List ℕ) → Conference → Bool
-takes (Some tag) c = is_echo c.kind && str_eq_ignore_ascii_case c.name tag
-takes None c = is_net c.kind
+abbrev pub takes_tag : Option (List ℕ) → Conference → Bool
+takes_tag (Some tag) c = is_echo c.kind && str_eq_ignore_ascii_case c.name tag
+takes_tag None c = is_net c.kind
 
 -- the place of the first such conference, among the 255 that places are counted for; a valid setup has at most 64
 abbrev pub place_for : Option (List ℕ) → Setup → Option ℕ
-place_for tag s = position (takes tag) (take 255 s.conferences)
+place_for tag s = position (takes_tag tag) (take 255 s.conferences)
 
 -- no conference takes the message
 abbrev pub missing : Option (List ℕ) → TossRule
@@ -38,8 +38,8 @@ missing (Some tag) = rule.Area
 missing None = rule.Net
 
 -- the rules of a message that a conference takes, in their order, each with whether it refuses
-abbrev pub rules_of : FtsMessage → Message → List (TossRule × Bool)
-rules_of m draft =
+abbrev pub toss_rules : FtsMessage → Message → List (TossRule × Bool)
+toss_rules m draft =
     (rule.To, names_nobody m.to)
     ∷ (rule.From, names_nobody m.from)
     ∷ (rule.Subject, not (is_plain m.subject))
@@ -47,14 +47,14 @@ rules_of m draft =
     ∷ []
 
 -- the draft in a place, unless a rule refuses
-abbrev pub unless_refused : Option TossRule → ℕ → Message → TossDraft
-unless_refused (Some refusing) place draft = Refused refusing
-unless_refused None place draft = Post place draft
+abbrev pub tossed_unless_refused : Option TossRule → ℕ → Message → TossDraft
+tossed_unless_refused (Some refusing) place draft = Refused refusing
+tossed_unless_refused None place draft = Post place draft
 
 -- the verdict of a message with this draft, by the place that takes it
-abbrev pub verdict_at : FtsMessage → Message → Option ℕ → TossDraft
-verdict_at m draft None = Refused (missing (tag_of m.lines))
-verdict_at m draft (Some place) = unless_refused (first_refusing (rules_of m draft)) place draft
+abbrev pub verdict_by_place : FtsMessage → Message → Option ℕ → TossDraft
+verdict_by_place m draft None = Refused (missing (tag_of m.lines))
+verdict_by_place m draft (Some place) = tossed_unless_refused (first_refusing (toss_rules m draft)) place draft
 
 unfoldable pub toss_verdict : Setup → FtsMessage → ℕ → TossDraft
-toss_verdict s m now = verdict_at m (draft_of m now) (place_for (tag_of m.lines) s)
+toss_verdict s m now = verdict_by_place m (tossed_draft m now) (place_for (tag_of m.lines) s)

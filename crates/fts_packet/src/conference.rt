@@ -1,14 +1,14 @@
 //! Which conference takes a packed message.
 ghost use Rattle.std.specs.Prelude.{◌≡◌, ◌<◌, ◌≤◌, Some, None, length, position, take, IfSome};
 ghost use Rattle.std.specs.Option.{option_copied};
-ghost use Rattle.fts_packet.specs.Tossed.{takes, place_for as place_for_of};
+ghost use Rattle.fts_packet.specs.Tossed.{takes_tag, place_for as place_for_of};
 
 use jam_records::Kind;
 use setup_file::{Conference, Setup};
 
 /// Whether a conference takes the messages of a tag.
 fn takes_echo(conference: &Conference, tag: &[u8]) -> bool
-    ensures { result ≡ takes (Some tag.now) conference.now }
+    ensures { result ≡ takes_tag (Some tag.now) conference.now }
 {
     let name = conference.name.as_slice();
     matches!(conference.kind, Kind::Echo) && name.eq_ignore_ascii_case(tag)
@@ -16,7 +16,7 @@ fn takes_echo(conference: &Conference, tag: &[u8]) -> bool
 
 /// Whether a conference takes net mail.
 fn takes_netmail(conference: &Conference) -> bool
-    ensures { result ≡ takes None conference.now }
+    ensures { result ≡ takes_tag None conference.now }
 {
     matches!(conference.kind, Kind::Net)
 }
@@ -24,7 +24,7 @@ fn takes_netmail(conference: &Conference) -> bool
 /// The place of the first conference that takes the messages of a tag.
 fn echo_place(conferences: &[Conference], tag: &[u8]) -> Option<usize>
     requires { length conferences.now ≤ 255 }
-    ensures place { result ≡ position (takes (Some tag.now)) conferences.now }
+    ensures place { result ≡ position (takes_tag (Some tag.now)) conferences.now }
     ensures small { IfSome result (λ place. place < 255) }
 {
     conferences.iter().position(|c| takes_echo(c, tag))
@@ -33,7 +33,7 @@ fn echo_place(conferences: &[Conference], tag: &[u8]) -> Option<usize>
 /// The place of the first that takes net mail.
 fn net_place(conferences: &[Conference]) -> Option<usize>
     requires { length conferences.now ≤ 255 }
-    ensures place { result ≡ position (takes None) conferences.now }
+    ensures place { result ≡ position (takes_tag None) conferences.now }
     ensures small { IfSome result (λ place. place < 255) }
 {
     conferences.iter().position(|c| takes_netmail(c))

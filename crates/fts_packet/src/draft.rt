@@ -1,6 +1,6 @@
 ghost use Rattle.std.specs.Prelude.{◌≡◌, ◌++◌, IfOk, OnOk};
 ghost use Rattle.fts_packet.specs.Lines.{has_tag as has_tag_of, behind_tag as behind_tag_of, is_kludge as is_kludge_of, body_line, body_of_lines as body_lines_of, msgid_of, replyid_of};
-ghost use Rattle.fts_packet.specs.Draft.{is_netmail as is_netmail_of, destination_of as destination_in, draft_of as draft_in};
+ghost use Rattle.fts_packet.specs.Draft.{is_net_letter as is_netmail_of, tossed_destination as destination_in, tossed_draft as draft_in};
 
 use crate::date::read_date;
 use crate::packet::FtsMessage;
@@ -87,7 +87,7 @@ fn destination_of(alloc: Global, message: &FtsMessage) -> Result<Bytes, AllocErr
 }
 
 /// The draft of a message that is tossed at this moment.
-#[tactic(auto, unfolding(crate::specs::Draft::draft_of))]
+#[tactic(auto, unfolding(crate::specs::Draft::tossed_draft))]
 pub fn draft_of(alloc: Global, message: &FtsMessage, now: u32) -> Result<Message, AllocError>
     ensures { IfOk result (λ draft. draft ≡ draft_in message.now now) }
 {

@@ -1,7 +1,7 @@
 ghost use Rattle.std.specs.Prelude.{◌≡◌, ◌<◌, ◌≤◌, ◌^◌, ◌-◌, ℕ, List, Ok, Err, length, MatchResult, IfOk};
 ghost use Rattle.fts_packet.specs.Packet.{FtsReads};
 ghost use Rattle.fts_packet.specs.Fault.{FtsFault};
-ghost use Rattle.fts_packet.specs.Answer.{HeaderTaken, FaultOrMemory, UnlessMemory};
+ghost use Rattle.fts_packet.specs.Answer.{HeaderTaken, FtsFaultOrMemory, FtsUnlessMemory};
 ghost use Rattle.fts_packet.specs.declared.fault.FtsError.TheVariants.{Fault};
 ghost use Rattle.fts_packet.specs.declared.fault.FtsRule.{FtsRule};
 ghost use Rattle.fts_packet.specs.declared.packet.FtsMessage.{FtsMessage};
@@ -20,7 +20,7 @@ const HEADER: usize = 58;
 fn header_of(bytes: &[u8]) -> Result<(&[u8], &[u8]), FtsError>
     ensures { MatchResult result
         (λ parts. HeaderTaken bytes.now parts.0.now parts.1.now)
-        (FaultOrMemory (FtsFault bytes.now)) }
+        (FtsFaultOrMemory (FtsFault bytes.now)) }
 {
     if bytes.len() < HEADER {
         return Err(FtsError::Fault {
@@ -54,7 +54,7 @@ fn breaks(bytes: &[u8], rest: &[u8], rule: FtsRule) -> FtsError
 /// The messages of a packet, or its first fault.
 fn packet_in(alloc: Global, bytes: &[u8]) -> Result<FtsPacket, FtsError>
     requires { length bytes.now < 2 ^ 31 }
-    ensures { MatchResult result (FtsReads bytes.now) (FaultOrMemory (FtsFault bytes.now)) }
+    ensures { MatchResult result (FtsReads bytes.now) (FtsFaultOrMemory (FtsFault bytes.now)) }
 {
     let (header, behind) = header_of(bytes)?;
     let mut packet = FtsPacket::new(alloc);
@@ -77,11 +77,11 @@ pub fn read_packet(alloc: Global, bytes: &[u8]) -> Result<FtsPacket, FtsError>
 
     // Messages are answered exactly where the bytes read as these, unless memory runs out.
     ensures ok { IfOk result (λ messages. FtsReads bytes.now messages) }
-    ensures only_ok { (messages : List FtsMessage) → FtsReads bytes.now messages → UnlessMemory result (Ok messages) }
+    ensures only_ok { (messages : List FtsMessage) → FtsReads bytes.now messages → FtsUnlessMemory result (Ok messages) }
 
     // So is a fault, exactly where it is the first one.
     ensures fault { (rule : FtsRule) (at : ℕ) → result ≡ Err (Fault rule at) → FtsFault bytes.now rule at }
-    ensures only_fault { (rule : FtsRule) (at : ℕ) → FtsFault bytes.now rule at → UnlessMemory result (Err (Fault rule at)) }
+    ensures only_fault { (rule : FtsRule) (at : ℕ) → FtsFault bytes.now rule at → FtsUnlessMemory result (Err (Fault rule at)) }
 {
     packet_in(alloc, bytes)
 }

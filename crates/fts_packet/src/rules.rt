@@ -1,7 +1,7 @@
 ghost use Rattle.std.specs.Prelude.{◌≡◌};
 ghost use Rattle.std.specs.Option.{option_copied};
 ghost use Rattle.netmail_rules.specs.Rules.{names_nobody as names_nobody_of, first_refusing as first_refusing_of};
-ghost use Rattle.fts_packet.specs.Tossed.{rules_of as rules_in, missing as missing_of};
+ghost use Rattle.fts_packet.specs.Tossed.{toss_rules as rules_in, missing as missing_of};
 
 use crate::packet::FtsMessage;
 use crate::rule::TossRule;

@@ -4,7 +4,7 @@ use Rattle.std.proofs.lemmas.List.Elements.{All-nil, All-cons, All-head, All-tai
 use Rattle.std.specs.List.{Contains}
 use Rattle.std.specs.Option.{MatchOption}
 use Rattle.std.specs.Borrow.{Bor}
-use Rattle.import_sheet.specs.Header.{BeginsWithWord, HeaderReads, ValueFits, rule_of}
+use Rattle.import_sheet.specs.Header.{BeginsWithWord, HeaderLineReads, ValueFits, rule_of_field}
 use Rattle.import_sheet.specs.Sheet.{Has, HasNone, Headers, HeaderGives}
 use Rattle.import_sheet.specs.Fault.{LineBreaks, no_word, word_again, bad_value, too_soon}
 use Rattle.import_sheet.specs.State.{HoldsValues, value_in, with_value}
@@ -19,7 +19,7 @@ abbrev NotOf : Field → List ℕ → Type 0
 NotOf field line = BeginsWithWord field line → ⊥
 
 -- one header line more
-pub header_push : (hs : List (List ℕ)) (line value : List ℕ) (field : Field) → Headers hs → HasNone hs field → HeaderReads line field value → ValueFits field value → Headers (hs ++ line ∷ [])
+pub header_push : (hs : List (List ℕ)) (line value : List ℕ) (field : Field) → Headers hs → HasNone hs field → HeaderLineReads line field value → ValueFits field value → Headers (hs ++ line ∷ [])
 header_push [] line value field h none reads fits = (field, value, reads, fits, All-nil (NotOf field), tt)
 header_push (x ∷ hs) line value field h none reads fits = (
   h.0,
@@ -36,7 +36,7 @@ header_push (x ∷ hs) line value field h none reads fits = (
 pub record IsNew (hs : List (List ℕ)) (line : List ℕ) : Type 0 where
   pub field : Field
   pub value : List ℕ
-  pub reads : HeaderReads line field value
+  pub reads : HeaderLineReads line field value
   pub fits : ValueFits field value
   pub none : HasNone hs field
 
@@ -84,7 +84,7 @@ breaks_headers hs line rule (word_again field e b has) h =
 breaks_headers hs line rule (bad_value field value e none reads bad) h =
     let r : IsNew hs line = last_header hs line h in
     let same : r.field ≡ field = word_once r.field field line (begins r.field line r.value r.reads) (begins field line value reads) in
-    let reads' : HeaderReads line field r.value = subst (λ (f : Field). HeaderReads line f r.value) same r.reads in
+    let reads' : HeaderLineReads line field r.value = subst (λ (f : Field). HeaderLineReads line f r.value) same r.reads in
     let fits : ValueFits field r.value = subst (λ (f : Field). ValueFits f r.value) same r.fits in
     bad (subst (ValueFits field) (value_once field line r.value value reads' reads) fits)
 breaks_headers hs line rule (too_soon e some empty missing) h = no_empty_header hs (subst (λ (l : List ℕ). Headers (hs ++ l ∷ [])) empty h)
@@ -111,7 +111,7 @@ breaks_once hs line q r (bad_value field value e new reads bad) (word_again fiel
     absurd (has_not_none hs field (subst (Has hs) same has') new)
 breaks_once hs line q r (bad_value field value e new reads bad) (bad_value field' value' e' new' reads' bad') =
     let same : field ≡ field' = word_once field field' line (begins field line value reads) (begins field' line value' reads') in
-    e ∙ (ap rule_of same ∙ sym e')
+    e ∙ (ap rule_of_field same ∙ sym e')
 breaks_once hs line q r (bad_value field value e new reads bad) (too_soon e' some empty missing) = absurd (begins_some field line (begins field line value reads) empty)
 breaks_once hs line q r (too_soon e some empty missing) (no_word e' some' none') = absurd (some' empty)
 breaks_once hs line q r (too_soon e some empty missing) (word_again field e' b has) = absurd (begins_some field line b empty)
@@ -124,7 +124,7 @@ contains_cases x xs y (zero, lt, e) = inl e
 contains_cases x xs y (suc k, lt, e) = inr (k, omega arith, e)
 
 -- a field that the first line gives is given by no other
-not_again : (l : List ℕ) (hs : List (List ℕ)) (field : Field) (a b : List ℕ) → Headers (l ∷ hs) → HeaderReads l field a → HeaderGives hs field b → ⊥
+not_again : (l : List ℕ) (hs : List (List ℕ)) (field : Field) (a b : List ℕ) → Headers (l ∷ hs) → HeaderLineReads l field a → HeaderGives hs field b → ⊥
 not_again l hs field a b h reads g =
     let same : h.0 ≡ field = word_once h.0 field l (begins h.0 l h.1 h.2) (begins field l a reads) in
     has_not_none hs field (given_has hs field b g) (subst (HasNone hs) same h.4)
@@ -134,11 +134,11 @@ pub gives_once : (hs : List (List ℕ)) (field : Field) (a b : List ℕ) → Hea
 gives_once [] field a b h x y = absurd (omega (arith, x.1.1))
 gives_once (l ∷ hs) field a b h x y = elim (contains_cases l hs x.0 x.1) [
   | inl e ↦ elim (contains_cases l hs y.0 y.1) [
-    | inl f ↦ value_once field l a b (subst (λ (k : List ℕ). HeaderReads k field a) (sym e) x.2) (subst (λ (k : List ℕ). HeaderReads k field b) (sym f) y.2)
-    | inr m ↦ absurd (not_again l hs field a b h (subst (λ (k : List ℕ). HeaderReads k field a) (sym e) x.2) (y.0, m, y.2))
+    | inl f ↦ value_once field l a b (subst (λ (k : List ℕ). HeaderLineReads k field a) (sym e) x.2) (subst (λ (k : List ℕ). HeaderLineReads k field b) (sym f) y.2)
+    | inr m ↦ absurd (not_again l hs field a b h (subst (λ (k : List ℕ). HeaderLineReads k field a) (sym e) x.2) (y.0, m, y.2))
   ]
   | inr n ↦ elim (contains_cases l hs y.0 y.1) [
-    | inl f ↦ absurd (not_again l hs field b a h (subst (λ (k : List ℕ). HeaderReads k field b) (sym f) y.2) (x.0, n, x.2))
+    | inl f ↦ absurd (not_again l hs field b a h (subst (λ (k : List ℕ). HeaderLineReads k field b) (sym f) y.2) (x.0, n, x.2))
     | inr m ↦ gives_once hs field a b h.5 (x.0, n, x.2) (y.0, m, y.2)
   ]
 ]
@@ -148,26 +148,26 @@ pub gives_fits : (hs : List (List ℕ)) (field : Field) (value : List ℕ) → H
 gives_fits [] field value h x = absurd (omega (arith, x.1.1))
 gives_fits (l ∷ hs) field value h x = elim (contains_cases l hs x.0 x.1) [
   | inl e ↦
-      let reads : HeaderReads l field value = subst (λ (k : List ℕ). HeaderReads k field value) (sym e) x.2 in
+      let reads : HeaderLineReads l field value = subst (λ (k : List ℕ). HeaderLineReads k field value) (sym e) x.2 in
       let same : h.0 ≡ field = word_once h.0 field l (begins h.0 l h.1 h.2) (begins field l value reads) in
-      let first : HeaderReads l field h.1 = subst (λ (f : Field). HeaderReads l f h.1) same h.2 in
+      let first : HeaderLineReads l field h.1 = subst (λ (f : Field). HeaderLineReads l f h.1) same h.2 in
       let fits : ValueFits field h.1 = subst (λ (f : Field). ValueFits f h.1) same h.3 in
       subst (ValueFits field) (value_once field l h.1 value first reads) fits
   | inr n ↦ gives_fits hs field value h.5 (x.0, n, x.2)
 ]
 
 -- the values that are held go on to be, and the new one is
-pub gives_push : (hs : List (List ℕ)) (line value : List ℕ) (field : Field) → HeaderReads line field value → HeaderGives (hs ++ line ∷ []) field value
+pub gives_push : (hs : List (List ℕ)) (line value : List ℕ) (field : Field) → HeaderLineReads line field value → HeaderGives (hs ++ line ∷ []) field value
 gives_push hs line value field reads = (line, Contains-push hs line, reads)
 
 keeps : (hs : List (List ℕ)) (line : List ℕ) (field : Field) (o : Option (Bor (List ℕ))) → (BeginsWithWord field line → ⊥) → MatchOption o (HasNone hs field) (λ v. HeaderGives hs field v.now) → MatchOption o (HasNone (hs ++ line ∷ []) field) (λ v. HeaderGives (hs ++ line ∷ []) field v.now)
 keeps hs line field None other h = All-push (NotOf field) hs line h other
 keeps hs line field (Some v) other h = (h.0, Contains-append_left hs (line ∷ []) h.0 h.1, h.2)
 
-not_other : (f g : Field) (line value : List ℕ) → HeaderReads line f value → (f ≡ g → ⊥) → BeginsWithWord g line → ⊥
+not_other : (f g : Field) (line value : List ℕ) → HeaderLineReads line f value → (f ≡ g → ⊥) → BeginsWithWord g line → ⊥
 not_other f g line value reads other b = other (word_once f g line (begins f line value reads) b)
 
-pub holds_push : (hs : List (List ℕ)) (line : List ℕ) (found : Found) (value : Bor (List ℕ)) (f : Field) → HeaderReads line f value.now → HoldsValues hs found → HoldsValues (hs ++ line ∷ []) (with_value found f value)
+pub holds_push : (hs : List (List ℕ)) (line : List ℕ) (found : Found) (value : Bor (List ℕ)) (f : Field) → HeaderLineReads line f value.now → HoldsValues hs found → HoldsValues (hs ++ line ∷ []) (with_value found f value)
 holds_push hs line found value From reads h From = gives_push hs line value.now From reads
 holds_push hs line found value From reads h g = keeps hs line g (value_in found g) (not_other From g line value.now reads (λ e. cc)) (h g)
 holds_push hs line found value To reads h To = gives_push hs line value.now To reads

@@ -1,7 +1,7 @@
 -- Lines begin with one message at most, and have one fault in it at most.
 use Rattle.std.proofs.Common.{◌≡◌, ◌≢◌, ◌↔◌, ℕ, Bool, true, false, List, [], ◌∷◌, ◌++◌, Option, Some, None, IsTrue, length, refl, sym, ap, ◌∙◌, subst, inl, inr, arith, codes, append_assoc}
 use Rattle.text_fields.proofs.Numbers.{digits_unique}
-use Rattle.import_sheet.specs.Header.{HeaderReads, DateIs}
+use Rattle.import_sheet.specs.Header.{HeaderLineReads, DateIs}
 use Rattle.import_sheet.specs.Sheet.{Has, Headers, HeaderGives, HeaderGivesOrEmpty, HeaderGivesDate, FieldsAre, BodyLines, SheetIs, stored_body, dot}
 use Rattle.import_sheet.specs.Fault.{WholeHeaders, LineBreaks, no_word, word_again, bad_value, too_soon, HeaderBreaks, by_line, no_line, BodyBreaks, MessageFault, in_headers, in_body}
 use Rattle.import_sheet.specs.State.{StartsWithText}
@@ -185,7 +185,7 @@ sheet_once all own own' more more' s t e f x y =
     (fields_once y.headers s t y.headed (subst (λ (hs : List (List ℕ)). FieldsAre hs s) u.0 x.fields) y.fields body, left)
 
 -- a message begins with a line that isn't empty
-header_first : (line value : List ℕ) (field : Field) (rest more : List (List ℕ)) → HeaderReads line field value → rest ≡ line ∷ more → StartsWithText rest
+header_first : (line value : List ℕ) (field : Field) (rest more : List (List ℕ)) → HeaderLineReads line field value → rest ≡ line ∷ more → StartsWithText rest
 header_first line value field rest more reads e = (line, more, e, begins_some field line (begins field line value reads))
 
 whole_starts : (hs rest all : List (List ℕ)) → Has hs From → Headers hs → all ≡ hs ++ [] ∷ rest → StartsWithText all

@@ -5,8 +5,8 @@ use Rattle.std.proofs.lemmas.List.Elements.{All-nil, All-append}
 use Rattle.std.specs.Result.{MatchResult, IfOk}
 use Rattle.std.specs.Str.Lines.{lines}
 use Rattle.import_sheet.specs.Sheet.{HasNone, Headers, FieldsAre, SheetIs, SheetsAre, AllEmpty, dot}
-use Rattle.import_sheet.specs.Fault.{WholeHeaders, LineBreaks, too_soon, by_line, no_line, in_headers, in_body, LinesFault}
-use Rattle.import_sheet.specs.State.{Ahead, StartsWithText, HoldsValues, FaultAt, HeadersTaken, BodyTaken, BodyFaultAt, SheetTaken, FaultOrMemory}
+use Rattle.import_sheet.specs.Fault.{WholeHeaders, LineBreaks, too_soon, by_line, no_line, in_headers, in_body, SheetLinesFault}
+use Rattle.import_sheet.specs.State.{Ahead, StartsWithText, HoldsValues, FaultAt, HeadersTaken, BodyTaken, BodyFaultAt, SheetTaken, SheetFaultOrMemory}
 use Rattle.import_sheet.specs.declared.fault.SheetError.{SheetError}
 use Rattle.import_sheet.specs.declared.fault.SheetError.TheVariants.{Line, OutOfMemory}
 use Rattle.import_sheet.specs.declared.fault.SheetRule.{SheetRule}
@@ -17,7 +17,7 @@ use Rattle.import_sheet.specs.declared.sheet.Sheet.{Sheet}
 use Rattle.import_sheet.specs.declared.unread.Unread.{Unread}
 use Rattle.import_sheet.proofs.Lines.{more_taken, nothing_starts}
 
-pub weaker_fault : (P Q : ℕ → SheetRule → Type 0) → ((n : ℕ) (r : SheetRule) → P n r → Q n r) → (e : SheetError) → FaultOrMemory P e → FaultOrMemory Q e
+pub weaker_fault : (P Q : ℕ → SheetRule → Type 0) → ((n : ℕ) (r : SheetRule) → P n r → Q n r) → (e : SheetError) → SheetFaultOrMemory P e → SheetFaultOrMemory Q e
 weaker_fault P Q f (Line n r) h = f n r h
 weaker_fault P Q f OutOfMemory h = tt
 
@@ -44,8 +44,8 @@ line_fault all left after headers line number at n rule h x e f =
 pub ended_cases : (all left headers : List (List ℕ)) (number at : ℕ) (found : Found) (after : Unread) (r : Result (Found × Unread) SheetError)
     → StartsWithText all → Headers headers → HoldsValues headers found → Ahead all number left at headers → Ahead left at (lines after.text.now) after.line ([] ∷ [])
     → IfOk r (λ taken. (taken.0 ≡ found) × (taken.1 ≡ after))
-    → MatchResult r (λ _. WholeHeaders headers) (FaultOrMemory (λ n broken. (n ≡ at) × (broken ≡ Missing) × (HasNone headers From ⊎ HasNone headers To)))
-    → MatchResult r (λ taken. HeadersTaken all number taken.0 (lines taken.1.text.now) taken.1.line) (FaultOrMemory (FaultAt all number))
+    → MatchResult r (λ _. WholeHeaders headers) (SheetFaultOrMemory (λ n broken. (n ≡ at) × (broken ≡ Missing) × (HasNone headers From ⊎ HasNone headers To)))
+    → MatchResult r (λ taken. HeadersTaken all number taken.0 (lines taken.1.text.now) taken.1.line) (SheetFaultOrMemory (FaultAt all number))
 ended_cases all left headers number at found after (Ok taken) s h holds x y same whole =
     let is : (taken.0 ≡ found) × (taken.1 ≡ after) = same in
     let front : Ahead all number (lines after.text.now) after.line (headers ++ [] ∷ []) = more_taken all left (lines after.text.now) headers ([] ∷ []) number at after.line x y in
@@ -107,7 +107,7 @@ sheets_blanks before blanks (first ∷ sheets) h e = (
 )
 
 -- a fault behind whole messages and empty lines
-pub file_fault : (all mid left before blanks : List (List ℕ)) (sheets : List Sheet) (m at n : ℕ) (rule : SheetRule) → SheetsAre before sheets → Ahead all 1 mid m before → AllEmpty blanks → Ahead mid m left at blanks → FaultAt left at n rule → LinesFault all n rule
+pub file_fault : (all mid left before blanks : List (List ℕ)) (sheets : List Sheet) (m at n : ℕ) (rule : SheetRule) → SheetsAre before sheets → Ahead all 1 mid m before → AllEmpty blanks → Ahead mid m left at blanks → FaultAt left at n rule → SheetLinesFault all n rule
 file_fault all mid left before blanks sheets m at n rule h x e y f = record {
   before = before ++ blanks;
   rest = left;

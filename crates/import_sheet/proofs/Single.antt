@@ -2,8 +2,8 @@
 use Rattle.std.proofs.Common.{◌≡◌, ℕ, ◌+◌, List, [], ◌∷◌, ◌++◌, Result, Ok, Err, length, length-append, refl, sym, ap, ◌∙◌, subst, inl, inr, arith, append_assoc}
 use Rattle.std.specs.Result.{MatchResult}
 use Rattle.import_sheet.specs.Sheet.{SheetIs, SheetsAre, AllEmpty}
-use Rattle.import_sheet.specs.Fault.{MessageFault, LinesFault, UnlessMemory}
-use Rattle.import_sheet.specs.State.{StartsWithText, FaultOrMemory}
+use Rattle.import_sheet.specs.Fault.{MessageFault, SheetLinesFault, SheetUnlessMemory}
+use Rattle.import_sheet.specs.State.{StartsWithText, SheetFaultOrMemory}
 use Rattle.import_sheet.specs.declared.fault.SheetError.{SheetError}
 use Rattle.import_sheet.specs.declared.fault.SheetError.TheVariants.{Line, OutOfMemory}
 use Rattle.import_sheet.specs.declared.fault.SheetRule.{SheetRule}
@@ -50,7 +50,7 @@ no_fault_in all before rest (s ∷ a) (t ∷ b) n rule x e y f =
     let v : (s ≡ t) × (x.2 ≡ y.2 ++ rest) = sheet_once (x.1 ++ x.2) x.1 y.1 x.2 (y.2 ++ rest) s t refl u.1 x.5 y.5 in
     no_fault_in x.2 y.2 rest a b n rule x.6 v.1 y.6 f
 
-pub no_fault : (all : List (List ℕ)) (a : List Sheet) (n : ℕ) (rule : SheetRule) → SheetsAre all a → LinesFault all n rule → ⊥
+pub no_fault : (all : List (List ℕ)) (a : List Sheet) (n : ℕ) (rule : SheetRule) → SheetsAre all a → SheetLinesFault all n rule → ⊥
 no_fault all a n rule x f = no_fault_in all f.before f.rest a f.sheets f.place rule x f.whole f.read f.fault
 
 three_length : (all a b c : List (List ℕ)) → all ≡ a ++ (b ++ c) → length all ≡ length a + length b + length c
@@ -75,35 +75,35 @@ faults_in all before rest before' rest' (s ∷ a) (t ∷ b) m n q r e e' x y f g
     let w : (length x.2 + m ≡ length y.2 + n) × (q ≡ r) = faults_in (x.2 ++ rest) x.2 rest y.2 rest' a b m n q r refl v.1 x.6 y.6 f g in
     (omega (arith, three_length before x.0 x.1 x.2 x.3, three_length before' y.0 y.1 y.2 y.3, ap length u.0, ap length u.1, length-append x.1 (x.2 ++ rest), length-append y.1 (y.2 ++ rest'), ap length v.1, w.0), w.1)
 
-fault_once : (all : List (List ℕ)) (m n : ℕ) (q r : SheetRule) → LinesFault all m q → LinesFault all n r → (m ≡ n) × (q ≡ r)
+fault_once : (all : List (List ℕ)) (m n : ℕ) (q r : SheetRule) → SheetLinesFault all m q → SheetLinesFault all n r → (m ≡ n) × (q ≡ r)
 fault_once all m n q r f g =
     let u : (length f.before + f.place ≡ length g.before + g.place) × (q ≡ r) = faults_in all f.before f.rest g.before g.rest f.sheets g.sheets f.place g.place q r f.whole g.whole f.read g.read f.fault g.fault in
     (omega (arith, f.at, g.at, u.0), u.1)
 
-pub line_once : (all : List (List ℕ)) (m n : ℕ) (q r : SheetRule) → LinesFault all m q → LinesFault all n r → m ≡ n
+pub line_once : (all : List (List ℕ)) (m n : ℕ) (q r : SheetRule) → SheetLinesFault all m q → SheetLinesFault all n r → m ≡ n
 line_once all m n q r f g = (fault_once all m n q r f g).0
 
-pub rule_once : (all : List (List ℕ)) (m n : ℕ) (q r : SheetRule) → LinesFault all m q → LinesFault all n r → q ≡ r
+pub rule_once : (all : List (List ℕ)) (m n : ℕ) (q r : SheetRule) → SheetLinesFault all m q → SheetLinesFault all n r → q ≡ r
 rule_once all m n q r f g = (fault_once all m n q r f g).1
 
 -- what an answer for the lines says
 abbrev pub Answers : List (List ℕ) → Result (List Sheet) SheetError → Type 0
-Answers all r = MatchResult r (SheetsAre all) (FaultOrMemory (LinesFault all))
+Answers all r = MatchResult r (SheetsAre all) (SheetFaultOrMemory (SheetLinesFault all))
 
-pub only_ok : (all : List (List ℕ)) (r : Result (List Sheet) SheetError) → Answers all r → (a : List Sheet) → SheetsAre all a → UnlessMemory r (Ok a)
+pub only_ok : (all : List (List ℕ)) (r : Result (List Sheet) SheetError) → Answers all r → (a : List Sheet) → SheetsAre all a → SheetUnlessMemory r (Ok a)
 only_ok all (Ok b) h a x = inl (ap Ok (sheets_once all b a h x))
 only_ok all (Err (Line n q)) h a x = absurd (no_fault all a n q x h)
 only_ok all (Err OutOfMemory) h a x = inr refl
 
-pub is_fault : (all : List (List ℕ)) (r : Result (List Sheet) SheetError) → Answers all r → (n : ℕ) (q : SheetRule) → r ≡ Err (Line n q) → LinesFault all n q
+pub is_fault : (all : List (List ℕ)) (r : Result (List Sheet) SheetError) → Answers all r → (n : ℕ) (q : SheetRule) → r ≡ Err (Line n q) → SheetLinesFault all n q
 is_fault all (Ok b) h n q e = cc
 is_fault all (Err (Line m p)) h n q e =
     let line : m ≡ n = cc in
     let rule : p ≡ q = cc in
-    subst (LinesFault all n) rule (subst (λ (k : ℕ). LinesFault all k p) line h)
+    subst (SheetLinesFault all n) rule (subst (λ (k : ℕ). SheetLinesFault all k p) line h)
 is_fault all (Err OutOfMemory) h n q e = cc
 
-pub only_fault : (all : List (List ℕ)) (r : Result (List Sheet) SheetError) → Answers all r → (n : ℕ) (q : SheetRule) → LinesFault all n q → UnlessMemory r (Err (Line n q))
+pub only_fault : (all : List (List ℕ)) (r : Result (List Sheet) SheetError) → Answers all r → (n : ℕ) (q : SheetRule) → SheetLinesFault all n q → SheetUnlessMemory r (Err (Line n q))
 only_fault all (Ok b) h n q f = absurd (no_fault all b n q h f)
 only_fault all (Err (Line m p)) h n q f =
     let line : m ≡ n = line_once all m n p q h f in

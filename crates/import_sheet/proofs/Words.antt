@@ -5,7 +5,7 @@ use Rattle.text_fields.specs.Blank.{IsBlank}
 use Rattle.text_fields.specs.Trim.{Trimmed}
 use Rattle.text_fields.specs.declared.blank.Blank.TheVariants.{Spaces}
 use Rattle.text_fields.proofs.Trimming.{trimmed_unique, same_rest}
-use Rattle.import_sheet.specs.Header.{word_of, BeginsWithWord, HeaderReads}
+use Rattle.import_sheet.specs.Header.{word_of, BeginsWithWord, HeaderLineReads}
 use Rattle.import_sheet.specs.declared.field.Field.{Field}
 use Rattle.import_sheet.specs.declared.field.Field.TheVariants.{From, To, Subject, Date, Msgid, Reply, Private}
 
@@ -61,11 +61,11 @@ empty_begins Msgid b = omega (arith, first_letter Msgid [] b)
 empty_begins Reply b = omega (arith, first_letter Reply [] b)
 empty_begins Private b = omega (arith, first_letter Private [] b)
 
-pub begins : (field : Field) (line value : List ℕ) → HeaderReads line field value → BeginsWithWord field line
+pub begins : (field : Field) (line value : List ℕ) → HeaderLineReads line field value → BeginsWithWord field line
 begins field line value h = (h.rest, h.whole)
 
 -- a line gives a field one value at most
-pub value_once : (field : Field) (line a b : List ℕ) → HeaderReads line field a → HeaderReads line field b → a ≡ b
+pub value_once : (field : Field) (line a b : List ℕ) → HeaderLineReads line field a → HeaderLineReads line field b → a ≡ b
 value_once field line a b x y =
     let r : x.rest ≡ y.rest = same_rest (word_of field) (word_of field) x.rest y.rest refl (sym x.whole ∙ y.whole) in
     trimmed_unique (IsBlank Spaces) y.rest a b (subst (λ (r : List ℕ). Trimmed (IsBlank Spaces) r a) r x.trimmed) y.trimmed

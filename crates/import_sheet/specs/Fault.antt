@@ -2,7 +2,7 @@
 use Rattle.std.specs.Prelude.{◌≡◌, ◌≢◌, ◌⊎◌, ℕ, ◌+◌, ◌<◌, List, [], ◌∷◌, ◌++◌, length, Result, Err}
 use Rattle.std.specs.Str.Lines.{lines}
 use Rattle.text_fields.specs.Split.{Lacks}
-use Rattle.import_sheet.specs.Header.{BeginsWithWord, HeaderReads, ValueFits, rule_of}
+use Rattle.import_sheet.specs.Header.{BeginsWithWord, HeaderLineReads, ValueFits, rule_of_field}
 use Rattle.import_sheet.specs.Sheet.{Has, HasNone, Headers, BodyLines, SheetsAre, stored_body, dot}
 use Rattle.import_sheet.specs.declared.fault.SheetError.{SheetError}
 use Rattle.import_sheet.specs.declared.fault.SheetError.TheVariants.{OutOfMemory}
@@ -29,7 +29,7 @@ pub data LineBreaks (headers : List (List ℕ)) (line : List ℕ) (rule : SheetR
   -- it begins with a word that was there before
   word_again : (field : Field) → rule ≡ Twice → BeginsWithWord field line → Has headers field → LineBreaks headers line rule
   -- its word is new, and its value doesn't fit
-  bad_value : (field : Field) (value : List ℕ) → rule ≡ rule_of field → HasNone headers field → HeaderReads line field value → ¬ ValueFits field value → LineBreaks headers line rule
+  bad_value : (field : Field) (value : List ℕ) → rule ≡ rule_of_field field → HasNone headers field → HeaderLineReads line field value → ¬ ValueFits field value → LineBreaks headers line rule
   -- it is the empty line, and From or To wasn't there
   too_soon : rule ≡ Missing → headers ≢ [] → line ≡ [] → HasNone headers From ⊎ HasNone headers To → LineBreaks headers line rule
 
@@ -55,7 +55,7 @@ pub data MessageFault (all : List (List ℕ)) (place : ℕ) (rule : SheetRule) :
       → WholeHeaders headers → BodyLines body → BodyBreaks body rest rule → place ≡ length headers + 1 + length body → MessageFault all place rule
 
 -- the first lines are whole messages and empty lines, and the message that then begins has this fault
-pub record LinesFault (all : List (List ℕ)) (number : ℕ) (rule : SheetRule) : Type 0 where
+pub record SheetLinesFault (all : List (List ℕ)) (number : ℕ) (rule : SheetRule) : Type 0 where
   pub before : List (List ℕ)
   pub rest : List (List ℕ)
   pub sheets : List Sheet
@@ -67,8 +67,8 @@ pub record LinesFault (all : List (List ℕ)) (number : ℕ) (rule : SheetRule) 
 
 -- this line, from 1, is the first that breaks a rule, and this is the rule
 abbrev pub SheetFault : List ℕ → ℕ → SheetRule → Type 0
-SheetFault bytes number rule = LinesFault (lines bytes) number rule
+SheetFault bytes number rule = SheetLinesFault (lines bytes) number rule
 
 -- the answer, or want of memory, which may come at any time
-abbrev pub UnlessMemory : {T : Type 0} → Result T SheetError → Result T SheetError → Type 0
-UnlessMemory result answer = (result ≡ answer) ⊎ (result ≡ Err OutOfMemory)
+abbrev pub SheetUnlessMemory : {T : Type 0} → Result T SheetError → Result T SheetError → Type 0
+SheetUnlessMemory result answer = (result ≡ answer) ⊎ (result ≡ Err OutOfMemory)

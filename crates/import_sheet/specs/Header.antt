@@ -19,21 +19,21 @@ word_of Reply = codes "Reply:"
 word_of Private = codes "Private:"
 
 -- the rule that a bad value breaks
-abbrev pub rule_of : Field → SheetRule
-rule_of From = rule.From
-rule_of To = rule.To
-rule_of Subject = rule.Subject
-rule_of Date = rule.Date
-rule_of Msgid = rule.Msgid
-rule_of Reply = rule.Reply
-rule_of Private = rule.Private
+abbrev pub rule_of_field : Field → SheetRule
+rule_of_field From = rule.From
+rule_of_field To = rule.To
+rule_of_field Subject = rule.Subject
+rule_of_field Date = rule.Date
+rule_of_field Msgid = rule.Msgid
+rule_of_field Reply = rule.Reply
+rule_of_field Private = rule.Private
 
 -- the line is the field's word, and what follows
 abbrev pub BeginsWithWord : Field → List ℕ → Type 0
 BeginsWithWord field line = (rest : List ℕ) × (line ≡ word_of field ++ rest)
 
 -- the line is the field's word, and what follows is, without the spaces at its ends, the value
-pub record HeaderReads (line : List ℕ) (field : Field) (value : List ℕ) : Type 0 where
+pub record HeaderLineReads (line : List ℕ) (field : Field) (value : List ℕ) : Type 0 where
   pub rest : List ℕ
   pub whole : line ≡ word_of field ++ rest
   pub trimmed : Trimmed (IsBlank Spaces) rest value

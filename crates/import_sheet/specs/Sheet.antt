@@ -3,7 +3,7 @@ use Rattle.std.specs.Prelude.{◌≡◌, ◌≢◌, ◌⊎◌, ◌↔◌, ℕ, �
 use Rattle.std.specs.List.{flat_map}
 use Rattle.std.specs.Str.Lines.{lines}
 use Rattle.text_fields.specs.Split.{Lacks}
-use Rattle.import_sheet.specs.Header.{BeginsWithWord, HeaderReads, DateIs, ValueFits}
+use Rattle.import_sheet.specs.Header.{BeginsWithWord, HeaderLineReads, DateIs, ValueFits}
 use Rattle.import_sheet.specs.declared.field.Field.{Field}
 use Rattle.import_sheet.specs.declared.field.Field.TheVariants.{From, To, Subject, Date, Msgid, Reply, Private}
 use Rattle.import_sheet.specs.declared.sheet.Sheet.{Sheet}
@@ -18,11 +18,11 @@ HasNone all field = All (λ line. ¬ BeginsWithWord field line) all
 -- each line is a header whose value fits, and no line after it has its field
 abbrev pub Headers : List (List ℕ) → Type 0
 Headers [] = Unit {0}
-Headers (line ∷ more) = (field : Field) × (value : List ℕ) × HeaderReads line field value × ValueFits field value × HasNone more field × Headers more
+Headers (line ∷ more) = (field : Field) × (value : List ℕ) × HeaderLineReads line field value × ValueFits field value × HasNone more field × Headers more
 
 -- one of the lines gives the field this value
 abbrev pub HeaderGives : List (List ℕ) → Field → List ℕ → Type 0
-HeaderGives all field value = (line : List ℕ) × Contains all line × HeaderReads line field value
+HeaderGives all field value = (line : List ℕ) × Contains all line × HeaderLineReads line field value
 
 -- the text is the value that a line gives the field, or empty
 abbrev pub HeaderGivesOrEmpty : List (List ℕ) → Field → List ℕ → Type 0

@@ -1,5 +1,5 @@
 -- What the reader knows between two lines.
-use Rattle.std.specs.Prelude.{◌≡◌, ◌≢◌, ℕ, ◌+◌, ◌<◌, ◌^◌, List, [], ◌∷◌, ◌++◌, length, Option, Some, None, MatchOption}
+use Rattle.std.specs.Prelude.{◌≡◌, ◌≢◌, ℕ, ◌+◌, List, [], ◌∷◌, ◌++◌, length, Option, Some, None, MatchOption}
 use Rattle.std.specs.Borrow.{Bor}
 use Rattle.import_sheet.specs.Sheet.{HasNone, HeaderGives, BodyLines, SheetIs, stored_body, dot}
 use Rattle.import_sheet.specs.Fault.{WholeHeaders, BodyBreaks, MessageFault}
@@ -10,15 +10,7 @@ use Rattle.import_sheet.specs.declared.field.Field.{Field}
 use Rattle.import_sheet.specs.declared.field.Field.TheVariants.{From, To, Subject, Date, Msgid, Reply, Private}
 use Rattle.import_sheet.specs.declared.found.Found.{Found}
 use Rattle.import_sheet.specs.declared.sheet.Sheet.{Sheet}
-
--- the lines have numbers of 32 bits, one past the last too
-abbrev pub IsNumbered : List (List ℕ) → ℕ → Type 0
-IsNumbered all number = number + length all < 2 ^ 32
-
--- these lines were taken from the first, and the others are left; each with the number of its first line
-pub record Ahead (all : List (List ℕ)) (number : ℕ) (left : List (List ℕ)) (at : ℕ) (taken : List (List ℕ)) : Type 0 where
-  pub whole : all ≡ taken ++ left
-  pub count : at ≡ number + length taken
+pub use Rattle.text_fields.specs.Numbered.{IsNumbered, Ahead}
 
 -- the first line isn't empty
 abbrev pub StartsWithText : List (List ℕ) → Type 0
@@ -52,9 +44,9 @@ text_or_empty None = []
 text_or_empty (Some value) = value.now
 
 -- a line with a number breaks a rule so, or there was no memory
-abbrev pub FaultOrMemory : (ℕ → SheetRule → Type 0) → SheetError → Type 0
-FaultOrMemory P (Line number rule) = P number rule
-FaultOrMemory P OutOfMemory = Unit {0}
+abbrev pub SheetFaultOrMemory : (ℕ → SheetRule → Type 0) → SheetError → Type 0
+SheetFaultOrMemory P (Line number rule) = P number rule
+SheetFaultOrMemory P OutOfMemory = Unit {0}
 
 -- in lines of which the first has this number, the line of this number breaks this rule
 abbrev pub FaultAt : List (List ℕ) → ℕ → ℕ → SheetRule → Type 0

@@ -2,7 +2,7 @@ ghost use Rattle.std.specs.Prelude.{◌≡◌, ◌≤◌, ◌+◌, ◌<◌, ◌�
 ghost use Rattle.std.specs.Str.Lines.{lines};
 ghost use Rattle.text_fields.specs.Split.{Lacks};
 ghost use Rattle.import_sheet.specs.Sheet.{dot, without_dot as without_its_dot};
-ghost use Rattle.import_sheet.specs.State.{IsNumbered, BodyTaken, FaultOrMemory, BodyFaultAt};
+ghost use Rattle.import_sheet.specs.State.{IsNumbered, BodyTaken, SheetFaultOrMemory, BodyFaultAt};
 
 use crate::fault::{SheetError, SheetRule};
 use crate::unread::Unread;
@@ -55,7 +55,7 @@ fn add_body_line(body: &mut Bytes, line: &[u8]) -> Result<(), AllocError>
 /// The body that a message's lines give, and what stands behind the line of one dot.
 pub fn body_of(alloc: Global, start: Unread<'_>) -> Result<(Bytes, Unread<'_>), SheetError>
     requires { IsNumbered (lines start.text.now) start.line }
-    ensures { MatchResult result (λ taken. BodyTaken (lines start.entry.text.now) start.entry.line taken.0 (lines taken.1.text.now) taken.1.line) (FaultOrMemory (BodyFaultAt (lines start.entry.text.now) start.entry.line)) }
+    ensures { MatchResult result (λ taken. BodyTaken (lines start.entry.text.now) start.entry.line taken.0 (lines taken.1.text.now) taken.1.line) (SheetFaultOrMemory (BodyFaultAt (lines start.entry.text.now) start.entry.line)) }
 {
     let mut body = Bytes::new(alloc);
     let mut here = start;

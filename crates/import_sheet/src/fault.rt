@@ -1,5 +1,5 @@
 ghost use Rattle.std.specs.Prelude.{◌≡◌};
-ghost use Rattle.import_sheet.specs.RuleWord.{rule_word};
+ghost use Rattle.import_sheet.specs.RuleWord.{sheet_rule_word};
 ghost use Rattle.import_sheet.specs.declared.fault.SheetError.TheVariants.{OutOfMemory};
 
 use std::alloc::AllocError;
@@ -40,7 +40,7 @@ pub enum SheetRule {
 impl SheetRule {
     /// The word of the rule, as a refusal has it.
     pub fn word(self) -> &'static [u8]
-        ensures { result.now ≡ rule_word self }
+        ensures { result.now ≡ sheet_rule_word self }
     {
         match self {
             SheetRule::Header => b"header",

@@ -1,5 +1,5 @@
 ghost use Rattle.std.specs.Prelude.{◌≡◌, ℕ, List, MatchOption};
-ghost use Rattle.import_sheet.specs.Header.{word_of, rule_of, BeginsWithWord, HeaderReads};
+ghost use Rattle.import_sheet.specs.Header.{word_of, rule_of_field, BeginsWithWord, HeaderLineReads};
 ghost use Rattle.import_sheet.specs.declared.field.Field.{Field};
 
 use crate::fault::SheetRule;
@@ -45,7 +45,7 @@ impl Field {
 
     /// The rule that a bad value of the field breaks.
     pub fn rule(self) -> SheetRule
-        ensures { result ≡ rule_of self }
+        ensures { result ≡ rule_of_field self }
     {
         match self {
             Field::From => SheetRule::From,
@@ -60,7 +60,7 @@ impl Field {
 
     /// The value that a line gives this field, or None where it doesn't begin with the field's word.
     fn value_in(self, line: &[u8]) -> Option<&[u8]>
-        ensures { MatchOption result (¬ BeginsWithWord self line.now) (λ value. HeaderReads line.now self value.now) }
+        ensures { MatchOption result (¬ BeginsWithWord self line.now) (λ value. HeaderLineReads line.now self value.now) }
     {
         let rest = line.strip_prefix(self.word())?;
         Some(trimmed(rest, Blank::Spaces))
@@ -69,7 +69,7 @@ impl Field {
 
 /// The field that a line gives and its value, or None where the line begins with no word.
 pub fn field_of(line: &[u8]) -> Option<(Field, &[u8])>
-    ensures { MatchOption result ((field : Field) → ¬ BeginsWithWord field line.now) (λ found. HeaderReads line.now found.0 found.1.now) }
+    ensures { MatchOption result ((field : Field) → ¬ BeginsWithWord field line.now) (λ found. HeaderLineReads line.now found.0 found.1.now) }
 {
     for field in FIELDS {
         if let Some(value) = field.value_in(line) {

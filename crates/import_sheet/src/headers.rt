@@ -2,7 +2,7 @@ ghost use Rattle.std.specs.Prelude.{◌≡◌, ◌≢◌, ◌⊎◌, ℕ, List, 
 ghost use Rattle.std.specs.Str.Lines.{lines};
 ghost use Rattle.import_sheet.specs.Sheet.{Headers, HasNone};
 ghost use Rattle.import_sheet.specs.Fault.{LineBreaks, WholeHeaders};
-ghost use Rattle.import_sheet.specs.State.{IsNumbered, StartsWithText, Ahead, HoldsValues, HeadersTaken, FaultOrMemory, FaultAt};
+ghost use Rattle.import_sheet.specs.State.{IsNumbered, StartsWithText, Ahead, HoldsValues, HeadersTaken, SheetFaultOrMemory, FaultAt};
 ghost use Rattle.import_sheet.specs.declared.fault.SheetRule.TheVariants as rule;
 ghost use Rattle.import_sheet.specs.declared.field.Field.TheVariants as field;
 
@@ -17,7 +17,7 @@ fn with_header<'a>(
     here: Unread<'a>,
 ) -> Result<Found<'a>, SheetError>
     requires { line.now ≢ [] }
-    ensures { (headers : List (List ℕ)) → Headers headers → HoldsValues headers found.entry → MatchResult result (λ more. Headers (headers ++ line.now ∷ []) × HoldsValues (headers ++ line.now ∷ []) more) (FaultOrMemory (λ at broken. (at ≡ here.entry.line) × LineBreaks headers line.now broken)) }
+    ensures { (headers : List (List ℕ)) → Headers headers → HoldsValues headers found.entry → MatchResult result (λ more. Headers (headers ++ line.now ∷ []) × HoldsValues (headers ++ line.now ∷ []) more) (SheetFaultOrMemory (λ at broken. (at ≡ here.entry.line) × LineBreaks headers line.now broken)) }
 {
     match found.with_line(line) {
         Ok(more) => Ok(more),
@@ -33,7 +33,7 @@ fn ended<'a>(
     after: Unread<'a>,
 ) -> Result<(Found<'a>, Unread<'a>), SheetError>
     ensures same { IfOk result (λ taken. (taken.0 ≡ found.entry) × (taken.1 ≡ after.entry)) }
-    ensures whole { (headers : List (List ℕ)) → Headers headers → HoldsValues headers found.entry → MatchResult result (λ _. WholeHeaders headers) (FaultOrMemory (λ at broken. (at ≡ here.entry.line) × (broken ≡ rule.Missing) × (HasNone headers field.From ⊎ HasNone headers field.To))) }
+    ensures whole { (headers : List (List ℕ)) → Headers headers → HoldsValues headers found.entry → MatchResult result (λ _. WholeHeaders headers) (SheetFaultOrMemory (λ at broken. (at ≡ here.entry.line) × (broken ≡ rule.Missing) × (HasNone headers field.From ⊎ HasNone headers field.To))) }
 {
     if !found.is_whole() {
         return Err(here.breaks(SheetRule::Missing));
@@ -48,7 +48,7 @@ fn headers_from<'a>(
     here: Unread<'a>,
 ) -> Result<(Found<'a>, Unread<'a>), SheetError>
     requires { IsNumbered (lines here.text.now) here.line }
-    ensures { (all headers : List (List ℕ)) (number : ℕ) → StartsWithText all → Headers headers → HoldsValues headers found.entry → Ahead all number (lines here.entry.text.now) here.entry.line headers → MatchResult result (λ taken. HeadersTaken all number taken.0 (lines taken.1.text.now) taken.1.line) (FaultOrMemory (FaultAt all number)) }
+    ensures { (all headers : List (List ℕ)) (number : ℕ) → StartsWithText all → Headers headers → HoldsValues headers found.entry → Ahead all number (lines here.entry.text.now) here.entry.line headers → MatchResult result (λ taken. HeadersTaken all number taken.0 (lines taken.1.text.now) taken.1.line) (SheetFaultOrMemory (FaultAt all number)) }
 {
     let Some((line, after)) = here.next() else {
         return Err(here.breaks(SheetRule::End));
@@ -63,7 +63,7 @@ fn headers_from<'a>(
 pub fn headers_of<'a>(start: Unread<'a>) -> Result<(Found<'a>, Unread<'a>), SheetError>
     requires numbered { IsNumbered (lines start.text.now) start.line }
     requires begun { StartsWithText (lines start.text.now) }
-    ensures { MatchResult result (λ taken. HeadersTaken (lines start.entry.text.now) start.entry.line taken.0 (lines taken.1.text.now) taken.1.line) (FaultOrMemory (FaultAt (lines start.entry.text.now) start.entry.line)) }
+    ensures { MatchResult result (λ taken. HeadersTaken (lines start.entry.text.now) start.entry.line taken.0 (lines taken.1.text.now) taken.1.line) (SheetFaultOrMemory (FaultAt (lines start.entry.text.now) start.entry.line)) }
 {
     headers_from(Found::none(), start)
 }

@@ -1,8 +1,8 @@
 ghost use Rattle.std.specs.Prelude.{◌≡◌, ◌<◌, ◌^◌, ℕ, List, Ok, Err, length, MatchResult, IfOk};
 ghost use Rattle.std.specs.Str.Lines.{lines};
 ghost use Rattle.import_sheet.specs.Sheet.{SheetReads};
-ghost use Rattle.import_sheet.specs.Fault.{SheetFault, UnlessMemory};
-ghost use Rattle.import_sheet.specs.State.{IsNumbered, StartsWithText, SheetTaken, FaultOrMemory, FaultAt};
+ghost use Rattle.import_sheet.specs.Fault.{SheetFault, SheetUnlessMemory};
+ghost use Rattle.import_sheet.specs.State.{IsNumbered, StartsWithText, SheetTaken, SheetFaultOrMemory, FaultAt};
 ghost use Rattle.import_sheet.specs.declared.fault.SheetError.TheVariants.{Line};
 ghost use Rattle.import_sheet.specs.declared.fault.SheetRule.{SheetRule};
 ghost use Rattle.import_sheet.specs.declared.sheet.Sheet.{Sheet};
@@ -18,7 +18,7 @@ use std::alloc::Global;
 fn sheet_of(alloc: Global, start: Unread<'_>) -> Result<(Sheet, Unread<'_>), SheetError>
     requires numbered { IsNumbered (lines start.text.now) start.line }
     requires begun { StartsWithText (lines start.text.now) }
-    ensures { MatchResult result (λ taken. SheetTaken (lines start.entry.text.now) start.entry.line taken.0 (lines taken.1.text.now) taken.1.line) (FaultOrMemory (FaultAt (lines start.entry.text.now) start.entry.line)) }
+    ensures { MatchResult result (λ taken. SheetTaken (lines start.entry.text.now) start.entry.line taken.0 (lines taken.1.text.now) taken.1.line) (SheetFaultOrMemory (FaultAt (lines start.entry.text.now) start.entry.line)) }
 {
     let (found, behind) = headers_of(start)?;
     let (body, rest) = body_of(alloc, behind)?;
@@ -28,7 +28,7 @@ fn sheet_of(alloc: Global, start: Unread<'_>) -> Result<(Sheet, Unread<'_>), She
 /// The messages of a file, or its first fault.
 fn sheets_in(alloc: Global, bytes: &[u8]) -> Result<Sheets, SheetError>
     requires { length bytes.now < 2 ^ 31 }
-    ensures { MatchResult result (SheetReads bytes.now) (FaultOrMemory (SheetFault bytes.now)) }
+    ensures { MatchResult result (SheetReads bytes.now) (SheetFaultOrMemory (SheetFault bytes.now)) }
 {
     let mut sheets = Sheets::new(alloc);
     let mut here = Unread {
@@ -50,11 +50,11 @@ pub fn read_sheet(alloc: Global, bytes: &[u8]) -> Result<Sheets, SheetError>
 
     // Messages are answered exactly where the bytes read as them, unless memory runs out.
     ensures ok { IfOk result (λ sheets. SheetReads bytes.now sheets) }
-    ensures only_ok { (sheets : List Sheet) → SheetReads bytes.now sheets → UnlessMemory result (Ok sheets) }
+    ensures only_ok { (sheets : List Sheet) → SheetReads bytes.now sheets → SheetUnlessMemory result (Ok sheets) }
 
     // So is a line with its rule, exactly where it is the first that fails.
     ensures fault { (line : ℕ) (rule : SheetRule) → result ≡ Err (Line line rule) → SheetFault bytes.now line rule }
-    ensures only_fault { (line : ℕ) (rule : SheetRule) → SheetFault bytes.now line rule → UnlessMemory result (Err (Line line rule)) }
+    ensures only_fault { (line : ℕ) (rule : SheetRule) → SheetFault bytes.now line rule → SheetUnlessMemory result (Err (Line line rule)) }
 {
     sheets_in(alloc, bytes)
 }

@@ -3,7 +3,7 @@ use Rattle.std.proofs.Common.{◌≡◌, ◌≢◌, inl, inr, ℕ, suc, ◌+◌,
 use Rattle.std.specs.Prelude.{All, Bool, true, IsTrue, Some, None}
 use Rattle.std.proofs.lemmas.Bool.{cases_eq}
 use Rattle.std.proofs.lemmas.List.Sums.{sum_by-cons}
-use Rattle.door_outside.specs.Disk.{Disk, Image, AllNow, Between, Passes, InFile, Holds, Reached, as_read}
+use Rattle.door_outside.specs.Disk.{Disk, Image, AllNow, Between, Passes, InFile, HoldsBytes, Reached, as_read}
 use Rattle.door_outside.proofs.Moments.{still, joined, by_call, now_by}
 use Rattle.intent_journal.proofs.Steps.{apply_here, apply_there, part_hidden, part_within, same_files}
 use Rattle.intent_journal.specs.Journal.{front, patch_by, patches_of}
@@ -61,14 +61,14 @@ module _ (tells : Bool) (n : ℕ) (text : List ℕ) (old mid new : Disk) where
       (joined reach.since (by_call call after), now_by call after)
 
   -- the files as read have one patch more
-  patch_done : (p : Patch) → Holds (file_of p) (patched_file p (mid.files (file_of p))) mid.files new.files → new.files ≡ apply p mid.files
+  patch_done : (p : Patch) → HoldsBytes (file_of p) (patched_file p (mid.files (file_of p))) mid.files new.files → new.files ≡ apply p mid.files
   patch_done p holds = same_files new.files (apply p mid.files) (λ file. elim (cases_eq file (file_of p)) [
     | inl is ↦ ap new.files is ∙ holds.holds ∙ sym (ap (λ (f : ℕ). patched_file p (mid.files f)) is) ∙ sym (apply_here p mid.files file is)
     | inr ne ↦ holds.others file ne ∙ sym (apply_there p mid.files file ne)
   ])
 
   pub carry_goes_on : (done rest : List Patch) (p : Patch) → All IsFit (done ++ p ∷ rest) → is_once (done ++ p ∷ rest) ≡ true → Reach (done ++ p ∷ rest) (p ∷ rest) old mid → Passes (InFile (file_of p) (Partly p)) (InFile (file_of p) (Partly p)) mid new
-      → Holds (file_of p) (patched_file p (mid.files (file_of p))) mid.files new.files → new.wrote ≤ mid.wrote + length (bytes_of p) → Reach (done ++ p ∷ rest) rest old new
+      → HoldsBytes (file_of p) (patched_file p (mid.files (file_of p))) mid.files new.files → new.wrote ≤ mid.wrote + length (bytes_of p) → Reach (done ++ p ∷ rest) rest old new
   carry_goes_on done rest p all_fit once reach call holds wrote =
       let both = carry_stops done rest p all_fit once reach call in
       record {
@@ -85,7 +85,7 @@ pub record Next (tells : Bool) (patches : List Patch) (n : ℕ) (old mid : Disk)
       → Between old new (Stands patches (as_read old)) × AllNow new (Stands patches (as_read old))
   pub wrote : (new : Disk) → (IsTrue tells → new.wrote ≤ mid.wrote + length (bytes_of p)) → IsTrue tells → new.wrote ≤ old.wrote + byte_count patches
   pub goes_on : (new : Disk) → (IsTrue tells → Passes (InFile (file_of p) (Partly p)) (InFile (file_of p) (Partly p)) mid new)
-      → (IsTrue tells → Holds (file_of p) (patched_file p (mid.files (file_of p))) mid.files new.files) → (IsTrue tells → new.wrote ≤ mid.wrote + length (bytes_of p)) → Carrying tells patches n after old new
+      → (IsTrue tells → HoldsBytes (file_of p) (patched_file p (mid.files (file_of p))) mid.files new.files) → (IsTrue tells → new.wrote ≤ mid.wrote + length (bytes_of p)) → Carrying tells patches n after old new
 
 pub some_pair : (a c : Patch × List ℕ) → Some a ≡ Some c → (a.0 ≡ c.0) × (a.1 ≡ c.1)
 some_pair a c is = let same : a ≡ c = cc in (ap (λ (x : Patch × List ℕ). x.0) same, ap (λ (x : Patch × List ℕ). x.1) same)
@@ -163,5 +163,5 @@ module _ (tells : Bool) (patches : List Patch) (m n : ℕ) (text : List ℕ) (ol
       pub wrote_here : IsTrue tells → new.wrote ≤ old.wrote + byte_count patches
       wrote_here = next_here.wrote new wrote_of
 
-      pub goes_on_here : (IsTrue tells → Holds number (patched_file patch (mid.files number)) mid.files new.files) → Carrying tells patches n after old new
-      goes_on_here holds = next_here.goes_on new called (subst (λ (f : ℕ). IsTrue tells → Holds f (patched_file patch (mid.files f)) mid.files new.files) same holds) wrote_of
+      pub goes_on_here : (IsTrue tells → HoldsBytes number (patched_file patch (mid.files number)) mid.files new.files) → Carrying tells patches n after old new
+      goes_on_here holds = next_here.goes_on new called (subst (λ (f : ℕ). IsTrue tells → HoldsBytes f (patched_file patch (mid.files f)) mid.files new.files) same holds) wrote_of

@@ -2,7 +2,7 @@
 use Rattle.std.proofs.Common.{◌≡◌, inl, inr, ℕ, List, [], ◌∷◌, length, take, drop, get_or, refl, sym, ◌∙◌, ap, subst, arith}
 use Rattle.std.proofs.lemmas.Bool.{cases_eq, cases_Bool, true≢false}
 use Rattle.std.specs.Prelude.{false}
-use Rattle.door_outside.specs.Disk.{Disk, Image, Now, AllNow, Passes, InFile, Torn, Holds, Reached, written}
+use Rattle.door_outside.specs.Disk.{Disk, Image, Now, AllNow, Passes, InFile, Torn, HoldsBytes, Reached, written}
 use Rattle.intent_journal.specs.declared.patch.Patch.{Patch}
 use Rattle.intent_journal.specs.Hosts.{IsCalm}
 use Rattle.intent_journal.specs.Journal.{IsClosed, open_patches, intent_of}
@@ -73,7 +73,7 @@ module _ (disk : Disk) (sure : IsSure disk) (none : intent_of disk.files ≡ [])
           files = recovered_by [] image.files (still_none image same_data (subst (λ (l : List ℕ). Torn 0 1 l (image.files 1)) is.journal from.2.changed)) ∙ same_data ∙ unread_files;
         }
 
-    module _ (holds : Holds 1 (written (disk.files 1) 0 (67 ∷ [])) disk.files new.files) (kept : JournalKept new) where
+    module _ (holds : HoldsBytes 1 (written (disk.files 1) 0 (67 ∷ [])) disk.files new.files) (kept : JournalKept new) where
       pub unread_calm : IsCalm new
       unread_calm = record {
         closed = closed_by (disk.files 1) (new.files 1) holds.holds;

@@ -9,9 +9,9 @@ use Rattle.record_numbers.specs.Numbers.{u16_at, u32_at}
 use Rattle.record_numbers.proofs.NumberLemmas.{number_of_bytes}
 use Rattle.intent_journal.specs.declared.patch.Patch.{Patch}
 use Rattle.intent_journal.specs.declared.patch.Patch.TheVariants.{Whole, Put}
-use Rattle.intent_journal.specs.Patches.{file_of, place_of, bytes_of, is_whole}
+use Rattle.intent_journal.specs.Patches.{file_of, patch_offset, bytes_of, is_whole}
 use Rattle.intent_journal.specs.Spells.{IsFit}
-use Rattle.intent_journal.specs.Journal.{kind_of, patch_text, patches_text, begins_patch, patch_by, first_of, front, patches_of}
+use Rattle.intent_journal.specs.Journal.{patch_kind, patch_text, patches_text, begins_patch, patch_by, first_of, front, patches_of}
 
 some_same : {A : Type 0} {x y : A} → Some x ≡ Some y → x ≡ y
 some_same is = cc
@@ -90,11 +90,11 @@ front_fit text after p is =
       omega (arith, ap length after_is, length-drop (11 + u32_at 7 text) text, b.long),
     )
 
-spelled_kind : (p : Patch) (at : ℕ) → at ≡ place_of p → is_kind (kind_of p) at ≡ true
+spelled_kind : (p : Patch) (at : ℕ) → at ≡ patch_offset p → is_kind (patch_kind p) at ≡ true
 spelled_kind (Whole file bytes) at is = or_left (at == 0) false (eq-eqb at 0 is)
 spelled_kind (Put file place bytes) at is = refl
 
-same_patch : (p : Patch) → patch_by (kind_of p == 0) (file_of p) (place_of p) (bytes_of p) ≡ p
+same_patch : (p : Patch) → patch_by (patch_kind p == 0) (file_of p) (patch_offset p) (bytes_of p) ≡ p
 same_patch (Whole file bytes) = refl
 same_patch (Put file at bytes) = refl
 
@@ -111,9 +111,9 @@ module _ (p : Patch) (rest : List ℕ) (fit : IsFit p) where
   unfolding u16_at
   file_is = number_of_bytes 2 (file_of p) (drop 3 text) (omega (arith, fit.known))
 
-  at_is : u32_at 3 text ≡ place_of p
+  at_is : u32_at 3 text ≡ patch_offset p
   unfolding u32_at
-  at_is = number_of_bytes 4 (place_of p) (drop 7 text) (omega (arith, fit.in_range))
+  at_is = number_of_bytes 4 (patch_offset p) (drop 7 text) (omega (arith, fit.in_range))
 
   spelled_begun : Begun text
   spelled_begun = record {
@@ -134,7 +134,7 @@ module _ (p : Patch) (rest : List ℕ) (fit : IsFit p) where
   unfolding front
   front_of =
       cond-true (begins_patch text) _ _ (begins_by text spelled_begun)
-      ∙ (λ i. Some (patch_by (kind_of p == 0) (file_is i) (at_is i) (bytes_is i), left_is i)) ∙ ap (λ (q : Patch). Some (q, rest)) (same_patch p)
+      ∙ (λ i. Some (patch_by (patch_kind p == 0) (file_is i) (at_is i) (bytes_is i), left_is i)) ∙ ap (λ (q : Patch). Some (q, rest)) (same_patch p)
 
 -- a text of patches begins with the first of them
 pub record Begins (n : ℕ) (text : List ℕ) (patches : List Patch) : Type 0 where

@@ -18,3 +18,4 @@ mod Spelling
 mod Staging
 mod Steps
 mod Syncing
+pub mod Writes

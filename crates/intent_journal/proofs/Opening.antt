@@ -1,7 +1,7 @@
 -- The gate is opened over a whole body.
 use Rattle.std.proofs.Common.{◌≡◌, inl, inr, ⊎_elim, ℕ, ◌<◌, List, [], ◌∷◌, length, take, drop, sym, ◌∙◌, ap, subst}
 use Rattle.std.specs.Prelude.{All, true, Some, unwrap_or}
-use Rattle.door_outside.specs.Disk.{Disk, Image, Now, AllNow, Between, Passes, InFile, Torn, Holds, Reached, written}
+use Rattle.door_outside.specs.Disk.{Disk, Image, Now, AllNow, Between, Passes, InFile, Torn, HoldsBytes, Reached, written}
 use Rattle.door_outside.proofs.Moments.{joined, weaker, by_call, now_by, said_by}
 use Rattle.intent_journal.specs.declared.patch.Patch.{Patch}
 use Rattle.intent_journal.specs.Hosts.{IsSettled}
@@ -41,7 +41,7 @@ module _ (patches : List Patch) (old : Disk) (fit : All IsFit patches) (staged :
         settled = settled_by_data new old.files (now_by call (λ image from. data_same image.files from.0.files from.2.others ∙ (staged.kept from.0 from.1).files));
       }
 
-  module _ (mid : Disk) (call : Passes (InFile 1 (Torn 0 1)) (InFile 1 (Torn 0 1)) old mid) (holds : Holds 1 (written (old.files 1) 0 (79 ∷ [])) old.files mid.files) (kept : JournalKept mid) where
+  module _ (mid : Disk) (call : Passes (InFile 1 (Torn 0 1)) (InFile 1 (Torn 0 1)) old mid) (holds : HoldsBytes 1 (written (old.files 1) 0 (79 ∷ [])) old.files mid.files) (kept : JournalKept mid) where
     journal : mid.files 1 ≡ 79 ∷ drop 1 (old.files 1)
     journal = holds.holds ∙ gate_written (old.files 1) 79
 

@@ -2,7 +2,7 @@
 use Rattle.std.proofs.Common.{◌≡◌, inl, inr, ⊎_elim, ℕ, ◌<◌, List, [], ◌∷◌, length, take, sym, ◌∙◌, ap, subst, arith}
 use Rattle.std.specs.Prelude.{All, true}
 use Rattle.std.proofs.lemmas.Bool.{cases_Bool}
-use Rattle.door_outside.specs.Disk.{Disk, Image, Now, AllNow, Passes, InFile, Torn, Holds, Reached, as_read, written}
+use Rattle.door_outside.specs.Disk.{Disk, Image, Now, AllNow, Passes, InFile, Torn, HoldsBytes, Reached, as_read, written}
 use Rattle.door_outside.proofs.Moments.{reads_have}
 use Rattle.intent_journal.specs.declared.patch.Patch.{Patch}
 use Rattle.intent_journal.specs.Hosts.{IsCalm}
@@ -63,7 +63,7 @@ module _ (patches : List Patch) (fit : All IsFit patches) (once : is_once patche
     pub back_closing : (image : Image) → Reached (InFile 1 (Torn 0 1)) done image → Back old image
     back_closing image from = record { said = from.2.said ∙ (stands from.0 from.1).said; files = image_closing from.0 image from.1 from.2 }
 
-    module _ (holds : Holds 1 (written (done.files 1) 0 (67 ∷ [])) done.files new.files) (kept : JournalKept new) where
+    module _ (holds : HoldsBytes 1 (written (done.files 1) 0 (67 ∷ [])) done.files new.files) (kept : JournalKept new) where
       reads_done : data_files done.files ≡ data_files (patched patches old.files)
       reads_done = reads_have done (λ image. data_files image.files ≡ data_files (patched patches old.files)) all_done
 

@@ -3,14 +3,14 @@ use Rattle.std.proofs.Common.{◌≡◌, inl, inr, ⊎_elim, ℕ, ◌<◌, ◌�
 use Rattle.std.specs.Prelude.{All, true, ◌==◌}
 use Rattle.std.proofs.lemmas.Bool.{cases_eq, eq-eqb, ne_eqb, cond-true, cond-false}
 use Rattle.std.proofs.lemmas.List.{nil_from_length}
-use Rattle.door_outside.specs.Disk.{Disk, Image, AllNow, Between, Passes, InFile, Torn, Holds, Reached, Unchanged, as_read, written}
+use Rattle.door_outside.specs.Disk.{Disk, Image, AllNow, Between, Passes, InFile, Torn, HoldsBytes, Reached, Unchanged, as_read, written}
 use Rattle.door_outside.proofs.Moments.{joined, by_call, by_nothing, now_by, now_unchanged, reads_have}
 use Rattle.intent_journal.specs.Hosts.{IsCalm, IsSettled}
 use Rattle.intent_journal.specs.Journal.{spelled, body_patches, open_patches, IsClosed}
 use Rattle.intent_journal.specs.Patches.{Files, SameFiles, are_within, patched, data_files}
 use Rattle.intent_journal.specs.Recovered.{OldOrPatched}
 use Rattle.intent_journal.specs.Spells.{IsFit}
-use Rattle.intent_journal.specs.Steps.{BehindGate, HasBody, JournalKept, Quiet, IsStaged, IsShut}
+use Rattle.intent_journal.specs.Steps.{BehindGate, HasJournalBody, JournalKept, Quiet, IsStaged, IsShut}
 use Rattle.intent_journal.specs.declared.patch.Patch.{Patch}
 use Rattle.intent_journal.proofs.DataFiles.{data_patched, data_same, intent_same, kept_unchanged, within_same}
 use Rattle.intent_journal.proofs.Moves.{closed_by, intent_closed, intent_none, quiet_recovers, settled_by_data}
@@ -48,7 +48,7 @@ module _ (old mid new : Disk) (calm : IsCalm old) (same : Unchanged old mid) (fi
   pub shut_now : AllNow new (Quiet (as_read old))
   shut_now = now_by call quiet_at
 
-  pub shut_done : Holds 1 (written (mid.files 1) 0 (67 ∷ [])) mid.files new.files → JournalKept new → IsShut old new
+  pub shut_done : HoldsBytes 1 (written (mid.files 1) 0 (67 ∷ [])) mid.files new.files → JournalKept new → IsShut old new
   shut_done holds kept =
       let journal : new.files 1 ≡ 67 ∷ [] = holds.holds ∙ ap (λ (l : List ℕ). written l 0 (67 ∷ [])) none in
       record {
@@ -99,7 +99,7 @@ module _ (old mid new : Disk) (so_far : Between old mid (Quiet (as_read old))) (
   pub body_now : AllNow new (Quiet (as_read old))
   body_now = now_by call behind_quiet
 
-  pub staged : (count : ℕ) (text : List ℕ) → (0 < length (mid.files 1) → HasBody count text mid.files new.files) → JournalKept new → IsStaged (spelled count text) old new
+  pub staged : (count : ℕ) (text : List ℕ) → (0 < length (mid.files 1) → HasJournalBody count text mid.files new.files) → JournalKept new → IsStaged (spelled count text) old new
   staged count text bodies kept =
       let body = bodies is_shut.gate in
       record {

@@ -3,7 +3,7 @@ use Rattle.std.proofs.Common.{◌≡◌, ◌≢◌, inl, inr, ℕ, suc, ◌+◌,
 use Rattle.std.proofs.lemmas.Bool.{cases_Bool, eqb-true, eq-eqb, or_cases, or_parts, true≢false}
 use Rattle.std.proofs.lemmas.List.{take_at}
 use Rattle.std.specs.Prelude.{Bool, true, false, ◌||◌, ◌==◌, replicate, IsTrue, Some, None}
-use Rattle.door_outside.specs.Disk.{Disk, Image, AllNow, Holds, as_read, written}
+use Rattle.door_outside.specs.Disk.{Disk, Image, AllNow, HoldsBytes, as_read, written}
 use Rattle.door_outside.proofs.Moments.{now_same, passed_twice}
 use Rattle.intent_journal.proofs.Carried.{some_pair}
 use Rattle.intent_journal.proofs.DataFiles.{data_each, from_data}
@@ -122,7 +122,7 @@ all_durable patches old mid new stands done only durable image left = data_each 
 whole_there : (old bytes : List ℕ) → take (length bytes) (written old 0 bytes) ≡ bytes
 whole_there old bytes = let none : 0 - length old ≡ 0 = omega arith in ap (take (length bytes)) (λ i. (replicate (none i) 0 ++ bytes) ++ drop (0 + length bytes) old) ∙ take_at bytes (drop (0 + length bytes) old) (length bytes) refl
 
-pub whole_written : (file n : ℕ) (bytes : List ℕ) (old mid new : Files) → n ≡ length bytes → Holds file (written (old file) 0 bytes) old mid → Holds file (take n (mid file)) mid new → Holds file bytes old new
+pub whole_written : (file n : ℕ) (bytes : List ℕ) (old mid new : Files) → n ≡ length bytes → HoldsBytes file (written (old file) 0 bytes) old mid → HoldsBytes file (take n (mid file)) mid new → HoldsBytes file bytes old new
 whole_written file n bytes old mid new n_is first second = record {
   holds = second.holds ∙ (λ i. take (n_is i) (first.holds i)) ∙ whole_there (old file) bytes;
   others = λ other ne. second.others other ne ∙ first.others other ne;

@@ -20,7 +20,7 @@ pub record HasWholeHead (count len : ℕ) (journal : List ℕ) : Type 0 where
   pub len_is : len ≡ u32_at 9 journal
 
 -- an open gate stands before a body of this count and this text
-pub record HasText (count : ℕ) (text journal : List ℕ) : Type 0 where
+pub record HasJournalText (count : ℕ) (text journal : List ℕ) : Type 0 where
   pub gate : take 1 journal ≡ 79 ∷ []
   pub begins : begins_body journal ≡ true
   pub count_is : count ≡ u32_at 5 journal
@@ -32,7 +32,7 @@ pub record HasNoBody (journal : List ℕ) : Type 0 where
   pub none : begins_body journal ≡ false
 
 -- what was found is what the journal has
-abbrev pub Finds : Found → List ℕ → Type 0
-Finds Closed journal = IsClosed journal
-Finds NoBody journal = HasNoBody journal
-Finds (Body count text) journal = HasText count text journal
+abbrev pub JournalFinds : Found → List ℕ → Type 0
+JournalFinds Closed journal = IsClosed journal
+JournalFinds NoBody journal = HasNoBody journal
+JournalFinds (Body count text) journal = HasJournalText count text journal

@@ -6,16 +6,16 @@ use Rattle.door_outside.specs.File.{is_data_file}
 use Rattle.record_numbers.specs.Numbers.{u16_at, u32_at, u16_text, u32_text}
 use Rattle.intent_journal.specs.declared.patch.Patch.{Patch}
 use Rattle.intent_journal.specs.declared.patch.Patch.TheVariants.{Whole, Put}
-use Rattle.intent_journal.specs.Patches.{Files, file_of, place_of, bytes_of, clash, is_once, is_touched, is_replaced, are_within}
+use Rattle.intent_journal.specs.Patches.{Files, file_of, patch_offset, bytes_of, clash, is_once, is_touched, is_replaced, are_within}
 
 -- the number of its kind
-abbrev pub kind_of : Patch → ℕ
-kind_of (Whole file bytes) = 0
-kind_of (Put file at bytes) = 1
+abbrev pub patch_kind : Patch → ℕ
+patch_kind (Whole file bytes) = 0
+patch_kind (Put file at bytes) = 1
 
 -- a patch: its kind in one byte, its file in two, its place and its length in four each, and its bytes
 abbrev pub patch_text : Patch → List ℕ
-patch_text patch = kind_of patch ∷ u16_text (file_of patch) ++ u32_text (place_of patch) ++ u32_text (length (bytes_of patch)) ++ bytes_of patch
+patch_text patch = patch_kind patch ∷ u16_text (file_of patch) ++ u32_text (patch_offset patch) ++ u32_text (length (bytes_of patch)) ++ bytes_of patch
 
 abbrev pub patches_text : List Patch → List ℕ
 patches_text [] = []
@@ -105,8 +105,8 @@ pub record Marks (any whole : List Bool) (patches : List Patch) : Type 0 where
   pub replaced : (file : ℕ) → file < 258 → get_or whole file false ≡ is_replaced file patches
 
 -- the patches may have this one more
-pub record Takes (patches : List Patch) (patch : Patch) : Type 0 where
+pub record TakesPatch (patches : List Patch) (patch : Patch) : Type 0 where
   pub no_journal : file_of patch ≢ 1
   pub once : list_any (clash patch) patches ≡ false
-  pub in_range : place_of patch + length (bytes_of patch) < 2 ^ 31
+  pub in_range : patch_offset patch + length (bytes_of patch) < 2 ^ 31
   pub fits : length (journal_text (patches ++ patch ∷ [])) ≤ 41943040

@@ -16,9 +16,9 @@ file_of (Whole file bytes) = file
 file_of (Put file at bytes) = file
 
 -- where in the file its bytes begin
-abbrev pub place_of : Patch → ℕ
-place_of (Whole file bytes) = 0
-place_of (Put file at bytes) = at
+abbrev pub patch_offset : Patch → ℕ
+patch_offset (Whole file bytes) = 0
+patch_offset (Put file at bytes) = at
 
 -- the bytes that it puts there
 abbrev pub bytes_of : Patch → List ℕ

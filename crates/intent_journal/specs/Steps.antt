@@ -38,7 +38,7 @@ pub record OnlySynced (old new : Disk) : Type 0 where
   pub wrote : new.wrote ≡ old.wrote
 
 -- the journal has this body behind its gate, before free bytes, and nothing else has changed
-pub record HasBody (count : ℕ) (text : List ℕ) (old new : Files) : Type 0 where
+pub record HasJournalBody (count : ℕ) (text : List ℕ) (old new : Files) : Type 0 where
   pub gate : take 1 (new 1) ≡ take 1 (old 1)
   pub spells : take (12 + length text) (drop 1 (new 1)) ≡ body_text count text
   pub body : body_patches (new 1) ≡ Some (spelled count text)

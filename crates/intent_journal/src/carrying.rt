@@ -1,7 +1,7 @@
 // Carrying out patches.
 ghost use Rattle.std.specs.Prelude.{◌≡◌, ℕ, ◌+◌, ◌<◌, ◌≤◌, ◌^◌, false, length, Some, OnOk, IsTrue};
 ghost use Rattle.door_outside.specs.Cause.{HasCause};
-ghost use Rattle.door_outside.specs.Disk.{Disk, Image, Passes, InFile, Holds, Between, AllNow, as_read};
+ghost use Rattle.door_outside.specs.Disk.{Disk, Image, Passes, InFile, HoldsBytes, Between, AllNow, as_read};
 ghost use Rattle.intent_journal.specs.Hosts.{IsCalm};
 ghost use Rattle.intent_journal.specs.Journal.{patch_by, patches_of, spelled};
 ghost use Rattle.intent_journal.specs.Patches.{are_within, byte_count, data_files, is_once, patched, patched_file};
@@ -17,7 +17,7 @@ use door_outside::{DiskFault, FileId, Host};
 fn write_whole<H: Host>(host: &mut H, file: FileId, bytes: &[u8]) -> Result<(), DiskFault>
     requires { length bytes.now < 2 ^ 31 }
     ensures crash { IsTrue H.tells → Passes (InFile file Anyhow) (InFile file Anyhow) (H.disk host.old) (H.disk host.new) }
-    ensures done { OnOk result (IsTrue H.tells → Holds file bytes.now (H.disk host.old).files (H.disk host.new).files) }
+    ensures done { OnOk result (IsTrue H.tells → HoldsBytes file bytes.now (H.disk host.old).files (H.disk host.new).files) }
     ensures wrote { IsTrue H.tells → (H.disk host.new).wrote ≤ (H.disk host.old).wrote + length bytes.now }
     ensures cause { HasCause (H.disk_faults host.old) (H.disk_faults host.new) result }
     ensures voice { H.voice_faults host.new ≡ H.voice_faults host.old }
@@ -31,7 +31,7 @@ fn write_whole<H: Host>(host: &mut H, file: FileId, bytes: &[u8]) -> Result<(), 
 fn write_patch<H: Host>(host: &mut H, head: PatchHead, bytes: &[u8]) -> Result<(), DiskFault>
     requires { head.at + length bytes.now < 2 ^ 31 }
     ensures crash { IsTrue H.tells → let step = InFile head.file (Partly (patch_by head.whole head.file head.at bytes.now)) in Passes step step (H.disk host.old) (H.disk host.new) }
-    ensures done { OnOk result (IsTrue H.tells → Holds head.file (patched_file (patch_by head.whole head.file head.at bytes.now) ((H.disk host.old).files head.file)) (H.disk host.old).files (H.disk host.new).files) }
+    ensures done { OnOk result (IsTrue H.tells → HoldsBytes head.file (patched_file (patch_by head.whole head.file head.at bytes.now) ((H.disk host.old).files head.file)) (H.disk host.old).files (H.disk host.new).files) }
     ensures wrote { IsTrue H.tells → (H.disk host.new).wrote ≤ (H.disk host.old).wrote + length bytes.now }
     ensures cause { HasCause (H.disk_faults host.old) (H.disk_faults host.new) result }
     ensures voice { H.voice_faults host.new ≡ H.voice_faults host.old }

@@ -1,12 +1,12 @@
 // Committing an intent.
 ghost use Rattle.std.specs.Prelude.{◌≡◌, ℕ, ◌+◌, ◌*◌, ◌<◌, ◌≤◌, ◌^◌, length, OnOk, IsTrue};
 ghost use Rattle.door_outside.specs.Cause.{HasCause};
-ghost use Rattle.door_outside.specs.Disk.{Disk, Passes, InFile, Holds, Between, AllNow, as_read, written};
+ghost use Rattle.door_outside.specs.Disk.{Disk, Passes, InFile, HoldsBytes, Between, AllNow, as_read, written};
 ghost use Rattle.intent_journal.specs.Hosts.{IsCalm, IsSettled};
 ghost use Rattle.intent_journal.specs.Journal.{spelled, IsSpelled};
 ghost use Rattle.intent_journal.specs.Patches.{are_within, byte_count, data_files, patched};
 ghost use Rattle.intent_journal.specs.Recovered.{OldOrPatched};
-ghost use Rattle.intent_journal.specs.Steps.{BehindGate, HasBody, JournalKept, Quiet, IsShut, IsStaged};
+ghost use Rattle.intent_journal.specs.Steps.{BehindGate, HasJournalBody, JournalKept, Quiet, IsShut, IsStaged};
 
 use crate::carrying::replay;
 use crate::gate::{CLOSED, OPEN, set_gate};
@@ -36,7 +36,7 @@ fn write_behind<H: Host>(host: &mut H, at: u32, bytes: &[u8]) -> Result<(), Disk
     requires behind { 1 ≤ at }
     requires in_range { at + length bytes.now < 2 ^ 31 }
     ensures crash { IsTrue H.tells → Passes (InFile 1 BehindGate) (InFile 1 BehindGate) (H.disk host.old) (H.disk host.new) }
-    ensures done { OnOk result (IsTrue H.tells → Holds 1 (written ((H.disk host.old).files 1) at bytes.now) (H.disk host.old).files (H.disk host.new).files) }
+    ensures done { OnOk result (IsTrue H.tells → HoldsBytes 1 (written ((H.disk host.old).files 1) at bytes.now) (H.disk host.old).files (H.disk host.new).files) }
     ensures wrote { IsTrue H.tells → (H.disk host.new).wrote ≤ (H.disk host.old).wrote + length bytes.now }
     ensures cause { HasCause (H.disk_faults host.old) (H.disk_faults host.new) result }
     ensures voice { H.voice_faults host.new ≡ H.voice_faults host.old }
@@ -48,7 +48,7 @@ fn write_behind<H: Host>(host: &mut H, at: u32, bytes: &[u8]) -> Result<(), Disk
 fn write_body<H: Host>(host: &mut H, count: u32, text: &[u8]) -> Result<(), DiskFault>
     requires { IsSpelled count text.now }
     ensures crash { IsTrue H.tells → Passes (InFile 1 BehindGate) (InFile 1 BehindGate) (H.disk host.old) (H.disk host.new) }
-    ensures done { OnOk result (IsTrue H.tells → 0 < length ((H.disk host.old).files 1) → HasBody count text.now (H.disk host.old).files (H.disk host.new).files) }
+    ensures done { OnOk result (IsTrue H.tells → 0 < length ((H.disk host.old).files 1) → HasJournalBody count text.now (H.disk host.old).files (H.disk host.new).files) }
     ensures kept { OnOk result (IsTrue H.tells → JournalKept (H.disk host.new)) }
     ensures wrote { IsTrue H.tells → (H.disk host.new).wrote ≤ (H.disk host.old).wrote + 12 + length text.now }
     ensures cause { HasCause (H.disk_faults host.old) (H.disk_faults host.new) result }

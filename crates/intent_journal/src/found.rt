@@ -2,7 +2,7 @@
 ghost use Rattle.std.specs.Prelude.{◌≡◌, ℕ, [], ◌∷◌, ◌+◌, ◌≤◌, length, take, drop, nat_le, true, false, Some, IfOk, OnOk, IsErrOf, IsTrue, MatchOption};
 ghost use Rattle.door_outside.specs.Cause.{HasCause, Rose};
 ghost use Rattle.door_outside.specs.Disk.{Disk, Unchanged};
-ghost use Rattle.intent_journal.specs.Found.{Finds, HasHead, HasText, HasNoBody, HasWholeHead};
+ghost use Rattle.intent_journal.specs.Found.{JournalFinds, HasHead, HasJournalText, HasNoBody, HasWholeHead};
 ghost use Rattle.intent_journal.specs.Journal.{IsClosed, begins_body};
 
 use crate::gate::is_open;
@@ -118,7 +118,7 @@ fn read_text<H: Host>(alloc: Global, host: &mut H, len: u32) -> Result<Bytes, Jo
 /// The body behind an open gate.
 fn read_body<H: Host>(alloc: Global, host: &mut H) -> Result<Found, JournalError>
     requires { IsTrue H.tells → take 1 ((H.disk host.old).files 1) ≡ 79 ∷ [] }
-    ensures finds { IfOk result (λ found. IsTrue H.tells → Finds found ((H.disk host.old).files 1)) }
+    ensures finds { IfOk result (λ found. IsTrue H.tells → JournalFinds found ((H.disk host.old).files 1)) }
     ensures unchanged { IsTrue H.tells → Unchanged (H.disk host.old) (H.disk host.new) }
     ensures later { H.disk_faults host.old ≤ H.disk_faults host.new }
     ensures cause { IsErrOf result JournalError.DiskFault → Rose (H.disk_faults host.old) (H.disk_faults host.new) }
@@ -138,7 +138,7 @@ fn read_body<H: Host>(alloc: Global, host: &mut H) -> Result<Found, JournalError
 
 /// What stands in the journal.
 pub(crate) fn read_journal<H: Host>(alloc: Global, host: &mut H) -> Result<Found, JournalError>
-    ensures finds { IfOk result (λ found. IsTrue H.tells → Finds found ((H.disk host.old).files 1)) }
+    ensures finds { IfOk result (λ found. IsTrue H.tells → JournalFinds found ((H.disk host.old).files 1)) }
     ensures unchanged { IsTrue H.tells → Unchanged (H.disk host.old) (H.disk host.new) }
     ensures later { H.disk_faults host.old ≤ H.disk_faults host.new }
     ensures cause { IsErrOf result JournalError.DiskFault → Rose (H.disk_faults host.old) (H.disk_faults host.new) }

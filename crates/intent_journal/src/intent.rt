@@ -1,6 +1,6 @@
 // An intent, as its patches are spelled.
 ghost use Rattle.std.specs.Prelude.{◌≡◌, ℕ, ◌≤◌, [], ◌∷◌, ◌++◌, ◌↔◌, length, OnOk, OnErr, IsTrue};
-ghost use Rattle.intent_journal.specs.Journal.{journal_text, spelled, IsSpelled, Takes};
+ghost use Rattle.intent_journal.specs.Journal.{journal_text, spelled, IsSpelled, TakesPatch};
 
 use crate::headers::patch_header;
 use crate::marks::FileMarks;
@@ -65,7 +65,7 @@ impl Intent {
     /// and none at all where this is one; its end is below 2^31; and the spelled intent stays within
     /// 41,943,040 bytes.
     pub fn takes(&self, patch: &Patch) -> bool
-        ensures { IsTrue result ↔ Takes self.now patch.now }
+        ensures { IsTrue result ↔ TakesPatch self.now patch.now }
     {
         let file = patch.file();
         let len = patch.bytes().len() as u64;
@@ -87,7 +87,7 @@ impl Intent {
 
     /// Adds a patch at the end. Where there is no memory for it, the intent is unchanged.
     pub fn add(&mut self, patch: Patch) -> Result<(), AllocError>
-        requires { Takes self.old patch }
+        requires { TakesPatch self.old patch }
         ensures ok { OnOk result (self.new ≡ self.old ++ patch ∷ []) }
         ensures err { OnErr result (self.new ≡ self.old) }
     {

@@ -2,7 +2,7 @@
 ghost use Rattle.std.specs.Prelude.{◌≡◌, ℕ, [], ◌∷◌, ◌+◌, ◌≤◌, take, Some, OnOk, IsErrOf, IsTrue};
 ghost use Rattle.door_outside.specs.Cause.{HasCause, Rose};
 ghost use Rattle.door_outside.specs.Disk.{Disk, Between, AllNow, as_read};
-ghost use Rattle.intent_journal.specs.Found.{Finds, HasText};
+ghost use Rattle.intent_journal.specs.Found.{JournalFinds, HasJournalText};
 ghost use Rattle.intent_journal.specs.Hosts.{IsCalm, IsFirm, IsSettled};
 ghost use Rattle.intent_journal.specs.Journal.{intent_of, patches_of, spelled};
 ghost use Rattle.intent_journal.specs.Patches.{byte_count, data_files, is_once};
@@ -109,7 +109,7 @@ fn finish_open<H: Host>(host: &mut H, count: u32, text: &[u8]) -> Result<(), Dis
 /// Carries out the patches of the body behind an open gate, or closes the gate over a body that is no intent.
 fn finish_body<H: Host>(host: &mut H, count: u32, text: &[u8]) -> Result<(), DiskFault>
     requires sure { IsTrue H.tells → IsSure (H.disk host.old) }
-    requires has { IsTrue H.tells → HasText count text.now ((H.disk host.old).files 1) }
+    requires has { IsTrue H.tells → HasJournalText count text.now ((H.disk host.old).files 1) }
     ensures moments { IsTrue H.tells → Between (H.disk host.old) (H.disk host.new) (Back (H.disk host.old)) }
     ensures now { IsTrue H.tells → AllNow (H.disk host.new) (Back (H.disk host.old)) }
     ensures calm { OnOk result (IsTrue H.tells → IsCalm (H.disk host.new)) }
@@ -128,7 +128,7 @@ fn finish_body<H: Host>(host: &mut H, count: u32, text: &[u8]) -> Result<(), Dis
 /// Carries out the intent that was found, or closes a gate over none.
 fn finish_recovery<H: Host>(host: &mut H, found: &Found) -> Result<(), DiskFault>
     requires sure { IsTrue H.tells → IsSure (H.disk host.old) }
-    requires finds { IsTrue H.tells → Finds found.now ((H.disk host.old).files 1) }
+    requires finds { IsTrue H.tells → JournalFinds found.now ((H.disk host.old).files 1) }
     ensures moments { IsTrue H.tells → Between (H.disk host.old) (H.disk host.new) (Back (H.disk host.old)) }
     ensures now { IsTrue H.tells → AllNow (H.disk host.new) (Back (H.disk host.old)) }
     ensures calm { OnOk result (IsTrue H.tells → IsCalm (H.disk host.new)) }

@@ -9,7 +9,7 @@ use Rattle.std.proofs.lemmas.Grind.{flat_map-append}
 use Rattle.std.proofs.lemmas.Nat.Bits.{bit_at_and, bit_at_or, bit_at-zero, same_from_bits}
 use Rattle.record_numbers.specs.Numbers.{u16_at}
 use Rattle.jam_records.specs.Subfields.{subfield_text, subfields_text, IsSubfield}
-use Rattle.jam_adopt.specs.Leaps.{bit_of_id, Passes, IsLeap, AreLeaps}
+use Rattle.jam_adopt.specs.Leaps.{bit_of_id, PassesFields, IsLeap, AreLeaps}
 use Rattle.jam_adopt.specs.declared.leaps.Leap.{Leap}
 
 -- ---- bits
@@ -26,7 +26,7 @@ second_has_none a b bits is =
     same_from_bits (bit_and b bits) 0 (λ i. bit_at_and b bits i ∙ (omega (arith, no_bits (bit_or a b) bits i is, bit_at_or a b i) ∙ sym (bit_at-zero i)))
 
 -- ---- what is passed over
-pub passes_none : (jhr : List ℕ) (bits at : ℕ) → at ≤ length jhr → Passes jhr bits at at
+pub passes_none : (jhr : List ℕ) (bits at : ℕ) → at ≤ length jhr → PassesFields jhr bits at at
 passes_none jhr bits at within = record {
   fields = [];
   ids = All-nil IsSubfield;
@@ -37,7 +37,7 @@ passes_none jhr bits at within = record {
 }
 
 -- two passages, one after the other
-pub passes_both : (jhr : List ℕ) (bits at mid to : ℕ) → Passes jhr bits at mid → Passes jhr bits mid to → Passes jhr bits at to
+pub passes_both : (jhr : List ℕ) (bits at mid to : ℕ) → PassesFields jhr bits at mid → PassesFields jhr bits mid to → PassesFields jhr bits at to
 passes_both jhr bits at mid to first second = record {
   fields = first.fields ++ second.fields;
   ids = All-append IsSubfield first.fields second.fields first.ids second.ids;
@@ -56,11 +56,11 @@ pub leap_nowhere : (jhr : List ℕ) (at : ℕ) (leap : Leap) → leap.to ≡ at 
 leap_nowhere jhr at leap is within = record {
   rising = omega arith;
   within = omega arith;
-  passes = λ bits others. subst (Passes jhr bits at) (sym is) (passes_none jhr bits at within);
+  passes = λ bits others. subst (PassesFields jhr bits at) (sym is) (passes_none jhr bits at within);
 }
 
 -- over one subfield
-pub leap_one : (jhr : List ℕ) (at : ℕ) (leap : Leap) → at ≤ leap.to → leap.to ≤ length jhr → ((bits : ℕ) → bit_and (bit_of_id (u16_at at jhr)) bits ≡ 0 → Passes jhr bits at leap.to) → leap.ids ≡ bit_of_id (u16_at at jhr) → IsLeap jhr at leap
+pub leap_one : (jhr : List ℕ) (at : ℕ) (leap : Leap) → at ≤ leap.to → leap.to ≤ length jhr → ((bits : ℕ) → bit_and (bit_of_id (u16_at at jhr)) bits ≡ 0 → PassesFields jhr bits at leap.to) → leap.ids ≡ bit_of_id (u16_at at jhr) → IsLeap jhr at leap
 leap_one jhr at leap rising within one ids = record {
   rising = rising;
   within = within;
@@ -68,7 +68,7 @@ leap_one jhr at leap rising within one ids = record {
 }
 
 -- over one, and two leaps behind it
-pub leap_three : (jhr : List ℕ) (at end own : ℕ) (leap first second : Leap) → ((bits : ℕ) → bit_and own bits ≡ 0 → Passes jhr bits at end) → at ≤ end → IsLeap jhr end first → IsLeap jhr first.to second
+pub leap_three : (jhr : List ℕ) (at end own : ℕ) (leap first second : Leap) → ((bits : ℕ) → bit_and own bits ≡ 0 → PassesFields jhr bits at end) → at ≤ end → IsLeap jhr end first → IsLeap jhr first.to second
     → leap.to ≡ second.to → leap.ids ≡ bit_or (bit_or own first.ids) second.ids → IsLeap jhr at leap
 leap_three jhr at end own leap first second one below a b to ids = record {
   rising = let x = a.rising in let y = b.rising in omega arith;
@@ -78,7 +78,7 @@ leap_three jhr at end own leap first second one below a b to ids = record {
       let both = first_has_none (bit_or own first.ids) second.ids bits all in
       let third = second_has_none (bit_or own first.ids) second.ids bits all in
       let passage = passes_both jhr bits at end second.to (one bits (first_has_none own first.ids bits both)) (passes_both jhr bits end first.to second.to (a.passes bits (second_has_none own first.ids bits both)) (b.passes bits third)) in
-      subst (Passes jhr bits at) (sym to) passage;
+      subst (PassesFields jhr bits at) (sym to) passage;
 }
 
 -- ---- the bit of an id as it is made

@@ -11,7 +11,7 @@ use Rattle.record_numbers.proofs.NumberFronts.{byte_small, u32_at-take}
 use Rattle.jam_records.specs.Subfields.{subfield_text, subfields_text, IsSubfield}
 use Rattle.jam_records.specs.declared.subfield.Subfield.{Subfield}
 use Rattle.jam_records.proofs.SubfieldLemmas.{subfield_of_bytes, taken_length}
-use Rattle.jam_adopt.specs.Leaps.{bit_of_id, Passes}
+use Rattle.jam_adopt.specs.Leaps.{bit_of_id, PassesFields}
 
 -- a number at a place is that at the front of what stands from there on
 pub u16_at-drop : (place at : ℕ) (bytes : List ℕ) → u16_at place (drop at bytes) ≡ u16_at (at + place) bytes
@@ -52,7 +52,7 @@ whole_field jhr at end all long within is =
     sym (take-append-drop (end - at) rest) ∙ (ap (λ xs. xs ++ drop (end - at) rest) text ∙ ap (λ xs. subfield_text (field_of bytes) ++ xs) behind)
 
 -- it may be passed over where its id has none of these bits
-pub passes_one : (jhr : List ℕ) (at end bits : ℕ) → All IsByte jhr → at + 8 ≤ end → end ≤ length jhr → end ≡ at + 8 + u32_at (at + 4) jhr → bit_and (bit_of_id (u16_at at jhr)) bits ≡ 0 → Passes jhr bits at end
+pub passes_one : (jhr : List ℕ) (at end bits : ℕ) → All IsByte jhr → at + 8 ≤ end → end ≤ length jhr → end ≡ at + 8 + u32_at (at + 4) jhr → bit_and (bit_of_id (u16_at at jhr)) bits ≡ 0 → PassesFields jhr bits at end
 passes_one jhr at end bits all long within is other =
     let bytes : List ℕ = take (end - at) (drop at jhr) in
     let s : Subfield = field_of bytes in

@@ -20,6 +20,6 @@ abbrev pub fields_of : List ℕ → Option (List Subfield)
 fields_of bytes = fields_from 0 bytes
 
 -- the value of the first subfield of an id, whatever its HiID, or nothing where there is none
-abbrev pub first_value : ℕ → List Subfield → List ℕ
-first_value id [] = []
-first_value id (s ∷ fields) = if s.lo == id then s.value else first_value id fields
+abbrev pub value_of_id : ℕ → List Subfield → List ℕ
+value_of_id id [] = []
+value_of_id id (s ∷ fields) = if s.lo == id then s.value else value_of_id id fields

@@ -11,7 +11,7 @@ abbrev pub bit_of_id : ℕ → ℕ
 bit_of_id id = if nat_lt id 7 then 2 ^ id else 0
 
 -- from a place to another one stand whole subfields, none of an id of these bits
-pub record Passes (jhr : List ℕ) (bits at to : ℕ) : Type 0 where
+pub record PassesFields (jhr : List ℕ) (bits at to : ℕ) : Type 0 where
   pub fields : List Subfield
   pub ids : All IsSubfield fields
   pub others : All (λ s. bit_and (bit_of_id s.lo) bits ≡ 0) fields
@@ -31,7 +31,7 @@ StopsAt jhr bits at to = IsCutAt jhr at to ⊎ (bit_and (bit_of_id (u16_at at jh
 pub record IsLeap (jhr : List ℕ) (at : ℕ) (leap : Leap) : Type 0 where
   pub rising : at ≤ leap.to
   pub within : leap.to ≤ length jhr
-  pub passes : (bits : ℕ) → bit_and leap.ids bits ≡ 0 → Passes jhr bits at leap.to
+  pub passes : (bits : ℕ) → bit_and leap.ids bits ≡ 0 → PassesFields jhr bits at leap.to
 
 -- leaps from the last places on: the first is from the end, each other one from the place before
 abbrev pub AreLeaps : List ℕ → List Leap → Type 0

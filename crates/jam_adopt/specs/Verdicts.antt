@@ -8,8 +8,8 @@ use Rattle.jam_records.specs.declared.message.Message.{Message}
 use Rattle.jam_records.specs.declared.message_header.MessageHeader.{MessageHeader}
 use Rattle.jam_records.specs.declared.subfield.Subfield.{Subfield}
 use Rattle.jam_layout.specs.Marks.{marks_of}
-use Rattle.jam_adopt.specs.Bodies.{body_of}
-use Rattle.jam_adopt.specs.Fields.{fields_of, first_value}
+use Rattle.jam_adopt.specs.Bodies.{adopted_body}
+use Rattle.jam_adopt.specs.Fields.{fields_of, value_of_id}
 use Rattle.jam_adopt.specs.Values.{kept_text, kept_name, kept_id, kept_address}
 use Rattle.jam_adopt.specs.declared.found.ForeignRule.{ForeignRule}
 use Rattle.jam_adopt.specs.declared.found.ForeignRule.TheVariants as rule
@@ -30,16 +30,16 @@ abbrev pub field_bytes : List ℕ → ℕ → MessageHeader → List ℕ
 field_bytes jhr at h = slice_range jhr (at + 76) (at + 76 + h.subfield_len)
 
 -- they pass the end of .JHR, or the subfields don't fill them
-unfoldable pub wrong_fields : List ℕ → ℕ → MessageHeader → Bool
-wrong_fields jhr at h = nat_lt (length jhr) (at + 76 + h.subfield_len) || not (is_some (fields_of (field_bytes jhr at h)))
+unfoldable pub wrong_subfields : List ℕ → ℕ → MessageHeader → Bool
+wrong_subfields jhr at h = nat_lt (length jhr) (at + 76 + h.subfield_len) || not (is_some (fields_of (field_bytes jhr at h)))
 
 -- Offset plus TxtLen passes the end of .JDT
-abbrev pub wrong_text : List ℕ → MessageHeader → Bool
-wrong_text jdt h = nat_lt (length jdt) (h.offset + h.text_len)
+abbrev pub text_past_end : List ℕ → MessageHeader → Bool
+text_past_end jdt h = nat_lt (length jdt) (h.offset + h.text_len)
 
 -- the body that is made of TxtLen bytes from Offset on
 abbrev pub body_in : List ℕ → MessageHeader → List ℕ
-body_in jdt h = body_of (slice_range jdt h.offset (h.offset + h.text_len))
+body_in jdt h = adopted_body (slice_range jdt h.offset (h.offset + h.text_len))
 
 -- it has more than 16,384 bytes
 abbrev pub wrong_length : List ℕ → MessageHeader → Bool
@@ -53,22 +53,22 @@ first_holding (r ∷ rules) = if r.1 then Some r.0 else first_holding rules
 -- the rules behind that of the header
 unfoldable pub rules_behind : List ℕ → List ℕ → ℕ → MessageHeader → List (ForeignRule × Bool)
 rules_behind jhr jdt at h =
-    (rule.Subfields, wrong_fields jhr at h)
-    ∷ (rule.Text, wrong_text jdt h)
+    (rule.Subfields, wrong_subfields jhr at h)
+    ∷ (rule.Text, text_past_end jdt h)
     ∷ (rule.Length, wrong_length jdt h)
     ∷ []
 
 -- The message of a header, its subfields and its body. The ids are those of OADDRESS, DADDRESS, SENDERNAME,
 -- RECEIVERNAME, MSGID, REPLYID and SUBJECT.
-unfoldable pub message_of : MessageHeader → List Subfield → List ℕ → Message
-message_of h fields body = record {
-  from = kept_name (codes "Unknown") (first_value 2 fields);
-  to = kept_name (codes "All") (first_value 3 fields);
-  subject = kept_text 72 (first_value 6 fields);
-  msgid = kept_id (first_value 4 fields);
-  replyid = kept_id (first_value 5 fields);
-  origin = kept_address (first_value 0 fields);
-  destination = kept_address (first_value 1 fields);
+unfoldable pub adopted_message : MessageHeader → List Subfield → List ℕ → Message
+adopted_message h fields body = record {
+  from = kept_name (codes "Unknown") (value_of_id 2 fields);
+  to = kept_name (codes "All") (value_of_id 3 fields);
+  subject = kept_text 72 (value_of_id 6 fields);
+  msgid = kept_id (value_of_id 4 fields);
+  replyid = kept_id (value_of_id 5 fields);
+  origin = kept_address (value_of_id 0 fields);
+  destination = kept_address (value_of_id 1 fields);
   body = body;
   written = h.written;
   received = h.received;
@@ -80,19 +80,19 @@ message_of h fields body = record {
 }
 
 -- the message, where no rule holds
-abbrev pub unless_refused : Option ForeignRule → Message → FoundVerdict
-unless_refused None m = Taken m
-unless_refused (Some r) m = Refused r
+abbrev pub taken_unless_refused : Option ForeignRule → Message → FoundVerdict
+taken_unless_refused None m = Taken m
+taken_unless_refused (Some r) m = Refused r
 
 -- the verdict behind the rule of the header
 unfoldable pub verdict_behind : List ℕ → List ℕ → ℕ → MessageHeader → FoundVerdict
 verdict_behind jhr jdt at h =
-    unless_refused (first_holding (rules_behind jhr jdt at h)) (message_of h (unwrap_or (fields_of (field_bytes jhr at h)) []) (body_in jdt h))
+    taken_unless_refused (first_holding (rules_behind jhr jdt at h)) (adopted_message h (unwrap_or (fields_of (field_bytes jhr at h)) []) (body_in jdt h))
 
 -- a header that is there: one with the mark DELETED is passed over
-abbrev pub verdict_on : List ℕ → List ℕ → ℕ → MessageHeader → Option FoundVerdict
-verdict_on jhr jdt at h = if (marks_of h.attribute).deleted then None else Some (verdict_behind jhr jdt at h)
+abbrev pub verdict_on_header : List ℕ → List ℕ → ℕ → MessageHeader → Option FoundVerdict
+verdict_on_header jhr jdt at h = if (marks_of h.attribute).deleted then None else Some (verdict_behind jhr jdt at h)
 
 -- the verdict on the header at an offset, or None where it is passed over
 unfoldable pub verdict_at : List ℕ → List ℕ → ℕ → Option FoundVerdict
-verdict_at jhr jdt at = if wrong_header jhr at then Some (Refused rule.Header) else verdict_on jhr jdt at (header_in jhr at)
+verdict_at jhr jdt at = if wrong_header jhr at then Some (Refused rule.Header) else verdict_on_header jhr jdt at (header_in jhr at)

@@ -1,6 +1,6 @@
 ghost use Rattle.std.specs.Prelude.{◌≡◌, ◌+◌, ◌<◌, ◌^◌, true, false, length, MatchOption};
 ghost use Rattle.jam_adopt.specs.Leaps.{AreAllLeaps};
-ghost use Rattle.jam_adopt.specs.Verdicts.{wrong_header, header_in, wrong_fields as wrong_fields_of};
+ghost use Rattle.jam_adopt.specs.Verdicts.{wrong_header, header_in, wrong_subfields as wrong_fields_of};
 
 use crate::leaps::Leaps;
 use jam_records::{MessageHeader, read_message_header};
@@ -30,7 +30,7 @@ pub(crate) fn field_places(offset: u32, header: &MessageHeader) -> (usize, usize
 }
 
 /// Whether its subfields pass the end of .JHR, or don't fill SubfieldLen.
-#[tactic(auto, unfolding(crate::specs::Verdicts::wrong_fields))]
+#[tactic(auto, unfolding(crate::specs::Verdicts::wrong_subfields))]
 pub(crate) fn wrong_fields(jhr: &[u8], leaps: &Leaps, offset: u32, header: &MessageHeader) -> bool
     requires short { length jhr.now < 2 ^ 31 }
     requires leaps { AreAllLeaps jhr.now leaps.now }

@@ -1,8 +1,8 @@
 ghost use Rattle.std.specs.Prelude.{◌≡◌, ◌+◌, ◌-◌, ◌≤◌, ◌<◌, ◌^◌, ℕ, List, length, slice_range, bit_and, is_some, IsTrue, IfOk, Some, MatchOption};
 ghost use Rattle.record_numbers.specs.Numbers.{u32_at as u32_of};
 ghost use Rattle.jam_records.specs.declared.subfield.Subfield.{Subfield};
-ghost use Rattle.jam_adopt.specs.Fields.{fields_of, first_value};
-ghost use Rattle.jam_adopt.specs.Leaps.{bit_of_id, Passes, IsCutAt, StopsAt, IsLeap, AreLeaps, AreAllLeaps};
+ghost use Rattle.jam_adopt.specs.Fields.{fields_of, value_of_id};
+ghost use Rattle.jam_adopt.specs.Leaps.{bit_of_id, PassesFields, IsCutAt, StopsAt, IsLeap, AreLeaps, AreAllLeaps};
 
 use record_numbers::{u16_at, u32_at};
 use std::alloc::{AllocError, Global};
@@ -149,7 +149,7 @@ impl Leaps {
         requires leaps { AreAllLeaps jhr.now self.now }
         requires rising { at ≤ to }
         requires within { to ≤ length jhr.now }
-        ensures { MatchOption result (StopsAt jhr.now bits at to) (λ next. (at < next) × (next ≤ to) × Passes jhr.now bits at next) }
+        ensures { MatchOption result (StopsAt jhr.now bits at to) (λ next. (at < next) × (next ≤ to) × PassesFields jhr.now bits at next) }
     {
         let leap = self.leap(jhr, at);
         if may_leap(leap, bits, at, to) {
@@ -168,7 +168,7 @@ impl Leaps {
         requires leaps { AreAllLeaps jhr.now self.now }
         requires rising { from ≤ to }
         requires within { to ≤ length jhr.now }
-        ensures passes { Passes jhr.now bits from result }
+        ensures passes { PassesFields jhr.now bits from result }
         ensures within { result ≤ to }
         ensures stops { result < to → StopsAt jhr.now bits result to }
     {
@@ -201,7 +201,7 @@ impl Leaps {
         requires rising { from ≤ to }
         requires within { to ≤ length jhr.now }
         requires id { id < 7 }
-        ensures { (fields : List Subfield) → fields_of (slice_range jhr.now from to) ≡ Some fields → result.now ≡ first_value id fields }
+        ensures { (fields : List Subfield) → fields_of (slice_range jhr.now from to) ≡ Some fields → result.now ≡ value_of_id id fields }
     {
         let at = self.stop(jhr, id_bit(id), from, to);
         match field_end(jhr, at, to) {

@@ -1,7 +1,7 @@
 // The texts of a message by its subfields, in two parts.
 ghost use Rattle.std.specs.Prelude.{◌≡◌, ◌≤◌, ◌<◌, ◌^◌, List, length, slice_range, codes, IfOk, Some};
 ghost use Rattle.jam_records.specs.declared.subfield.Subfield.{Subfield};
-ghost use Rattle.jam_adopt.specs.Fields.{fields_of, first_value};
+ghost use Rattle.jam_adopt.specs.Fields.{fields_of, value_of_id};
 ghost use Rattle.jam_adopt.specs.Leaps.{AreAllLeaps};
 ghost use Rattle.jam_adopt.specs.Values.{kept_text as text_of, kept_name as name_of, kept_id as id_of, kept_address as address_of};
 
@@ -42,9 +42,9 @@ pub(crate) fn names_of(
     requires leaps { AreAllLeaps jhr.now leaps.now }
     requires rising { from ≤ to }
     requires within { to ≤ length jhr.now }
-    ensures sender { IfOk result (λ names. (fields : List Subfield) → fields_of (slice_range jhr.now from to) ≡ Some fields → names.from ≡ name_of (codes "Unknown") (first_value 2 fields)) }
-    ensures recipient { IfOk result (λ names. (fields : List Subfield) → fields_of (slice_range jhr.now from to) ≡ Some fields → names.to ≡ name_of (codes "All") (first_value 3 fields)) }
-    ensures subject { IfOk result (λ names. (fields : List Subfield) → fields_of (slice_range jhr.now from to) ≡ Some fields → names.subject ≡ text_of 72 (first_value 6 fields)) }
+    ensures sender { IfOk result (λ names. (fields : List Subfield) → fields_of (slice_range jhr.now from to) ≡ Some fields → names.from ≡ name_of (codes "Unknown") (value_of_id 2 fields)) }
+    ensures recipient { IfOk result (λ names. (fields : List Subfield) → fields_of (slice_range jhr.now from to) ≡ Some fields → names.to ≡ name_of (codes "All") (value_of_id 3 fields)) }
+    ensures subject { IfOk result (λ names. (fields : List Subfield) → fields_of (slice_range jhr.now from to) ≡ Some fields → names.subject ≡ text_of 72 (value_of_id 6 fields)) }
 {
     let sender = leaps.value(jhr, 2, from, to);
     let recipient = leaps.value(jhr, 3, from, to);
@@ -68,10 +68,10 @@ pub(crate) fn ids_of(
     requires leaps { AreAllLeaps jhr.now leaps.now }
     requires rising { from ≤ to }
     requires within { to ≤ length jhr.now }
-    ensures msgid { IfOk result (λ ids. (fields : List Subfield) → fields_of (slice_range jhr.now from to) ≡ Some fields → ids.msgid ≡ id_of (first_value 4 fields)) }
-    ensures replyid { IfOk result (λ ids. (fields : List Subfield) → fields_of (slice_range jhr.now from to) ≡ Some fields → ids.replyid ≡ id_of (first_value 5 fields)) }
-    ensures origin { IfOk result (λ ids. (fields : List Subfield) → fields_of (slice_range jhr.now from to) ≡ Some fields → ids.origin ≡ address_of (first_value 0 fields)) }
-    ensures destination { IfOk result (λ ids. (fields : List Subfield) → fields_of (slice_range jhr.now from to) ≡ Some fields → ids.destination ≡ address_of (first_value 1 fields)) }
+    ensures msgid { IfOk result (λ ids. (fields : List Subfield) → fields_of (slice_range jhr.now from to) ≡ Some fields → ids.msgid ≡ id_of (value_of_id 4 fields)) }
+    ensures replyid { IfOk result (λ ids. (fields : List Subfield) → fields_of (slice_range jhr.now from to) ≡ Some fields → ids.replyid ≡ id_of (value_of_id 5 fields)) }
+    ensures origin { IfOk result (λ ids. (fields : List Subfield) → fields_of (slice_range jhr.now from to) ≡ Some fields → ids.origin ≡ address_of (value_of_id 0 fields)) }
+    ensures destination { IfOk result (λ ids. (fields : List Subfield) → fields_of (slice_range jhr.now from to) ≡ Some fields → ids.destination ≡ address_of (value_of_id 1 fields)) }
 {
     Ok(Ids {
         msgid: kept_id(alloc, leaps.value(jhr, 4, from, to))?,

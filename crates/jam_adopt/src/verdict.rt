@@ -5,7 +5,7 @@ ghost use Rattle.jam_adopt.specs.Fields.{fields_of};
 ghost use Rattle.jam_adopt.specs.Foreign.{is_no_header as names_none, verdict_of as verdict_of_record};
 ghost use Rattle.jam_adopt.specs.Leaps.{AreAllLeaps};
 ghost use Rattle.jam_adopt.specs.Texts.{AreTables};
-ghost use Rattle.jam_adopt.specs.Verdicts.{field_bytes, message_of as message_in, verdict_behind as verdict_behind_of, verdict_at as verdict_at_of};
+ghost use Rattle.jam_adopt.specs.Verdicts.{field_bytes, adopted_message as message_in, verdict_behind as verdict_behind_of, verdict_at as verdict_at_of};
 
 use crate::bodies::{body_of, is_long};
 use crate::found::{ForeignRule, FoundVerdict};
@@ -21,7 +21,7 @@ use std::alloc::{AllocError, Global};
 const NONE: u32 = 0xFFFF_FFFF;
 
 /// The message of the header at an offset whose text without line feeds is this.
-#[tactic(auto, unfolding(crate::specs::Verdicts::message_of))]
+#[tactic(auto, unfolding(crate::specs::Verdicts::adopted_message))]
 fn message_of(
     alloc: Global,
     jhr: &[u8],

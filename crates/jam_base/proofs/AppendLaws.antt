@@ -26,7 +26,7 @@ use Rattle.jam_writing.proofs.SlotShapes.{jhr_more, jdt_more, jdx_more}
 use Rattle.jam_base.specs.OneAppend.{with_last, with_link, last_header, OneAppend}
 use Rattle.jam_base.specs.Places.{header_place, with_number}
 use Rattle.jam_base.proofs.HeaderPlaces.{active_written, headers_same, linked, header_within}
-use Rattle.jam_base.proofs.Writes.{written_before}
+use Rattle.intent_journal.proofs.Writes.{written_before}
 
 abbrev headers : (ℕ → Link) → Kind → List Slot → List ℕ
 headers links kind slots = headers_text kind 0 (entries_of links 1 slots)

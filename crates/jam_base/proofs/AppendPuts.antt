@@ -44,7 +44,7 @@ use Rattle.jam_base.specs.Slots.{slots_with_all}
 use Rattle.jam_base.proofs.HeaderPlaces.{counts_written, headers_same, linked, header_within}
 use Rattle.jam_base.proofs.PatchLaws.{nothing_turns, turns_then}
 use Rattle.jam_base.proofs.PutLaws.{four, jhr_put, jdt_put, jdx_put, turns_after}
-use Rattle.jam_base.proofs.Writes.{written_before, written_end}
+use Rattle.intent_journal.proofs.Writes.{written_before, written_end}
 
 abbrev headers : (ℕ → Link) → Kind → List Slot → List ℕ
 headers links kind slots = headers_text kind 0 (entries_of links 1 slots)

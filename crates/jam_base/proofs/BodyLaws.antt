@@ -36,7 +36,7 @@ use Rattle.jam_base.specs.Slots.{is_due}
 use Rattle.jam_base.specs.declared.receipt.Receipt.{Receipt}
 use Rattle.jam_base.proofs.AppendPuts.{helds, more_in, parts}
 use Rattle.jam_base.proofs.PutLaws.{patched-append}
-use Rattle.jam_base.proofs.Writes.{written_end}
+use Rattle.intent_journal.proofs.Writes.{written_end}
 
 -- ---- patches of other files
 -- the patch is none of the bodies

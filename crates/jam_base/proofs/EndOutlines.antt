@@ -6,7 +6,7 @@ use Rattle.std.proofs.Math.Seq.{drop-append_seam}
 use Rattle.std.proofs.lemmas.List.{take-map}
 use Rattle.std.proofs.lemmas.List.Sums.{sum_by-cons}
 use Rattle.door_outside.specs.File.{jhr_file, jdt_file, jdx_file}
-use Rattle.intent_journal.specs.Patches.{bytes_of, place_of}
+use Rattle.intent_journal.specs.Patches.{bytes_of, patch_offset}
 use Rattle.intent_journal.specs.declared.patch.Patch.{Patch}
 use Rattle.intent_journal.specs.declared.patch.Patch.TheVariants.{Put}
 use Rattle.record_numbers.specs.Numbers.{u32s_text}
@@ -147,7 +147,7 @@ pub suits_alike : (place : ℕ) (shape : Shape) (c : Conference) (patches : List
 suits_alike place shape c patches suits = record {
   within = suits.within;
   once = suits.once;
-  ends = subst (λ (n : ℕ). All (λ patch. place_of patch + length (bytes_of patch) ≤ n) patches) (sym (files_size_alike shape c)) suits.ends;
+  ends = subst (λ (n : ℕ). All (λ patch. patch_offset patch + length (bytes_of patch) ≤ n) patches) (sym (files_size_alike shape c)) suits.ends;
   short = omega (arith, suits.short, files_size_alike shape c);
 }
 

@@ -31,7 +31,7 @@ use Rattle.jam_writing.specs.Pieces.{entry_with, header_piece, body_size}
 use Rattle.jam_writing.proofs.PieceLaws.{headers_more, headers_length}
 use Rattle.jam_writing.proofs.SlotShapes.{headers-append}
 use Rattle.jam_base.specs.Places.{header_place, field_place, with_number}
-use Rattle.jam_base.proofs.Writes.{written_before, written_in}
+use Rattle.intent_journal.proofs.Writes.{written_before, written_in}
 
 -- ---- the header of a base
 pub active_written : (h : BaseHeader) (n : ℕ) → written (base_text h) 12 (u32_text n) ≡ base_text (record h { active = n })

@@ -4,7 +4,6 @@ pub mod SlotChanges
 pub mod MarkedSlots
 pub mod ChangeClauses
 pub mod ReadingLaws
-pub mod Writes
 pub mod HeaderPlaces
 pub mod AppendLaws
 pub mod PutLaws

@@ -33,7 +33,7 @@ use Rattle.jam_base.proofs.HeaderPlaces.{text_length, entry_long}
 use Rattle.jam_base.proofs.PatchLaws.{nothing_turns}
 use Rattle.jam_base.proofs.PutBounds.{IsPut, count_more, count_append}
 use Rattle.jam_base.proofs.PutLaws.{four, jhr_put, turns_after}
-use Rattle.jam_base.proofs.Writes.{written_before, written_behind, written_in}
+use Rattle.intent_journal.proofs.Writes.{written_before, written_behind, written_in}
 
 abbrev headers : (ℕ → Link) → Kind → ℕ → ℕ → List Slot → List ℕ
 headers links kind offset n slots = headers_text kind offset (entries_of links n slots)

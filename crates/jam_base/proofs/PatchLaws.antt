@@ -3,7 +3,7 @@ use Rattle.std.proofs.Common.{◌≡◌, ◌≢◌, inl, inr, true, false, ℕ, 
 use Rattle.std.specs.Prelude.{All, IsTrue, ◌==◌}
 use Rattle.std.proofs.lemmas.Bool.{and_parts, and_from, eq-eqb, ne_eqb, cond-true, cond-false}
 use Rattle.std.proofs.lemmas.List.Elements.{All-cons, All-nil}
-use Rattle.intent_journal.specs.Patches.{Files, file_of, place_of, bytes_of, apply, begins_within, are_within, is_once}
+use Rattle.intent_journal.specs.Patches.{Files, file_of, patch_offset, bytes_of, apply, begins_within, are_within, is_once}
 use Rattle.intent_journal.specs.Journal.{patch_text, patches_text}
 use Rattle.intent_journal.specs.declared.patch.Patch.{Patch}
 use Rattle.intent_journal.specs.declared.patch.Patch.TheVariants.{Whole}
@@ -170,7 +170,7 @@ module _ (place : ℕ) (new : BaseFiles) where
 
   -- none ends behind as many bytes as the files have
   Ends : Patch → Type 0
-  Ends patch = place_of patch + length (bytes_of patch) ≤ files_size new
+  Ends patch = patch_offset patch + length (bytes_of patch) ≤ files_size new
 
   no_ends : All Ends []
   no_ends = All-nil Ends

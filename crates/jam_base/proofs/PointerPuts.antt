@@ -41,7 +41,7 @@ use Rattle.jam_base.proofs.PutBounds.{IsPut, count_more, count_append, puts_suit
 use Rattle.jam_base.proofs.PutLaws.{four, jlr_put, turns_after}
 use Rattle.jam_base.proofs.ReadingLaws.{slots_to, received_to}
 use Rattle.jam_base.proofs.SameLinks.{links_same, all_received_same}
-use Rattle.jam_base.proofs.Writes.{written_before, written_behind}
+use Rattle.intent_journal.proofs.Writes.{written_before, written_behind}
 
 -- ---- one record
 record_written : (r : LastRead) (n : ℕ) → written (last_text r) 8 (u32s_text (n ∷ n ∷ [])) ≡ last_text (record r { last = n; high = n })

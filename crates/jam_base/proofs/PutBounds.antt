@@ -6,7 +6,7 @@ use Rattle.std.proofs.lemmas.Bool.{and_from, ne_eqb}
 use Rattle.std.proofs.lemmas.List.Elements.{All-append, All-cons, All-head, All-nil, All-tail, All-weaker}
 use Rattle.std.proofs.lemmas.List.Sums.{sum_by-cons, sum_by-append}
 use Rattle.intent_journal.specs.Journal.{patch_text, patches_text}
-use Rattle.intent_journal.specs.Patches.{file_of, place_of, bytes_of, is_whole, clash, is_once, byte_count}
+use Rattle.intent_journal.specs.Patches.{file_of, patch_offset, bytes_of, is_whole, clash, is_once, byte_count}
 use Rattle.intent_journal.specs.declared.patch.Patch.{Patch}
 use Rattle.intent_journal.specs.declared.patch.Patch.TheVariants.{Whole, Put}
 use Rattle.door_outside.specs.File.{jlr_file}
@@ -33,7 +33,7 @@ text_long (p ∷ ps) = omega (arith, length-append (patch_text p) (patches_text 
 pub record IsPut (place size : ℕ) (patch : Patch) : Type 0 where
   pub here : IsOfPlace place (file_of patch)
   pub part : is_whole patch ≡ false
-  pub ends : place_of patch + length (bytes_of patch) ≤ size
+  pub ends : patch_offset patch + length (bytes_of patch) ≤ size
 
 no_clash : (p : Patch) (ps : List Patch) → is_whole p ≡ false → All (λ q. is_whole q ≡ false) ps → list_any (clash p) ps ≡ false
 no_clash p [] part all = refl
@@ -53,7 +53,7 @@ pub puts_suit : (place : ℕ) (new : BaseFiles) (ps : List Patch) → All (IsPut
 puts_suit place new ps all short = record {
   within = All-weaker (IsPut place (files_size new)) (λ p. IsOfPlace place (file_of p)) (λ p is. is.here) ps all;
   once = once_puts ps (All-weaker (IsPut place (files_size new)) (λ p. is_whole p ≡ false) (λ p is. is.part) ps all);
-  ends = All-weaker (IsPut place (files_size new)) (λ p. place_of p + length (bytes_of p) ≤ files_size new) (λ p is. is.ends) ps all;
+  ends = All-weaker (IsPut place (files_size new)) (λ p. patch_offset p + length (bytes_of p) ≤ files_size new) (λ p is. is.ends) ps all;
   short = omega (arith, short, text_long ps);
 }
 
@@ -81,7 +81,7 @@ pub puts_then_suit : (place : ℕ) (new : BaseFiles) (ps : List Patch) → All (
 puts_then_suit place new ps all apart short =
     let last : Patch = Whole (jlr_file place) new.jlr in
     let Here : Patch → Type 0 = λ p. IsOfPlace place (file_of p) in
-    let Ends : Patch → Type 0 = λ p. place_of p + length (bytes_of p) ≤ files_size new in
+    let Ends : Patch → Type 0 = λ p. patch_offset p + length (bytes_of p) ≤ files_size new in
     record {
       within = All-append Here ps (last ∷ []) (All-weaker (IsPut place (files_size new)) Here (λ p is. is.here) ps all) (All-cons Here last [] (omega arith, omega arith) (All-nil Here));
       once = once_then (jlr_file place) new.jlr ps (All-weaker (IsPut place (files_size new)) (λ p. is_whole p ≡ false) (λ p is. is.part) ps all) apart;

@@ -21,7 +21,7 @@ use Rattle.jam_base.proofs.ChangeClauses.{both_ok}
 use Rattle.jam_base.proofs.PatchLaws.{jlr_small, jlr_turns}
 use Rattle.jam_base.proofs.PutBounds.{IsPut, count_more, puts_suit}
 use Rattle.jam_base.proofs.PutLaws.{four, jlr_put}
-use Rattle.jam_base.proofs.Writes.{written_end}
+use Rattle.intent_journal.proofs.Writes.{written_end}
 
 -- ---- the records of one reader more
 reads_more : (readers : List Reader) (pointers : List ℕ) (r : Reader) (p : ℕ) → length pointers ≡ length readers

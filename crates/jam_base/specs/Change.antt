@@ -1,6 +1,6 @@
 -- A change of the four files of a conference, as patches.
 use Rattle.std.specs.Prelude.{◌≡◌, ◌⊎◌, ℕ, ◌+◌, ◌*◌, ◌≤◌, ◌<◌, List, [], ◌∷◌, length, All, IsTrue}
-use Rattle.intent_journal.specs.Patches.{Files, file_of, place_of, bytes_of, patched, are_within, is_once}
+use Rattle.intent_journal.specs.Patches.{Files, file_of, patch_offset, bytes_of, patched, are_within, is_once}
 use Rattle.intent_journal.specs.Journal.{patches_text}
 use Rattle.intent_journal.specs.declared.patch.Patch.{Patch}
 use Rattle.intent_journal.specs.declared.patch.Patch.TheVariants.{Whole}
@@ -35,7 +35,7 @@ pub record Turns (place : ℕ) (old new : BaseFiles) (patches : List Patch) : Ty
 pub record SuitsIntent (place : ℕ) (new : BaseFiles) (patches : List Patch) : Type 0 where
   pub within : All (λ patch. IsOfPlace place (file_of patch)) patches
   pub once : IsTrue (is_once patches)
-  pub ends : All (λ patch. place_of patch + length (bytes_of patch) ≤ files_size new) patches
+  pub ends : All (λ patch. patch_offset patch + length (bytes_of patch) ≤ files_size new) patches
   pub short : 5 * length (patches_text patches) ≤ 5 * (4 * 11) + 6 * files_size new
 
 -- all four files of a place, whole

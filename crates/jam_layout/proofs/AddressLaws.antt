@@ -10,7 +10,7 @@ use Rattle.std.proofs.lemmas.List.{take_at, take_all, drop_all, append-nil}
 use Rattle.std.proofs.lemmas.Slice.Eq.{bytes_eq-Decides}
 use Rattle.jam_records.specs.Addresses.{IsPart, IsDigit, point_text, IsAddress}
 use Rattle.jam_records.proofs.AddressLemmas.{digits_of_decimal}
-use Rattle.jam_layout.specs.Address.{number_of, before, past, is_part, is_address_of, is_address_with, is_address}
+use Rattle.jam_layout.specs.Address.{address_number, before, past, is_part, is_address_of, is_address_with, is_address}
 
 not_mark : (c mark : ℕ) → is_ascii_digit c ≡ true → mark < 48 → eqb c mark ≡ false
 not_mark c mark digit low = grind (arith, nat_tests)
@@ -47,11 +47,11 @@ decided false false f g = refl
 pub test_is : (text : List ℕ) → is_address text ≡ true → IsAddress text
 unfolding is_address
 test_is text e =
-    let zone : ℕ = number_of (before 58 text) in
-    let net : ℕ = number_of (before 47 (past 58 text)) in
+    let zone : ℕ = address_number (before 58 text) in
+    let net : ℕ = address_number (before 47 (past 58 text)) in
     let tail : List ℕ = past 47 (past 58 text) in
-    let node : ℕ = number_of (before 46 tail) in
-    let point : ℕ = number_of (past 46 tail) in
+    let node : ℕ = address_number (before 46 tail) in
+    let point : ℕ = address_number (past 46 tail) in
     let a = and_parts ((is_part zone && is_part net) && (is_part node && is_part point)) _ e in
     let b = and_parts (is_part zone && is_part net) (is_part node && is_part point) a.0 in
     let front = and_parts (is_part zone) (is_part net) b.0 in
@@ -76,7 +76,7 @@ behind_is mark (c ∷ text) rest = behind_is mark text rest
 past_is : (mark : ℕ) (text rest : List ℕ) → Without mark text → past mark (text ++ (mark ∷ rest)) ≡ rest
 past_is mark text rest w = ap (λ xs. drop (suc (length xs)) (text ++ (mark ∷ rest))) (before_is mark text rest w) ∙ behind_is mark text rest
 
-number_is : (n : ℕ) → IsPart n → number_of (decimal n) ≡ n
+number_is : (n : ℕ) → IsPart n → address_number (decimal n) ≡ n
 number_is n small = (decimal_is_IsNumeral n (omega arith)).1
 
 colon : (n : ℕ) → IsPart n → Without 58 (decimal n)
@@ -85,16 +85,16 @@ colon n small = without 58 (decimal n) (λ c digit. not_colon c digit) (digits_o
 low_mark : (mark n : ℕ) → mark < 48 → IsPart n → Without mark (decimal n)
 low_mark mark n low small = without mark (decimal n) (λ c digit. not_mark c mark digit low) (digits_of_decimal n small)
 
-node_is : (node point : ℕ) → IsPart node → IsPart point → (number_of (before 46 (decimal node ++ point_text point)) ≡ node) × (number_of (past 46 (decimal node ++ point_text point)) ≡ point)
+node_is : (node point : ℕ) → IsPart node → IsPart point → (address_number (before 46 (decimal node ++ point_text point)) ≡ node) × (address_number (past 46 (decimal node ++ point_text point)) ≡ point)
 node_is node zero small tiny =
     let text : List ℕ = decimal node in
     let w = low_mark 46 node (omega arith) small in
     let whole : before 46 text ≡ text = ap (λ n. take n text) (prefix_all 46 text w) ∙ take_all (length text) text (omega arith) in
     let none : past 46 text ≡ [] = ap (λ xs. drop (suc (length xs)) text) whole ∙ drop_all (suc (length text)) text (omega arith) in
-    (ap (λ xs. number_of (before 46 xs)) (append-nil text) ∙ (ap number_of whole ∙ number_is node small), ap (λ xs. number_of (past 46 xs)) (append-nil text) ∙ ap number_of none)
+    (ap (λ xs. address_number (before 46 xs)) (append-nil text) ∙ (ap address_number whole ∙ number_is node small), ap (λ xs. address_number (past 46 xs)) (append-nil text) ∙ ap address_number none)
 node_is node (suc point) small tiny =
     let w = low_mark 46 node (omega arith) small in
-    (ap number_of (before_is 46 (decimal node) (decimal (suc point)) w) ∙ number_is node small, ap number_of (past_is 46 (decimal node) (decimal (suc point)) w) ∙ number_is (suc point) tiny)
+    (ap address_number (before_is 46 (decimal node) (decimal (suc point)) w) ∙ number_is node small, ap address_number (past_is 46 (decimal node) (decimal (suc point)) w) ∙ number_is (suc point) tiny)
 
 passes : (zone net node point : ℕ) (text : List ℕ) → IsPart zone → IsPart net → IsPart node → IsPart point → text ≡ decimal zone ++ (58 ∷ (decimal net ++ (47 ∷ (decimal node ++ point_text point)))) → is_address_of zone net node point text ≡ true
 passes zone net node point text a b c d whole =
@@ -109,13 +109,13 @@ is_test text a =
     let v = low_mark 47 a.net (omega arith) a.small.1 in
     let rest : past 58 text ≡ behind = ap (past 58) a.whole ∙ past_is 58 (decimal a.zone) behind w in
     let last : past 47 (past 58 text) ≡ tail = ap (past 47) rest ∙ past_is 47 (decimal a.net) tail v in
-    let zone : number_of (before 58 text) ≡ a.zone = ap (λ xs. number_of (before 58 xs)) a.whole ∙ (ap number_of (before_is 58 (decimal a.zone) behind w) ∙ number_is a.zone a.small.0) in
-    let net : number_of (before 47 (past 58 text)) ≡ a.net = ap (λ xs. number_of (before 47 xs)) rest ∙ (ap number_of (before_is 47 (decimal a.net) tail v) ∙ number_is a.net a.small.1) in
+    let zone : address_number (before 58 text) ≡ a.zone = ap (λ xs. address_number (before 58 xs)) a.whole ∙ (ap address_number (before_is 58 (decimal a.zone) behind w) ∙ number_is a.zone a.small.0) in
+    let net : address_number (before 47 (past 58 text)) ≡ a.net = ap (λ xs. address_number (before 47 xs)) rest ∙ (ap address_number (before_is 47 (decimal a.net) tail v) ∙ number_is a.net a.small.1) in
     let node = node_is a.node a.point a.small.2 a.small.3 in
-    ap (λ n. is_address_with n (number_of (before 47 (past 58 text))) (past 47 (past 58 text)) text) zone
+    ap (λ n. is_address_with n (address_number (before 47 (past 58 text))) (past 47 (past 58 text)) text) zone
     ∙ (ap (λ n. is_address_with a.zone n (past 47 (past 58 text)) text) net
     ∙ (ap (λ xs. is_address_with a.zone a.net xs text) last
-    ∙ (ap (λ n. is_address_of a.zone a.net n (number_of (past 46 tail)) text) node.0
+    ∙ (ap (λ n. is_address_of a.zone a.net n (address_number (past 46 tail)) text) node.0
     ∙ (ap (λ n. is_address_of a.zone a.net a.node n text) node.1 ∙ passes a.zone a.net a.node a.point text a.small.0 a.small.1 a.small.2 a.small.3 a.whole))))
 
 pub test_of : (text : List ℕ) (b : Bool) → IsTrue b ↔ IsAddress text → b ≡ is_address text

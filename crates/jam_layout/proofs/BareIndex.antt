@@ -8,7 +8,7 @@ use Rattle.jam_records.specs.declared.message.Slot.{Slot}
 use Rattle.jam_records.specs.declared.message.Slot.TheVariants.{Held}
 use Rattle.damage_rules.specs.Rules.{by_rules, ◌>>=◌}
 use Rattle.door_outside.specs.File.{jdx_file}
-use Rattle.damage_rules.specs.Walk.{Step, walk_from, walk}
+use Rattle.damage_rules.specs.Walk.{WalkStep, walk_from, walk}
 use Rattle.jam_layout.specs.Bodies.{message_with}
 use Rattle.jam_layout.specs.Fields.{subfields_of}
 use Rattle.jam_layout.specs.Headers.{header_size}
@@ -25,7 +25,7 @@ bare_pending s = record { item = s.item; at = s.at; entries = map bare s.entries
 abbrev bare_expected : Expected → Expected
 bare_expected x = record { pair = x.pair; slot = slot_bare x.slot; next = bare_pending x.next }
 
-abbrev bare_step : Step Pending Slot → Step Pending Slot
+abbrev bare_step : WalkStep Pending Slot → WalkStep Pending Slot
 bare_step x = record { value = slot_bare x.value; size = x.size; next = bare_pending x.next }
 
 abbrev bare_found : List Slot × Pending → List Slot × Pending
@@ -49,7 +49,7 @@ unfolding expected_of
 expected_bare j at [] = refl
 expected_bare j at (e ∷ es) = chosen_bare (eqb e.number (j + 1)) j at e es
 
-abbrev step_to : Expected → Step Pending Slot
+abbrev step_to : Expected → WalkStep Pending Slot
 step_to x = record { value = x.slot; size = 8; next = x.next }
 
 one_bare : (place : ℕ) (s : Pending) (bytes : List ℕ) → slot_at place (bare_pending s) bytes ≡ mapped bare_step (slot_at place s bytes)
@@ -59,7 +59,7 @@ one_bare place s bytes =
     ∙ rules_mapped bare_step (jdx_file place) s.item (index_rules (expected s).pair bytes) (step_to (expected s))
 
 -- ---- all records
-abbrev others_behind : ℕ → List ℕ → Step Pending Slot → Result (List Slot × Pending) Damage
+abbrev others_behind : ℕ → List ℕ → WalkStep Pending Slot → Result (List Slot × Pending) Damage
 others_behind place bytes first = walk_from (slot_at place) (first.size - 1) first.next bytes >>= λ others. Ok (first.value ∷ others.0, others.1)
 
 abbrev behind_slot : Slot → Result (List Slot × Pending) Damage → Result (List Slot × Pending) Damage
@@ -70,7 +70,7 @@ value_bare s (Ok x) = refl
 value_bare s (Err d) = refl
 
 rest_bare : (place : ℕ) (bytes : List ℕ) → ((left : ℕ) (s : Pending) → walk_from (slot_at place) left (bare_pending s) bytes ≡ mapped bare_found (walk_from (slot_at place) left s bytes))
-    → (one : Result (Step Pending Slot) Damage) → (mapped bare_step one >>= others_behind place bytes) ≡ mapped bare_found (one >>= others_behind place bytes)
+    → (one : Result (WalkStep Pending Slot) Damage) → (mapped bare_step one >>= others_behind place bytes) ≡ mapped bare_found (one >>= others_behind place bytes)
 rest_bare place bytes again (Err d) = refl
 rest_bare place bytes again (Ok x) = ap (behind_slot (slot_bare x.value)) (again (x.size - 1) x.next) ∙ value_bare x.value (walk_from (slot_at place) (x.size - 1) x.next bytes)
 
@@ -79,7 +79,7 @@ unfolding walk_from
 walk_bare place left s [] = refl
 walk_bare place (suc left) s (b ∷ bytes) = walk_bare place left s bytes
 walk_bare place zero s (b ∷ bytes) =
-    ap (λ (one : Result (Step Pending Slot) Damage). one >>= others_behind place bytes) (one_bare place s (b ∷ bytes)) ∙ rest_bare place bytes (λ left t. walk_bare place left t bytes) (slot_at place s (b ∷ bytes))
+    ap (λ (one : Result (WalkStep Pending Slot) Damage). one >>= others_behind place bytes) (one_bare place s (b ∷ bytes)) ∙ rest_bare place bytes (λ left t. walk_bare place left t bytes) (slot_at place s (b ∷ bytes))
 
 -- ---- the file
 last_bare : (place : ℕ) (found : List Slot × Pending) → last_rule place (bare_found found) ≡ mapped (map slot_bare) (last_rule place found)

@@ -19,7 +19,7 @@ use Rattle.jam_layout.specs.Index.{slots_at}
 use Rattle.jam_layout.specs.Layout.{conference_of, entries_of}
 use Rattle.jam_layout.specs.Outlines.{slot_bare}
 use Rattle.jam_layout.specs.Readers.{pointers_at}
-use Rattle.jam_layout.specs.Rules.{told, Fails}
+use Rattle.jam_layout.specs.Rules.{damage_of_base, BaseFails}
 use Rattle.jam_layout.specs.SecondPass.{slots_of}
 use Rattle.jam_layout.specs.declared.entry.Entry.{Entry}
 use Rattle.jam_layout.specs.declared.error.BaseError.{BaseError}
@@ -87,38 +87,38 @@ index_read shape files hs found bares u texts ints second index =
     }
 
 -- ---- a step that fails
-whole_fails : (shape : Shape) (files : BaseFiles) (e : BaseError) → Fails e (conference_of shape files) → Fails e (bare_in shape files)
-whole_fails shape files e h = step_fails (told e) (conference_of shape files) (λ c. Ok (bare_of c)) h
+whole_fails : (shape : Shape) (files : BaseFiles) (e : BaseError) → BaseFails e (conference_of shape files) → BaseFails e (bare_in shape files)
+whole_fails shape files e h = step_fails (damage_of_base e) (conference_of shape files) (λ c. Ok (bare_of c)) h
 
-pub no_counter : (shape : Shape) (files : BaseFiles) (e : BaseError) → Fails e (base_at shape files) → Fails e (bare_in shape files)
+pub no_counter : (shape : Shape) (files : BaseFiles) (e : BaseError) → BaseFails e (base_at shape files) → BaseFails e (bare_in shape files)
 no_counter shape files e h = whole_fails shape files e (counter_fails shape files e h)
 
-pub no_headers : (shape : Shape) (files : BaseFiles) (e : BaseError) (counter : ℕ) → base_at shape files ≡ Ok counter → Fails e (headers_at shape files) → Fails e (bare_in shape files)
+pub no_headers : (shape : Shape) (files : BaseFiles) (e : BaseError) (counter : ℕ) → base_at shape files ≡ Ok counter → BaseFails e (headers_at shape files) → BaseFails e (bare_in shape files)
 no_headers shape files e counter is h = whole_fails shape files e (headers_fail shape files e counter is h)
 
-pub no_links : (shape : Shape) (files : BaseFiles) (e : BaseError) (counter : ℕ) (hs : List Entry) → base_at shape files ≡ Ok counter → headers_at shape files ≡ Ok hs → Fails e (second_at shape files hs) → Fails e (bare_in shape files)
+pub no_links : (shape : Shape) (files : BaseFiles) (e : BaseError) (counter : ℕ) (hs : List Entry) → base_at shape files ≡ Ok counter → headers_at shape files ≡ Ok hs → BaseFails e (second_at shape files hs) → BaseFails e (bare_in shape files)
 no_links shape files e counter hs is headers h = whole_fails shape files e (second_fails shape files e counter hs is headers h)
 
 pub no_texts : (shape : Shape) (files : BaseFiles) (e : BaseError) (counter : ℕ) (hs : List Entry) (u : Unit {0}) → base_at shape files ≡ Ok counter → headers_at shape files ≡ Ok hs → second_at shape files hs ≡ Ok u
-    → Fails e (lengths_at shape.place hs files.jdt) → Fails e (bare_in shape files)
+    → BaseFails e (lengths_at shape.place hs files.jdt) → BaseFails e (bare_in shape files)
 no_texts shape files e counter hs u is headers second h =
-    whole_fails shape files e (bodies_fail shape files e counter hs u is headers second (stops_before (told e) lengths (bodies_at shape.place 1 hs files.jdt) h))
+    whole_fails shape files e (bodies_fail shape files e counter hs u is headers second (stops_before (damage_of_base e) lengths (bodies_at shape.place 1 hs files.jdt) h))
 
 pub no_slots : (shape : Shape) (files : BaseFiles) (e : BaseError) (counter : ℕ) (hs : List Entry) (u : Unit {0}) (found : List ℕ) → base_at shape files ≡ Ok counter → headers_at shape files ≡ Ok hs → second_at shape files hs ≡ Ok u
-    → TextsRead shape files hs found → Fails e (slots_at shape.place 1024 hs files.jdx) → Fails e (bare_in shape files)
+    → TextsRead shape files hs found → BaseFails e (slots_at shape.place 1024 hs files.jdx) → BaseFails e (bare_in shape files)
 no_slots shape files e counter hs u found is headers second texts h =
     let es : List Entry = texts.entries in
     whole_fails shape files e (slots_fail shape files e counter hs es u is headers second texts.read
-    (stops_before (told e) (map slot_bare) (slots_at shape.place 1024 es files.jdx) (subst (λ (read : Result (List Slot) Damage). Fails e read) (index_is shape files hs found texts) h)))
+    (stops_before (damage_of_base e) (map slot_bare) (slots_at shape.place 1024 es files.jdx) (subst (λ (read : Result (List Slot) Damage). BaseFails e read) (index_is shape files hs found texts) h)))
 
 count_is : (shape : Shape) (files : BaseFiles) (es : List Entry) (found : List ℕ) (bares : List Slot) (index : IndexRead shape files es found bares) → length bares ≡ length index.slots
 count_is shape files es found bares index = ap length (sym index.bared) ∙ length-map index.slots slot_bare
 
 pub no_pointers : (shape : Shape) (files : BaseFiles) (e : BaseError) (counter : ℕ) (hs : List Entry) (u : Unit {0}) (found : List ℕ) (bares : List Slot) → base_at shape files ≡ Ok counter → headers_at shape files ≡ Ok hs → second_at shape files hs ≡ Ok u
-    → (texts : TextsRead shape files hs found) → IndexRead shape files texts.entries found bares → Fails e (pointers_at shape.place (length bares) 0 shape.readers files.jlr) → Fails e (bare_in shape files)
+    → (texts : TextsRead shape files hs found) → IndexRead shape files texts.entries found bares → BaseFails e (pointers_at shape.place (length bares) 0 shape.readers files.jlr) → BaseFails e (bare_in shape files)
 no_pointers shape files e counter hs u found bares is headers second texts index h =
     whole_fails shape files e (pointers_fail shape files e counter hs texts.entries index.slots u is headers second texts.read index.read
-    (subst (λ (n : ℕ). Fails e (pointers_at shape.place n 0 shape.readers files.jlr)) (count_is shape files texts.entries found bares index) h))
+    (subst (λ (n : ℕ). BaseFails e (pointers_at shape.place n 0 shape.readers files.jlr)) (count_is shape files texts.entries found bares index) h))
 
 -- ---- all steps
 pub all_bare : (shape : Shape) (files : BaseFiles) (counter : ℕ) (hs : List Entry) (u : Unit {0}) (found : List ℕ) (bares : List Slot) (pointers : List ℕ) → base_at shape files ≡ Ok counter → headers_at shape files ≡ Ok hs → second_at shape files hs ≡ Ok u

@@ -17,7 +17,7 @@ use Rattle.jam_layout.specs.Layout.{wrong_base, base_rules}
 use Rattle.jam_layout.specs.declared.shape.Shape.{Shape}
 use Rattle.damage_rules.proofs.KeptRules.{Kept}
 use Rattle.record_numbers.proofs.NumberFronts.{numbers_front}
-use Rattle.jam_layout.proofs.BoolTests.{or_false, not_not, both_false, equal, unequal}
+use Rattle.damage_rules.proofs.BoolTests.{or_false, not_not, both_false, equal, unequal}
 
 -- ---- zeros
 abbrev is_zero : ℕ → Bool

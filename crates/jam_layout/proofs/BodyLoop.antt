@@ -6,7 +6,7 @@ use Rattle.jam_records.specs.declared.damage.DamageRule.TheVariants.{Rest}
 use Rattle.jam_layout.specs.declared.error.BaseError.{BaseError}
 use Rattle.jam_layout.specs.declared.entry.Entry.{Entry}
 use Rattle.damage_rules.specs.Rules.{by_rules}
-use Rattle.jam_layout.specs.Rules.{told, Fails}
+use Rattle.jam_layout.specs.Rules.{damage_of_base, BaseFails}
 use Rattle.door_outside.specs.File.{jdt_file}
 use Rattle.jam_layout.specs.Bodies.{body_rules, with_body, bodies_at, lengths_at}
 use Rattle.damage_rules.proofs.KeptRules.{with_front, one_more, one_fails, step_fails}
@@ -22,10 +22,10 @@ goes_on place i j headers h front new bytes rest body total is one e n so_far =
     rw e (one_more front new (bodies_at place i (drop j headers) bytes) (bodies_at place (i + 1) (drop (j + 1) headers) (drop h.text_len bytes)) total (step place i h bytes) body (with_body h) (ap (λ hs. bodies_at place i hs bytes) is) one n so_far)
 
 fails : (place i j : ℕ) (headers : List Entry) (h : Entry) (front : List Entry) (bytes : List ℕ) (e : BaseError) (total : Result (List Entry) Damage)
-    → drop j headers ≡ h ∷ drop (j + 1) headers → Fails e (step place i h bytes)
-    → with_front front (bodies_at place i (drop j headers) bytes) ≡ total → Fails e total
+    → drop j headers ≡ h ∷ drop (j + 1) headers → BaseFails e (step place i h bytes)
+    → with_front front (bodies_at place i (drop j headers) bytes) ≡ total → BaseFails e total
 fails place i j headers h front bytes e total is one so_far =
-    one_fails front (bodies_at place i (drop j headers) bytes) (bodies_at place (i + 1) (drop (j + 1) headers) (drop h.text_len bytes)) total (step place i h bytes) (with_body h) (told e) (ap (λ hs. bodies_at place i hs bytes) is) one so_far
+    one_fails front (bodies_at place i (drop j headers) bytes) (bodies_at place (i + 1) (drop (j + 1) headers) (drop h.text_len bytes)) total (step place i h bytes) (with_body h) (damage_of_base e) (ap (λ hs. bodies_at place i hs bytes) is) one so_far
 
 at_end : (place i j : ℕ) (headers : List Entry) (front : List Entry) (bytes : List ℕ) (total : Result (List Entry) Damage) (b : Bool) → length headers ≤ j → eqb (length bytes) 0 ≡ b
     → with_front front (bodies_at place i (drop j headers) bytes) ≡ total → total ≡ with_front front (by_rules (jdt_file place) i ((Rest, not b) ∷ []) [])
@@ -75,9 +75,9 @@ lengths_more place i headers h bytes rest behind found new within item one long 
     }
 
 pub lengths_fail : (place i : ℕ) (headers : List Entry) (h : Entry) (bytes rest found : List ℕ) (e : BaseError) → i < length headers → h ≡ get_or headers i h
-    → Fails e (by_rules (jdt_file place) (i + 1) (body_rules h.text_len rest) (take h.text_len rest)) → LengthsSoFar place i headers bytes rest found → Fails e (lengths_at place headers bytes)
+    → BaseFails e (by_rules (jdt_file place) (i + 1) (body_rules h.text_len rest) (take h.text_len rest)) → LengthsSoFar place i headers bytes rest found → BaseFails e (lengths_at place headers bytes)
 lengths_fail place i headers h bytes rest found e within item one so_far =
-    step_fails (told e) (bodies_at place 1 headers bytes) (λ entries. Ok (lengths entries)) (fails place (i + 1) i headers h so_far.front rest e (bodies_at place 1 headers bytes) (next_is i headers h within item) one so_far.read)
+    step_fails (damage_of_base e) (bodies_at place 1 headers bytes) (λ entries. Ok (lengths entries)) (fails place (i + 1) i headers h so_far.front rest e (bodies_at place 1 headers bytes) (next_is i headers h within item) one so_far.read)
 
 pub lengths_done : (place i : ℕ) (headers : List Entry) (bytes rest found : List ℕ) → length headers ≤ i → eqb (length rest) 0 ≡ true → LengthsSoFar place i headers bytes rest found → lengths_at place headers bytes ≡ Ok found
 lengths_done place i headers bytes rest found le none so_far =

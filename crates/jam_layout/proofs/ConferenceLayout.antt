@@ -27,7 +27,7 @@ use Rattle.jam_layout.specs.Readers.{pointers_at}
 use Rattle.jam_layout.specs.Conference.{is_live, live_count}
 use Rattle.jam_layout.specs.declared.conference.Conference.{Conference}
 use Rattle.jam_layout.specs.Layout.{entries_of, base_rules, layout, conference_of, base_damage}
-use Rattle.jam_layout.specs.Valid.{IsShape, ShapeFits, FilesFit, IsConference}
+use Rattle.jam_layout.specs.Valid.{IsShape, ShapeFits, BaseFilesFit, IsConference}
 use Rattle.jam_layout.specs.declared.entry.Entry.{Entry}
 use Rattle.jam_layout.specs.declared.files.BaseFiles.{BaseFiles}
 use Rattle.jam_layout.specs.declared.shape.Shape.{Shape}
@@ -135,7 +135,7 @@ after_counter shape files counter = entries_at shape.place shape.kind (drop 1024
 abbrev files_made : List ℕ → List ℕ → List ℕ → List ℕ → BaseFiles
 files_made jhr jdt jdx jlr = record { jhr = jhr; jdt = jdt; jdx = jdx; jlr = jlr }
 
-pub layout_is : (shape : Shape) (files : BaseFiles) (c : Conference) → FilesFit files → conference_of shape files ≡ Ok c → (files ≡ layout shape c) × IsConference shape c
+pub layout_is : (shape : Shape) (files : BaseFiles) (c : Conference) → BaseFilesFit files → conference_of shape files ≡ Ok c → (files ≡ layout shape c) × IsConference shape c
 unfolding conference_of after_slots after_bodies after_second after_headers after_counter
 layout_is shape files c fits e =
     let place : ℕ = shape.place in
@@ -200,7 +200,7 @@ is_layout shape c fits ok =
     let rest : List ℕ = headers_text kind 0 es in
     let live : ℕ = live_count c.slots in
     let few = ok.few in
-    let fit : FilesFit files = layout_fits shape c ok in
+    let fit : BaseFilesFit files = layout_fits shape c ok in
     let small : live < 2 ^ 32 = omega (arith, count_by-le-length is_live c.slots, few) in
     let base : BaseAgain shape c.counter live rest files.jhr = base_again shape c.counter live rest fits.created ok.counter small in
     let whole = fit.jhr.1 in
@@ -230,7 +230,7 @@ no_damage : {A : Type 0} (r : Result A Damage) → damage_of r ≡ None → (x :
 no_damage (Ok x) e = (x, refl)
 no_damage (Err d) e = absurd cc
 
-pub undamaged : (shape : Shape) (files : BaseFiles) → IsShape shape → ShapeFits shape → FilesFit files → (base_damage shape files ≡ None) ↔ ((c : Conference) × IsConference shape c × (files ≡ layout shape c))
+pub undamaged : (shape : Shape) (files : BaseFiles) → IsShape shape → ShapeFits shape → BaseFilesFit files → (base_damage shape files ≡ None) ↔ ((c : Conference) × IsConference shape c × (files ≡ layout shape c))
 undamaged shape files is shapes fits = (
   λ e. let r = no_damage (conference_of shape files) e in let l = layout_is shape files r.0 fits r.1 in (r.0, l.1, l.0),
   λ (c, ok, e). ap (base_damage shape) e ∙ ap damage_of (is_layout shape c shapes ok),

@@ -14,7 +14,7 @@ use Rattle.jam_records.specs.declared.message_header.MessageHeader.{MessageHeade
 use Rattle.jam_records.proofs.HeaderLemmas.{header_stands}
 use Rattle.damage_rules.specs.Rules.{◌>>=◌}
 use Rattle.door_outside.specs.File.{jhr_file}
-use Rattle.damage_rules.specs.Walk.{Step, walk_from, walk}
+use Rattle.damage_rules.specs.Walk.{WalkStep, walk_from, walk}
 use Rattle.jam_layout.specs.Fields.{subfields_of, values_at}
 use Rattle.jam_layout.specs.Marks.{attribute_of, is_net}
 use Rattle.jam_layout.specs.Headers.{values_of, header_rules, message_of, entry_of, behind, step_of, header_at, marks_in, message_header, entry_text, headers_text, header_size}
@@ -191,7 +191,7 @@ kept_again kind f e bytes fits stands reserved long = record {
 }
 
 -- the step behind an entry
-abbrev pub step_behind : Front → Entry → Step Front Entry
+abbrev pub step_behind : Front → Entry → WalkStep Front Entry
 step_behind f e = record { value = e; size = header_size e.message; next = behind f e }
 
 values_found : (kind : Kind) (f : Front) (e : Entry) (rest : List ℕ) → HeaderFits kind f e → values_of (message_header kind f.offset e) (header_text (message_header kind f.offset e) ++ (subfields_text (subfields_of e.message) ++ rest)) ≡ message_values e.message
@@ -224,7 +224,7 @@ header_again place kind f e rest small fits =
     ap (λ (x : MessageHeader). step_of f x (values_of x bytes)) (sym stands.fields) ∙ (ap (λ (x : Values). step_of f h x) (sym found) ∙ step_is kind f e fits) in
     ap (header_at place kind f) (append_assoc (header_text h) subs rest)
     ∙ (kept_rules (jhr_file place) f.item (header_rules kind f bytes) (step_of f (message_header_at bytes) (values_of (message_header_at bytes) bytes)) rules
-    ∙ ap (λ (x : Step Front Entry). Ok x) step)
+    ∙ ap (λ (x : WalkStep Front Entry). Ok x) step)
 
 -- ---- the headers, one after the other
 abbrev nothing : List ℕ
@@ -250,9 +250,9 @@ headers_take place kind zero f (b ∷ bytes) es last fits short e =
     let k = rules_kept (jhr_file place) f.item (header_rules kind f whole) (step_of f h v) a.0 a.1 in
     let first = header_takes kind f whole fits short (keep kind f whole k.0) in
     let others = headers_take place kind (a.0.size - 1) a.0.next bytes d.0.0 d.0.1 (All-drop IsByte 1 whole fits) (omega arith) d.1 in
-    let value : one ≡ a.0.value = ap (λ (x : Step Front Entry). x.value) k.1 in
-    let size : 76 + h.subfield_len ≡ a.0.size = ap (λ (x : Step Front Entry). x.size) k.1 in
-    let next : behind f one ≡ a.0.next = ap (λ (x : Step Front Entry). x.next) k.1 in
+    let value : one ≡ a.0.value = ap (λ (x : WalkStep Front Entry). x.value) k.1 in
+    let size : 76 + h.subfield_len ≡ a.0.size = ap (λ (x : WalkStep Front Entry). x.size) k.1 in
+    let next : behind f one ≡ a.0.next = ap (λ (x : WalkStep Front Entry). x.next) k.1 in
     let rest : drop (76 + h.subfield_len) whole ≡ headers_text kind (f.offset + one.text_len) d.0.0 =
     ap (λ n. drop n whole) size ∙ (sym (drop_one a.0.size b bytes (omega (arith, size))) ∙ (others.0 ∙ ap (λ (x : Front). headers_text kind x.offset d.0.0) (sym next))) in
     let text : whole ≡ headers_text kind f.offset (one ∷ d.0.0) = first.0 ∙ ap (λ xs. entry_text kind f.offset one ++ xs) rest in

@@ -15,7 +15,7 @@ use Rattle.jam_layout.specs.Headers.{wrong_fields, wrong_number, wrong_text, wro
 use Rattle.jam_layout.specs.declared.entry.Front.{Front}
 use Rattle.jam_layout.specs.declared.fields.Values.{Values}
 use Rattle.damage_rules.proofs.KeptRules.{Kept, kept_both, both_kept}
-use Rattle.jam_layout.proofs.BoolTests.{or_false, not_not, both_false, equal, unequal}
+use Rattle.damage_rules.proofs.BoolTests.{or_false, not_not, both_false, equal, unequal}
 
 -- ---- the rules of a header as facts
 pub record HeaderKept (kind : Kind) (f : Front) (h : MessageHeader) (v : Values) (bytes : List ℕ) : Type 0 where

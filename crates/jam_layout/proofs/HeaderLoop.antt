@@ -5,17 +5,17 @@ use Rattle.jam_layout.specs.declared.error.BaseError.{BaseError}
 use Rattle.jam_layout.specs.declared.entry.Entry.{Entry}
 use Rattle.jam_layout.specs.declared.entry.Front.{Front}
 use Rattle.damage_rules.specs.Rules.{◌>>=◌}
-use Rattle.jam_layout.specs.Rules.{told, Fails}
+use Rattle.jam_layout.specs.Rules.{damage_of_base, BaseFails}
 use Rattle.damage_rules.specs.Walk.{walk}
 use Rattle.jam_layout.specs.Headers.{header_at, entries_at, start}
 use Rattle.jam_records.specs.declared.message.Kind.{Kind}
 use Rattle.damage_rules.proofs.KeptRules.{step_fails}
 use Rattle.damage_rules.proofs.RecordWalks.{walk_behind, ends, is_done}
 
-pub headers_fail : (place : ℕ) (kind : Kind) (front : List Entry) (f : Front) (rest bytes : List ℕ) (e : BaseError) → 0 < length rest → Fails e (header_at place kind f rest)
-    → walk_behind front (walk (header_at place kind) f rest) ≡ walk (header_at place kind) start bytes → Fails e (entries_at place kind bytes)
+pub headers_fail : (place : ℕ) (kind : Kind) (front : List Entry) (f : Front) (rest bytes : List ℕ) (e : BaseError) → 0 < length rest → BaseFails e (header_at place kind f rest)
+    → walk_behind front (walk (header_at place kind) f rest) ≡ walk (header_at place kind) start bytes → BaseFails e (entries_at place kind bytes)
 unfolding entries_at
-headers_fail place kind front f rest bytes e some h so_far = step_fails (told e) (walk (header_at place kind) start bytes) (λ found. Ok found.0) (ends (header_at place kind) f rest front (told e) (walk (header_at place kind) start bytes) some h so_far)
+headers_fail place kind front f rest bytes e some h so_far = step_fails (damage_of_base e) (walk (header_at place kind) start bytes) (λ found. Ok found.0) (ends (header_at place kind) f rest front (damage_of_base e) (walk (header_at place kind) start bytes) some h so_far)
 
 pub headers_end : (place : ℕ) (kind : Kind) (front : List Entry) (f : Front) (rest bytes : List ℕ) → length rest ≡ 0
     → walk_behind front (walk (header_at place kind) f rest) ≡ walk (header_at place kind) start bytes → entries_at place kind bytes ≡ Ok front

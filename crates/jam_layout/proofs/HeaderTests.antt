@@ -7,7 +7,7 @@ use Rattle.jam_records.specs.declared.damage.DamageRule.{DamageRule}
 use Rattle.jam_records.specs.declared.damage.DamageRule.TheVariants.{Subfields}
 use Rattle.jam_records.specs.declared.message_header.MessageHeader.{MessageHeader}
 use Rattle.damage_rules.specs.Rules.{Rules, first_broken, unless_broken, by_rules, ◌>>=◌}
-use Rattle.jam_layout.specs.Rules.{told, Fails}
+use Rattle.jam_layout.specs.Rules.{damage_of_base, BaseFails}
 use Rattle.door_outside.specs.File.{jhr_file}
 use Rattle.jam_layout.specs.declared.error.BaseError.{BaseError}
 use Rattle.jam_layout.specs.declared.error.BaseError.TheVariants.{Damaged, OutOfMemory}
@@ -61,7 +61,7 @@ failed x d = Err d
 same_damage : {A : Type 0} (a d : Damage) (x : A) → failed x a ≡ failed x d → a ≡ d
 same_damage a d x e = cc
 
-pub value_free : {A B : Type 0} (e : BaseError) (file item : ℕ) (o : Option DamageRule) (x : A) (y : B) → Fails e (unless_broken file item o x) → Fails e (unless_broken file item o y)
+pub value_free : {A B : Type 0} (e : BaseError) (file item : ℕ) (o : Option DamageRule) (x : A) (y : B) → BaseFails e (unless_broken file item o x) → BaseFails e (unless_broken file item o y)
 value_free OutOfMemory file item o x y h = tt
 value_free (Damaged d) file item None x y h = absurd cc
 value_free (Damaged d) file item (Some r) x y h = ap (λ k. Err k) (same_damage (record { file = file; item = item; rule = r }) d x h)
@@ -82,10 +82,10 @@ split place kind f bytes =
     ap (λ rules. by_rules (jhr_file place) f.item rules (step_of f h v)) (sym (append_assoc (front_rules bytes) (field_rules kind f h) last))
     ∙ in_parts (jhr_file place) f.item (front_rules bytes ++ field_rules kind f h) last h (step_of f h v)
 
-pub fixed_stops : (place : ℕ) (kind : Kind) (f : Front) (bytes : List ℕ) (e : BaseError) → Fails e (fixed place kind f bytes) → Fails e (header_at place kind f bytes)
+pub fixed_stops : (place : ℕ) (kind : Kind) (f : Front) (bytes : List ℕ) (e : BaseError) → BaseFails e (fixed place kind f bytes) → BaseFails e (header_at place kind f bytes)
 fixed_stops place kind f bytes e h =
     let x : MessageHeader = message_header_at bytes in
-    rw (split place kind f bytes) (step_fails (told e) (fixed place kind f bytes) (λ y. by_rules (jhr_file place) f.item (length_rules x bytes ++ value_rules x (values_of x bytes)) (step_of f x (values_of x bytes))) h)
+    rw (split place kind f bytes) (step_fails (damage_of_base e) (fixed place kind f bytes) (λ y. by_rules (jhr_file place) f.item (length_rules x bytes ++ value_rules x (values_of x bytes)) (step_of f x (values_of x bytes))) h)
 
 fixed_is : (place : ℕ) (kind : Kind) (f : Front) (bytes : List ℕ) (h : MessageHeader) → fixed place kind f bytes ≡ Ok h → message_header_at bytes ≡ h
 fixed_is place kind f bytes h e = (rules_kept (jhr_file place) f.item (front_rules bytes ++ field_rules kind f (message_header_at bytes)) (message_header_at bytes) h e).1
@@ -97,7 +97,7 @@ behind_it place kind f bytes h e =
     ∙ (ap (λ r. r >>= λ y. by_rules (jhr_file place) f.item (length_rules x bytes ++ value_rules x (values_of x bytes)) (step_of f x (values_of x bytes))) e
     ∙ ap (λ (y : MessageHeader). by_rules (jhr_file place) f.item (length_rules y bytes ++ value_rules y (values_of y bytes)) (step_of f y (values_of y bytes))) (fixed_is place kind f bytes h e))
 
-pub values_stop : (place : ℕ) (kind : Kind) (f : Front) (bytes : List ℕ) (h : MessageHeader) (e : BaseError) → fixed place kind f bytes ≡ Ok h → Fails e (behind_fixed place f bytes h) → Fails e (header_at place kind f bytes)
+pub values_stop : (place : ℕ) (kind : Kind) (f : Front) (bytes : List ℕ) (h : MessageHeader) (e : BaseError) → fixed place kind f bytes ≡ Ok h → BaseFails e (behind_fixed place f bytes h) → BaseFails e (header_at place kind f bytes)
 values_stop place kind f bytes h e is fails =
     rw (behind_it place kind f bytes h is) (value_free e (jhr_file place) f.item (first_broken (length_rules h bytes ++ value_rules h (values_of h bytes))) (values_of h bytes) (step_of f h (values_of h bytes)) fails)
 

@@ -16,7 +16,7 @@ use Rattle.jam_records.proofs.HeaderLemmas.{index_stands}
 use Rattle.jam_threads.specs.declared.link.Link.{Link}
 use Rattle.damage_rules.specs.Rules.{by_rules, ◌>>=◌}
 use Rattle.door_outside.specs.File.{jdx_file}
-use Rattle.damage_rules.specs.Walk.{Step, walk_from, walk}
+use Rattle.damage_rules.specs.Walk.{WalkStep, walk_from, walk}
 use Rattle.jam_layout.specs.Headers.{header_size}
 use Rattle.jam_layout.specs.Layout.{entries_of}
 use Rattle.jam_layout.specs.Index.{index_records, Pending, Expected, none_here, one_here, expected_of, expected, index_rules, slot_at}
@@ -24,7 +24,7 @@ use Rattle.jam_layout.specs.declared.entry.Entry.{Entry}
 use Rattle.damage_rules.proofs.KeptRules.{Kept, rules_kept, kept_rules, bind_ok, ok_is}
 use Rattle.damage_rules.proofs.RecordWalks.{walk_more, walk_done, behind_first, drop_one}
 use Rattle.jam_layout.proofs.RecordFronts.{index_front}
-use Rattle.jam_layout.proofs.BoolTests.{or_false, both_false, equal, unequal}
+use Rattle.damage_rules.proofs.BoolTests.{or_false, both_false, equal, unequal}
 
 abbrev no_bytes : List ℕ
 no_bytes = []
@@ -105,9 +105,9 @@ slots_take links place zero s (b ∷ bytes) slots last fits linked none e =
     let all : a.0.value ∷ d.0.0 ≡ slots = ap (λ (x : List Slot × Pending). x.0) whole in
     let end : d.0.1.entries ≡ [] = ap (λ (x : List Slot × Pending). x.1.entries) whole ∙ none in
     let one : Behind links s.item s.at s.entries d.0.0 x = one_slot links s.item s.at s.entries d.0.0 linked in
-    let value : x.slot ≡ a.0.value = ap (λ (y : Step Pending Slot). y.value) k.1 in
-    let size : 8 ≡ a.0.size = ap (λ (y : Step Pending Slot). y.size) k.1 in
-    let next : x.next ≡ a.0.next = ap (λ (y : Step Pending Slot). y.next) k.1 in
+    let value : x.slot ≡ a.0.value = ap (λ (y : WalkStep Pending Slot). y.value) k.1 in
+    let size : 8 ≡ a.0.size = ap (λ (y : WalkStep Pending Slot). y.size) k.1 in
+    let next : x.next ≡ a.0.next = ap (λ (y : WalkStep Pending Slot). y.next) k.1 in
     let others = slots_take links place (a.0.size - 1) a.0.next bytes d.0.0 d.0.1 (All-drop IsByte 1 (b ∷ bytes) fits) (subst (λ (p : Pending). Linked links p.entries) next one.linked) end d.1 in
     let entries : entries_of links (s.item + 1 + 1) d.0.0 ≡ x.next.entries = ap (λ n. entries_of links (n + 1) d.0.0) (sym one.item) ∙ (ap (λ (p : Pending). entries_of links (p.item + 1) d.0.0) next ∙ (others.1 ∙ ap (λ (p : Pending). p.entries) (sym next))) in
     let rest : drop 8 (b ∷ bytes) ≡ index_records x.next.at d.0.0 = ap (λ n. drop n (b ∷ bytes)) size ∙ (sym (drop_one a.0.size b bytes (omega (arith, size))) ∙ (others.0 ∙ ap (λ (p : Pending). index_records p.at d.0.0) (sym next))) in
@@ -153,7 +153,7 @@ record_again : (place : ℕ) (s : Pending) (x : Expected) (rest : List ℕ) → 
 unfolding slot_at
 record_again place s x rest is a b =
     let bytes : List ℕ = index_text x.pair ++ rest in
-    let found : Step Pending Slot = record { value = x.slot; size = 8; next = x.next } in
+    let found : WalkStep Pending Slot = record { value = x.slot; size = 8; next = x.next } in
     let one : by_rules (jdx_file place) s.item (index_rules (expected s).pair bytes) (record { value = (expected s).slot; size = 8; next = (expected s).next }) ≡ Ok found =
     ap (λ (y : Expected). by_rules (jdx_file place) s.item (index_rules y.pair bytes) (record { value = y.slot; size = 8; next = y.next })) is
     ∙ kept_rules (jdx_file place) s.item (index_rules x.pair bytes) found (pair_again x.pair rest a b) in

@@ -8,7 +8,7 @@ use Rattle.jam_layout.specs.declared.error.BaseError.{BaseError}
 use Rattle.jam_layout.specs.declared.entry.Entry.{Entry}
 use Rattle.jam_records.specs.declared.message.Slot.{Slot}
 use Rattle.damage_rules.specs.Rules.{by_rules, ◌>>=◌}
-use Rattle.jam_layout.specs.Rules.{told, Fails}
+use Rattle.jam_layout.specs.Rules.{damage_of_base, BaseFails}
 use Rattle.door_outside.specs.File.{jdx_file}
 use Rattle.damage_rules.specs.Walk.{walk}
 use Rattle.jam_layout.specs.Index.{Pending, slot_at, slots_at}
@@ -25,9 +25,9 @@ opened : (place at : ℕ) (entries : List Entry) (bytes : List ℕ) → length b
 unfolding slots_at
 opened place at entries bytes few = ap (λ x. x >>= λ k. walk (slot_at place) (begin at entries) bytes >>= last_rule place) (kept_rules (jdx_file place) 0 ((Count, ltb 9999 (length bytes / 8)) ∷ []) (tt {0}) (le-ltb _ _ few, tt))
 
-pub slots_fail : (place at : ℕ) (entries : List Entry) (bytes : List ℕ) (front : List Slot) (s : Pending) (rest : List ℕ) (e : BaseError) → length bytes / 8 ≤ 9999 → 0 < length rest → Fails e (slot_at place s rest)
-    → walk_behind front (walk (slot_at place) s rest) ≡ walk (slot_at place) (begin at entries) bytes → Fails e (slots_at place at entries bytes)
-slots_fail place at entries bytes front s rest e few some h so_far = rw (opened place at entries bytes few) (step_fails (told e) (walk (slot_at place) (begin at entries) bytes) (last_rule place) (ends (slot_at place) s rest front (told e) (walk (slot_at place) (begin at entries) bytes) some h so_far))
+pub slots_fail : (place at : ℕ) (entries : List Entry) (bytes : List ℕ) (front : List Slot) (s : Pending) (rest : List ℕ) (e : BaseError) → length bytes / 8 ≤ 9999 → 0 < length rest → BaseFails e (slot_at place s rest)
+    → walk_behind front (walk (slot_at place) s rest) ≡ walk (slot_at place) (begin at entries) bytes → BaseFails e (slots_at place at entries bytes)
+slots_fail place at entries bytes front s rest e few some h so_far = rw (opened place at entries bytes few) (step_fails (damage_of_base e) (walk (slot_at place) (begin at entries) bytes) (last_rule place) (ends (slot_at place) s rest front (damage_of_base e) (walk (slot_at place) (begin at entries) bytes) some h so_far))
 
 ended : (place at : ℕ) (entries : List Entry) (bytes : List ℕ) (front : List Slot) (s : Pending) (rest : List ℕ) (b : Bool) → length bytes / 8 ≤ 9999 → length rest ≡ 0 → eqb (length s.entries) 0 ≡ b
     → walk_behind front (walk (slot_at place) s rest) ≡ walk (slot_at place) (begin at entries) bytes → slots_at place at entries bytes ≡ by_rules (jdx_file place) s.item ((Missing, not b) ∷ []) front

@@ -10,9 +10,9 @@ use Rattle.jam_records.specs.declared.message.Message.{Message}
 use Rattle.jam_records.specs.declared.message.Slot.{Slot}
 use Rattle.jam_records.specs.declared.message.Slot.TheVariants.{Gone, Held}
 use Rattle.damage_rules.specs.Rules.{first_broken, by_rules}
-use Rattle.jam_layout.specs.Rules.{Fails}
+use Rattle.jam_layout.specs.Rules.{BaseFails}
 use Rattle.door_outside.specs.File.{jdx_file}
-use Rattle.damage_rules.specs.Walk.{Step}
+use Rattle.damage_rules.specs.Walk.{WalkStep}
 use Rattle.jam_layout.specs.Headers.{header_size}
 use Rattle.jam_layout.specs.Index.{no_pair, pair_of, Pending, Expected, none_here, one_here, is_next, expected_of, index_rules, slot_at}
 use Rattle.jam_layout.specs.declared.entry.Entry.{Entry}
@@ -24,10 +24,10 @@ use Rattle.jam_layout.proofs.IndexLaws.{expected_held}
 abbrev pair : ℕ → ℕ → IndexRecord
 pair crc at = record { to_crc = crc; offset = at }
 
-abbrev step : ℕ → ℕ → List ℕ → Expected → Result (Step Pending Slot) Damage
+abbrev step : ℕ → ℕ → List ℕ → Expected → Result (WalkStep Pending Slot) Damage
 step place item bytes x = by_rules (jdx_file place) item (index_rules x.pair bytes) (record { value = x.slot; size = 8; next = x.next })
 
-abbrev found : ℕ → Message → ℕ → List Entry → Step Pending Slot
+abbrev found : ℕ → Message → ℕ → List Entry → WalkStep Pending Slot
 found item m at entries = record { value = Held m; size = 8; next = record { item = item + 1; at = at; entries = entries } }
 
 -- the message is the first of those that are left
@@ -61,15 +61,15 @@ held_read place item at pending bytes e rest m size crc u is number same kept c 
     let rules : Kept (index_rules (pair_of e.message at) bytes) = subst (λ (x : IndexRecord). Kept (index_rules x bytes)) (pairs_same at crc e m c same) k.0 in
     ap (step place item bytes) (held item at pending e rest is number)
     ∙ (kept_rules (jdx_file place) item (index_rules (pair_of e.message at) bytes) (found item e.message (at + header_size e.message) rest) rules
-    ∙ ap (λ (x : Step Pending Slot). Ok x) (same_found item at size e m rest same long))
+    ∙ ap (λ (x : WalkStep Pending Slot). Ok x) (same_found item at size e m rest same long))
 
 pub held_fails : (place item at : ℕ) (pending : List Entry) (bytes : List ℕ) (e : Entry) (rest : List Entry) (m : Message) (crc : ℕ) (f : BaseError) → pending ≡ e ∷ rest → e.number ≡ item + 1 → m ≡ e.message → crc ≡ jam_crc m.to
-    → Fails f (by_rules (jdx_file place) item (index_rules (pair crc at) bytes) (tt {0})) → Fails f (slot_at place (record { item = item; at = at; entries = pending }) bytes)
+    → BaseFails f (by_rules (jdx_file place) item (index_rules (pair crc at) bytes) (tt {0})) → BaseFails f (slot_at place (record { item = item; at = at; entries = pending }) bytes)
 unfolding slot_at
 held_fails place item at pending bytes e rest m crc f is number same c h =
-    let one : Fails f (by_rules (jdx_file place) item (index_rules (pair_of e.message at) bytes) (tt {0})) =
-    subst (λ (x : IndexRecord). Fails f (by_rules (jdx_file place) item (index_rules x bytes) (tt {0}))) (pairs_same at crc e m c same) h in
-    subst (λ (r : Result (Step Pending Slot) Damage). Fails f r) (sym (ap (step place item bytes) (held item at pending e rest is number)))
+    let one : BaseFails f (by_rules (jdx_file place) item (index_rules (pair_of e.message at) bytes) (tt {0})) =
+    subst (λ (x : IndexRecord). BaseFails f (by_rules (jdx_file place) item (index_rules x bytes) (tt {0}))) (pairs_same at crc e m c same) h in
+    subst (λ (r : Result (WalkStep Pending Slot) Damage). BaseFails f r) (sym (ap (step place item bytes) (held item at pending e rest is number)))
     (value_free f (jdx_file place) item (first_broken (index_rules (pair_of e.message at) bytes)) (tt {0}) (found item e.message (at + header_size e.message) rest) one)
 
 pub gone_read : (place item at : ℕ) (pending left : List Entry) (bytes : List ℕ) (u : Unit {0}) → is_next (item + 1) pending ≡ false → left ≡ pending
@@ -82,10 +82,10 @@ gone_read place item at pending left bytes u none same kept =
     ∙ ap (λ (es : List Entry). Ok (record { value = Gone; size = 8; next = record { item = item + 1; at = at; entries = es } })) (sym same))
 
 pub gone_fails : (place item at : ℕ) (pending : List Entry) (bytes : List ℕ) (f : BaseError) → is_next (item + 1) pending ≡ false
-    → Fails f (by_rules (jdx_file place) item (index_rules no_pair bytes) (tt {0})) → Fails f (slot_at place (record { item = item; at = at; entries = pending }) bytes)
+    → BaseFails f (by_rules (jdx_file place) item (index_rules no_pair bytes) (tt {0})) → BaseFails f (slot_at place (record { item = item; at = at; entries = pending }) bytes)
 unfolding slot_at
 gone_fails place item at pending bytes f none h =
-    subst (λ (r : Result (Step Pending Slot) Damage). Fails f r) (sym (ap (step place item bytes) (gone item at pending none)))
+    subst (λ (r : Result (WalkStep Pending Slot) Damage). BaseFails f r) (sym (ap (step place item bytes) (gone item at pending none)))
     (value_free f (jdx_file place) item (first_broken (index_rules no_pair bytes)) (tt {0}) (record { value = Gone; size = 8; next = record { item = item + 1; at = at; entries = pending } }) h)
 
 -- the sizes of the headers that are left

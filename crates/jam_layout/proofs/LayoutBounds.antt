@@ -32,7 +32,7 @@ use Rattle.jam_layout.specs.Index.{no_pair, pair_of, index_records}
 use Rattle.jam_layout.specs.Layout.{entries_of, entries_in, base_header, layout}
 use Rattle.jam_layout.specs.Messages.{EmptyOr, AreBytes, IsMessage, IsSlot}
 use Rattle.jam_layout.specs.Readers.{last_read, last_reads}
-use Rattle.jam_layout.specs.Valid.{FilesFit, IsConference}
+use Rattle.jam_layout.specs.Valid.{BaseFilesFit, IsConference}
 use Rattle.jam_layout.specs.declared.conference.Conference.{Conference}
 use Rattle.jam_layout.specs.declared.entry.Entry.{Entry}
 use Rattle.jam_layout.specs.declared.reader.Reader.{Reader}
@@ -217,7 +217,7 @@ lasts_bytes (r ∷ readers) [] = All-nil IsByte
 lasts_bytes (r ∷ readers) (p ∷ pointers) = both (last_text (last_read r p)) (last_reads readers pointers) (last_bytes (last_read r p)) (lasts_bytes readers pointers)
 
 -- ---- the four files
-pub layout_fits : (shape : Shape) (c : Conference) → IsConference shape c → FilesFit (layout shape c)
+pub layout_fits : (shape : Shape) (c : Conference) → IsConference shape c → BaseFilesFit (layout shape c)
 layout_fits shape c ok =
     let links : ℕ → Link = link_of c.slots in
     let base : List ℕ = base_text (base_header shape c) in

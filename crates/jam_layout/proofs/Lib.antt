@@ -3,7 +3,6 @@ pub mod FieldLaws
 pub mod InOrderLaws
 pub mod ValueLaws
 pub mod CrcLaws
-pub mod BoolTests
 pub mod MarkLaws
 pub mod HeaderLaws
 pub mod EntryLaws

@@ -23,7 +23,7 @@ use Rattle.jam_layout.specs.declared.entry.Entry.{Entry}
 use Rattle.damage_rules.proofs.KeptRules.{rules_kept, kept_rules, bind_ok}
 use Rattle.jam_layout.proofs.BodyLaws.{bare}
 use Rattle.jam_layout.proofs.IndexLaws.{first_number}
-use Rattle.jam_layout.proofs.BoolTests.{not_not}
+use Rattle.damage_rules.proofs.BoolTests.{not_not}
 
 -- ---- slots without their bodies
 

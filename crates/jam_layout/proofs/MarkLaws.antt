@@ -6,7 +6,7 @@ use Rattle.jam_records.specs.declared.message.Kind.{Kind}
 use Rattle.jam_records.specs.declared.message.Kind.TheVariants.{Local, Echo, Net}
 use Rattle.jam_layout.specs.Marks.{attribute_of, marks_of, is_net, wrong_attribute}
 use Rattle.jam_layout.specs.declared.marks.Marks.{Marks}
-use Rattle.jam_layout.proofs.BoolTests.{or_false, not_not, both_false}
+use Rattle.damage_rules.proofs.BoolTests.{or_false, not_not, both_false}
 
 abbrev marks : Bool → Bool → Bool → Bool → Marks
 marks a b c d = record { local = a; private = b; seen = c; deleted = d }

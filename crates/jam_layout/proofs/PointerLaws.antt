@@ -21,7 +21,7 @@ use Rattle.jam_layout.specs.Valid.{PointersFit}
 use Rattle.damage_rules.proofs.KeptRules.{Kept, rules_kept, kept_rules, bind_ok, ok_is}
 use Rattle.jam_layout.proofs.RecordFronts.{last_front}
 use Rattle.jam_layout.proofs.CrcLaws.{crc_small}
-use Rattle.jam_layout.proofs.BoolTests.{or_false, both_false, equal, unequal}
+use Rattle.damage_rules.proofs.BoolTests.{or_false, both_false, equal, unequal}
 
 reader_takes : (count : ℕ) (reader : Reader) (bytes : List ℕ) → All IsByte bytes → Kept (reader_rules count reader bytes) → (bytes ≡ last_text (last_read reader (u32_at 8 bytes)) ++ drop 16 bytes) × (u32_at 8 bytes ≤ count)
 reader_takes count reader bytes fits k =

@@ -5,7 +5,7 @@ use Rattle.jam_records.specs.declared.damage.Damage.{Damage}
 use Rattle.jam_records.specs.declared.damage.DamageRule.TheVariants.{Rest}
 use Rattle.jam_layout.specs.declared.error.BaseError.{BaseError}
 use Rattle.damage_rules.specs.Rules.{by_rules, ◌>>=◌}
-use Rattle.jam_layout.specs.Rules.{told, Fails}
+use Rattle.jam_layout.specs.Rules.{damage_of_base, BaseFails}
 use Rattle.record_numbers.specs.Numbers.{u32_at}
 use Rattle.door_outside.specs.File.{jlr_file}
 use Rattle.jam_layout.specs.declared.reader.Reader.{Reader}
@@ -26,13 +26,13 @@ goes_on place count j readers r front new bytes rest p total is one e n so_far =
     rw (e, n) (sym b ∙ so_far)
 
 pub fails : (place count j : ℕ) (readers : List Reader) (r : Reader) (front bytes : List ℕ) (e : BaseError) (total : Result (List ℕ) Damage)
-    → drop j readers ≡ r ∷ drop (j + 1) readers → Fails e (step place count j r bytes)
-    → with_front front (pointers_at place count j (drop j readers) bytes) ≡ total → Fails e total
+    → drop j readers ≡ r ∷ drop (j + 1) readers → BaseFails e (step place count j r bytes)
+    → with_front front (pointers_at place count j (drop j readers) bytes) ≡ total → BaseFails e total
 fails place count j readers r front bytes e total is one so_far =
     let others : Result (List ℕ) Damage = pointers_at place count (j + 1) (drop (j + 1) readers) (drop 16 bytes) in
     let a : pointers_at place count j (drop j readers) bytes ≡ (step place count j r bytes >>= λ q. others >>= λ ps. Ok (q ∷ ps)) = ap (λ rs. pointers_at place count j rs bytes) is in
     let b : with_front front (pointers_at place count j (drop j readers) bytes) ≡ ((step place count j r bytes >>= λ q. others >>= λ ps. Ok (q ∷ ps)) >>= λ ps. Ok (front ++ ps)) = ap (with_front front) a in
-    rw (sym so_far ∙ b) (step_fails (told e) (step place count j r bytes >>= λ q. others >>= λ ps. Ok (q ∷ ps)) (λ ps. Ok (front ++ ps)) (step_fails (told e) (step place count j r bytes) (λ q. others >>= λ ps. Ok (q ∷ ps)) one))
+    rw (sym so_far ∙ b) (step_fails (damage_of_base e) (step place count j r bytes >>= λ q. others >>= λ ps. Ok (q ∷ ps)) (λ ps. Ok (front ++ ps)) (step_fails (damage_of_base e) (step place count j r bytes) (λ q. others >>= λ ps. Ok (q ∷ ps)) one))
 
 pub at_end : (place count j : ℕ) (readers : List Reader) (front bytes : List ℕ) (total : Result (List ℕ) Damage) → length readers ≤ j
     → with_front front (pointers_at place count j (drop j readers) bytes) ≡ total → total ≡ with_front front (by_rules (jlr_file place) j ((Rest, not (eqb (length bytes) 0)) ∷ []) [])

@@ -4,7 +4,7 @@ use Rattle.std.specs.Prelude.{IfOk}
 use Rattle.jam_records.specs.declared.damage.Damage.{Damage}
 use Rattle.jam_layout.specs.declared.error.BaseError.{BaseError}
 use Rattle.jam_layout.specs.declared.error.BaseError.TheVariants.{Damaged, OutOfMemory}
-use Rattle.jam_layout.specs.Rules.{Gives, UnlessMemory}
+use Rattle.jam_layout.specs.Rules.{BaseGives, BaseUnlessMemory}
 use Rattle.damage_rules.specs.Rules.{damage_of}
 
 abbrev ok : {X : Type 0} → X → Result X BaseError
@@ -28,17 +28,17 @@ apart x d e = cc
 some_once : (d e : Damage) → Some d ≡ Some e → d ≡ e
 some_once d e h = cc
 
-pub if_read : {X : Type 0} (r : Result X BaseError) (read : Result X Damage) (P Q : X → Type 0) → Gives (λ y. y) r read → IfOk r Q → ((x : X) → read ≡ Ok x → Q x → P x) → IfOk r P
+pub if_read : {X : Type 0} (r : Result X BaseError) (read : Result X Damage) (P Q : X → Type 0) → BaseGives (λ y. y) r read → IfOk r Q → ((x : X) → read ≡ Ok x → Q x → P x) → IfOk r P
 if_read (Ok x) read P Q h q f = f x h q
 if_read (Err e) read P Q h q f = tt
 
-pub only_ok : {X : Type 0} (r : Result X BaseError) (read : Result X Damage) (x : X) → Gives (λ y. y) r read → read ≡ Ok x → UnlessMemory r (Ok x)
+pub only_ok : {X : Type 0} (r : Result X BaseError) (read : Result X Damage) (x : X) → BaseGives (λ y. y) r read → read ≡ Ok x → BaseUnlessMemory r (Ok x)
 only_ok (Ok y) read x h e = inl (ap (λ z. Ok z) (ok_once y x (sym h ∙ e)))
 only_ok (Err (Damaged d)) read x h e = absurd (apart x d (sym h ∙ e))
 only_ok (Err OutOfMemory) read x h e = inr refl
 
-pub is_damage : {X : Type 0} (r : Result X BaseError) (read : Result X Damage) (d : Damage) → Gives (λ y. y) r read → r ≡ Err (Damaged d) → damage_of read ≡ Some d
-is_damage {X = X} r read d h e = ap damage_of (subst (λ (q : Result X BaseError). Gives (λ y. y) q read) e h)
+pub is_damage : {X : Type 0} (r : Result X BaseError) (read : Result X Damage) (d : Damage) → BaseGives (λ y. y) r read → r ≡ Err (Damaged d) → damage_of read ≡ Some d
+is_damage {X = X} r read d h e = ap damage_of (subst (λ (q : Result X BaseError). BaseGives (λ y. y) q read) e h)
 
 abbrev none : Option Damage
 none = None
@@ -46,7 +46,7 @@ none = None
 no_some : (d : Damage) → none ≡ Some d → ⊥
 no_some d e = cc
 
-pub only_damage : {X : Type 0} (r : Result X BaseError) (read : Result X Damage) (d : Damage) → Gives (λ y. y) r read → damage_of read ≡ Some d → UnlessMemory r (Err (Damaged d))
+pub only_damage : {X : Type 0} (r : Result X BaseError) (read : Result X Damage) (d : Damage) → BaseGives (λ y. y) r read → damage_of read ≡ Some d → BaseUnlessMemory r (Err (Damaged d))
 only_damage (Ok y) read d h e = absurd (no_some d (sym (ap damage_of h) ∙ e))
 only_damage (Err (Damaged b)) read d h e = inl (ap (λ k. Err (Damaged k)) (some_once b d (sym (ap damage_of h) ∙ e)))
 only_damage (Err OutOfMemory) read d h e = inr refl

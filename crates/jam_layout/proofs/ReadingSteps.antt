@@ -10,7 +10,7 @@ use Rattle.jam_records.specs.declared.damage.Damage.{Damage}
 use Rattle.jam_records.specs.declared.message.Kind.{Kind}
 use Rattle.jam_records.specs.declared.message.Slot.{Slot}
 use Rattle.damage_rules.specs.Rules.{by_rules, ◌>>=◌}
-use Rattle.jam_layout.specs.Rules.{told, Fails}
+use Rattle.jam_layout.specs.Rules.{damage_of_base, BaseFails}
 use Rattle.door_outside.specs.File.{jhr_file}
 use Rattle.jam_layout.specs.Headers.{entries_at, headers_text, header_size, entry_text, start, behind}
 use Rattle.jam_layout.specs.SecondPass.{second_pass, Numbered}
@@ -43,8 +43,8 @@ headers_length kind offset (e ∷ es) =
     ∙ (ap (λ n. n + length (headers_text kind (offset + e.text_len) es)) (entry_length kind offset e) ∙ (ap (λ n. header_size e.message + n) (headers_length kind (offset + e.text_len) es) ∙ sym (sum_by-cons (λ (d : Entry). header_size d.message) e es)))
 
 -- ---- a step that fails
-pass : {A B : Type 0} (e : BaseError) (r : Result A Damage) (x : A) (f : A → Result B Damage) → r ≡ Ok x → Fails e (f x) → Fails e (r >>= f)
-pass {A = A} e r x f is h = subst (λ (q : Result A Damage). Fails e (q >>= f)) (sym is) h
+pass : {A B : Type 0} (e : BaseError) (r : Result A Damage) (x : A) (f : A → Result B Damage) → r ≡ Ok x → BaseFails e (f x) → BaseFails e (r >>= f)
+pass {A = A} e r x f is h = subst (λ (q : Result A Damage). BaseFails e (q >>= f)) (sym is) h
 
 abbrev pub base_at : Shape → BaseFiles → Result ℕ Damage
 base_at shape files = by_rules (jhr_file shape.place) 0 (base_rules shape files.jhr) (u32_at 8 files.jhr)
@@ -55,53 +55,53 @@ headers_at shape files = entries_at shape.place shape.kind (drop 1024 files.jhr)
 abbrev pub second_at : Shape → BaseFiles → List Entry → Result (Unit {0}) Damage
 second_at shape files hs = second_pass shape.place (u32_at 12 files.jhr) hs
 
-pub counter_fails : (shape : Shape) (files : BaseFiles) (e : BaseError) → Fails e (base_at shape files) → Fails e (conference_of shape files)
+pub counter_fails : (shape : Shape) (files : BaseFiles) (e : BaseError) → BaseFails e (base_at shape files) → BaseFails e (conference_of shape files)
 unfolding conference_of after_slots after_bodies after_second after_headers after_counter
-counter_fails shape files e h = step_fails (told e) (base_at shape files) (after_counter shape files) h
+counter_fails shape files e h = step_fails (damage_of_base e) (base_at shape files) (after_counter shape files) h
 
-after_base : (shape : Shape) (files : BaseFiles) (e : BaseError) (counter : ℕ) → base_at shape files ≡ Ok counter → Fails e (after_counter shape files counter) → Fails e (conference_of shape files)
+after_base : (shape : Shape) (files : BaseFiles) (e : BaseError) (counter : ℕ) → base_at shape files ≡ Ok counter → BaseFails e (after_counter shape files counter) → BaseFails e (conference_of shape files)
 unfolding conference_of after_slots after_bodies after_second after_headers after_counter
 after_base shape files e counter is h = pass e (base_at shape files) counter (after_counter shape files) is h
 
-pub headers_fail : (shape : Shape) (files : BaseFiles) (e : BaseError) (counter : ℕ) → base_at shape files ≡ Ok counter → Fails e (headers_at shape files) → Fails e (conference_of shape files)
+pub headers_fail : (shape : Shape) (files : BaseFiles) (e : BaseError) (counter : ℕ) → base_at shape files ≡ Ok counter → BaseFails e (headers_at shape files) → BaseFails e (conference_of shape files)
 unfolding after_counter
-headers_fail shape files e counter is h = after_base shape files e counter is (step_fails (told e) (headers_at shape files) (after_headers shape files counter) h)
+headers_fail shape files e counter is h = after_base shape files e counter is (step_fails (damage_of_base e) (headers_at shape files) (after_headers shape files counter) h)
 
-after_entries : (shape : Shape) (files : BaseFiles) (e : BaseError) (counter : ℕ) (hs : List Entry) → base_at shape files ≡ Ok counter → headers_at shape files ≡ Ok hs → Fails e (after_headers shape files counter hs) → Fails e (conference_of shape files)
+after_entries : (shape : Shape) (files : BaseFiles) (e : BaseError) (counter : ℕ) (hs : List Entry) → base_at shape files ≡ Ok counter → headers_at shape files ≡ Ok hs → BaseFails e (after_headers shape files counter hs) → BaseFails e (conference_of shape files)
 unfolding after_counter
 after_entries shape files e counter hs is headers h = after_base shape files e counter is (pass e (headers_at shape files) hs (after_headers shape files counter) headers h)
 
-pub second_fails : (shape : Shape) (files : BaseFiles) (e : BaseError) (counter : ℕ) (hs : List Entry) → base_at shape files ≡ Ok counter → headers_at shape files ≡ Ok hs → Fails e (second_at shape files hs) → Fails e (conference_of shape files)
+pub second_fails : (shape : Shape) (files : BaseFiles) (e : BaseError) (counter : ℕ) (hs : List Entry) → base_at shape files ≡ Ok counter → headers_at shape files ≡ Ok hs → BaseFails e (second_at shape files hs) → BaseFails e (conference_of shape files)
 unfolding after_headers
-second_fails shape files e counter hs is headers h = after_entries shape files e counter hs is headers (step_fails (told e) (second_at shape files hs) (λ linked. after_second shape files counter hs) h)
+second_fails shape files e counter hs is headers h = after_entries shape files e counter hs is headers (step_fails (damage_of_base e) (second_at shape files hs) (λ linked. after_second shape files counter hs) h)
 
 after_links : (shape : Shape) (files : BaseFiles) (e : BaseError) (counter : ℕ) (hs : List Entry) (u : Unit {0}) → base_at shape files ≡ Ok counter → headers_at shape files ≡ Ok hs → second_at shape files hs ≡ Ok u
-    → Fails e (after_second shape files counter hs) → Fails e (conference_of shape files)
+    → BaseFails e (after_second shape files counter hs) → BaseFails e (conference_of shape files)
 unfolding after_headers
 after_links shape files e counter hs u is headers second h = after_entries shape files e counter hs is headers (pass e (second_at shape files hs) u (λ linked. after_second shape files counter hs) second h)
 
 pub bodies_fail : (shape : Shape) (files : BaseFiles) (e : BaseError) (counter : ℕ) (hs : List Entry) (u : Unit {0}) → base_at shape files ≡ Ok counter → headers_at shape files ≡ Ok hs → second_at shape files hs ≡ Ok u
-    → Fails e (bodies_at shape.place 1 hs files.jdt) → Fails e (conference_of shape files)
+    → BaseFails e (bodies_at shape.place 1 hs files.jdt) → BaseFails e (conference_of shape files)
 unfolding after_second
-bodies_fail shape files e counter hs u is headers second h = after_links shape files e counter hs u is headers second (step_fails (told e) (bodies_at shape.place 1 hs files.jdt) (after_bodies shape files counter) h)
+bodies_fail shape files e counter hs u is headers second h = after_links shape files e counter hs u is headers second (step_fails (damage_of_base e) (bodies_at shape.place 1 hs files.jdt) (after_bodies shape files counter) h)
 
 after_texts : (shape : Shape) (files : BaseFiles) (e : BaseError) (counter : ℕ) (hs es : List Entry) (u : Unit {0}) → base_at shape files ≡ Ok counter → headers_at shape files ≡ Ok hs → second_at shape files hs ≡ Ok u → bodies_at shape.place 1 hs files.jdt ≡ Ok es
-    → Fails e (after_bodies shape files counter es) → Fails e (conference_of shape files)
+    → BaseFails e (after_bodies shape files counter es) → BaseFails e (conference_of shape files)
 unfolding after_second
 after_texts shape files e counter hs es u is headers second bodies h = after_links shape files e counter hs u is headers second (pass e (bodies_at shape.place 1 hs files.jdt) es (after_bodies shape files counter) bodies h)
 
 pub slots_fail : (shape : Shape) (files : BaseFiles) (e : BaseError) (counter : ℕ) (hs es : List Entry) (u : Unit {0}) → base_at shape files ≡ Ok counter → headers_at shape files ≡ Ok hs → second_at shape files hs ≡ Ok u → bodies_at shape.place 1 hs files.jdt ≡ Ok es
-    → Fails e (slots_at shape.place 1024 es files.jdx) → Fails e (conference_of shape files)
+    → BaseFails e (slots_at shape.place 1024 es files.jdx) → BaseFails e (conference_of shape files)
 unfolding after_bodies
-slots_fail shape files e counter hs es u is headers second bodies h = after_texts shape files e counter hs es u is headers second bodies (step_fails (told e) (slots_at shape.place 1024 es files.jdx) (after_slots shape files counter) h)
+slots_fail shape files e counter hs es u is headers second bodies h = after_texts shape files e counter hs es u is headers second bodies (step_fails (damage_of_base e) (slots_at shape.place 1024 es files.jdx) (after_slots shape files counter) h)
 
 pub pointers_fail : (shape : Shape) (files : BaseFiles) (e : BaseError) (counter : ℕ) (hs es : List Entry) (slots : List Slot) (u : Unit {0}) → base_at shape files ≡ Ok counter → headers_at shape files ≡ Ok hs → second_at shape files hs ≡ Ok u
-    → bodies_at shape.place 1 hs files.jdt ≡ Ok es → slots_at shape.place 1024 es files.jdx ≡ Ok slots → Fails e (pointers_at shape.place (length slots) 0 shape.readers files.jlr) → Fails e (conference_of shape files)
+    → bodies_at shape.place 1 hs files.jdt ≡ Ok es → slots_at shape.place 1024 es files.jdx ≡ Ok slots → BaseFails e (pointers_at shape.place (length slots) 0 shape.readers files.jlr) → BaseFails e (conference_of shape files)
 unfolding after_bodies after_slots
 pointers_fail shape files e counter hs es slots u is headers second bodies index h =
     after_texts shape files e counter hs es u is headers second bodies
     (pass e (slots_at shape.place 1024 es files.jdx) slots (after_slots shape files counter) index
-    (step_fails (told e) (pointers_at shape.place (length slots) 0 shape.readers files.jlr) (λ pointers. Ok (record { counter = counter; slots = slots; pointers = pointers })) h))
+    (step_fails (damage_of_base e) (pointers_at shape.place (length slots) 0 shape.readers files.jlr) (λ pointers. Ok (record { counter = counter; slots = slots; pointers = pointers })) h))
 
 -- ---- all steps
 pub all_read : (shape : Shape) (files : BaseFiles) (counter : ℕ) (hs es : List Entry) (slots : List Slot) (pointers : List ℕ) (u : Unit {0}) → base_at shape files ≡ Ok counter → headers_at shape files ≡ Ok hs → second_at shape files hs ≡ Ok u
@@ -117,8 +117,8 @@ all_read shape files counter hs es slots pointers u is headers second bodies ind
     ∙ ap (λ x. x >>= λ ps. Ok (record { counter = counter; slots = slots; pointers = ps })) last))))
 
 -- ---- the steps over what the code holds
-pub failed : {A : Type 0} (e : BaseError) (r s : Result A Damage) → r ≡ s → Fails e r → Fails e s
-failed {A = A} e r s is h = subst (λ (q : Result A Damage). Fails e q) is h
+pub failed : {A : Type 0} (e : BaseError) (r s : Result A Damage) → r ≡ s → BaseFails e r → BaseFails e s
+failed {A = A} e r s is h = subst (λ (q : Result A Damage). BaseFails e q) is h
 
 pub base_is : (shape : Shape) (files : BaseFiles) (bytes : List ℕ) → bytes ≡ files.jhr → by_rules (jhr_file shape.place) 0 (base_rules shape bytes) (u32_at 8 bytes) ≡ base_at shape files
 base_is shape files bytes is = ap (λ xs. by_rules (jhr_file shape.place) 0 (base_rules shape xs) (u32_at 8 xs)) is

@@ -5,8 +5,8 @@ use Rattle.std.specs.Str.Parse.{digits_value}
 use Rattle.jam_records.specs.Addresses.{point_text}
 
 -- the number that digits spell
-abbrev pub number_of : List ℕ → ℕ
-number_of digits = digits_value 10 digits
+abbrev pub address_number : List ℕ → ℕ
+address_number digits = digits_value 10 digits
 
 -- what stands before the first such mark, and behind it
 abbrev pub before : ℕ → List ℕ → List ℕ
@@ -26,9 +26,9 @@ is_address_of zone net node point text =
 
 -- the part behind the slash is a node, and maybe a point
 abbrev pub is_address_with : ℕ → ℕ → List ℕ → List ℕ → Bool
-is_address_with zone net node text = is_address_of zone net (number_of (before 46 node)) (number_of (past 46 node)) text
+is_address_with zone net node text = is_address_of zone net (address_number (before 46 node)) (address_number (past 46 node)) text
 
 -- the text is an address
 unfoldable pub is_address : List ℕ → Bool
 is_address text =
-    is_address_with (number_of (before 58 text)) (number_of (before 47 (past 58 text))) (past 47 (past 58 text)) text
+    is_address_with (address_number (before 58 text)) (address_number (before 47 (past 58 text))) (past 47 (past 58 text)) text

@@ -13,7 +13,7 @@ use Rattle.jam_records.specs.declared.message.Message.{Message}
 use Rattle.jam_records.specs.declared.message_header.MessageHeader.{MessageHeader}
 use Rattle.damage_rules.specs.Rules.{Rules, by_rules, ◌>>=◌}
 use Rattle.door_outside.specs.File.{jhr_file}
-use Rattle.damage_rules.specs.Walk.{Step, walk}
+use Rattle.damage_rules.specs.Walk.{WalkStep, walk}
 use Rattle.jam_layout.specs.Fields.{values_at, right_values, subfields_of}
 use Rattle.jam_layout.specs.Marks.{attribute_of, marks_of, wrong_attribute}
 use Rattle.jam_layout.specs.declared.entry.Entry.{Entry}
@@ -111,10 +111,10 @@ abbrev pub behind : Front → Entry → Front
 behind f e = record { item = f.item + 1; last = e.number; offset = f.offset + e.text_len }
 
 -- the entry of the header at the front, and what is behind it
-abbrev pub step_of : Front → MessageHeader → Values → Step Front Entry
+abbrev pub step_of : Front → MessageHeader → Values → WalkStep Front Entry
 step_of f h v = record { value = entry_of h v; size = 76 + h.subfield_len; next = behind f (entry_of h v) }
 
-unfoldable pub header_at : ℕ → Kind → Front → List ℕ → Result (Step Front Entry) Damage
+unfoldable pub header_at : ℕ → Kind → Front → List ℕ → Result (WalkStep Front Entry) Damage
 header_at place kind f bytes = by_rules (jhr_file place) f.item (header_rules kind f bytes) (step_of f (message_header_at bytes) (values_of (message_header_at bytes) bytes))
 
 -- before the first header

@@ -11,7 +11,7 @@ use Rattle.jam_records.specs.declared.message.Slot.{Slot}
 use Rattle.jam_records.specs.declared.message.Slot.TheVariants.{Gone, Held}
 use Rattle.damage_rules.specs.Rules.{Rules, by_rules, ◌>>=◌}
 use Rattle.door_outside.specs.File.{jdx_file}
-use Rattle.damage_rules.specs.Walk.{Step, walk}
+use Rattle.damage_rules.specs.Walk.{WalkStep, walk}
 use Rattle.jam_layout.specs.Headers.{header_size}
 use Rattle.jam_layout.specs.declared.entry.Entry.{Entry}
 
@@ -71,7 +71,7 @@ index_rules pair bytes =
     ∷ (Index, not (u32_at 0 bytes == pair.to_crc) || not (u32_at 4 bytes == pair.offset))
     ∷ []
 
-unfoldable pub slot_at : ℕ → Pending → List ℕ → Result (Step Pending Slot) Damage
+unfoldable pub slot_at : ℕ → Pending → List ℕ → Result (WalkStep Pending Slot) Damage
 slot_at place s bytes =
     by_rules (jdx_file place) s.item (index_rules (expected s).pair bytes) (record { value = (expected s).slot; size = 8; next = (expected s).next })
 

@@ -6,18 +6,18 @@ use Rattle.jam_layout.specs.declared.error.BaseError.{BaseError}
 use Rattle.jam_layout.specs.declared.error.BaseError.TheVariants.{Damaged, OutOfMemory}
 
 -- the damage that an error tells of, or none where memory ran out
-abbrev pub told : BaseError → Option Damage
-told OutOfMemory = None
-told (Damaged d) = Some d
+abbrev pub damage_of_base : BaseError → Option Damage
+damage_of_base OutOfMemory = None
+damage_of_base (Damaged d) = Some d
 
 -- that damage, or want of memory, which may come at any time
-abbrev pub Fails : {Y : Type 0} → BaseError → Result Y Damage → Type 0
-Fails e read = Stops (told e) read
+abbrev pub BaseFails : {Y : Type 0} → BaseError → Result Y Damage → Type 0
+BaseFails e read = Stops (damage_of_base e) read
 
 -- what a function answered, seen by view, is what is read, unless memory ran out
-abbrev pub Gives : {X Y : Type 0} → (X → Y) → Result X BaseError → Result Y Damage → Type 0
-Gives view result read = Answers told view result read
+abbrev pub BaseGives : {X Y : Type 0} → (X → Y) → Result X BaseError → Result Y Damage → Type 0
+BaseGives view result read = Answers damage_of_base view result read
 
 -- the answer, or want of memory
-abbrev pub UnlessMemory : {T : Type 0} → Result T BaseError → Result T BaseError → Type 0
-UnlessMemory result answer = (result ≡ answer) ⊎ (result ≡ Err OutOfMemory)
+abbrev pub BaseUnlessMemory : {T : Type 0} → Result T BaseError → Result T BaseError → Type 0
+BaseUnlessMemory result answer = (result ≡ answer) ⊎ (result ≡ Err OutOfMemory)

@@ -26,7 +26,7 @@ pub record ShapeFits (shape : Shape) : Type 0 where
   pub readers : All IsReader shape.readers
 
 -- four lists of bytes; the headers, the bodies and the index are each shorter than 2^31
-pub record FilesFit (files : BaseFiles) : Type 0 where
+pub record BaseFilesFit (files : BaseFiles) : Type 0 where
   pub jhr : All IsByte files.jhr × (length files.jhr < 2 ^ 31)
   pub jdt : All IsByte files.jdt × (length files.jdt < 2 ^ 31)
   pub jdx : All IsByte files.jdx × (length files.jdx < 2 ^ 31)

@@ -1,6 +1,6 @@
 ghost use Rattle.std.specs.Prelude.{◌≡◌, ◌+◌, ◌≤◌, ◌<◌, ◌^◌, length, take, IfOk};
 ghost use Rattle.damage_rules.specs.Rules.{by_rules};
-ghost use Rattle.jam_layout.specs.Rules.{Gives};
+ghost use Rattle.jam_layout.specs.Rules.{BaseGives};
 ghost use Rattle.door_outside.specs.File.{jdt_file};
 ghost use Rattle.jam_layout.specs.Bodies.{body_rules, lengths_at};
 
@@ -15,7 +15,7 @@ use std::alloc::Global;
 /// Tests the body of this length at the front.
 fn check_body(place: u8, item: u32, text_len: u32, bytes: &[u8]) -> Result<(), BaseError>
     requires { place < 64 }
-    ensures gives { Gives (λ unit. take text_len bytes.now) result (by_rules (jdt_file place) item (body_rules text_len bytes.now) (take text_len bytes.now)) }
+    ensures gives { BaseGives (λ unit. take text_len bytes.now) result (by_rules (jdt_file place) item (body_rules text_len bytes.now) (take text_len bytes.now)) }
     ensures long { IfOk result (λ unit. text_len ≤ length bytes.now) }
 {
     let len = text_len as usize;
@@ -37,7 +37,7 @@ pub fn lengths_of(
 ) -> Result<List<u32>, BaseError>
     requires place { place < 64 }
     requires few { length entries.now < 2 ^ 31 }
-    ensures { Gives (λ x. x) result (lengths_at place entries.now bytes.now) }
+    ensures { BaseGives (λ x. x) result (lengths_at place entries.now bytes.now) }
 {
     let mut lengths = List::new(alloc);
     let mut rest = bytes;

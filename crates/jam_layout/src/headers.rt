@@ -2,7 +2,7 @@ ghost use Rattle.std.specs.Prelude.{◌≡◌, ◌+◌, ◌≤◌, ◌<◌, ◌^
 ghost use Rattle.name_crc.specs.JamCrc.{jam_crc};
 ghost use Rattle.jam_records.specs.MessageHeaders.{message_header_at};
 ghost use Rattle.damage_rules.specs.Rules.{first_broken, by_rules};
-ghost use Rattle.jam_layout.specs.Rules.{Gives};
+ghost use Rattle.jam_layout.specs.Rules.{BaseGives};
 ghost use Rattle.door_outside.specs.File.{jhr_file};
 ghost use Rattle.jam_layout.specs.Headers.{wrong_fields as fields_wrong, wrong_number as number_wrong, wrong_text as text_wrong, wrong_crc as crc_wrong, values_of, front_rules, field_rules, length_rules, value_rules, message_of as message_in, entry_of as entry_in, behind, header_at, entries_at};
 
@@ -182,7 +182,7 @@ fn entry_of(alloc: Global, header: &MessageHeader, values: Values) -> Entry
 #[tactic(auto, using(damage_rules::proofs::KeptRules::both_pass))]
 fn fixed_of(place: u8, kind: Kind, front: Front, bytes: &[u8]) -> Result<MessageHeader, BaseError>
     requires { place < 64 }
-    ensures gives { Gives (λ x. x) result (by_rules (jhr_file place) front.item (front_rules bytes.now ++ field_rules kind front (message_header_at bytes.now)) (message_header_at bytes.now)) }
+    ensures gives { BaseGives (λ x. x) result (by_rules (jhr_file place) front.item (front_rules bytes.now ++ field_rules kind front (message_header_at bytes.now)) (message_header_at bytes.now)) }
     ensures long { IfOk result (λ _. 76 ≤ length bytes.now) }
 {
     match read_fixed(bytes) {
@@ -204,7 +204,7 @@ fn values_behind(
 ) -> Result<Values, BaseError>
     requires place { place < 64 }
     requires fixed { 76 ≤ length bytes.now }
-    ensures gives { Gives (λ x. x) result (by_rules (jhr_file place) item (length_rules header.now bytes.now ++ value_rules header.now (values_of header.now bytes.now)) (values_of header.now bytes.now)) }
+    ensures gives { BaseGives (λ x. x) result (by_rules (jhr_file place) item (length_rules header.now bytes.now ++ value_rules header.now (values_of header.now bytes.now)) (values_of header.now bytes.now)) }
     ensures long { IfOk result (λ _. 76 + header.now.subfield_len ≤ length bytes.now) }
 {
     let end = HEADER + header.subfield_len as usize;
@@ -228,7 +228,7 @@ fn header_of(
     bytes: &[u8],
 ) -> Result<(Entry, usize), BaseError>
     requires { place < 64 }
-    ensures gives { Gives (λ x. record { value = x.0; size = x.1; next = behind front x.0 }) result (header_at place kind front bytes.now) }
+    ensures gives { BaseGives (λ x. record { value = x.0; size = x.1; next = behind front x.0 }) result (header_at place kind front bytes.now) }
     ensures size { IfOk result (λ x. (76 ≤ x.1) × (x.1 ≤ length bytes.now)) }
     ensures bounds { IfOk result (λ x. (front.last < x.0.number) × (x.0.number ≤ 9999) × (x.0.text_len ≤ 16384)) }
 {
@@ -247,7 +247,7 @@ pub fn entries_of(
 ) -> Result<List<Entry>, BaseError>
     requires place { place < 64 }
     requires short { length bytes.now < 2 ^ 31 }
-    ensures { Gives (λ x. x) result (entries_at place kind bytes.now) }
+    ensures { BaseGives (λ x. x) result (entries_at place kind bytes.now) }
 {
     let mut entries = List::new(alloc);
     let mut front = Front {

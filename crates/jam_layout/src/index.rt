@@ -1,6 +1,6 @@
 ghost use Rattle.std.specs.Prelude.{◌≡◌, ◌==◌, ◌+◌, ◌≤◌, ◌<◌, ◌^◌, ◌∷◌, false, length, sum_by, None, IfOk, IfSome};
 ghost use Rattle.damage_rules.specs.Rules.{by_rules};
-ghost use Rattle.jam_layout.specs.Rules.{Gives};
+ghost use Rattle.jam_layout.specs.Rules.{BaseGives};
 ghost use Rattle.door_outside.specs.File.{jdx_file};
 ghost use Rattle.jam_layout.specs.Headers.{header_size as size_of_header};
 ghost use Rattle.jam_layout.specs.Index.{index_rules, is_next, slot_at, slots_at};
@@ -24,7 +24,7 @@ const NONE: u32 = 0xFFFF_FFFF;
 /// Tests the record at the front.
 fn check_pair(place: u8, item: u32, pair: IndexRecord, bytes: &[u8]) -> Result<(), BaseError>
     requires { place < 64 }
-    ensures gives { Gives (λ x. x) result (by_rules (jdx_file place) item (index_rules pair bytes.now) (tt {0})) }
+    ensures gives { BaseGives (λ x. x) result (by_rules (jdx_file place) item (index_rules pair bytes.now) (tt {0})) }
     ensures long { IfOk result (λ _. 8 ≤ length bytes.now) }
 {
     if bytes.len() < 8 {
@@ -72,7 +72,7 @@ fn slot_of(
     requires place { place < 64 }
     requires small { at + sum_by (λ e. size_of_header e.message) pending.old.items < 2 ^ 31 }
     requires few { item < 2 ^ 31 }
-    ensures gives { Gives (λ x. record { value = x.0; size = 8; next = record { item = item + 1; at = x.1; entries = pending.new.items } }) result (slot_at place (record { item = item; at = at; entries = pending.old.items }) bytes.now) }
+    ensures gives { BaseGives (λ x. record { value = x.0; size = 8; next = record { item = item + 1; at = x.1; entries = pending.new.items } }) result (slot_at place (record { item = item; at = at; entries = pending.old.items }) bytes.now) }
     ensures long { IfOk result (λ _. 8 ≤ length bytes.now) }
     ensures small { IfOk result (λ x. x.1 + sum_by (λ e. size_of_header e.message) pending.new.items ≡ at + sum_by (λ e. size_of_header e.message) pending.old.items) }
 {
@@ -113,7 +113,7 @@ fn slots_from(
 ) -> Result<Slots, BaseError>
     requires place { place < 64 }
     requires small { 1024 + sum_by (λ e. size_of_header e.message) pending.old.items < 2 ^ 31 }
-    ensures { Gives (λ x. x) result (slots_at place 1024 pending.old.items bytes.now) }
+    ensures { BaseGives (λ x. x) result (slots_at place 1024 pending.old.items bytes.now) }
 {
     if bytes.len() / 8 > 9999 {
         return Err(damaged(FileId::jdx(place), 0, DamageRule::Count));
@@ -144,7 +144,7 @@ pub fn slots_in(
 ) -> Result<Slots, BaseError>
     requires place { place < 64 }
     requires small { 1024 + sum_by (λ e. size_of_header e.message) entries < 2 ^ 31 }
-    ensures { Gives (λ x. x) result (slots_at place 1024 entries bytes.now) }
+    ensures { BaseGives (λ x. x) result (slots_at place 1024 entries bytes.now) }
 {
     let mut pending = VecDeque::from_vec(entries.into_vec());
     slots_from(alloc, place, &mut pending, bytes)

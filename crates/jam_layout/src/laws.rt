@@ -8,7 +8,7 @@ ghost use Rattle.jam_layout.specs.Fields.{values_at};
 ghost use Rattle.jam_layout.specs.InOrder.{InOrder, FieldsFit, values_in};
 ghost use Rattle.jam_layout.specs.Outlines.{outline, SameButBodies};
 ghost use Rattle.jam_layout.specs.declared.conference.Conference.{Conference};
-ghost use Rattle.jam_layout.specs.Valid.{IsShape, ShapeFits, FilesFit, IsConference};
+ghost use Rattle.jam_layout.specs.Valid.{IsShape, ShapeFits, BaseFilesFit, IsConference};
 ghost use Rattle.jam_layout.specs.declared.files.BaseFiles.{BaseFiles};
 ghost use Rattle.jam_layout.specs.declared.shape.Shape.{Shape};
 
@@ -16,9 +16,9 @@ ghost use Rattle.jam_layout.specs.declared.shape.Shape.{Shape};
 /// conference is unique. Shapes and files are those that the types and the conditions of `read_bare`
 /// allow, and each conference has a layout that these allow.
 pub fn unique_conference()
-    ensures undamaged { (shape : Shape) (files : BaseFiles) → IsShape shape → ShapeFits shape → FilesFit files → (base_damage shape files ≡ None) ↔ ((c : Conference) × IsConference shape c × (files ≡ layout shape c)) }
+    ensures undamaged { (shape : Shape) (files : BaseFiles) → IsShape shape → ShapeFits shape → BaseFilesFit files → (base_damage shape files ≡ None) ↔ ((c : Conference) × IsConference shape c × (files ≡ layout shape c)) }
     ensures unique { (shape : Shape) (a b : Conference) → IsShape shape → ShapeFits shape → IsConference shape a → IsConference shape b → layout shape a ≡ layout shape b → a ≡ b }
-    ensures fit { (shape : Shape) (c : Conference) → IsConference shape c → FilesFit (layout shape c) }
+    ensures fit { (shape : Shape) (c : Conference) → IsConference shape c → BaseFilesFit (layout shape c) }
 {}
 
 /// Bytes are subfields of the ids 0 to 6, with HiID 0, in rising order and nothing else, exactly where the

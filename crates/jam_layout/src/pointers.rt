@@ -1,7 +1,7 @@
 ghost use Rattle.std.specs.Prelude.{◌≡◌, ◌+◌, ◌≤◌, ◌<◌, ◌^◌, length, IfOk};
 ghost use Rattle.record_numbers.specs.Numbers.{u32_at as u32_of};
 ghost use Rattle.damage_rules.specs.Rules.{by_rules};
-ghost use Rattle.jam_layout.specs.Rules.{Gives};
+ghost use Rattle.jam_layout.specs.Rules.{BaseGives};
 ghost use Rattle.door_outside.specs.File.{jlr_file};
 ghost use Rattle.jam_layout.specs.Readers.{reader_rules, pointers_at};
 
@@ -25,7 +25,7 @@ fn pointer_of(
     bytes: &[u8],
 ) -> Result<u32, BaseError>
     requires { place < 64 }
-    ensures gives { Gives (λ x. x) result (by_rules (jlr_file place) item (reader_rules count reader.now bytes.now) (u32_of 8 bytes.now)) }
+    ensures gives { BaseGives (λ x. x) result (by_rules (jlr_file place) item (reader_rules count reader.now bytes.now) (u32_of 8 bytes.now)) }
     ensures long { IfOk result (λ _. 16 ≤ length bytes.now) }
 {
     if bytes.len() < 16 {
@@ -51,7 +51,7 @@ pub fn pointers_of(
 ) -> Result<List<u32>, BaseError>
     requires place { place < 64 }
     requires short { length bytes.now < 2 ^ 31 }
-    ensures { Gives (λ x. x) result (pointers_at place count 0 readers.now bytes.now) }
+    ensures { BaseGives (λ x. x) result (pointers_at place count 0 readers.now bytes.now) }
 {
     let mut pointers = List::new(alloc);
     let mut rest = bytes;

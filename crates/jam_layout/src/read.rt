@@ -3,12 +3,12 @@ ghost use Rattle.std.specs.List.{list_all};
 ghost use Rattle.record_numbers.specs.Numbers.{u32_at as u32_of};
 ghost use Rattle.jam_records.specs.declared.damage.Damage.{Damage};
 ghost use Rattle.damage_rules.specs.Rules.{by_rules};
-ghost use Rattle.jam_layout.specs.Rules.{Gives, UnlessMemory};
+ghost use Rattle.jam_layout.specs.Rules.{BaseGives, BaseUnlessMemory};
 ghost use Rattle.door_outside.specs.File.{jhr_file};
 ghost use Rattle.jam_layout.specs.declared.conference.Conference.{Conference};
 ghost use Rattle.jam_layout.specs.Bare.{bare_of, bare_in as bare_read, IsBareOf};
 ghost use Rattle.jam_layout.specs.Layout.{wrong_base as base_wrong, base_rules, layout, base_damage};
-ghost use Rattle.jam_layout.specs.Valid.{IsShape, ShapeFits, FilesFit, IsConference};
+ghost use Rattle.jam_layout.specs.Valid.{IsShape, ShapeFits, BaseFilesFit, IsConference};
 
 use crate::bare::BareConference;
 use crate::bodies::lengths_of;
@@ -50,7 +50,7 @@ fn wrong_base(bytes: &[u8]) -> bool
 #[tactic(auto, unfolding(crate::specs::Layout::base_rules))]
 fn counter_of(shape: &Shape, bytes: &[u8]) -> Result<u32, BaseError>
     requires { shape.now.place < 64 }
-    ensures gives { Gives (λ x. x) result (by_rules (jhr_file shape.now.place) 0 (base_rules shape.now bytes.now) (u32_of 8 bytes.now)) }
+    ensures gives { BaseGives (λ x. x) result (by_rules (jhr_file shape.now.place) 0 (base_rules shape.now bytes.now) (u32_of 8 bytes.now)) }
     ensures long { IfOk result (λ _. 1024 ≤ length bytes.now) }
 {
     if bytes.len() < BASE_HEADER {
@@ -75,8 +75,8 @@ fn bare_in(alloc: Global, files: &BaseFiles, shape: &Shape) -> Result<BareConfer
     requires jdt { length files.now.jdt < 2 ^ 31 }
     requires jdx { length files.now.jdx < 2 ^ 31 }
     requires jlr { length files.now.jlr < 2 ^ 31 }
-    ensures gives { Gives (λ x. x) result (bare_read shape.now files.now) }
-    ensures files { IfOk result (λ _. FilesFit files.now) }
+    ensures gives { BaseGives (λ x. x) result (bare_read shape.now files.now) }
+    ensures files { IfOk result (λ _. BaseFilesFit files.now) }
     ensures shape { ShapeFits shape.now }
 {
     let readers = shape.readers();
@@ -116,9 +116,9 @@ pub fn read_bare(
     requires jdx { length files.now.jdx < 2 ^ 31 }
     requires jlr { length files.now.jlr < 2 ^ 31 }
     ensures ok { IfOk result (IsBareOf shape.now files.now) }
-    ensures only_ok { (c : Conference) → IsConference shape.now c → files.now ≡ layout shape.now c → UnlessMemory result (Ok (bare_of c)) }
+    ensures only_ok { (c : Conference) → IsConference shape.now c → files.now ≡ layout shape.now c → BaseUnlessMemory result (Ok (bare_of c)) }
     ensures damaged { (d : Damage) → result ≡ Err (BaseError.Damaged d) → base_damage shape.now files.now ≡ Some d }
-    ensures only_damaged { (d : Damage) → base_damage shape.now files.now ≡ Some d → UnlessMemory result (Err (BaseError.Damaged d)) }
+    ensures only_damaged { (d : Damage) → base_damage shape.now files.now ≡ Some d → BaseUnlessMemory result (Err (BaseError.Damaged d)) }
 {
     bare_in(alloc, files, shape)
 }

@@ -3,7 +3,7 @@ ghost use Rattle.jam_records.specs.declared.damage.DamageRule.TheVariants.{Links
 ghost use Rattle.jam_records.specs.declared.message.Slot.TheVariants.{Gone};
 ghost use Rattle.jam_threads.specs.Links.{link_of, AreLinks};
 ghost use Rattle.damage_rules.specs.Rules.{by_rules};
-ghost use Rattle.jam_layout.specs.Rules.{Gives};
+ghost use Rattle.jam_layout.specs.Rules.{BaseGives};
 ghost use Rattle.door_outside.specs.File.{jhr_file};
 ghost use Rattle.jam_layout.specs.SecondPass.{slots_of, active_in, same_link as is_same_link, links_at, second_pass, Numbered};
 
@@ -65,7 +65,7 @@ fn check_links(alloc: Global, place: u8, slots: &Slots, entries: &[Entry]) -> Re
     requires count { length entries.now < 2 ^ 31 }
     requires few { length slots.now < 2 ^ 31 }
     requires within { All (λ e. (1 ≤ e.number) × (e.number ≤ length slots.now)) entries.now }
-    ensures { Gives (λ x. x) result (links_at place slots.now 1 entries.now) }
+    ensures { BaseGives (λ x. x) result (links_at place slots.now 1 entries.now) }
 {
     let links = links(alloc, slots)?;
     for (i, entry) in entries.iter().enumerate() {
@@ -81,7 +81,7 @@ fn check_links(alloc: Global, place: u8, slots: &Slots, entries: &[Entry]) -> Re
 pub fn check(alloc: Global, place: u8, stated: u32, entries: &[Entry]) -> Result<(), BaseError>
     requires place { place < 64 }
     requires numbered { Numbered 0 entries.now }
-    ensures { Gives (λ x. x) result (second_pass place stated entries.now) }
+    ensures { BaseGives (λ x. x) result (second_pass place stated entries.now) }
 {
     if stated as usize != active(entries) {
         return Err(damaged(FileId::jhr(place), 0, DamageRule::Active));

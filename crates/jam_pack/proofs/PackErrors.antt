@@ -1,15 +1,15 @@
 -- What an error of the change says of a pack.
 use Rattle.std.proofs.Common.{◌≡◌, ◌⊎◌, true, false, Err, inl, inr, refl, ap, subst}
 use Rattle.std.specs.Prelude.{Result}
-use Rattle.jam_pack.specs.Packing.{LeavesAll, of_change}
+use Rattle.jam_pack.specs.Packing.{PackLeavesAll, pack_change_error}
 use Rattle.jam_pack.specs.declared.error.PackError.{PackError}
 use Rattle.mail_board.specs.Held.{HeldBoard}
 use Rattle.mail_board.specs.declared.change.ChangeError.{ChangeError}
 use Rattle.mail_board.specs.declared.change.ChangeError.TheVariants as change
 
 -- one that leaves all as it was
-pub undone : {T : Type 0} (e : ChangeError) (result : Result T PackError) → result ≡ Err (of_change e) → LeavesAll result → (e ≡ change.Doubt) ⊎ (e ≡ change.OutOfMemory)
-undone change.DiskFault result is early = absurd (subst LeavesAll is early)
+pub undone : {T : Type 0} (e : ChangeError) (result : Result T PackError) → result ≡ Err (pack_change_error e) → PackLeavesAll result → (e ≡ change.Doubt) ⊎ (e ≡ change.OutOfMemory)
+undone change.DiskFault result is early = absurd (subst PackLeavesAll is early)
 undone change.Doubt result is early = inl refl
 undone change.OutOfMemory result is early = inr refl
 

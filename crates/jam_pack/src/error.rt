@@ -22,9 +22,9 @@ pub enum PackError {
 
 impl From<ChangeError> for PackError {
     ghost use Rattle.std.specs.Prelude.{◌≡◌};
-    ghost use Rattle.jam_pack.specs.Packing.{of_change};
+    ghost use Rattle.jam_pack.specs.Packing.{pack_change_error};
 
-    ghost from_gives = { λ error e. e ≡ of_change error };
+    ghost from_gives = { λ error e. e ≡ pack_change_error error };
 
     fn from(error: ChangeError) -> PackError {
         match error {
@@ -37,9 +37,9 @@ impl From<ChangeError> for PackError {
 
 impl From<ReadError> for PackError {
     ghost use Rattle.std.specs.Prelude.{◌≡◌};
-    ghost use Rattle.jam_pack.specs.Packing.{of_read};
+    ghost use Rattle.jam_pack.specs.Packing.{pack_read_error};
 
-    ghost from_gives = { λ error e. e ≡ of_read error };
+    ghost from_gives = { λ error e. e ≡ pack_read_error error };
 
     fn from(error: ReadError) -> PackError {
         match error {

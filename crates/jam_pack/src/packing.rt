@@ -6,9 +6,9 @@ ghost use Rattle.door_outside.specs.Disk.{AllNow, Between};
 ghost use Rattle.intent_journal.specs.Hosts.{IsSettled};
 ghost use Rattle.jam_records.specs.declared.damage.Damage.{Damage};
 ghost use Rattle.mail_board.specs.Causes.{HasFault};
-ghost use Rattle.mail_board.specs.Held.{BeforeOrNext, Follows, Holds, Rests, RestsOn};
+ghost use Rattle.mail_board.specs.Held.{AreLeft, BeforeOrNext, Follows, Holds, Rests, RestsOn};
 ghost use Rattle.slot_changes.specs.Packed.{packed, packed_count as packed_count_of};
-ghost use Rattle.jam_pack.specs.Packing.{AreLeft, LeavesAll};
+ghost use Rattle.jam_pack.specs.Packing.{PackLeavesAll};
 
 use crate::counting::packed_count;
 use crate::error::PackError;
@@ -47,7 +47,7 @@ pub fn pack<H: Host>(
     ensures none { IsFalse board.old.doubtful → packed_count_of place board.old.board ≡ 0 → (board.new ≡ board.old) × (host.new ≡ host.old) }
     ensures asked { IsErrOf result PackError.Doubt → (board.new ≡ board.old) × (host.new ≡ host.old) }
     ensures undamaged { IsTrue H.tells → (damage : Damage) → ¬ (result ≡ Err (PackError.Damaged damage)) }
-    ensures unchanged { LeavesAll result → AreLeft H.tells board.old board.new (H.disk host.old) (H.disk host.new) }
+    ensures unchanged { PackLeavesAll result → AreLeft H.tells board.old board.new (H.disk host.old) (H.disk host.new) }
     ensures fault { IsErrOf result PackError.DiskFault → AreLeft H.tells board.old board.new (H.disk host.old) (H.disk host.new) ⊎ (board.new ≡ record { board = board.old.board; doubtful = true }) }
 
     // The packed board; and the host is the board's, unless that is doubtful.

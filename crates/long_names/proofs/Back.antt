@@ -8,7 +8,7 @@ use Rattle.std.proofs.lemmas.Str.Ascii.{lowercase-uppercase}
 use Rattle.qwk_blocks.specs.declared.message.Header.{Header}
 use Rattle.qwk_blocks.specs.declared.message.QwkMessage.{QwkMessage}
 use Rattle.long_names.specs.Value.{short_form, is_long, name_of, most_of, value_on, gives}
-use Rattle.long_names.specs.Lead.{given, Leads, lead, begins_empty, takes}
+use Rattle.long_names.specs.Lead.{given, LeadValues, lead, begins_empty, takes}
 use Rattle.long_names.specs.Plain.{past_empty, with_names, in_field, as_line, long_lines, is_parted, short_header, with_lead, unmarked, plain, with_long, in_capitals, with_read_names}
 use Rattle.long_names.specs.declared.line_field.LineField.{LineField}
 use Rattle.long_names.specs.declared.line_field.LineField.TheVariants.{To, From, Subject}
@@ -96,13 +96,13 @@ or_behind field other value lines other_line g =
     ]
 
 -- ---- the lead of the lines of long values, behind which an empty line stands
-abbrev lead_at : List ℕ → List ℕ → List ℕ → List (List ℕ) → Leads
+abbrev lead_at : List ℕ → List ℕ → List ℕ → List (List ℕ) → LeadValues
 lead_at to from subject rest = record { to = to; from = from; subject = subject; rest = rest }
 
-abbrev lead_behind_from : Header → List ℕ → List ℕ × List (List ℕ) → Leads
+abbrev lead_behind_from : Header → List ℕ → List ℕ × List (List ℕ) → LeadValues
 lead_behind_from h to from = lead_at to from.0 (given Subject h.subject from.1).0 (given Subject h.subject from.1).1
 
-abbrev lead_behind_to : Header → List ℕ × List (List ℕ) → Leads
+abbrev lead_behind_to : Header → List ℕ × List (List ℕ) → LeadValues
 lead_behind_to h to = lead_behind_from h to.0 (given From h.from to.1)
 
 lead_is : (h : Header) (lines : List (List ℕ)) → lead h lines ≡ lead_behind_to h (given To h.to lines)

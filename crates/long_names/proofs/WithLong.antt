@@ -10,7 +10,7 @@ use Rattle.std.proofs.lemmas.List.{length-map, length-take, get_or-map, take_all
 use Rattle.std.proofs.lemmas.List.Concat.{flat_map-append}
 use Rattle.std.proofs.lemmas.List.Elements.{All-nil, All-cons, All-append, All-take}
 use Rattle.qwk_blocks.specs.Header.{IsPad}
-use Rattle.qwk_blocks.specs.Text.{ended, IsLine}
+use Rattle.qwk_blocks.specs.Text.{joined_lines, IsLine}
 use Rattle.qwk_blocks.specs.Written.{TextFits, HeaderFits, Writable}
 use Rattle.qwk_blocks.specs.declared.message.Header.{Header}
 use Rattle.qwk_blocks.specs.declared.message.QwkMessage.{QwkMessage}
@@ -100,24 +100,24 @@ are_lines field value = one_line field value (is_long (most_of field) value) ref
 abbrev line_most : LineField → ℕ
 line_most field = length (name_of field) + most_of field + 1
 
-one_size : (field : LineField) (value : List ℕ) (long : Bool) → is_long (most_of field) value ≡ long → length (ended (cond long ((name_of field ++ value) ∷ []) [])) ≤ line_most field
+one_size : (field : LineField) (value : List ℕ) (long : Bool) → is_long (most_of field) value ≡ long → length (joined_lines (cond long ((name_of field ++ value) ∷ []) [])) ≤ line_most field
 one_size field value true is =
     let line : List ℕ = name_of field ++ value in
     omega (arith, length-append (line ++ 0xE3 ∷ []) [], length-append line (0xE3 ∷ []), length-append (name_of field) value, (long_is (most_of field) value is).most_bytes)
 one_size field value false is = omega arith
 
-line_size : (field : LineField) (value : List ℕ) → length (ended (as_line field value)) ≤ line_most field
+line_size : (field : LineField) (value : List ℕ) → length (joined_lines (as_line field value)) ≤ line_most field
 line_size field value = one_size field value (is_long (most_of field) value) refl
 
-ended_both : (xs ys : List (List ℕ)) → length (ended (xs ++ ys)) ≡ length (ended xs) + length (ended ys)
-ended_both xs ys = ap length (flat_map-append (λ line. line ++ 0xE3 ∷ []) xs ys) ∙ length-append (ended xs) (ended ys)
+ended_both : (xs ys : List (List ℕ)) → length (joined_lines (xs ++ ys)) ≡ length (joined_lines xs) + length (joined_lines ys)
+ended_both xs ys = ap length (flat_map-append (λ line. line ++ 0xE3 ∷ []) xs ys) ∙ length-append (joined_lines xs) (joined_lines ys)
 
 all_long : (h : Header) → All IsLine (long_lines h)
 all_long h =
     All-append IsLine (as_line To h.to) (as_line From h.from ++ as_line Subject h.subject) (are_lines To h.to)
     (All-append IsLine (as_line From h.from) (as_line Subject h.subject) (are_lines From h.from) (are_lines Subject h.subject))
 
-long_size : (h : Header) → length (ended (long_lines h)) ≤ 166
+long_size : (h : Header) → length (joined_lines (long_lines h)) ≤ 166
 long_size h = omega (
   arith,
   ended_both (as_line To h.to) (as_line From h.from ++ as_line Subject h.subject),
@@ -131,8 +131,8 @@ parted_lines : (lines : List (List ℕ)) (parted : Bool) → All IsLine lines �
 parted_lines lines true all = All-cons IsLine [] lines (All-nil IsNoEnd) all
 parted_lines lines false all = all
 
-parted_size : (lines : List (List ℕ)) (parted : Bool) → length (ended (cond parted ([] ∷ lines) lines)) ≤ 1 + length (ended lines)
-parted_size lines true = omega (arith, length-append ([] ++ 0xE3 ∷ []) (ended lines))
+parted_size : (lines : List (List ℕ)) (parted : Bool) → length (joined_lines (cond parted ([] ∷ lines) lines)) ≤ 1 + length (joined_lines lines)
+parted_size lines true = omega (arith, length-append ([] ++ 0xE3 ∷ []) (joined_lines lines))
 parted_size lines false = omega arith
 
 -- ---- the message
@@ -164,7 +164,7 @@ long_fits m fits = record {
 }
 
 -- its text has at most 167 bytes more
-pub long_text_size : (m : QwkMessage) → length (ended (with_long m).lines) ≤ 167 + length (ended m.lines)
+pub long_text_size : (m : QwkMessage) → length (joined_lines (with_long m).lines) ≤ 167 + length (joined_lines m.lines)
 unfolding with_long
 long_text_size m = omega (arith, ended_both (long_lines m.header) (text_lines m), long_size m.header, parted_size m.lines (is_parted m))
 

@@ -1,6 +1,6 @@
 -- What can be written once its long values go as lines.
 use Rattle.std.specs.Prelude.{◌≡◌, ◌⊎◌, ℕ, ◌+◌, ◌^◌, ◌<◌, ◌≤◌, List, length, IsTrue, All, IfSome}
-use Rattle.qwk_blocks.specs.Text.{ended, IsLine}
+use Rattle.qwk_blocks.specs.Text.{joined_lines, IsLine}
 use Rattle.qwk_blocks.specs.Written.{blocks_of, TextFits}
 use Rattle.qwk_blocks.specs.declared.message.Header.{Header}
 use Rattle.qwk_blocks.specs.declared.message.QwkMessage.{QwkMessage}
@@ -29,4 +29,4 @@ pub record HeaderFitsWithLong (h : Header) : Type 0 where
 pub record FitsWithLong (m : QwkMessage) : Type 0 where
   pub header : HeaderFitsWithLong m.header
   pub lines : All IsLine m.lines
-  pub blocks : 1 + blocks_of (167 + length (ended m.lines)) ≤ 999999
+  pub blocks : 1 + blocks_of (167 + length (joined_lines m.lines)) ≤ 999999

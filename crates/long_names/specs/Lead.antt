@@ -11,14 +11,14 @@ given field short [] = (short, [])
 given field short (line ∷ lines) = if gives field short line then (value_on field line, lines) else (short, line ∷ lines)
 
 -- the three values, and the lines behind those that give them
-pub record Leads : Type 0 where
+pub record LeadValues : Type 0 where
   pub to : List ℕ
   pub from : List ℕ
   pub subject : List ℕ
   pub rest : List (List ℕ)
 
 -- what the first of the lines give the fields of a header
-abbrev pub lead : Header → List (List ℕ) → Leads
+abbrev pub lead : Header → List (List ℕ) → LeadValues
 lead h lines =
     let to = given To h.to lines in
     let from = given From h.from to.1 in

@@ -5,7 +5,7 @@ use Rattle.std.specs.Str.{str_to_ascii_uppercase}
 use Rattle.qwk_blocks.specs.declared.message.Header.{Header}
 use Rattle.qwk_blocks.specs.declared.message.QwkMessage.{QwkMessage}
 use Rattle.long_names.specs.Value.{short_form, is_long, name_of, most_of}
-use Rattle.long_names.specs.Lead.{Leads, lead, begins_empty, takes}
+use Rattle.long_names.specs.Lead.{LeadValues, lead, begins_empty, takes}
 use Rattle.long_names.specs.declared.line_field.LineField.{LineField}
 use Rattle.long_names.specs.declared.line_field.LineField.TheVariants.{To, From, Subject}
 
@@ -21,7 +21,7 @@ abbrev pub with_names : List ℕ → List ℕ → List ℕ → Header → Header
 with_names to from subject h = record h { to = to; from = from; subject = subject }
 
 -- a header with the values that lines before its text give
-abbrev pub with_lead : Leads → Header → Header
+abbrev pub with_lead : LeadValues → Header → Header
 with_lead found h = with_names found.to found.from found.subject h
 
 -- Lines without the empty one that marks them as text: behind it, and more empty ones, stand lines that would be taken.

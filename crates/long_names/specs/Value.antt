@@ -2,11 +2,9 @@
 use Rattle.std.specs.Prelude.{ℕ, ◌-◌, List, length, take, drop, slice_index, Bool, not, ◌&&◌, ◌==◌, nat_le, nat_lt, codes}
 use Rattle.std.specs.List.{list_all, suffix_len}
 use Rattle.std.specs.Str.{bytes_eq, str_eq_ignore_ascii_case}
+pub use Rattle.text_fields.specs.Blank.{is_space}
 use Rattle.long_names.specs.declared.line_field.LineField.{LineField}
 use Rattle.long_names.specs.declared.line_field.LineField.TheVariants.{To, From, Subject}
-
-abbrev pub is_space : ℕ → Bool
-is_space b = b == 0x20
 
 -- without the spaces at the end
 abbrev pub without_spaces : List ℕ → List ℕ

@@ -27,10 +27,10 @@ use Rattle.jam_layout.specs.declared.shape.Shape.{Shape}
 use Rattle.jam_records.specs.declared.message.Message.{Message}
 use Rattle.offer_changes.proofs.OfferLaws.{offer_shapes}
 use Rattle.offer_changes.proofs.UserLaws.{user_there}
-use Rattle.offer_changes.specs.Changed.{for_user, offer_in, offered, offered_to}
+use Rattle.offer_changes.specs.Changed.{for_user, offer_in, offer_made, offered_to}
 use Rattle.post_changes.proofs.EachPost.{posted_keeps, posted_outline}
 use Rattle.post_changes.proofs.RecordLaws.{record_shapes}
-use Rattle.post_changes.specs.Posted.{posted_with, record_of, with_record}
+use Rattle.post_changes.specs.Posted.{posted_with, upload_record, with_record}
 use Rattle.slot_changes.proofs.DeleteLaws.{killed_is}
 use Rattle.slot_changes.proofs.EachSlots.{appended_keeps, deleted_keeps, identified_same, msgids_alike}
 use Rattle.slot_changes.specs.Changed.{HasMessage, deleted, with_identified, with_killed}
@@ -78,10 +78,10 @@ module _ (a b : Board) (alike : AreAlike a b) where
   changed_alike (Spread posts) = posted_outline a b alike posts a.ledger ∙ ap (λ (l : Ledger). board_outline (posted_with l posts b)) (alike_ledger a b alike)
   changed_alike (Kill place number) = changed_base a b alike place (with_killed number) (with_killed number) (killed_same number)
   changed_alike (Offer user highs) =
-      offer_outline user highs (user_of user a) a ∙ (ap (offered user highs) alike ∙ sym (offer_outline user highs (user_of user b) b))
+      offer_outline user highs (user_of user a) a ∙ (ap (offer_made user highs) alike ∙ sym (offer_outline user highs (user_of user b) b))
   changed_alike (Acknowledge user packet now) = acknowledged_alike a b alike user packet now
   changed_alike (Upload user digest refused posts) =
-      let r = record_of user digest refused posts in
+      let r = upload_record user digest refused posts in
       posted_outline a b alike posts (with_record r a.ledger) ∙ ap (λ (l : Ledger). board_outline (posted_with (with_record r l) posts b)) (alike_ledger a b alike)
 
   -- ---- where it may be made
@@ -131,5 +131,5 @@ module _ (a b : Board) (alike : AreAlike a b) where
       acknowledged_valid a b alike user packet now ok was fits.1,
     )
     fits_alike (Upload user digest refused posts) fits =
-        let r = record_of user digest refused posts in
+        let r = upload_record user digest refused posts in
         (placed_alike posts fits.0, posted_valid posts (with_record r a.ledger) (with_record r b.ledger) (ap (with_record r) (alike_ledger a b alike)) (record_shapes b.ledger r) fits.1)

@@ -32,7 +32,7 @@ use Rattle.offer_changes.proofs.AcknowledgeLaws.{contents_read}
 use Rattle.offer_changes.proofs.LedgerLaws.{shapes_stay}
 use Rattle.offer_changes.proofs.ReadLaws.{all_shapes}
 use Rattle.offer_changes.proofs.UserLaws.{Alike, user_there}
-use Rattle.offer_changes.specs.Changed.{acknowledged, all_read, for_user, is_above, offer_in, read_by, read_offer, read_up_to, with_user, without_offer}
+use Rattle.offer_changes.specs.Changed.{acknowledged, all_read, for_user, is_high_above, offer_in, read_by, read_offer, read_up_to, with_user_replaced, without_offer}
 use Rattle.open_offers.specs.declared.offer.OpenOffer.{OpenOffer}
 use Rattle.post_changes.proofs.EachPost.{conferences_outline, head_is, tail_is}
 use Rattle.mail_board.proofs.EachBases.{bases_alike}
@@ -42,7 +42,7 @@ use Rattle.mail_board.specs.Held.{AreAlike}
 module _ (id : ℕ) (name : List ℕ) (now : ℕ) where
   -- what the outline shows of it
   read_outline : (high : ℕ) (base : Contents) → outlined (read_up_to id name now high base) ≡ read_up_to id name now high (outlined base)
-  read_outline high base = by (is_above high (pointer_of id base.shape.readers base.conference.pointers))
+  read_outline high base = by (is_high_above high (pointer_of id base.shape.readers base.conference.pointers))
     where
       by : (above : Bool) → outlined (cond above (with_acknowledged id name high now base) base) ≡ cond above (with_acknowledged id name high now (outlined base)) (outlined base)
       by true = (acknowledged_blind base id name high now).outline base refl
@@ -90,7 +90,7 @@ module _ (id : ℕ) (name : List ℕ) (now high : ℕ) (base : Contents) (bodies
   received_bodies r false = bodies
 
   read_bodies : All HasBody (read_up_to id name now high base).conference.slots
-  read_bodies = by (is_above high (pointer_of id base.shape.readers base.conference.pointers))
+  read_bodies = by (is_high_above high (pointer_of id base.shape.readers base.conference.pointers))
     where
       by : (above : Bool) → All HasBody (cond above (with_acknowledged id name high now base) base).conference.slots
       by true = received_bodies (receipt_to id high now base) (any_due name (receipt_to id high now base) 1 base.conference.slots)
@@ -122,7 +122,7 @@ module _ (a b : Board) (alike : AreAlike a b) (id packet now : ℕ) where
   one_offer u o =
       let xs : List Contents = all_read id u.name now (contents_of a) o.highs in
       let ys : List Contents = all_read id u.name now (contents_of b) o.highs in
-      let ledgers : (read_offer id now u o a).ledger ≡ (read_offer id now u o b).ledger = ap (with_user id (without_offer o.number u)) (alike_ledger a b alike) in
+      let ledgers : (read_offer id now u o a).ledger ≡ (read_offer id now u o b).ledger = ap (with_user_replaced id (without_offer o.number u)) (alike_ledger a b alike) in
       let conferences : map outline (conferences_in xs) ≡ map outline (conferences_in ys) =
       conferences_outline xs ∙ (ap conferences_in (all_read_same id u.name now (contents_of a) (contents_of b) o.highs (bases_alike a b alike)) ∙ sym (conferences_outline ys)) in
       λ i. record { ledger = ledgers i; conferences = conferences i }

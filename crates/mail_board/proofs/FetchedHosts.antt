@@ -32,7 +32,7 @@ none_held number = by (number == 0)
     by false = refl
 
 -- the message that a base has is that of its place
-pub message_is : (b : Board) (place number : ℕ) → IsBoard b → read.message_at place number b ≡ message_at b place number
+pub message_is : (b : Board) (place number : ℕ) → IsBoard b → read.held_message place number b ≡ message_at b place number
 message_is b place number ok = by (slice_get (contents_of b) place) refl
   where
     back : conferences_in (contents_of b) ≡ b.conferences
@@ -41,7 +41,7 @@ message_is b place number ok = by (slice_get (contents_of b) place) refl
     in_slots : List Slot → Option Message
     in_slots slots = held_in (numbered slots number)
 
-    by : (o : Option Contents) → slice_get (contents_of b) place ≡ o → read.message_at place number b ≡ message_at b place number
+    by : (o : Option Contents) → slice_get (contents_of b) place ≡ o → read.held_message place number b ≡ message_at b place number
     by None e = ap (λ (o : Option Contents). option_and_then (λ base. held_in (numbered base.conference.slots number)) o) e ∙ (none_held number ∙ ap in_slots (sym (no_slots b (contents_of b) place back e)))
     by (Some base) e = ap (λ (o : Option Contents). option_and_then (λ base. held_in (numbered base.conference.slots number)) o) e ∙ ap in_slots (base_slots b (contents_of b) place base back e)
 

@@ -25,7 +25,7 @@ use Rattle.mail_board.proofs.BodyLaws.{none_alike}
 use Rattle.mail_board.proofs.EachBases.{places_alike}
 use Rattle.mail_board.specs.Bodies.{HasBodies}
 use Rattle.mail_board.specs.Held.{AreAlike}
-use Rattle.mail_board.specs.Readers.{message_at}
+use Rattle.mail_board.specs.Readers.{held_message}
 
 -- ---- the base of a place
 pub base_there : (b : Board) (bases : List Contents) (place index : ℕ) (base : Contents) → bases ≡ contents_of b → index ≡ place → index < length bases → base ≡ get_or bases index base → base_at place b ≡ Some base
@@ -53,26 +53,26 @@ base_valid b place base ok here = all_at IsBase (contents_of b) place base here 
 abbrev pub message_of : ℕ → Option Contents → Option Message
 message_of number o = option_and_then (λ (base : Contents). held_in (numbered base.conference.slots number)) o
 
-pub message_here : (b : Board) (place number : ℕ) (o : Option Contents) → base_at place b ≡ o → message_at place number b ≡ message_of number o
+pub message_here : (b : Board) (place number : ℕ) (o : Option Contents) → base_at place b ≡ o → held_message place number b ≡ message_of number o
 message_here b place number o here = ap (message_of number) here
 
 -- ---- on another board with the outline
 module _ (held b : Board) (alike : AreAlike b held) (place number : ℕ) where
-  none_there : (o : Option Contents) → base_at place b ≡ o → option_map outlined o ≡ None → None ≡ message_at place number b
+  none_there : (o : Option Contents) → base_at place b ≡ o → option_map outlined o ≡ None → None ≡ held_message place number b
   none_there None here none = sym (message_here b place number None here)
   none_there (Some other) here none = absurd (cc none)
 
-  pub no_base : base_at place held ≡ None → None ≡ message_at place number b
+  pub no_base : base_at place held ≡ None → None ≡ held_message place number b
   no_base none = none_there (base_at place b) refl (places_alike b held alike place ∙ ap (option_map outlined) none)
 
   module _ (base : Contents) (here : base_at place held ≡ Some base) where
     pub other : (x : Contents) × (base_at place b ≡ Some x) × (outlined x ≡ outlined base)
     other = alike_base b held alike place base here
 
-    pub no_message : None ≡ held_in (numbered base.conference.slots number) → None ≡ message_at place number b
+    pub no_message : None ≡ held_in (numbered base.conference.slots number) → None ≡ held_message place number b
     no_message none = none_alike base other.0 other.2 number none ∙ sym (message_here b place number (Some other.0) other.1)
 
-    pub message_there : (found : Message) → Some found ≡ held_in (numbered other.0.conference.slots number) → Some found ≡ message_at place number b
+    pub message_there : (found : Message) → Some found ≡ held_in (numbered other.0.conference.slots number) → Some found ≡ held_message place number b
     message_there found is = is ∙ sym (message_here b place number (Some other.0) other.1)
 
     pub other_bodies : (files : Files) → IsBoard b → IsLayout b files → HasBodies base other.0 (files (jdt_file place))

@@ -14,7 +14,7 @@ use Rattle.jam_base.proofs.OutlineChanges.{killed_blind}
 use Rattle.jam_base.specs.Contents.{Contents, with_deleted}
 use Rattle.jam_base.specs.Outlined.{outlined}
 use Rattle.jam_base.specs.Slots.{has_live}
-use Rattle.offer_changes.specs.Changed.{for_user, offered, offered_to}
+use Rattle.offer_changes.specs.Changed.{for_user, offer_made, offered_to}
 use Rattle.slot_changes.specs.Changed.{deleted, with_killed}
 use Rattle.mail_board.proofs.EachNext.{offer_outline}
 
@@ -37,7 +37,7 @@ module _ (b : Board) (own : board_outline b ≡ b) where
       by (Some base) here =
           outline_with b place (with_killed number base) own ∙ ap (λ (c : Contents). with_base place (Some c) b) (killed_own number base (own_base b place base own here))
 
-  pub offered_own : (id : ℕ) (highs : List ℕ) → board_outline (offered id highs b) ≡ offered id highs b
+  pub offered_own : (id : ℕ) (highs : List ℕ) → board_outline (offer_made id highs b) ≡ offer_made id highs b
   offered_own id highs = offer_outline id highs (user_of id b) b ∙ ap (for_user (offered_to id highs) (user_of id b)) own
 
 -- what becomes of the board is the outline of that

@@ -17,7 +17,7 @@ use Rattle.jam_base.specs.Contents.{Contents, with_messages}
 use Rattle.jam_layout.specs.declared.conference.Conference.{Conference}
 use Rattle.jam_records.specs.declared.message.Message.{Message}
 use Rattle.post_changes.proofs.PlacePosts.{elsewhere, here, posted_slots}
-use Rattle.post_changes.specs.Posted.{ArePlaced, all_posted, posted_in, posted_with, posts_in, record_of, with_record}
+use Rattle.post_changes.specs.Posted.{ArePlaced, all_posted, posted_in, posted_with, posts_in, upload_record, with_record}
 use Rattle.slot_changes.proofs.AppendLaws.{appended_there, more_slots}
 use Rattle.slot_changes.proofs.MsgidLaws.{identified_count}
 use Rattle.slot_changes.specs.Changed.{appended}
@@ -135,7 +135,7 @@ posting_keeps (Offer user highs) b before now posting ok fits few = absurd posti
 posting_keeps (Acknowledge user packet moment) b before now posting ok fits few = absurd posting
 posting_keeps (Upload user digest refused posts) b before now posting ok fits few =
     more_allowed (length posts) (slot_total (changed (Upload user digest refused posts) b) - slot_total b) (growth (Upload user digest refused posts) b) before now
-    (omega (arith, spread_slots_total b ok (with_record (record_of user digest refused posts) b.ledger) posts fits.0)) few
+    (omega (arith, spread_slots_total b ok (with_record (upload_record user digest refused posts) b.ledger) posts fits.0)) few
 
 -- nothing was written
 pub none_keeps : (b next : Board) (before : ℕ) → KeepsBoundOf b next before before

@@ -5,7 +5,7 @@ use Rattle.board_layout.specs.Board.{Board}
 use Rattle.board_layout.specs.Valid.{IsBoard}
 use Rattle.mail_board.specs.declared.change.Change.{Change}
 use Rattle.mail_board.specs.declared.change.Change.TheVariants.{Enroll, Append, Spread, Kill, Offer, Acknowledge, Upload}
-use Rattle.offer_changes.specs.Changed.{acknowledged, offered, HasOffer, HasUser, MayOffer}
+use Rattle.offer_changes.specs.Changed.{acknowledged, offer_made, HasOffer, HasUser, MayOffer}
 use Rattle.post_changes.specs.Posted.{ArePlaced, spread, uploaded}
 use Rattle.slot_changes.specs.Changed.{appended, deleted, HasMessage}
 
@@ -15,7 +15,7 @@ changed (Enroll name net members) b = enrolled name net members b
 changed (Append place messages) b = appended place messages b
 changed (Spread posts) b = spread posts b
 changed (Kill place number) b = deleted place number b
-changed (Offer user highs) b = offered user highs b
+changed (Offer user highs) b = offer_made user highs b
 changed (Acknowledge user packet now) b = acknowledged user packet now b
 changed (Upload user digest refused posts) b = uploaded user digest refused posts b
 

@@ -1,6 +1,6 @@
 -- A board that is held between changes, and the host that holds its files.
-use Rattle.std.specs.Prelude.{◌≡◌, ◌⊎◌, Bool, false}
-use Rattle.door_outside.specs.Disk.{Disk, Image}
+use Rattle.std.specs.Prelude.{◌≡◌, ◌⊎◌, Bool, false, IsTrue}
+use Rattle.door_outside.specs.Disk.{Disk, Image, Unchanged}
 use Rattle.intent_journal.specs.Hosts.{IsCalm}
 use Rattle.intent_journal.specs.Patches.{Files}
 use Rattle.intent_journal.specs.Recovered.{recovered}
@@ -17,6 +17,11 @@ pub record HeldBoard : Type 0 where
 -- a board that is in no doubt
 abbrev pub sure : Board → HeldBoard
 sure b = record { board = b; doubtful = false }
+
+-- the board is as it was, and so is the disk of a host that tells
+pub record AreLeft (tells : Bool) (before after : HeldBoard) (old new : Disk) : Type 0 where
+  pub board : after ≡ before
+  pub disk : IsTrue tells → Unchanged old new
 
 -- the boards have one outline
 abbrev pub AreAlike : Board → Board → Type 0

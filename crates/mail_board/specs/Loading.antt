@@ -31,9 +31,9 @@ abbrev pub outline_in : Files → Result (Option Board) Damage
 outline_in files = result_map_both (option_map board_outline) (λ damage. damage) (board_in files)
 
 -- it is in no doubt
-abbrev pub IsSure : Loaded → Type 0
-IsSure NotMade = Unit {0}
-IsSure (Ready held) = held.doubtful ≡ false
+abbrev pub IsSureLoad : Loaded → Type 0
+IsSureLoad NotMade = Unit {0}
+IsSureLoad (Ready held) = held.doubtful ≡ false
 
 -- it is valid
 abbrev pub IsValid : Loaded → Type 0

@@ -18,8 +18,8 @@ abbrev pub place_of : ℕ → Board → Option ℕ
 place_of number b = position (λ c. c.number == number) b.ledger.setup.conferences
 
 -- the message of a number in a place
-abbrev pub message_at : ℕ → ℕ → Board → Option Message
-message_at place number b = option_and_then (λ base. held_in (numbered base.conference.slots number)) (slice_get (contents_of b) place)
+abbrev pub held_message : ℕ → ℕ → Board → Option Message
+held_message place number b = option_and_then (λ base. held_in (numbered base.conference.slots number)) (slice_get (contents_of b) place)
 
 -- a slot of a place holds a message with this msgid
 abbrev pub has_msgid_in : ℕ → List ℕ → Board → Bool

@@ -1,12 +1,12 @@
 ghost use Rattle.std.specs.Prelude.{◌≡◌, ◌+◌, ◌≤◌, IfOk, IsErrOf, IsTrue};
 ghost use Rattle.board_layout.specs.Damage.{board_in};
-ghost use Rattle.board_layout.specs.Rules.{AreFoundOf, Gives, GivesSo, HasReadCause};
+ghost use Rattle.board_layout.specs.Rules.{AreFoundOf, ReadGives, GivesSo, HasReadCause};
 ghost use Rattle.door_outside.specs.Disk.{Disk, AllNow, Between, as_read};
 ghost use Rattle.intent_journal.specs.Hosts.{IsCalm, IsFirm, IsSettled};
 ghost use Rattle.intent_journal.specs.Journal.{intent_of};
 ghost use Rattle.intent_journal.specs.Patches.{byte_count, data_files};
 ghost use Rattle.intent_journal.specs.Recovered.{recovered, Back};
-ghost use Rattle.mail_board.specs.Loading.{loaded_outline, outline_in, recovery_error, AreOld, AreOpened, IsSure, IsTold, IsValid, Opens, StandsIn};
+ghost use Rattle.mail_board.specs.Loading.{loaded_outline, outline_in, recovery_error, AreOld, AreOpened, IsSureLoad, IsTold, IsValid, Opens, StandsIn};
 
 use crate::board::Board;
 use crate::migrating::migrate;
@@ -77,11 +77,11 @@ impl Board {
         ensures done { IsTold result → IsTrue H.tells → AreOpened (recovered (H.disk host.old).files) (data_files (H.disk host.new).files) }
 
         // The outline of the board whose layout the recovered files are, or none where all are empty, or their first damage.
-        ensures gives { IsTrue H.tells → Gives loaded_outline result (outline_in (recovered (H.disk host.old).files)) }
+        ensures gives { IsTrue H.tells → ReadGives loaded_outline result (outline_in (recovered (H.disk host.old).files)) }
         // What it answers stands in the files that it leaves, which are of version 2: they are the layout of a board with
         // its outline.
         ensures stands { IsTrue H.tells → IfOk result (StandsIn (H.disk host.new).files) }
-        ensures sure { IfOk result IsSure }
+        ensures sure { IfOk result IsSureLoad }
         ensures valid { IfOk result IsValid }
 
         // Where nothing is migrated, at most what the patches of the intent put, and the gate.

@@ -8,7 +8,7 @@ ghost use Rattle.jam_layout.specs.Outlines.{message_outline};
 ghost use Rattle.jam_records.specs.declared.damage.Damage.{Damage};
 ghost use Rattle.jam_records.specs.declared.message.Slot.TheVariants.{Held};
 ghost use Rattle.mail_board.specs.Held.{Holds, RestsOn};
-ghost use Rattle.mail_board.specs.Readers.{message_at};
+ghost use Rattle.mail_board.specs.Readers.{held_message};
 ghost use Rattle.slot_changes.specs.Msgids.{msgid_in};
 
 use crate::board::Board;
@@ -49,9 +49,9 @@ impl Board {
     ) -> Result<Option<Message>, ReadError>
         requires sure { IsFalse self.now.doubtful }
         requires rests { IsTrue H.tells → RestsOn self.now.board (H.disk host.old) }
-        ensures message { IsTrue H.tells → (b : Boards.Board) → Holds b (H.disk host.old) → IfOk result (λ found. found ≡ message_at place number b) }
+        ensures message { IsTrue H.tells → (b : Boards.Board) → Holds b (H.disk host.old) → IfOk result (λ found. found ≡ held_message place number b) }
         // Whatever the host tells, it is this board's but for the bytes of the body.
-        ensures outline { IfOk result (λ found. option_map message_outline found ≡ option_map message_outline (message_at place number self.now.board)) }
+        ensures outline { IfOk result (λ found. option_map message_outline found ≡ option_map message_outline (held_message place number self.now.board)) }
         // The bytes are a body's.
         ensures lines { IfOk result (λ found. IfSome found (λ message. HasBody (Held message))) }
         ensures unchanged { IsTrue H.tells → Unchanged (H.disk host.old) (H.disk host.new) }

@@ -15,7 +15,7 @@ use Rattle.board_commands.specs.Turns.{Turn, on_board}
 use Rattle.board_layout.proofs.BoardLaws.{undamaged}
 use Rattle.board_layout.specs.Board.{Board}
 use Rattle.board_layout.specs.Damage.{board_damage}
-use Rattle.board_layout.specs.Layout.{AreBytes}
+use Rattle.board_layout.specs.Layout.{AreFileBytes}
 use Rattle.board_layout.specs.OldLayout.{IsStoredIn}
 use Rattle.byte_lists.specs.Byte.{IsByte}
 use Rattle.door_commands.specs.Answers.{usage}
@@ -65,7 +65,7 @@ use Rattle.packet_commands.specs.Read.{ReadAnswers, ShowAnswers, shown_in}
 use Rattle.packet_commands.specs.Scan.{ScanAnswers, count_line}
 use Rattle.packet_commands.specs.declared.folder.Packet.{Packet}
 use Rattle.qwk_blocks.specs.Packet.{FirstFault, PacketReads}
-use Rattle.qwk_blocks.specs.Text.{IsLine, ended}
+use Rattle.qwk_blocks.specs.Text.{IsLine, joined_lines}
 use Rattle.qwk_blocks.specs.declared.fault.QwkFault.{QwkFault}
 use Rattle.qwk_blocks.specs.declared.message.QwkMessage.{QwkMessage}
 use Rattle.qwk_control.specs.Control.{ControlReads}
@@ -92,7 +92,7 @@ use Rattle.setup_file.specs.Reads.{SetupReads}
 use Rattle.setup_file.specs.declared.error.SetupRule.{SetupRule}
 use Rattle.setup_file.specs.declared.setup.Setup.{Setup}
 use Rattle.shelf_files.specs.Halts.{refused, replied}
-use Rattle.shelf_files.specs.ShelfFile.{ReadAs, file_limit, file_of, packet_limit, rep_limit}
+use Rattle.shelf_files.specs.ShelfFile.{ReadAs, file_limit, file_within, packet_limit, rep_limit}
 use Rattle.shelf_files.specs.Sheets.{SheetBreaks, SheetOf, sheet_refusal}
 use Rattle.shelf_files.specs.declared.refusal.Refusal.{Refusal}
 use Rattle.shelf_files.specs.declared.refusal.Refusal.TheVariants as refusal
@@ -111,10 +111,10 @@ module _ {Value Fault : Type 0} (Reads : List ℕ → Value → Type 0) (Breaks 
   ]
 
 some_packet : (shelf : Shelf.Files) (name : List ℕ) → (read : Result (List QwkMessage) Refusal) × PacketOf shelf name read
-some_packet shelf name = some_read PacketReads FirstFault (λ (fault : QwkFault). refusal.Broken fault) packet_or_fault (file_of shelf name packet_limit)
+some_packet shelf name = some_read PacketReads FirstFault (λ (fault : QwkFault). refusal.Broken fault) packet_or_fault (file_within shelf name packet_limit)
 
 some_control : (shelf : Shelf.Files) (name : List ℕ) → (read : Result Control Refusal) × ControlOf shelf name read
-some_control shelf name = some_read ControlReads ControlFault control_refusal control_or_fault (file_of shelf name file_limit)
+some_control shelf name = some_read ControlReads ControlFault control_refusal control_or_fault (file_within shelf name file_limit)
 
 sheet_breaks : (bytes : List ℕ) → ((sheets : List Sheet) × SheetReads bytes sheets) ⊎ ((fault : SheetError) × SheetBreaks bytes fault)
 sheet_breaks bytes = elim (sheet_or_fault bytes) [ inl sheets ↦ inl sheets | inr fault ↦ inr (Line fault.0 fault.1, fault.2) ]
@@ -123,16 +123,16 @@ type2_breaks : (bytes : List ℕ) → ((messages : List FtsMessage) × FtsReads 
 type2_breaks bytes = elim (type2_or_fault bytes) [ inl messages ↦ inl messages | inr fault ↦ inr (fts.Fault fault.0 fault.1, fault.2) ]
 
 some_type2 : (shelf : Shelf.Files) (name : List ℕ) → (read : Result (List FtsMessage) Refusal) × FtsPacketOf shelf name read
-some_type2 shelf name = some_read FtsReads FtsBreaks fts_refusal type2_breaks (file_of shelf name file_limit)
+some_type2 shelf name = some_read FtsReads FtsBreaks fts_refusal type2_breaks (file_within shelf name file_limit)
 
 some_sheet : (shelf : Shelf.Files) (name : List ℕ) → (read : Result (List Sheet) Refusal) × SheetOf shelf name read
-some_sheet shelf name = some_read SheetReads SheetBreaks sheet_refusal sheet_breaks (file_of shelf name file_limit)
+some_sheet shelf name = some_read SheetReads SheetBreaks sheet_refusal sheet_breaks (file_within shelf name file_limit)
 
 setup_breaks : (bytes : List ℕ) → ((setup : Setup) × SetupReads bytes setup) ⊎ ((fault : ℕ × SetupRule) × BreaksSetup bytes fault)
 setup_breaks bytes = elim (reads_or_fault (lines bytes)) [ inl setup ↦ inl setup | inr fault ↦ inr ((fault.0, fault.1), fault.2) ]
 
 some_setup : (shelf : Shelf.Files) (name : List ℕ) → (read : Result Setup Refusal) × SetupOf shelf name read
-some_setup shelf name = some_read SetupReads BreaksSetup (λ (fault : ℕ × SetupRule). refusal.Setup fault.0 fault.1) setup_breaks (file_of shelf name file_limit)
+some_setup shelf name = some_read SetupReads BreaksSetup (λ (fault : ℕ × SetupRule). refusal.Setup fault.0 fault.1) setup_breaks (file_within shelf name file_limit)
 
 some_folder : (shelf : Shelf.Files) (folder : List ℕ) → (read : Result Packet Refusal) × FolderOf shelf folder read
 some_folder shelf folder = control (some_control shelf (folder ++ codes "/CONTROL.DAT")).0 (some_control shelf (folder ++ codes "/CONTROL.DAT")).1
@@ -190,7 +190,7 @@ fits_or_not draft = elim (field_fits_or_not To draft.header.to) [
       | inr refuted ↦ inr (λ x. refuted x.no_end)
       | inl no_end ↦ elim (all_or_not (Lacks 0x0D) (lacks_or_not 0x0D) draft.lines) [
         | inr refuted ↦ inr (λ x. refuted x.no_return)
-        | inl no_return ↦ elim (within_or_not (length (ended draft.lines)) 16384) [
+        | inl no_return ↦ elim (within_or_not (length (joined_lines draft.lines)) 16384) [
           | inr refuted ↦ inr (λ x. refuted x.short)
           | inl short ↦ inl (record { to = to; subject = subject; no_end = no_end; no_return = no_return; short = short })
         ]
@@ -341,7 +341,7 @@ some_upload name file now shelf (Some b) = by (user_id name b)
 
     by : (user : Option ℕ) → (turn : Turn) × UploadsFile file now shelf b user turn
     by None = (_, refl)
-    by (Some id) = read id (file_of shelf file rep_limit)
+    by (Some id) = read id (file_within shelf file rep_limit)
 
 -- ---- entries
 -- a line for each command
@@ -376,10 +376,10 @@ outcome_of now (Wrong which) can state shelf has = some_look (λ shelf answer. a
 outcome_of now (Refuse why) can state shelf has = some_look (λ shelf answer. answer ≡ refused why) (λ shelf. (refused why, refl)) (here state shelf)
 
 -- files of bytes that are no board's have a damage
-spoiled_damage : (files damaged_files : Files) → AreBytes files → Stores (Spoiled damaged_files) files → (d : Damage) × (board_damage damaged_files ≡ Some d)
+spoiled_damage : (files damaged_files : Files) → AreFileBytes files → Stores (Spoiled damaged_files) files → (d : Damage) × (board_damage damaged_files ≡ Some d)
 spoiled_damage files damaged_files bytes stores = by (board_damage (data_files files)) refl
   where
-    data_bytes : AreBytes (data_files files)
+    data_bytes : AreFileBytes (data_files files)
     data_bytes file is = subst (All IsByte) (sym (ap (λ (data_file : Bool). cond data_file (files file) []) is)) (bytes file is)
 
     stands : (b : Board) → IsStoredIn b (data_files files) → IsStoredIn b files
@@ -389,11 +389,11 @@ spoiled_damage files damaged_files bytes stores = by (board_damage (data_files f
     by (Some d) is = (d, ap board_damage stores.0 ∙ is)
     by None is = let b = (undamaged (data_files files) data_bytes).0 is in absurd (stores.1.other b.0 b.1 (stands b.0 b.2))
 
-has_damage : (state : State) (files : Files) → AreBytes files → Stores state files → HasDamage state
+has_damage : (state : State) (files : Files) → AreFileBytes files → Stores state files → HasDamage state
 has_damage NotMade files bytes stores = tt
 has_damage (Made b) files bytes stores = tt
 has_damage (Old b) files bytes stores = tt
 has_damage (Spoiled damaged_files) files bytes stores = spoiled_damage files damaged_files bytes stores
 
-pub some_outcome : (now : ℕ) (entry : Entry) → EntryCanRun entry → (files : Files) → AreBytes files → (world : World State) → Stores world.state files → (stepped : Stepped (World State)) × (act now entry).Step world stepped
+pub some_outcome : (now : ℕ) (entry : Entry) → EntryCanRun entry → (files : Files) → AreFileBytes files → (world : World State) → Stores world.state files → (stepped : Stepped (World State)) × (act now entry).Step world stepped
 some_outcome now entry can files bytes world stores = outcome_of now entry can world.state world.shelf (has_damage world.state files bytes stores)

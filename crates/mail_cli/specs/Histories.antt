@@ -5,7 +5,7 @@ use Rattle.board_commands.specs.State.{State, Stores, Made, migrated}
 use Rattle.board_layout.specs.Board.{Board}
 use Rattle.board_laws.specs.History.{Deed, IsHistory, ChangesBoard, LeadsTo, after}
 use Rattle.board_laws.specs.Kept.{IsLive, NoAckBetween}
-use Rattle.board_laws.specs.Once.{IsUpload}
+use Rattle.board_laws.specs.Once.{IsUploadDeed}
 use Rattle.door_commands.specs.Entries.{EntriesRead}
 use Rattle.door_commands.specs.declared.entry.Entry.{Entry}
 use Rattle.door_outside.specs.Disk.{Disk, Image, Now}
@@ -125,8 +125,8 @@ OffersUntilAcknowledged start deeds files =
 -- Once per user and digest: two deeds that change the board by an upload of them are one.
 abbrev pub PostsOnce : State → List (Deed Entry) → Type 0
 PostsOnce start deeds =
-    (user : ℕ) (digest : List ℕ) (i j : ℕ) → IsUpload board_command start deeds i user digest → ChangesBoard start deeds i
-    → IsUpload board_command start deeds j user digest → ChangesBoard start deeds j → i ≡ j
+    (user : ℕ) (digest : List ℕ) (i j : ℕ) → IsUploadDeed board_command start deeds i user digest → ChangesBoard start deeds i
+    → IsUploadDeed board_command start deeds j user digest → ChangesBoard start deeds j → i ≡ j
 
 -- Runs and crashes, one behind the other: one history, of all entries that were carried out, by which what is offered is
 -- offered until acknowledged, and each packet is posted once.

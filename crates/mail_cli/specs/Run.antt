@@ -39,8 +39,8 @@ pub record LeavesFiles (old new : Disk) : Type 0 where
   pub now : AllNow new (Promise.AsThen old)
 
 -- in each world that stands at entry, this is what the entry did, its reply included
-abbrev pub Performs : ℕ → Entry → Disk → Disk → Files → Files → Result Class Stop → Type 0
-Performs now one old new shelf later result =
+abbrev pub PerformsEntry : ℕ → Entry → Disk → Disk → Files → Files → Result Class Stop → Type 0
+PerformsEntry now one old new shelf later result =
     (world : World State) → Owed.IsAt Stores unread world old shelf → Owed.Performs Stores (act now one) unread world old new later result
 
 -- what the entries leave, and what a crash at any moment leaves

@@ -7,7 +7,7 @@ ghost use Rattle.entry_runs.specs.Runs.{Outcome, Runs, Stepped};
 ghost use Rattle.intent_journal.specs.Patches.{Files};
 ghost use Rattle.board_commands.specs.State.{State, Stores, migrated};
 ghost use Rattle.board_laws.specs.History.{Deed, IsBeginning, IsHistory, after};
-ghost use Rattle.board_layout.specs.Layout.{AreBytes};
+ghost use Rattle.board_layout.specs.Layout.{AreFileBytes};
 ghost use Rattle.door_commands.specs.Entries.{EntryCanRun};
 ghost use Rattle.board_laws.specs.Kept.{StaysMade, StaysOffered};
 ghost use Rattle.board_laws.specs.Once.{ChangesOnce, SaysAgain};
@@ -25,7 +25,7 @@ pub fn one_outcome()
 /// An entry that can run does one thing at least, from each world for whose state files of bytes stand: so from there it
 /// does exactly one thing, and no case was left to want of memory.
 pub fn some_outcome()
-    ensures { (now : ℕ) (entry : Entry) → EntryCanRun entry → (files : Files) → AreBytes files → (world : World State) → Stores world.state files
+    ensures { (now : ℕ) (entry : Entry) → EntryCanRun entry → (files : Files) → AreFileBytes files → (world : World State) → Stores world.state files
         → (stepped : Stepped (World State)) × (act now entry).Step world stepped }
 {}
 

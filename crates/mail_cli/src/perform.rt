@@ -6,7 +6,7 @@ ghost use Rattle.board_commands.specs.Causes.{HaveCauses};
 ghost use Rattle.board_commands.specs.Kept.{AreSure, IsKept};
 ghost use Rattle.door_commands.specs.Entries.{CanRun, EntryCanRun, IsWrong};
 ghost use Rattle.mail_cli.specs.CommandBound.{CommandKeepsBound, EntryKeepsBound};
-ghost use Rattle.mail_cli.specs.Run.{LeavesFiles, Performs};
+ghost use Rattle.mail_cli.specs.Run.{LeavesFiles, PerformsEntry};
 ghost use Rattle.mail_cli.specs.Step.{does, door, entry_uses_shelf, uses_shelf};
 ghost use Rattle.door_commands.specs.declared.entry.Entry.TheVariants.{Run};
 
@@ -39,7 +39,7 @@ fn perform_command<H: Host, S: Shelf>(
     requires kept { IsTrue H.tells → IsKept kept.old (H.disk host.old) }
     ensures sure { AreSure kept.new }
     ensures kept { IsTrue H.tells → IsKept kept.new (H.disk host.new) }
-    ensures performs { IsTrue H.tells → IsTrue S.tells → Performs now (Run command.now) (H.disk host.old) (H.disk host.new) (S.files shelf.old) (S.files shelf.new) result }
+    ensures performs { IsTrue H.tells → IsTrue S.tells → PerformsEntry now (Run command.now) (H.disk host.old) (H.disk host.new) (S.files shelf.old) (S.files shelf.new) result }
     ensures causes { HaveCauses H.disk_faults H.voice_faults S.faults host.old host.new shelf.old shelf.new (ended result) }
     ensures usage { IfOk result (λ class. class ≢ Class.Usage) }
     ensures damaged { IfOk result (λ class. class ≡ Class.Damaged → IsTrue (does now command.now).reach.board) }
@@ -173,7 +173,7 @@ pub fn perform<H: Host, S: Shelf>(
     requires kept { IsTrue H.tells → IsKept kept.old (H.disk host.old) }
     ensures sure { AreSure kept.new }
     ensures kept { IsTrue H.tells → IsKept kept.new (H.disk host.new) }
-    ensures performs { IsTrue H.tells → IsTrue S.tells → Performs now entry.now (H.disk host.old) (H.disk host.new) (S.files shelf.old) (S.files shelf.new) result }
+    ensures performs { IsTrue H.tells → IsTrue S.tells → PerformsEntry now entry.now (H.disk host.old) (H.disk host.new) (S.files shelf.old) (S.files shelf.new) result }
     ensures causes { HaveCauses H.disk_faults H.voice_faults S.faults host.old host.new shelf.old shelf.new (ended result) }
     ensures usage { IfOk result (λ class. (class ≡ Class.Usage) ↔ IsWrong entry.now) }
     ensures wrong { IsWrong entry.now → IfErr result (λ stop. stop ≡ Stop.VoiceFault) }

@@ -6,7 +6,7 @@ use Rattle.door_outside.specs.Disk.{NothingPending, Now, as_read}
 use Rattle.memory_outside.specs.declared.event.Event.{Event}
 use Rattle.memory_outside.specs.Events.{read, spoken, Left}
 use Rattle.memory_outside.proofs.Left.{left_reads, told_since}
-use Rattle.memory_outside.specs.MemoryHost.{Hosted, OnlyReads, disk_of, Keeps, only_now, since_now, told}
+use Rattle.memory_outside.specs.MemoryHost.{Hosted, OnlyReads, disk_of, HostKeeps, only_now, since_now, told_disk}
 use Rattle.memory_outside.proofs.Short.{read_short}
 
 -- what a result has from both
@@ -26,14 +26,14 @@ on_image_now other host events files words named said left reads speaks =
     (subst (λ (es : List Event). Left es (as_read (disk_of host))) (sym named) (subst (Left events) (λ i. record { files = λ file. sym (reads file) i; said = sym (speaks ∙ said) i }) left)))
 
 -- or as it reads itself
-pub on_reads_now : (other host : Hosted) (contents : List (List ℕ)) (words spoke : List ℕ) (events : List Event) → other.events ≡ events → Keeps contents spoke events → words ≡ spoke
+pub on_reads_now : (other host : Hosted) (contents : List (List ℕ)) (words spoke : List ℕ) (events : List Event) → other.events ≡ events → HostKeeps contents spoke events → words ≡ spoke
     → ((file : ℕ) → read host.events file ≡ content contents file) → spoken host.events ≡ words → Now (disk_of other) (as_read (disk_of host))
 on_reads_now other host contents words spoke events named keeps same reads speaks =
     on_image_now other host events (read events) words named (same ∙ keeps.said) (left_reads events) (λ file. reads file ∙ keeps.files file) speaks
 
-pub contents_short : (contents : List (List ℕ)) (words : List ℕ) (events : List Event) → Keeps contents words events → (file : ℕ) → length (content contents file) < 2 ^ 31
+pub contents_short : (contents : List (List ℕ)) (words : List ℕ) (events : List Event) → HostKeeps contents words events → (file : ℕ) → length (content contents file) < 2 ^ 31
 contents_short contents words events keeps file = subst (λ (l : List ℕ). length l < 2 ^ 31) (sym (keeps.files file)) (read_short events keeps.short file)
 
 -- before the first event
-pub none_pending : (events : List Event) (wrote : ℕ) → events ≡ [] → NothingPending (told (reverse events) wrote)
-none_pending events wrote none = subst (λ (es : List Event). NothingPending (told (reverse es) wrote)) (sym none) (λ image left. ⊎_elim (λ since i. record { files = since.0 i; said = since.1 i }) (λ is. is) left)
+pub none_pending : (events : List Event) (wrote : ℕ) → events ≡ [] → NothingPending (told_disk (reverse events) wrote)
+none_pending events wrote none = subst (λ (es : List Event). NothingPending (told_disk (reverse es) wrote)) (sym none) (λ image left. ⊎_elim (λ since i. record { files = since.0 i; said = since.1 i }) (λ is. is) left)

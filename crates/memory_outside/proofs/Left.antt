@@ -7,7 +7,7 @@ use Rattle.door_outside.specs.Disk.{Image, Torn, Cut, written}
 use Rattle.memory_outside.specs.declared.event.Event.{Event}
 use Rattle.memory_outside.specs.declared.event.Event.TheVariants.{Write, Shorten, Sync, Put, Say}
 use Rattle.memory_outside.specs.Events.{read, spoken, Left, Since}
-use Rattle.memory_outside.specs.MemoryHost.{shown, since_now}
+use Rattle.memory_outside.specs.MemoryHost.{shown_image, since_now}
 
 -- a write that was done is one that a crash may leave
 pub torn_written : (old bytes : List ℕ) (at : ℕ) → Torn at (length bytes) old (written old at bytes)
@@ -76,5 +76,5 @@ left_reads (Put to bytes ∷ past) = (
 left_reads (Say bytes ∷ past) = (record { files = read past; said = spoken past }, left_reads past, refl, refl)
 
 -- what a host in memory tells of an image is what its events left
-pub told_since : (t : ℕ) (events : List Event) (image : Image) → Since t events image ⊎ (image ≡ shown events) → Since t events image
-told_since t events image left = ⊎_elim (λ since. since) (λ is. subst (Since t events) (sym is) (since_now t events (shown events) (left_reads events))) left
+pub told_since : (t : ℕ) (events : List Event) (image : Image) → Since t events image ⊎ (image ≡ shown_image events) → Since t events image
+told_since t events image left = ⊎_elim (λ since. since) (λ is. subst (Since t events) (sym is) (since_now t events (shown_image events) (left_reads events))) left

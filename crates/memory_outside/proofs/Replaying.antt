@@ -6,10 +6,10 @@ use Rattle.std.proofs.lemmas.List.{reverse-append, reverse-reverse, take_more}
 use Rattle.std.proofs.lemmas.List.Elements.{All-push}
 use Rattle.memory_outside.specs.Contents.{content}
 use Rattle.door_outside.specs.Disk.{Image, InFile, Torn, Cut, written}
-use Rattle.memory_outside.specs.Images.{Takes}
+use Rattle.memory_outside.specs.Images.{TakesEvent}
 use Rattle.memory_outside.specs.declared.event.Event.{Event}
 use Rattle.memory_outside.specs.declared.event.Event.TheVariants.{Write, Shorten, Sync, Put, Say}
-use Rattle.memory_outside.specs.Events.{changed, read, synced, synced_after, spoken, Left, AreShort, IsShort}
+use Rattle.memory_outside.specs.Events.{file_after, read, synced, synced_after, spoken, Left, AreShort, IsShortEvent}
 use Rattle.memory_outside.proofs.Left.{torn_written, cut_taken}
 
 -- the files with other bytes in one of them
@@ -88,7 +88,7 @@ abbrev shown : (ℕ → List ℕ) → List Event → Image
 shown files events = record { files = files; said = spoken events }
 
 -- an event was taken in by an image
-takes_left : (event : Event) (past : List Event) (old new : ℕ → List ℕ) → Takes event (read past) old new → Left past (shown old past) → Left (event ∷ past) (shown new (event ∷ past))
+takes_left : (event : Event) (past : List Event) (old new : ℕ → List ℕ) → TakesEvent event (read past) old new → Left past (shown old past) → Left (event ∷ past) (shown new (event ∷ past))
 takes_left (Write to at bytes) past old new takes left = (shown old past, left, record { changed = takes.changed; others = takes.others; said = refl })
 takes_left (Shorten to len) past old new takes left = (shown old past, left, record { changed = takes.changed; others = takes.others; said = refl })
 takes_left (Sync to) past old new takes left = (subst (λ (fs : ℕ → List ℕ). Left past (shown fs past)) (sym is) (left_with_read past (shown old past) to left), takes.changed)
@@ -102,22 +102,22 @@ takes_left (Put to bytes) past old new takes left = (shown old past, left, recor
 takes_left (Say bytes) past old new takes left = (shown old past, left, (λ i file. takes file i), refl)
 
 -- the same, where the files as they read are known one by one
-pub took : (event : Event) (past now : List Event) (reads old new : List (List ℕ)) → now ≡ event ∷ past → ((file : ℕ) → content reads file ≡ read past file) → Takes event (content reads) (content old) (content new)
+pub took : (event : Event) (past now : List Event) (reads old new : List (List ℕ)) → now ≡ event ∷ past → ((file : ℕ) → content reads file ≡ read past file) → TakesEvent event (content reads) (content old) (content new)
     → Left past (shown (content old) past) → Left now (shown (content new) now)
 took event past now reads old new more same takes left = subst (λ (es : List Event). Left es (shown (content new) es)) (sym more)
-    (takes_left event past (content old) (content new) (subst (λ (fs : ℕ → List ℕ). Takes event fs (content old) (content new)) (λ i file. same file i) takes) left)
+    (takes_left event past (content old) (content new) (subst (λ (fs : ℕ → List ℕ). TakesEvent event fs (content old) (content new)) (λ i file. same file i) takes) left)
 
 -- the events so far, the newest first
 pub one_more_event : (events : List Event) (i : ℕ) (d : Event) → i < length events → reverse (take (i + 1) events) ≡ get_or events i d ∷ reverse (take i events)
 one_more_event events i d h = ap reverse (take_more events i d h) ∙ reverse-append (take i events) (get_or events i d ∷ [])
 
 -- each of the events is short
-short_reversed : (past : List Event) → AreShort past → All IsShort (reverse past)
+short_reversed : (past : List Event) → AreShort past → All IsShortEvent (reverse past)
 short_reversed [] short = λ k d h. absurd (omega arith)
-short_reversed (event ∷ past) short = subst (All IsShort) (sym (reverse-append (event ∷ []) past)) (All-push IsShort (reverse past) event (short_reversed past short.1) short.0)
+short_reversed (event ∷ past) short = subst (All IsShortEvent) (sym (reverse-append (event ∷ []) past)) (All-push IsShortEvent (reverse past) event (short_reversed past short.1) short.0)
 
-pub all_short : (events : List Event) → AreShort (reverse events) → All IsShort events
-all_short events short = subst (All IsShort) (reverse-reverse events) (short_reversed (reverse events) short)
+pub all_short : (events : List Event) → AreShort (reverse events) → All IsShortEvent events
+all_short events short = subst (All IsShortEvent) (reverse-reverse events) (short_reversed (reverse events) short)
 
 -- a file as of its last sync, likewise
 pub synced_more : (event : Event) (past now : List Event) (reads : List (List ℕ)) (old new : List ℕ) (file : ℕ) → now ≡ event ∷ past → ((file : ℕ) → content reads file ≡ read past file)
@@ -126,5 +126,5 @@ synced_more event past now reads old new file more same was is =
     is ∙ (λ i. synced_after event (λ (f : ℕ). same f i) file (was i)) ∙ sym (ap (λ (es : List Event). synced es file) more)
 
 -- and as it reads
-pub reads_more : (event : Event) (past now : List Event) (old new : List ℕ) (file : ℕ) → now ≡ event ∷ past → old ≡ read past file → new ≡ changed event file old → new ≡ read now file
-reads_more event past now old new file more was is = is ∙ ap (changed event file) was ∙ sym (ap (λ (es : List Event). read es file) more)
+pub reads_more : (event : Event) (past now : List Event) (old new : List ℕ) (file : ℕ) → now ≡ event ∷ past → old ≡ read past file → new ≡ file_after event file old → new ≡ read now file
+reads_more event past now old new file more was is = is ∙ ap (file_after event file) was ∙ sym (ap (λ (es : List Event). read es file) more)

@@ -5,17 +5,17 @@ use Rattle.memory_outside.specs.declared.event.Event.{Event}
 use Rattle.memory_outside.specs.declared.event.Event.TheVariants.{Write, Shorten, Sync, Put, Say}
 
 -- a file after an event
-abbrev pub changed : Event → ℕ → List ℕ → List ℕ
-changed (Write to at bytes) file old = if file == to then written old at bytes else old
-changed (Shorten to len) file old = if file == to then take len old else old
-changed (Sync to) file old = old
-changed (Put to bytes) file old = if file == to then bytes else old
-changed (Say bytes) file old = old
+abbrev pub file_after : Event → ℕ → List ℕ → List ℕ
+file_after (Write to at bytes) file old = if file == to then written old at bytes else old
+file_after (Shorten to len) file old = if file == to then take len old else old
+file_after (Sync to) file old = old
+file_after (Put to bytes) file old = if file == to then bytes else old
+file_after (Say bytes) file old = old
 
 -- the files as they read
 abbrev pub read : List Event → ℕ → List ℕ
 read [] file = []
-read (event ∷ past) file = changed event file (read past file)
+read (event ∷ past) file = file_after event file (read past file)
 
 -- a file as of its last sync, after an event, where the files read so before it
 abbrev pub synced_after : Event → (ℕ → List ℕ) → ℕ → List ℕ → List ℕ
@@ -66,13 +66,13 @@ Since t [] image = Left [] image
 Since t (event ∷ past) image = Left (event ∷ past) image ⊎ ((t ≤ length past) × (Within event past image ⊎ Since t past image))
 
 -- its bytes end below the longest length that a file may have
-abbrev pub IsShort : Event → Type 0
-IsShort (Write to at bytes) = at + length bytes < 2 ^ 31
-IsShort (Shorten to len) = Unit {0}
-IsShort (Sync to) = Unit {0}
-IsShort (Put to bytes) = length bytes < 2 ^ 31
-IsShort (Say bytes) = Unit {0}
+abbrev pub IsShortEvent : Event → Type 0
+IsShortEvent (Write to at bytes) = at + length bytes < 2 ^ 31
+IsShortEvent (Shorten to len) = Unit {0}
+IsShortEvent (Sync to) = Unit {0}
+IsShortEvent (Put to bytes) = length bytes < 2 ^ 31
+IsShortEvent (Say bytes) = Unit {0}
 
 abbrev pub AreShort : List Event → Type 0
 AreShort [] = Unit {0}
-AreShort (event ∷ past) = IsShort event × AreShort past
+AreShort (event ∷ past) = IsShortEvent event × AreShort past

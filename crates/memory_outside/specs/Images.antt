@@ -16,12 +16,12 @@ pub record OneFile (file : ℕ) (step : List ℕ → List ℕ → Type 0) (old n
 
 -- What an event may make of the files of an image, where the disk read so before it: what was written or cut may
 -- take hold or not, and what was synced is as it read.
-abbrev pub Takes : Event → (ℕ → List ℕ) → (ℕ → List ℕ) → (ℕ → List ℕ) → Type 0
-Takes (Write to at bytes) reads old new = OneFile to (Torn at (length bytes)) old new
-Takes (Shorten to len) reads old new = OneFile to (Cut len) old new
-Takes (Sync to) reads old new = OneFile to (λ before after. after ≡ reads to) old new
-Takes (Put to bytes) reads old new = OneFile to (λ before after. after ≡ bytes) old new
-Takes (Say bytes) reads old new = (file : ℕ) → new file ≡ old file
+abbrev pub TakesEvent : Event → (ℕ → List ℕ) → (ℕ → List ℕ) → (ℕ → List ℕ) → Type 0
+TakesEvent (Write to at bytes) reads old new = OneFile to (Torn at (length bytes)) old new
+TakesEvent (Shorten to len) reads old new = OneFile to (Cut len) old new
+TakesEvent (Sync to) reads old new = OneFile to (λ before after. after ≡ reads to) old new
+TakesEvent (Put to bytes) reads old new = OneFile to (λ before after. after ≡ bytes) old new
+TakesEvent (Say bytes) reads old new = (file : ℕ) → new file ≡ old file
 
 -- what a choice says of the files
 abbrev pub Chosen : ImageChoice → List Event → (ℕ → List ℕ) → Type 0

@@ -5,7 +5,7 @@ use Rattle.std.proofs.Math.Nat.{not-suc-le_self}
 use Rattle.memory_outside.specs.Contents.{content}
 use Rattle.door_outside.specs.Disk.{Disk, Image}
 use Rattle.memory_outside.specs.Events.{read, spoken, Left, Since, AreShort}
-use Rattle.memory_outside.specs.Plan.{Counts}
+use Rattle.memory_outside.specs.Plan.{PlanCounts}
 use Rattle.memory_outside.specs.declared.event.Event.{Event}
 use Rattle.memory_outside.specs.declared.event.Event.TheVariants.{Write, Shorten, Sync, Put, Say}
 
@@ -16,11 +16,11 @@ pub record Hosted : Type 0 where
   pub wrote : ℕ
   pub disk_faults : ℕ
   pub voice_faults : ℕ
-  pub counts : Counts
+  pub counts : PlanCounts
 
 -- what reads give after events, and what was said
-abbrev pub shown : List Event → Image
-shown events = record { files = read events; said = spoken events }
+abbrev pub shown_image : List Event → Image
+shown_image events = record { files = read events; said = spoken events }
 
 -- Three facts that the record of a disk asks for: what a crash now may leave is what all events left, might have been
 -- left at any moment since an earlier one, and has all that was said.
@@ -43,27 +43,27 @@ left_stays (Say bytes ∷ past) image left = left.3 ∙ ap (λ (l : List ℕ). l
 
 -- The disk that events left. A crash leaves what it might have left at some moment; what reads give is named beside
 -- that, and is one of those images.
-abbrev pub told : List Event → ℕ → Disk
-told events wrote = record {
+abbrev pub told_disk : List Event → ℕ → Disk
+told_disk events wrote = record {
   files = read events;
   said = spoken events;
   clock = length events;
   wrote = wrote;
-  leaves = λ t image. Since t events image ⊎ (image ≡ shown events);
+  leaves = λ t image. Since t events image ⊎ (image ≡ shown_image events);
   reads = inr refl;
   counts = λ t image le left. ⊎_elim (λ since. inl (since_now t events image (only_now events image since))) (λ is. inr is) left;
   stays = λ image left. ⊎_elim (λ since. left_stays events image (only_now events image since)) (λ is. ap (λ (i : Image). i.said) is) left;
 }
 
 abbrev pub disk_of : Hosted → Disk
-disk_of host = told host.events host.wrote
+disk_of host = told_disk host.events host.wrote
 
 -- nothing is pending: every image that a crash may leave is what reads give
 abbrev pub OnlyReads : List Event → Type 0
-OnlyReads events = (image : Image) → Left events image → image ≡ shown events
+OnlyReads events = (image : Image) → Left events image → image ≡ shown_image events
 
 -- what a host keeps is what its events left
-pub record Keeps (contents : List (List ℕ)) (words : List ℕ) (events : List Event) : Type 0 where
+pub record HostKeeps (contents : List (List ℕ)) (words : List ℕ) (events : List Event) : Type 0 where
   pub files : (file : ℕ) → content contents file ≡ read events file
   pub said : words ≡ spoken events
   pub short : AreShort events

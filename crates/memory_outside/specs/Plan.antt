@@ -14,7 +14,7 @@ abbrev pub one_more : ℕ → ℕ
 one_more count = min (count + 1) (2 ^ 64 - 1)
 
 -- what an object in memory counts
-pub record Counts : Type 0 where
+pub record PlanCounts : Type 0 where
   pub plan : FaultPlan
   -- the calls that were made
   pub calls : ℕ
@@ -22,25 +22,25 @@ pub record Counts : Type 0 where
   pub starved : ℕ
 
 -- counts are stored as the tuple of their parts
-abbrev pub counts_code : Coded Counts
+abbrev pub counts_code : Coded PlanCounts
 counts_code =
     code_by ((List ℕ × Option ℕ) × (ℕ × ℕ)) (coded× (coded× (coded_list coded_ℕ) (coded_option coded_ℕ)) (coded× coded_ℕ coded_ℕ))
     (λ c. ((c.plan.fails, c.plan.stop), (c.calls, c.starved)))
     (λ p. record { plan = record { fails = p.0.0; stop = p.0.1 }; calls = p.1.0; starved = p.1.1 }) (λ _. refl)
 
 -- the next call is to fail
-abbrev pub FailsNext : Counts → Type 0
+abbrev pub FailsNext : PlanCounts → Type 0
 FailsNext counts = Fails counts.plan (one_more counts.calls)
 
 -- a call went by that fails exactly where the plan says
-pub record ByPlan {T E : Type 0} (old new : Counts) (result : Result T E) : Type 0 where
+pub record ByPlan {T E : Type 0} (old new : PlanCounts) (result : Result T E) : Type 0 where
   pub plan : new.plan ≡ old.plan
   pub calls : new.calls ≡ one_more old.calls
   pub starved : new.starved ≡ old.starved
   pub fails : IsErr result ↔ FailsNext old
 
 -- a call went by that fails where the plan says, and otherwise only where it found no memory
-pub record ByPlanOrMemory {T E : Type 0} (old new : Counts) (result : Result T E) : Type 0 where
+pub record ByPlanOrMemory {T E : Type 0} (old new : PlanCounts) (result : Result T E) : Type 0 where
   pub plan : new.plan ≡ old.plan
   pub calls : new.calls ≡ one_more old.calls
   pub planned : FailsNext old → IsErr result × (new.starved ≡ old.starved)

@@ -13,9 +13,9 @@ pub struct Calls {
 }
 
 impl Model for Calls {
-    ghost use Rattle.memory_outside.specs.Plan.{Counts};
+    ghost use Rattle.memory_outside.specs.Plan.{PlanCounts};
 
-    ghost Value = { Counts };
+    ghost Value = { PlanCounts };
 
     ghost view = { λ c. record { plan = c.plan; calls = c.made; starved = c.starved } };
 }

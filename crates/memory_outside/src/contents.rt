@@ -1,7 +1,7 @@
 ghost use Rattle.std.specs.Prelude.{◌≡◌, ℕ, ◌≤◌, ◌<◌, [], length, take, IfOk, OnOk, OnErr};
 ghost use Rattle.memory_outside.specs.Contents.{content, SameContents, Sets};
 ghost use Rattle.door_outside.specs.Disk.{written};
-ghost use Rattle.memory_outside.specs.Events.{changed};
+ghost use Rattle.memory_outside.specs.Events.{file_after};
 
 use crate::content::Content;
 use crate::event::Event;
@@ -100,7 +100,7 @@ impl Contents {
 
     /// What an event makes of them. Where there is no memory, nothing changes.
     pub(crate) fn change(&mut self, event: &Event) -> Result<(), AllocError>
-        ensures ok { OnOk result ((file : ℕ) → content self.new file ≡ changed event.now file (content self.old file)) }
+        ensures ok { OnOk result ((file : ℕ) → content self.new file ≡ file_after event.now file (content self.old file)) }
         ensures err { OnErr result (SameContents self.old self.new) }
     {
         match event {

@@ -1,7 +1,7 @@
 ghost use Rattle.std.specs.Prelude.{◌≡◌, ℕ, ◌≤◌, ◌<◌, ◌^◌, ◌∷◌, [], length, IfOk, OnOk, OnErr, IsTrue, ◌↔◌};
 ghost use Rattle.memory_outside.specs.Contents.{content, SameContents};
-ghost use Rattle.memory_outside.specs.Events.{changed, said_after};
-ghost use Rattle.door_outside.specs.Disk.{AllNow, Holds, InFile, NothingPending, Passes};
+ghost use Rattle.memory_outside.specs.Events.{file_after, said_after};
+ghost use Rattle.door_outside.specs.Disk.{AllNow, HoldsBytes, InFile, NothingPending, Passes};
 ghost use Rattle.memory_outside.specs.Plan.{FailsNext, one_more};
 
 mod crash;
@@ -32,18 +32,18 @@ pub struct MemoryHost {
 
 impl Model for MemoryHost {
     ghost use Rattle.std.specs.Prelude.{reverse};
-    ghost use Rattle.memory_outside.specs.MemoryHost.{Hosted, Keeps};
+    ghost use Rattle.memory_outside.specs.MemoryHost.{Hosted, HostKeeps};
 
     ghost Value = { Hosted };
 
     ghost view = { λ h. record { events = reverse h.events.items; wrote = h.wrote; disk_faults = h.disk_faults; voice_faults = h.voice_faults; counts = h.calls } };
 
-    ghost invariant = { λ h. Keeps h.contents h.said (reverse h.events.items) };
+    ghost invariant = { λ h. HostKeeps h.contents h.said (reverse h.events.items) };
 }
 
 /// What an event makes of the files and of what was said. Where there is no memory, nothing changes.
 fn take_in(contents: &mut Contents, said: &mut Bytes, event: &Event) -> Result<(), AllocError>
-    ensures files { OnOk result ((file : ℕ) → content contents.new file ≡ changed event.now file (content contents.old file)) }
+    ensures files { OnOk result ((file : ℕ) → content contents.new file ≡ file_after event.now file (content contents.old file)) }
     ensures said { OnOk result (said.new ≡ said_after event.now said.old) }
     ensures err { OnErr result (SameContents contents.old contents.new × (said.new ≡ said.old)) }
 {
@@ -55,7 +55,7 @@ fn take_in(contents: &mut Contents, said: &mut Bytes, event: &Event) -> Result<(
 
 impl MemoryHost {
     ghost use Rattle.memory_outside.specs.MemoryHost.{disk_of};
-    ghost use Rattle.memory_outside.specs.Events.{IsShort};
+    ghost use Rattle.memory_outside.specs.Events.{IsShortEvent};
     ghost use Rattle.memory_outside.specs.declared.event.Event.TheVariants.{Put};
 
     /// A host whose files are all empty, with nothing said and nothing pending, whose calls fail as the
@@ -78,7 +78,7 @@ impl MemoryHost {
 
     /// Takes an event in and records it. Where there is no memory, nothing changes.
     fn note(&mut self, event: Event) -> Result<(), AllocError>
-        requires { IsShort event }
+        requires { IsShortEvent event }
         ensures ok { OnOk result (self.new ≡ record self.old { events = event ∷ self.old.events }) }
         ensures err { OnErr result (self.new ≡ self.old) }
     {
@@ -94,7 +94,7 @@ impl MemoryHost {
         requires { length bytes.now < 2 ^ 31 }
         ensures ok { OnOk result (self.new ≡ record self.old { events = Put file bytes.now ∷ self.old.events }) }
         ensures err { OnErr result (self.new ≡ self.old) }
-        ensures holds { OnOk result (Holds file bytes.now (disk_of self.old).files (disk_of self.new).files) }
+        ensures holds { OnOk result (HoldsBytes file bytes.now (disk_of self.old).files (disk_of self.new).files) }
         ensures durable { OnOk result (AllNow (disk_of self.new) (λ image. image.files file ≡ bytes.now)) }
         ensures crash { OnOk result (let step = InFile file (λ old new. new ≡ bytes.now) in Passes step step (disk_of self.old) (disk_of self.new)) }
     {

@@ -3,7 +3,7 @@ ghost use Rattle.std.specs.FinMap as map;
 ghost use Rattle.std.specs.Option.{option_map};
 ghost use Rattle.door_outside.specs.Cause.{HasCause};
 ghost use Rattle.memory_outside.specs.Plan.{ByPlan, ByPlanOrMemory, FailsNext, Faulted, one_more};
-ghost use Rattle.door_outside.specs.Shelf.{held, PieceIs, PieceWithin, Begins, Appends};
+ghost use Rattle.door_outside.specs.Shelf.{held, PieceIs, PieceWithin, BeginsFile, Appends};
 
 use crate::calls::Calls;
 use crate::pieces::read_piece;
@@ -150,7 +150,7 @@ impl Shelf for MemoryShelf {
     }
 
     fn begin(&mut self, name: &ShelfName) -> Result<(), ShelfFault>
-        ensures done { Begins name.now self.old.files self.new.files result }
+        ensures done { BeginsFile name.now self.old.files self.new.files result }
         ensures kept { OnErr result (self.new.files ≡ self.old.files) }
         ensures cause { HasCause self.old.faults self.new.faults result }
         ensures faults { Faulted self.old.faults self.new.faults result }

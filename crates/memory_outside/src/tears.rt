@@ -2,8 +2,8 @@
 ghost use Rattle.std.specs.Prelude.{◌≡◌, ℕ, ◌+◌, ◌-◌, ◌≤◌, ◌<◌, ◌^◌, None, length, IfOk, OnOk, OnErr};
 ghost use Rattle.memory_outside.specs.Contents.{content};
 ghost use Rattle.door_outside.specs.Disk.{Torn, Cut};
-ghost use Rattle.memory_outside.specs.Events.{IsShort, synced_after};
-ghost use Rattle.memory_outside.specs.Images.{OneFile, Takes};
+ghost use Rattle.memory_outside.specs.Events.{IsShortEvent, synced_after};
+ghost use Rattle.memory_outside.specs.Images.{OneFile, TakesEvent};
 
 use crate::contents::Contents;
 use crate::draws::Draws;
@@ -58,8 +58,8 @@ pub(crate) fn take_in_image(
     read: &Contents,
     event: &Event,
 ) -> Result<(), AllocError>
-    requires { IsShort event.now }
-    ensures taken { OnOk result (Takes event.now (content read.now) (content image.old) (content image.new)) }
+    requires { IsShortEvent event.now }
+    ensures taken { OnOk result (TakesEvent event.now (content read.now) (content image.old) (content image.new)) }
     ensures synced { draws.old ≡ None → OnOk result ((file : ℕ) → content image.new file ≡ synced_after event.now (content read.now) file (content image.old file)) }
     ensures none { draws.old ≡ None → draws.new ≡ None }
 {

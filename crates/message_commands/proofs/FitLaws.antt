@@ -30,7 +30,7 @@ use Rattle.slot_changes.proofs.ValueLaws.{all_hold}
 use Rattle.slot_changes.specs.Changed.{appended}
 use Rattle.slot_changes.specs.Msgids.{IsMsgid, all_identified, msgid_in}
 use Rattle.slot_changes.specs.Values.{MayHold}
-use Rattle.message_commands.specs.Import.{kind_of, slot_count}
+use Rattle.message_commands.specs.Import.{kind_of_place, slot_count}
 
 -- ---- what stands in a place
 some_at : {A : Type 0} (xs : List A) (place : ℕ) → place < length xs → (x : A) × (slice_get xs place ≡ Some x)
@@ -87,7 +87,7 @@ record HasPlace (place : ℕ) (b : Board) : Type 0 where
   base_is : base_at place b ≡ Some base
   conference_is : slice_get b.ledger.setup.conferences place ≡ Some conference
   slots : slot_count place b ≡ length base.conference.slots
-  kind : kind_of place b ≡ conference.kind
+  kind : kind_of_place place b ≡ conference.kind
 
 has_place : (place : ℕ) (b : Board) → IsBoard b → place < length b.conferences → HasPlace place b
 has_place place b ok within =
@@ -102,7 +102,7 @@ has_place place b ok within =
       kind = ap (λ (o : Option SetupConference). option_map_or (λ (c : SetupConference). c.kind) o Local) other.1;
     }
 
-module _ (b : Board) (place : ℕ) (messages : List Message) (ok : IsBoard b) (within : place < length b.conferences) (may : All (MayHold (kind_of place b)) messages) (few : slot_count place b + length messages ≤ 9999) where
+module _ (b : Board) (place : ℕ) (messages : List Message) (ok : IsBoard b) (within : place < length b.conferences) (may : All (MayHold (kind_of_place place b)) messages) (few : slot_count place b + length messages ≤ 9999) where
   pub append_fits : board_size (appended place messages b) ≤ board_limit → IsBoard (appended place messages b)
   append_fits small =
       let at = has_place place b ok within in

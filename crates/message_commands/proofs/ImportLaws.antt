@@ -20,7 +20,7 @@ use Rattle.slot_changes.specs.Values.{MayHold}
 use Rattle.message_commands.proofs.EntryLaws.{entries_hold}
 use Rattle.message_commands.proofs.Exits.{carried}
 use Rattle.message_commands.proofs.FitLaws.{append_fits, append_short}
-use Rattle.message_commands.specs.Import.{append_turn, appending, import_refusals, imported_line, imported_messages, kind_of, sheet_turn, slot_count}
+use Rattle.message_commands.specs.Import.{append_turn, appending, import_refusals, imported_line, imported_messages, kind_of_place, sheet_turn, slot_count}
 
 -- ---- two refusals
 first_of : (one other : Bool) (why later : Refusal) (found : Refusal) → first_refusal ((one, why) ∷ []) ≡ Some found → first_refusal ((one, why) ∷ (other, later) ∷ []) ≡ Some found
@@ -54,8 +54,8 @@ short_files place b messages none =
 module _ (now place : ℕ) (b : Board) (entries : List Sheet) (messages : List Message) (made : messages ≡ imported_messages now place b entries) where
   -- ---- the change
   module _ (ok : IsBoard b) (within : place < length b.conferences) (read : AreSheets entries) (typed : All IsTyped messages) (few : SlotsTold place b messages None) where
-    may : All (MayHold (kind_of place b)) messages
-    may = subst (All (MayHold (kind_of place b))) (sym made) (entries_hold (kind_of place b) now entries read (subst (All IsTyped) made typed))
+    may : All (MayHold (kind_of_place place b)) messages
+    may = subst (All (MayHold (kind_of_place place b))) (sym made) (entries_hold (kind_of_place place b) now entries read (subst (All IsTyped) made typed))
 
     pub import_short : board_size (appended place messages b) < 2 ^ 64
     import_short = append_short b place messages ok within may (few_slots place b messages few)

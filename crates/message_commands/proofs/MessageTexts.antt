@@ -17,7 +17,7 @@ use Rattle.jam_layout.specs.Fields.{is_text}
 use Rattle.jam_layout.specs.Marks.{is_net}
 use Rattle.jam_layout.specs.Messages.{EmptyOr, IsTyped}
 use Rattle.jam_records.specs.declared.message.Message.{Message}
-use Rattle.message_commands.specs.Import.{kind_of}
+use Rattle.message_commands.specs.Import.{kind_of_place}
 use Rattle.offered_packets.proofs.ShownMessages.{is_there}
 use Rattle.offered_packets.specs.Sees.{message_at}
 use Rattle.board_layout.specs.Lookups.{slots_in}
@@ -29,7 +29,7 @@ use Rattle.message_commands.proofs.DrawLaws.{drawn_below}
 use Rattle.message_commands.proofs.LastSlots.{last_kept, last_posted}
 use Rattle.message_commands.proofs.SampleLists.{next_post, no_msgids, place_within, posts_count}
 use Rattle.message_commands.specs.Draws.{draws_of}
-use Rattle.message_commands.specs.Sample.{last_msgid, body_line, recipient_name, repeated, sampled_posts, subject_of}
+use Rattle.message_commands.specs.Sample.{last_msgid, numbered_line, recipient_name, repeated, sampled_posts, subject_of}
 use Rattle.setup_file.specs.Texts.{has_bare_ends, is_name_byte, is_user_name}
 use Rattle.setup_file.specs.declared.conference.Conference.{Conference as SetupConference}
 use Rattle.slot_changes.proofs.ValueLaws.{tested_holds}
@@ -128,10 +128,10 @@ subject_text number few =
 abbrev line_start : ℕ → ℕ → List ℕ
 line_start seed number = codes "Line " ++ (decimal number ++ (codes " of seed " ++ decimal seed))
 
-line_ended : (seed number : ℕ) → body_line seed number ≡ line_start seed number ++ 13 ∷ []
+line_ended : (seed number : ℕ) → numbered_line seed number ≡ line_start seed number ++ 13 ∷ []
 line_ended seed number = simp append_assoc
 
-line_short : (seed number : ℕ) → seed < 2 ^ 32 → number ≤ 5000 → length (body_line seed number) ≤ 64
+line_short : (seed number : ℕ) → seed < 2 ^ 32 → number ≤ 5000 → length (numbered_line seed number) ≤ 64
 line_short seed number small few =
     let a = length-decimal-le 4 number (omega arith) (omega (arith, few)) (omega (arith, few)) in
     let d = length-decimal-le 10 seed (omega arith) (omega (arith, small)) (omega (arith, small)) in
@@ -170,9 +170,9 @@ unfolding is_right_body Ends
 body_right body short (inl none) = or_left (eqb (length body) 0) _ (eq-eqb (length body) 0 none)
 body_right body short (inr last) = or_right (eqb (length body) 0) _ (and_from (leb (length body) 16384) (eqb (get_or body (length body - 1) 0) 13) (le-leb (length body) 16384 short) (eq-eqb (get_or body (length body - 1) 0) 13 last))
 
-body_is : (seed number lines : ℕ) → seed < 2 ^ 32 → number ≤ 5000 → lines ≤ 8 → is_right_body (repeated (body_line seed number) lines) ≡ true
+body_is : (seed number lines : ℕ) → seed < 2 ^ 32 → number ≤ 5000 → lines ≤ 8 → is_right_body (repeated (numbered_line seed number) lines) ≡ true
 body_is seed number lines small few short =
-    body_right (repeated (body_line seed number) lines) (let whole = lines_short (body_line seed number) lines (line_short seed number small few) in omega (arith, whole, short)) (lines_end (body_line seed number) (line_start seed number) lines (line_ended seed number))
+    body_right (repeated (numbered_line seed number) lines) (let whole = lines_short (numbered_line seed number) lines (line_short seed number small few) in omega (arith, whole, short)) (lines_end (numbered_line seed number) (line_start seed number) lines (line_ended seed number))
 
 -- ---- the message
 private_enough : (net : Bool) → (net || not net) ≡ true
@@ -196,7 +196,7 @@ module _ (seed now : ℕ) (b : Board) (k : ℕ) (ok : IsBoard b) (small : seed <
       (and_from (is_text 36 m.from && is_text 36 m.to) (is_empty_or is_address [] && is_empty_or is_address []) (and_from (is_text 36 m.from) (is_text 36 m.to) own_text (recipient_text b (draws_of seed k b).recipient ok)) refl)
       (and_from (is_empty_or (is_text 80) [] && is_empty_or (is_text 80) m.replyid) (is_empty_or (is_text 72) m.subject) (and_from (is_empty_or (is_text 80) []) (is_empty_or (is_text 80) m.replyid) msgid reply) subject)
 
-  pub may_hold : IsTyped (next_post seed now b k).1 → MayHold (kind_of (next_post seed now b k).0 b) (next_post seed now b k).1
+  pub may_hold : IsTyped (next_post seed now b k).1 → MayHold (kind_of_place (next_post seed now b k).0 b) (next_post seed now b k).1
   may_hold typed =
       let lines : (draws_of seed k b).lines ≤ 8 = let below = drawn_below seed (4 * k + 4) 8 (omega arith) in omega (arith, below) in
-      tested_holds (kind_of (next_post seed now b k).0 b) (next_post seed now b k).1 typed texts_right (body_is seed (k + 1) (draws_of seed k b).lines small (omega (arith, few)) lines) (private_enough (is_net (kind_of (next_post seed now b k).0 b)))
+      tested_holds (kind_of_place (next_post seed now b k).0 b) (next_post seed now b k).1 typed texts_right (body_is seed (k + 1) (draws_of seed k b).lines small (omega (arith, few)) lines) (private_enough (is_net (kind_of_place (next_post seed now b k).0 b)))

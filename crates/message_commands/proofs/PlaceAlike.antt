@@ -12,7 +12,7 @@ use Rattle.jam_layout.specs.Outlines.{outline, slot_outline}
 use Rattle.jam_layout.specs.declared.conference.Conference.{Conference}
 use Rattle.mail_board.specs.Held.{AreAlike}
 use Rattle.mail_board.specs.Readers.{place_of}
-use Rattle.message_commands.specs.Import.{kind_of, slot_count}
+use Rattle.message_commands.specs.Import.{kind_of_place, slot_count}
 
 -- the board of a ledger alone
 abbrev pub bare : Ledger → Board
@@ -29,8 +29,8 @@ module _ (a b : Board) (alike : AreAlike a b) where
   pub place_alike : (conference : ℕ) → place_of conference a ≡ place_of conference b
   place_alike conference = ap (λ (l : Ledger). place_of conference (bare l)) (alike_ledger a b alike)
 
-  pub kind_alike : (place : ℕ) → kind_of place a ≡ kind_of place b
-  kind_alike place = ap (λ (l : Ledger). kind_of place (bare l)) (alike_ledger a b alike)
+  pub kind_alike : (place : ℕ) → kind_of_place place a ≡ kind_of_place place b
+  kind_alike place = ap (λ (l : Ledger). kind_of_place place (bare l)) (alike_ledger a b alike)
 
   pub count_alike : (place : ℕ) → slot_count place a ≡ slot_count place b
   count_alike place = sym (count_outline place a) ∙ (ap (slot_count place) alike ∙ count_outline place b)

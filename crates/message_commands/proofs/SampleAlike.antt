@@ -29,7 +29,7 @@ use Rattle.shelf_files.specs.declared.refusal.Refusal.TheVariants.{Count, Size}
 use Rattle.message_commands.proofs.Exits.{carried}
 use Rattle.message_commands.proofs.PlaceAlike.{bare, kind_alike}
 use Rattle.message_commands.specs.Draws.{draws_of}
-use Rattle.message_commands.specs.Sample.{last_msgid, recipient_name, replyid_of, sample_refusals, sample_turn, sampled, sampled_line, sampled_message, sampled_post, sampled_posts, sampling, slot_counts, slots_case}
+use Rattle.message_commands.specs.Sample.{last_msgid, recipient_name, drawn_replyid, sample_refusals, sample_turn, sampled, sampled_line, sampled_message, sampled_post, sampled_posts, sampling, slot_counts, slots_case}
 use Rattle.message_commands.specs.declared.draws.Draws.{Draws}
 
 -- ---- the last message of a place
@@ -53,7 +53,7 @@ module _ (a b : Board) (alike : AreAlike a b) where
   message_alike : (seed now number : ℕ) (d : Draws) → sampled_message seed now number d a ≡ sampled_message seed now number d b
   message_alike seed now number d =
       let to : recipient_name d.recipient a ≡ recipient_name d.recipient b = ap (λ (l : Ledger). recipient_name d.recipient (bare l)) (alike_ledger a b alike) in
-      let replyid : replyid_of d a ≡ replyid_of d b = λ i. if d.reply == 0 then last_alike d.place i else [] in
+      let replyid : drawn_replyid d a ≡ drawn_replyid d b = λ i. if d.reply == 0 then last_alike d.place i else [] in
       λ i. record (sampled_message seed now number d b) { to = to i; replyid = replyid i; private = is_net (kind_alike a b alike d.place i) }
 
   post_alike : (seed now behind : ℕ) → sampled_post seed now behind a ≡ sampled_post seed now behind b

@@ -15,7 +15,7 @@ use Rattle.jam_records.specs.declared.message.Kind.TheVariants.{Local}
 use Rattle.jam_records.specs.declared.message.Message.{Message}
 use Rattle.mail_board.specs.Changes.{Fits}
 use Rattle.mail_board.specs.declared.change.Change.TheVariants.{Spread}
-use Rattle.message_commands.specs.Import.{kind_of}
+use Rattle.message_commands.specs.Import.{kind_of_place}
 use Rattle.board_layout.specs.Lookups.{slots_in}
 use Rattle.board_layout.proofs.BoardLookups.{few_in_place}
 use Rattle.packet_verdicts.proofs.PostLists.{few_in}
@@ -48,7 +48,7 @@ small_message kind m is = let body = is.body in omega (arith, size_at_most kind 
 
 -- the conference of the place of a post may hold its message
 HoldsPost : Board → ℕ × Message → Type 0
-HoldsPost b p = MayHold (kind_of p.0 b) p.1
+HoldsPost b p = MayHold (kind_of_place p.0 b) p.1
 
 module _ (seed now : ℕ) (b : Board) (ok : IsBoard b) (small : seed < 2 ^ 32) where
   all_hold : (n : ℕ) → n ≤ 5000 → All IsTypedPost (sampled_posts seed now b n) → All (HoldsPost b) (sampled_posts seed now b n)
@@ -62,9 +62,9 @@ module _ (seed now : ℕ) (b : Board) (ok : IsBoard b) (small : seed < 2 ^ 32) w
   held : (n : ℕ) → n ≤ 5000 → All IsTypedPost (sampled_posts seed now b n) → (place : ℕ) (c : SetupConference) → slice_get b.ledger.setup.conferences place ≡ Some c → All (MayHold c.kind) (posts_in place (sampled_posts seed now b n))
   unfolding HoldsPost
   held n few typed place c is =
-      let kind : kind_of place b ≡ c.kind = ap (λ o. option_map_or (λ (c : SetupConference). c.kind) o Local) is in
+      let kind : kind_of_place place b ≡ c.kind = ap (λ o. option_map_or (λ (c : SetupConference). c.kind) o Local) is in
       held_in c.kind place (sampled_posts seed now b n)
-      (All-weaker (HoldsPost b) (MayHoldIn c.kind place) (λ p holds same. subst (λ (k : Kind). MayHold k p.1) (ap (λ (j : ℕ). kind_of j b) same ∙ kind) holds) (sampled_posts seed now b n) (all_hold n few typed))
+      (All-weaker (HoldsPost b) (MayHoldIn c.kind place) (λ p holds same. subst (λ (k : Kind). MayHold k p.1) (ap (λ (j : ℕ). kind_of_place j b) same ∙ kind) holds) (sampled_posts seed now b n) (all_hold n few typed))
 
   -- ---- the size
   one_grows : (n : ℕ) → n < 5000 → IsTypedPost (next_post seed now b n)
@@ -78,8 +78,8 @@ module _ (seed now : ℕ) (b : Board) (ok : IsBoard b) (small : seed < 2 ^ 32) w
       let c : SetupConference = get_or b.ledger.setup.conferences place no_conference in
       let is : slice_get b.ledger.setup.conferences place ≡ Some c = slice_get-get_or b.ledger.setup.conferences place no_conference within in
       let low : number < 10 ^ 5 = omega (arith, spread_count b posts place ok within, few_in place posts, posts_count seed now b n, few_in_place b place ok, few) in
-      let holds : MayHold (kind_of place b) m = may_hold seed now b n ok small few typed in
-      omega (arith, spread_grows b posts place m ok within, small_message (kind_of place b) (identified (msgid_in place b number) m) (holds (msgid_in place b number) (ids b place c number ok is low)))
+      let holds : MayHold (kind_of_place place b) m = may_hold seed now b n ok small few typed in
+      omega (arith, spread_grows b posts place m ok within, small_message (kind_of_place place b) (identified (msgid_in place b number) m) (holds (msgid_in place b number) (ids b place c number ok is low)))
 
   grows : (n : ℕ) → n ≤ 5000 → All IsTypedPost (sampled_posts seed now b n) → board_size (spread (sampled_posts seed now b n) b) ≤ board_size (spread [] b) + 16874 * n
   unfolding sampled_posts

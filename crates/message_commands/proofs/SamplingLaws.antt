@@ -11,7 +11,7 @@ use Rattle.jam_records.specs.declared.message.Message.{Message}
 use Rattle.packet_verdicts.proofs.PostLists.{few_in, posts_hit, posts_miss}
 use Rattle.post_changes.specs.Posted.{posts_in, spread}
 use Rattle.message_commands.proofs.SampleLists.{next_post, no_msgids, no_posts, one_more}
-use Rattle.message_commands.specs.Draws.{draws_of, number_of}
+use Rattle.message_commands.specs.Draws.{draws_of, drawn_number}
 use Rattle.message_commands.specs.Sample.{sampled_message, sampled_posts}
 use Rattle.message_commands.specs.Sampling.{IsSampling}
 use Rattle.packet_verdicts.specs.Typed.{IsTypedPost}
@@ -24,9 +24,9 @@ use Rattle.jam_layout.specs.Messages.{IsTyped}
 none_posted : (place : ℕ) → place < 64 → ◌≡◌ {A = ℕ} (get_or (replicate 64 0) place 0) 0
 none_posted place within = All-get_or (λ (n : ℕ). n ≡ 0) (replicate 64 0) place 0 (omega (arith, within, length-replicate {A = ℕ} 64 0)) (All-replicate (λ (n : ℕ). n ≡ 0) 64 0 refl)
 
-zeroth : (seed n : ℕ) → n ≡ 0 → number_of seed (4 * n) ≡ seed
-unfolding number_of
-zeroth seed n none = ap (λ m. number_of seed (4 * m)) none
+zeroth : (seed n : ℕ) → n ≡ 0 → drawn_number seed (4 * n) ≡ seed
+unfolding drawn_number
+zeroth seed n none = ap (λ m. drawn_number seed (4 * m)) none
 
 pub no_sampling : (b : Board) (s : Sampling) → s.numbers.last ≡ s.seed → s.posts ≡ [] → s.posted.items ≡ replicate 64 0 → IsSampling b s
 no_sampling b s last none zeros = record {
@@ -88,12 +88,12 @@ module _ (b : Board) (s : Sampling) (known : IsSampling b s) where
               get_or-set_other s.posted.items k place (n + 1) 0 (λ e. other (sym same ∙ sym e)) ∙ (known.counts place low ∙ sym (ap length (posts_miss place d.place s.posts m (ne_eqb d.place place other))))
         ]
 
-    pub sampling_more : (posts : List (ℕ × Message)) → numbers.last ≡ number_of s.seed (4 * (length s.posts + 1)) → IsTyped m → posts ≡ s.posts ++ (d.place, m) ∷ []
+    pub sampling_more : (posts : List (ℕ × Message)) → numbers.last ≡ drawn_number s.seed (4 * (length s.posts + 1)) → IsTyped m → posts ≡ s.posts ++ (d.place, m) ∷ []
         → IsSampling b record { seed = s.seed; moment = s.moment; numbers = numbers; posts = posts; posted = with_item s.posted k (n + 1) }
     unfolding more
     sampling_more posts number typed is =
         let all : IsSampling b record { seed = s.seed; moment = s.moment; numbers = numbers; posts = s.posts ++ (d.place, m) ∷ []; posted = with_item s.posted k (n + 1) } = record {
-          number = number ∙ ap (λ (j : ℕ). number_of s.seed (4 * j)) (sym more_count);
+          number = number ∙ ap (λ (j : ℕ). drawn_number s.seed (4 * j)) (sym more_count);
           posts = more_is;
           places = length-set s.posted.items k (n + 1) ∙ known.places;
           counts = counts;

@@ -4,17 +4,17 @@ use Rattle.board_layout.specs.Board.{Board}
 use Rattle.message_commands.specs.declared.draws.Draws.{Draws}
 
 -- the number that comes behind another
-abbrev pub next_number : ℕ → ℕ
-next_number x = (1664525 * x + 1013904223) % 2 ^ 32
+abbrev pub next_drawn_number : ℕ → ℕ
+next_drawn_number x = (1664525 * x + 1013904223) % 2 ^ 32
 
 -- the number x(k) of a seed, which is x(0)
-unfoldable pub number_of : ℕ → ℕ → ℕ
-number_of seed zero = seed
-number_of seed (suc k) = next_number (number_of seed k)
+unfoldable pub drawn_number : ℕ → ℕ → ℕ
+drawn_number seed zero = seed
+drawn_number seed (suc k) = next_drawn_number (drawn_number seed k)
 
 -- the draw below m that x(k) gives
 abbrev pub draw_of : ℕ → ℕ → ℕ → ℕ
-draw_of seed k m = (number_of seed k / 65536) % m
+draw_of seed k m = (drawn_number seed k / 65536) % m
 
 -- the four draws for the message that comes behind so many others, on a board
 abbrev pub draws_of : ℕ → ℕ → Board → Draws

@@ -43,8 +43,8 @@ imported_message kind now entry = record {
 }
 
 -- the kind of the conference in a place that has one
-abbrev pub kind_of : ℕ → Board → Kind
-kind_of place b = option_map_or (λ c. c.kind) (slice_get b.ledger.setup.conferences place) Local
+abbrev pub kind_of_place : ℕ → Board → Kind
+kind_of_place place b = option_map_or (λ c. c.kind) (slice_get b.ledger.setup.conferences place) Local
 
 -- how many slots it has
 abbrev pub slot_count : ℕ → Board → ℕ
@@ -52,7 +52,7 @@ slot_count place b = option_map_or (λ c. length c.slots) (slice_get b.conferenc
 
 -- the messages of a sheet
 abbrev pub imported_messages : ℕ → ℕ → Board → List Sheet → List Message
-imported_messages now place b entries = map (imported_message (kind_of place b) now) entries
+imported_messages now place b entries = map (imported_message (kind_of_place place b) now) entries
 
 -- why messages aren't appended in a place, in order
 abbrev pub import_refusals : ℕ → List Message → Board → List (Bool × Refusal)

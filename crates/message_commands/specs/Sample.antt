@@ -11,7 +11,7 @@ use Rattle.board_layout.specs.Valid.{board_limit}
 use Rattle.entry_runs.specs.Door.{Act}
 use Rattle.jam_layout.specs.Marks.{is_net}
 use Rattle.jam_records.specs.declared.message.Message.{Message}
-use Rattle.message_commands.specs.Import.{kind_of}
+use Rattle.message_commands.specs.Import.{kind_of_place}
 use Rattle.packet_verdicts.specs.Views.{msgid_at}
 use Rattle.post_changes.specs.Posted.{spread}
 use Rattle.message_commands.specs.Draws.{draws_of}
@@ -30,15 +30,15 @@ abbrev pub last_msgid : ℕ → Board → List ℕ
 last_msgid place b = msgid_at b place (length (slots_in b place))
 
 -- where the third draw is 0, the message answers the last one of its conference
-abbrev pub replyid_of : Draws → Board → List ℕ
-replyid_of d b = if d.reply == 0 then last_msgid d.place b else []
+abbrev pub drawn_replyid : Draws → Board → List ℕ
+drawn_replyid d b = if d.reply == 0 then last_msgid d.place b else []
 
 abbrev pub subject_of : ℕ → List ℕ
 subject_of number = codes "Sample " ++ decimal number
 
 -- a line of the message of a number, as it is stored
-abbrev pub body_line : ℕ → ℕ → List ℕ
-body_line seed number = codes "Line " ++ (decimal number ++ (codes " of seed " ++ (decimal seed ++ 0x0D ∷ [])))
+abbrev pub numbered_line : ℕ → ℕ → List ℕ
+numbered_line seed number = codes "Line " ++ (decimal number ++ (codes " of seed " ++ (decimal seed ++ 0x0D ∷ [])))
 
 -- a line so many times
 abbrev pub repeated : List ℕ → ℕ → List ℕ
@@ -52,15 +52,15 @@ sampled_message seed now number d b = record {
   to = recipient_name d.recipient b;
   subject = subject_of number;
   msgid = [];
-  replyid = replyid_of d b;
+  replyid = drawn_replyid d b;
   origin = [];
   destination = [];
-  body = repeated (body_line seed number) d.lines;
+  body = repeated (numbered_line seed number) d.lines;
   written = 1000000000 + number;
   received = 0;
   processed = now;
   local = false;
-  private = is_net (kind_of d.place b);
+  private = is_net (kind_of_place d.place b);
   seen = false;
   deleted = false;
 }

@@ -10,7 +10,7 @@ use Rattle.mail_board.specs.declared.change.Change.{Change}
 use Rattle.mail_board.specs.declared.change.Change.TheVariants.{Spread}
 use Rattle.packet_verdicts.specs.Typed.{IsTypedPost}
 use Rattle.post_changes.specs.Posted.{posts_in}
-use Rattle.message_commands.specs.Draws.{number_of}
+use Rattle.message_commands.specs.Draws.{drawn_number}
 use Rattle.message_commands.specs.Sample.{sample_turn, sampled_line, sampled_posts}
 use Rattle.message_commands.specs.declared.posts.Sampling.{Sampling}
 use Rattle.shelf_files.specs.Halts.{done}
@@ -18,7 +18,7 @@ use Rattle.shelf_files.specs.Halts.{done}
 -- the posts are the first ones of the sample, the last number is that of the last of them, and the posts of each place
 -- are counted
 pub record IsSampling (b : Board) (s : Sampling) : Type 0 where
-  pub number : s.numbers.last ≡ number_of s.seed (4 * length s.posts)
+  pub number : s.numbers.last ≡ drawn_number s.seed (4 * length s.posts)
   pub posts : s.posts ≡ sampled_posts s.seed s.moment b (length s.posts)
   pub places : length s.posted.items ≡ 64
   pub counts : (place : ℕ) → place < 64 → slice_index s.posted.items place ≡ length (posts_in place s.posts)

@@ -1,7 +1,7 @@
 // What is drawn for the messages of a sample.
 ghost use Rattle.std.specs.Prelude.{◌≡◌, ◌≤◌, ◌<◌, ◌+◌, ◌*◌, ◌/◌, ◌%◌, ℕ, length};
 ghost use Rattle.board_layout.specs.Valid.{IsBoard};
-ghost use Rattle.message_commands.specs.Draws.{draws_of, next_number, number_of};
+ghost use Rattle.message_commands.specs.Draws.{draws_of, next_drawn_number, drawn_number};
 
 use board_layout::StoredBoard;
 
@@ -36,7 +36,7 @@ impl Numbers {
     /// A draw below a number that isn't 0, by the next number.
     fn draw(&mut self, below: u32) -> u32
         requires { 0 < below }
-        ensures number { self.new.last ≡ next_number self.old.last }
+        ensures number { self.new.last ≡ next_drawn_number self.old.last }
         ensures draw { result ≡ (self.new.last / 65536) % below }
         ensures below { result < below }
     {
@@ -47,8 +47,8 @@ impl Numbers {
 
     /// The draws for the message that comes behind so many others of a sample.
     pub(crate) fn draws(&mut self, board: &StoredBoard) -> Draws
-        ensures draws { (seed behind : ℕ) → self.old.last ≡ number_of seed (4 * behind) → result ≡ draws_of seed behind board.now }
-        ensures number { (seed behind : ℕ) → self.old.last ≡ number_of seed (4 * behind) → self.new.last ≡ number_of seed (4 * (behind + 1)) }
+        ensures draws { (seed behind : ℕ) → self.old.last ≡ drawn_number seed (4 * behind) → result ≡ draws_of seed behind board.now }
+        ensures number { (seed behind : ℕ) → self.old.last ≡ drawn_number seed (4 * behind) → self.new.last ≡ drawn_number seed (4 * (behind + 1)) }
         ensures place { result.place < length board.now.ledger.setup.conferences }
         ensures lines { result.lines ≤ 8 }
         ensures board { IsBoard board.now }

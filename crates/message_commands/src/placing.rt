@@ -3,7 +3,7 @@ ghost use Rattle.std.specs.Prelude.{◌≡◌, ◌<◌, Some, None, length, IfOk
 ghost use Rattle.board_commands.specs.declared.halt.BoardHalt.TheVariants.{Refused};
 ghost use Rattle.board_layout.specs.Valid.{IsBoard};
 ghost use Rattle.mail_board.specs.Readers.{place_of};
-ghost use Rattle.message_commands.specs.Import.{kind_of};
+ghost use Rattle.message_commands.specs.Import.{kind_of_place};
 ghost use Rattle.shelf_files.specs.declared.refusal.Refusal.TheVariants as refusal;
 
 use board_commands::BoardHalt;
@@ -38,7 +38,7 @@ pub fn place_in(board: &Board, conference: u32) -> Result<u8, BoardHalt>
 /// The kind of the conference in a place that is there.
 pub(crate) fn kind_in(board: &Board, place: u8) -> Kind
     requires { place < length board.now.board.conferences }
-    ensures { result ≡ kind_of place board.now.board }
+    ensures { result ≡ kind_of_place place board.now.board }
 {
     match board.setup().conferences.get(usize::from(place)) {
         Some(conference) => conference.kind,

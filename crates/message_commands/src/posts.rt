@@ -5,9 +5,9 @@ ghost use Rattle.board_layout.specs.Valid.{IsBoard};
 ghost use Rattle.jam_layout.specs.Marks.{is_net as is_net_kind};
 ghost use Rattle.jam_layout.specs.Messages.{IsTyped};
 ghost use Rattle.jam_records.specs.declared.message.Message as Messages;
-ghost use Rattle.message_commands.specs.Import.{kind_of};
+ghost use Rattle.message_commands.specs.Import.{kind_of_place};
 ghost use Rattle.post_changes.specs.Posted.{posts_in, spread};
-ghost use Rattle.message_commands.specs.Sample.{replyid_of as replyid_with, sampled_message, sampled_posts};
+ghost use Rattle.message_commands.specs.Sample.{drawn_replyid as replyid_with, sampled_message, sampled_posts};
 ghost use Rattle.message_commands.specs.Sampling.{IsSampling};
 
 use crate::draws::{Draws, Numbers};
@@ -45,7 +45,7 @@ pub(crate) struct Sampling {
 fn is_net(board: &StoredBoard, place: u8) -> bool
     requires board { IsBoard board.now }
     requires place { place < length board.now.ledger.setup.conferences }
-    ensures { result ≡ is_net_kind (kind_of place board.now) }
+    ensures { result ≡ is_net_kind (kind_of_place place board.now) }
 {
     match board.conference_of(place).kind {
         Kind::Local => false,

@@ -1,6 +1,6 @@
 // The texts of a message of a sample.
 ghost use Rattle.std.specs.Prelude.{◌≡◌, IfOk};
-ghost use Rattle.message_commands.specs.Sample.{body_line as line_with, recipient_name as name_of, repeated, subject_of as subject_with};
+ghost use Rattle.message_commands.specs.Sample.{numbered_line as line_with, recipient_name as name_of, repeated, subject_of as subject_with};
 
 use board_layout::StoredBoard;
 use byte_lists::Bytes;

@@ -8,7 +8,7 @@ use Rattle.qwk_blocks.specs.declared.message.QwkMessage.{QwkMessage}
 use Rattle.jam_records.specs.declared.message.Message.{Message}
 use Rattle.setup_file.specs.Texts.{is_user_name, is_name_byte, has_bare_ends}
 use Rattle.jam_layout.proofs.AddressLaws.{is_test}
-use Rattle.jam_layout.proofs.BoolTests.{or_false, not_not}
+use Rattle.damage_rules.proofs.BoolTests.{or_false, not_not}
 use Rattle.jam_layout.specs.Address.{is_address}
 use Rattle.jam_layout.specs.Fields.{is_text}
 use Rattle.jam_layout.specs.Messages.{EmptyOr, IsBody, IsMessage, IsTyped}
@@ -17,7 +17,7 @@ use Rattle.netmail_rules.specs.Draft.{is_net_view, is_netmail, netmail_line, fir
 use Rattle.netmail_rules.specs.Fits.{IsView, HasShortTexts, with_msgid}
 use Rattle.netmail_rules.specs.Verdict.{unless_refused, plain_verdict, verdict}
 use Rattle.netmail_rules.specs.Rules.{first_refusing, new_bytes, rules_before, rules_in}
-use Rattle.netmail_rules.specs.Status.{private_status, comment_status}
+use Rattle.qwk_blocks.specs.Status.{private_status, comment_status}
 use Rattle.netmail_rules.specs.declared.net_line.NetLine.{NetLine}
 use Rattle.netmail_rules.specs.declared.rule.Rule.{Rule}
 use Rattle.netmail_rules.specs.declared.verdict.Verdict.TheVariants.{Post}

@@ -6,7 +6,7 @@ use Rattle.qwk_moments.specs.Moments.{moment_of}
 use Rattle.jam_records.specs.declared.message.Message.{Message}
 use Rattle.jam_layout.specs.Marks.{is_net}
 use Rattle.netmail_rules.specs.AddressLine.{net_line, stored_address}
-use Rattle.netmail_rules.specs.Status.{private_status, comment_status}
+use Rattle.qwk_blocks.specs.Status.{private_status, comment_status}
 use Rattle.netmail_rules.specs.declared.net_line.NetLine.{NetLine}
 use Rattle.netmail_rules.specs.declared.view.ConferenceView.{ConferenceView}
 use Rattle.netmail_rules.specs.declared.view.View.{View}

@@ -1,6 +1,5 @@
 pub mod AddressLine
 pub mod RuleWord
-pub mod Status
 pub mod Draft
 pub mod Rules
 pub mod Verdict

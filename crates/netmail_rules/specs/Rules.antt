@@ -8,7 +8,7 @@ use Rattle.jam_records.specs.declared.message.Slot.TheVariants.{Held}
 use Rattle.jam_layout.specs.Sizes.{slot_size}
 use Rattle.netmail_rules.specs.AddressLine.{is_plain}
 use Rattle.netmail_rules.specs.Draft.{is_netmail, netmail_line}
-use Rattle.netmail_rules.specs.Status.{private_status, comment_status, password_status}
+use Rattle.qwk_blocks.specs.Status.{private_status, comment_status, password_status}
 use Rattle.netmail_rules.specs.declared.net_line.NetLine.{NetLine}
 use Rattle.netmail_rules.specs.declared.rule.Rule.{Rule}
 use Rattle.netmail_rules.specs.declared.rule.Rule.TheVariants as rule
@@ -40,8 +40,8 @@ abbrev pub names_nobody : List ℕ → Bool
 names_nobody to = length to == 0 || not (is_plain to)
 
 -- no slot is left, or no room for the draft
-abbrev pub is_full : View → ConferenceView → Message → Bool
-is_full v c draft = nat_le 9999 c.slots || nat_lt v.room (new_bytes draft c.msgid_len)
+abbrev pub has_no_room : View → ConferenceView → Message → Bool
+has_no_room v c draft = nat_le 9999 c.slots || nat_lt v.room (new_bytes draft c.msgid_len)
 
 -- the rules before those that speak of the conference
 abbrev pub rules_before : View → QwkMessage → List (Rule × Bool)
@@ -65,7 +65,7 @@ rules_in v (Some c) m draft =
     ∷ (rule.Netuser, is_netmail v && not v.net)
     ∷ (rule.Address, is_netmail v && is_none (netmail_line v m))
     ∷ (rule.Zone, is_netmail v && not (has_zone v.zones (netmail_line v m)))
-    ∷ (rule.Full, is_full v c draft)
+    ∷ (rule.Full, has_no_room v c draft)
     ∷ []
 
 -- all rules of a message with this draft

@@ -1,8 +1,8 @@
 ghost use Rattle.std.specs.Prelude.{◌≡◌, ◌&&◌, not, Some};
 ghost use Rattle.std.specs.Str.{str_eq_ignore_ascii_case};
 ghost use Rattle.netmail_rules.specs.Draft.{netmail_line as netmail_line_of};
-ghost use Rattle.netmail_rules.specs.Rules.{first_refusing as first_refusing_of, is_its_number as is_its_number_of, has_zone as has_zone_of, names_nobody, is_full as is_full_of, rules_before as rules_before_of, rules_in as rules_in_of};
-ghost use Rattle.netmail_rules.specs.Status.{private_status, comment_status};
+ghost use Rattle.netmail_rules.specs.Rules.{first_refusing as first_refusing_of, is_its_number as is_its_number_of, has_zone as has_zone_of, names_nobody, has_no_room as is_full_of, rules_before as rules_before_of, rules_in as rules_in_of};
+ghost use Rattle.qwk_blocks.specs.Status.{private_status, comment_status};
 
 use crate::draft::is_netmail;
 use crate::net_line::{NetLine, is_plain};

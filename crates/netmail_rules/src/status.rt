@@ -1,6 +1,6 @@
 //! The status bytes of a message, by Lee's QWK Mail Packet File Layout of 1992.
 ghost use Rattle.std.specs.Prelude.{◌≡◌};
-ghost use Rattle.netmail_rules.specs.Status.{private_status, comment_status, password_status};
+ghost use Rattle.qwk_blocks.specs.Status.{private_status, comment_status, password_status};
 
 /// Whether the status is a private message's.
 pub(crate) fn is_private(status: u8) -> bool

@@ -9,7 +9,7 @@ use Rattle.board_changes.proofs.GatherLaws.{gathered_kept, gathered_rest}
 use Rattle.board_changes.proofs.LeadLaws.{leads_next, places_count}
 use Rattle.board_changes.proofs.PlaceSteps.{step_joins}
 use Rattle.board_layout.proofs.BoardLookups.{conferences_count}
-use Rattle.board_changes.specs.Change.{Changes, Leads}
+use Rattle.board_changes.specs.Change.{ChangesBase, Leads}
 use Rattle.board_changes.specs.Gathered.{Gathered, Joins}
 use Rattle.board_changes.specs.Outlined.{ChangesEach, GatheredEach, KeepsEach, LeadsEach}
 use Rattle.board_layout.proofs.OneOutline.{alike_ledger, alike_user, alike_valid}
@@ -37,8 +37,8 @@ use Rattle.offer_changes.proofs.OfferLaws.{offer_leads, offer_shapes, offer_ther
 use Rattle.offer_changes.proofs.PutLaws.{gathered_user}
 use Rattle.board_changes.proofs.StepLaws.{change_suits}
 use Rattle.offer_changes.proofs.UserLaws.{user_there}
-use Rattle.offer_changes.specs.Changed.{acknowledged, is_above, offer_in, offered, offered_to, read_offer, read_up_to, with_offer, without_offer}
-use Rattle.board_changes.specs.Steps.{base_after, patches_of}
+use Rattle.offer_changes.specs.Changed.{acknowledged, is_high_above, offer_in, offer_made, offered_to, read_offer, read_up_to, with_offer, without_offer}
+use Rattle.board_changes.specs.Steps.{base_after, patches_or_none}
 
 -- ---- an offer
 module _ (b : Board) (id : ℕ) (u : User) (highs : List ℕ) (user : user_of id b ≡ Some u) (next : IsBoard (offered_to id highs u b)) where
@@ -48,7 +48,7 @@ module _ (b : Board) (id : ℕ) (u : User) (highs : List ℕ) (user : user_of id
       alike_valid (offered_to id highs u other) (offered_to id highs u b) (ap (offered_to id highs u) alike) next
       (subst (λ (s : List Shape). AllZip IsConference s other.conferences) (sym (offer_shapes other id u highs here)) valid.conferences)
 
-  pub offered_each : (intent : List Patch) → intent ≡ user_puts (id - 1) (with_offer highs u) b.ledger → LeadsEach b (offered id highs) intent
+  pub offered_each : (intent : List Patch) → intent ≡ user_puts (id - 1) (with_offer highs u) b.ledger → LeadsEach b (offer_made id highs) intent
   offered_each intent is = record {
     leads = λ other valid alike.
         let same : user_of id other ≡ Some u = alike_user other b alike id ∙ user in
@@ -58,12 +58,12 @@ module _ (b : Board) (id : ℕ) (u : User) (highs : List ℕ) (user : user_of id
   }
 
 -- ---- one base that a user acknowledges, where the high is above his pointer
-module _ (id : ℕ) (name : List ℕ) (now high : ℕ) (base : Contents) (above : is_above high (pointer_of id base.shape.readers base.conference.pointers) ≡ true) where
-  above_alike : (other : Contents) → outlined other ≡ outlined base → is_above high (pointer_of id other.shape.readers other.conference.pointers) ≡ true
-  above_alike other alike = ap (λ (c : Contents). is_above high (pointer_of id c.shape.readers c.conference.pointers)) alike ∙ above
+module _ (id : ℕ) (name : List ℕ) (now high : ℕ) (base : Contents) (above : is_high_above high (pointer_of id base.shape.readers base.conference.pointers) ≡ true) where
+  above_alike : (other : Contents) → outlined other ≡ outlined base → is_high_above high (pointer_of id other.shape.readers other.conference.pointers) ≡ true
+  above_alike other alike = ap (λ (c : Contents). is_high_above high (pointer_of id c.shape.readers c.conference.pointers)) alike ∙ above
 
   read_alike : (other : Contents) → outlined other ≡ outlined base → read_up_to id name now high other ≡ with_acknowledged id name high now other
-  read_alike other alike = cond-true (is_above high (pointer_of id other.shape.readers other.conference.pointers)) (with_acknowledged id name high now other) other (above_alike other alike)
+  read_alike other alike = cond-true (is_high_above high (pointer_of id other.shape.readers other.conference.pointers)) (with_acknowledged id name high now other) other (above_alike other alike)
 
   -- what the outline shows after it
   read_outline : (other : Contents) → outlined other ≡ outlined base → outlined (read_up_to id name now high other) ≡ with_acknowledged id name high now (outlined base)
@@ -77,7 +77,7 @@ module _ (id : ℕ) (name : List ℕ) (now high : ℕ) (base : Contents) (above 
 
 pub above_each : (id : ℕ) (name : List ℕ) (now high : ℕ) (base : Contents) (pointer : ℕ) (patches : List Patch) → Some pointer ≡ pointer_of id base.shape.readers base.conference.pointers → pointer < high
     → TurnsEach base (with_acknowledged id name high now) patches → ChangesEach base (read_up_to id name now high) patches
-above_each id name now high base pointer patches is above each = read_each id name now high base (ap (is_above high) (sym is) ∙ lt-ltb pointer high above) patches each
+above_each id name now high base pointer patches is above each = read_each id name now high base (ap (is_high_above high) (sym is) ∙ lt-ltb pointer high above) patches each
 
 -- ---- an acknowledgement
 module _ (b : Board) (id now : ℕ) (u : User) (o : OpenOffer) (user : user_of id b ≡ Some u) (found : offer_in o.number u.offers ≡ Some o) (ok : IsBoard b) (small : now < 2 ^ 32) where
@@ -99,19 +99,19 @@ module _ (b : Board) (id now : ℕ) (u : User) (o : OpenOffer) (user : user_of i
 
   -- one place more
   module _ (place : ℕ) (base : Contents) (done : List Patch) (change : Option BaseChange) (here : slice_get (contents_of b) place ≡ Some base) (is : base_after base change ≡ read_up_to id u.name now (get_or o.highs place 0) base)
-      (changes : IfSome change (Changes base)) (each : ChangesEach base (read_up_to id u.name now (get_or o.highs place 0)) (patches_of change)) (so_far : GatheredEach b (read_offer id now u o) place done) where
-    suits : SuitsIntent base.shape.place (files_in (read_up_to id u.name now (get_or o.highs place 0) base)) (patches_of change)
+      (changes : IfSome change (ChangesBase base)) (each : ChangesEach base (read_up_to id u.name now (get_or o.highs place 0)) (patches_or_none change)) (so_far : GatheredEach b (read_offer id now u o) place done) where
+    suits : SuitsIntent base.shape.place (files_in (read_up_to id u.name now (get_or o.highs place 0) base)) (patches_or_none change)
     suits = change_suits base (read_up_to id u.name now (get_or o.highs place 0) base) change changes is
 
-    pub read_joins : Joins done (patches_of change)
+    pub read_joins : Joins done (patches_or_none change)
     read_joins =
         let there = there_each b refl in
-        step_joins b (read_offer id now u o b) place base (read_up_to id u.name now (get_or o.highs place 0) base) done (patches_of change) ok (read_is b id now u o there ok found small) here
+        step_joins b (read_offer id now u o b) place base (read_up_to id u.name now (get_or o.highs place 0) base) done (patches_or_none change) ok (read_is b id now u o there ok found small) here
         (base_read b id now u o there ok place base here) (so_far.gathered b ok refl) (each.files.turns base refl) suits
 
-    pub read_gathers : GatheredEach b (read_offer id now u o) (place + 1) (done ++ patches_of change)
+    pub read_gathers : GatheredEach b (read_offer id now u o) (place + 1) (done ++ patches_or_none change)
     read_gathers =
-        step_each b (read_offer id now u o) place base (read_up_to id u.name now (get_or o.highs place 0)) done (patches_of change) here read_keeps
+        step_each b (read_offer id now u o) place base (read_up_to id u.name now (get_or o.highs place 0)) done (patches_or_none change) here read_keeps
         (λ other valid alike one is. base_read other id now u o (there_each other alike) valid place one is) each suits so_far
 
   pub read_leads : (intent : List Patch) → GatheredEach b (read_offer id now u o) (length b.conferences) intent → LeadsEach b (read_offer id now u o) intent

@@ -8,7 +8,7 @@ use Rattle.offer_changes.proofs.AcknowledgeLaws.{acknowledged_board}
 use Rattle.offer_changes.proofs.OfferLaws.{offer_is, offer_may, offer_there}
 use Rattle.offer_changes.proofs.UserLaws.{user_there}
 use Rattle.board_layout.specs.Lookups.{user_of}
-use Rattle.offer_changes.specs.Changed.{acknowledged, offer_in, offered, HasOffer, HasUser, MayOffer}
+use Rattle.offer_changes.specs.Changed.{acknowledged, offer_in, offer_made, HasOffer, HasUser, MayOffer}
 use Rattle.offer_changes.specs.Highs.{may_have}
 
 -- ---- the user
@@ -23,7 +23,7 @@ pub offer_has : (id packet : ℕ) (b : Board) → HasOffer id packet b → HasUs
 offer_has id packet b has = some_and (λ (u : User). IsSome (offer_in packet u.offers)) (user_of id b) has
 
 -- ---- an offer
-pub offer_fits : (b : Board) (id : ℕ) (highs : List ℕ) → IsBoard b → (u : User) (passes : Bool) → user_of id b ≡ Some u → u.last < 0xFFFF_FFFF → passes ≡ may_have b u highs → IsTrue passes ↔ (MayOffer id b × IsBoard (offered id highs b))
+pub offer_fits : (b : Board) (id : ℕ) (highs : List ℕ) → IsBoard b → (u : User) (passes : Bool) → user_of id b ≡ Some u → u.last < 0xFFFF_FFFF → passes ≡ may_have b u highs → IsTrue passes ↔ (MayOffer id b × IsBoard (offer_made id highs b))
 offer_fits b id highs ok u passes here more is = (
   λ yes. (
     subst (λ (o : Option User). IsSomeAnd o (λ (v : User). v.last < 0xFFFF_FFFF)) (sym here) more,

@@ -16,7 +16,7 @@ use Rattle.board_ledger.specs.declared.ledger.Ledger.{Ledger}
 use Rattle.open_offers.specs.declared.offer.OpenOffer.{OpenOffer}
 use Rattle.board_ledger.specs.declared.user.User.{User}
 use Rattle.offer_changes.proofs.UserLaws.{Alike, AllAlike, OneHighEach, one_alike, same_names, same_record, same_shapes}
-use Rattle.offer_changes.specs.Changed.{with_user}
+use Rattle.offer_changes.specs.Changed.{with_user_replaced}
 
 module _ (l : Ledger) (id : ℕ) (u v : User) (here : slice_get l.users (id - 1) ≡ Some u) (alike : Alike u v) where
   all_alike : AllAlike l.users (set l.users (id - 1) v)
@@ -25,11 +25,11 @@ module _ (l : Ledger) (id : ℕ) (u v : User) (here : slice_get l.users (id - 1)
   same_count : length (set l.users (id - 1) v) ≡ length l.users
   same_count = length-set l.users (id - 1) v
 
-  pub shapes_stay : shapes_of (with_user id v l) ≡ shapes_of l
+  pub shapes_stay : shapes_of (with_user_replaced id v l) ≡ shapes_of l
   shapes_stay = same_shapes l (set l.users (id - 1) v) 0 l.setup.conferences all_alike
 
   -- ---- validity
-  pub ledger_is : IsLedger l → IsUser (length l.setup.conferences) v → IsLedger (with_user id v l)
+  pub ledger_is : IsLedger l → IsUser (length l.setup.conferences) v → IsLedger (with_user_replaced id v l)
   ledger_is ok user = record {
     version = ok.version;
     setup = ok.setup;
@@ -45,7 +45,7 @@ module _ (l : Ledger) (id : ℕ) (u v : User) (here : slice_get l.users (id - 1)
   pub user_was : IsLedger l → IsUser (length l.setup.conferences) u
   user_was ok = all_at (IsUser (length l.setup.conferences)) l.users (id - 1) u here ok.users
 
-  pub user_is : IsLedger (with_user id v l) → IsUser (length l.setup.conferences) v
+  pub user_is : IsLedger (with_user_replaced id v l) → IsUser (length l.setup.conferences) v
   user_is ok = all_at (IsUser (length l.setup.conferences)) (set l.users (id - 1) v) (id - 1) v (set_there l.users (id - 1) u v here) ok.users
 
   pub was_each : IsLedger l → OneHighEach (length l.setup.conferences) u
@@ -55,5 +55,5 @@ module _ (l : Ledger) (id : ℕ) (u v : User) (here : slice_get l.users (id - 1)
   pub same_text : IsLedger l → OneHighEach (length l.setup.conferences) v → length (record_in l v) ≡ length (record_in l u)
   same_text ok each = same_record (length l.setup.conferences) u v alike (was_each ok) each
 
-  pub text_stays : IsLedger l → OneHighEach (length l.setup.conferences) v → length (ledger_text (with_user id v l)) ≡ length (ledger_text l)
+  pub text_stays : IsLedger l → OneHighEach (length l.setup.conferences) v → length (ledger_text (with_user_replaced id v l)) ≡ length (ledger_text l)
   text_stays ok each = put_length l (id - 1) u v here (same_text ok each)

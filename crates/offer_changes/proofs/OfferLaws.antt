@@ -32,7 +32,7 @@ use Rattle.offer_changes.proofs.OpenOffers.{latest_all, latest_fit, latest_has, 
 use Rattle.offer_changes.proofs.PutLaws.{gathered_user}
 use Rattle.offer_changes.proofs.UserLaws.{Alike, OneHighEach, user_there}
 use Rattle.board_layout.specs.Lookups.{user_of}
-use Rattle.offer_changes.specs.Changed.{for_user, latest, offered, offered_to, with_offer}
+use Rattle.offer_changes.specs.Changed.{for_user, latest, offer_made, offered_to, with_offer}
 use Rattle.offer_changes.specs.Highs.{may_have}
 
 -- ---- the user
@@ -63,7 +63,7 @@ small_highs (high ∷ highs) (shape ∷ shapes) (c ∷ conferences) all many fit
     All-cons IsU32 high highs (omega (arith, low, all.0.few)) (small_highs highs shapes conferences all.1 (omega (arith, many)) parts.1)
 
 -- ---- the board
-pub offer_there : (b : Board) (id : ℕ) (u : User) (highs : List ℕ) → user_of id b ≡ Some u → offered id highs b ≡ offered_to id highs u b
+pub offer_there : (b : Board) (id : ℕ) (u : User) (highs : List ℕ) → user_of id b ≡ Some u → offer_made id highs b ≡ offered_to id highs u b
 offer_there b id u highs here = ap (λ (o : Option User). for_user (offered_to id highs) o b) here
 
 module _ (b : Board) (id : ℕ) (u : User) (highs : List ℕ) (here : slice_get b.ledger.users (id - 1) ≡ Some u) where
@@ -141,7 +141,7 @@ module _ (b : Board) (id : ℕ) (u : User) (highs : List ℕ) (here : slice_get 
       leads_next b (offered_to id highs u b) patches ok next refl (subst (λ (k : ℕ). Gathered (IsLayout b) text old new k patches) (omega arith) all)
 
 -- the size of the board, where there is a high for each conference
-pub offered_size : (b : Board) (id : ℕ) (highs : List ℕ) → IsBoard b → length highs ≡ length b.conferences → board_size (offered id highs b) ≡ board_size b
+pub offered_size : (b : Board) (id : ℕ) (highs : List ℕ) → IsBoard b → length highs ≡ length b.conferences → board_size (offer_made id highs b) ≡ board_size b
 offered_size b id highs ok many = by (user_of id b) refl
   where
     by : (o : Option User) → user_of id b ≡ o → board_size (for_user (offered_to id highs) o b) ≡ board_size b

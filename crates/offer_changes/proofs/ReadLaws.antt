@@ -36,7 +36,7 @@ use Rattle.jam_records.specs.declared.message.Slot.{Slot}
 use Rattle.jam_records.specs.declared.message.Slot.TheVariants.{Gone, Held}
 use Rattle.jam_threads.specs.Links.{link_of}
 use Rattle.jam_threads.specs.declared.link.Link.{Link}
-use Rattle.offer_changes.specs.Changed.{all_read, is_above, read_up_to}
+use Rattle.offer_changes.specs.Changed.{all_read, is_high_above, read_up_to}
 
 -- ---- marks take no byte
 same_header : (m : Message) (now : ℕ) → header_size (record m { seen = true; received = now }) ≡ header_size m
@@ -125,7 +125,7 @@ module _ (id : ℕ) (name : List ℕ) (now : ℕ) (high : ℕ) (base : Contents)
 
   -- what holds of the base and of the one acknowledged
   pub read_either : (P : Contents → Type 0) → P base → P (with_acknowledged id name high now base) → P (read_up_to id name now high base)
-  read_either P without with = by (is_above high (pointer_of id base.shape.readers base.conference.pointers))
+  read_either P without with = by (is_high_above high (pointer_of id base.shape.readers base.conference.pointers))
     where
       by : (above : Bool) → P (cond above (with_acknowledged id name high now base) base)
       by true = with
@@ -149,7 +149,7 @@ module _ (id : ℕ) (name : List ℕ) (now : ℕ) (high : ℕ) (base : Contents)
   read_bytes = read_either (λ (c : Contents). base_size c ≡ base_size base) refl same_bytes
 
 -- up to 0 there is nothing to read
-none_above : (pointer : Option ℕ) → is_above 0 pointer ≡ false
+none_above : (pointer : Option ℕ) → is_high_above 0 pointer ≡ false
 none_above None = refl
 none_above (Some pointer) = le-ltb pointer 0 (omega arith)
 

@@ -28,8 +28,8 @@ abbrev pub HasOffer : ℕ → ℕ → Board → Type 0
 HasOffer id packet b = IsSomeAnd (user_of id b) (λ u. IsSome (offer_in packet u.offers))
 
 -- another user in place of the one of an id
-abbrev pub with_user : ℕ → User → Ledger → Ledger
-with_user id u l = with_user_at (id - 1) u l
+abbrev pub with_user_replaced : ℕ → User → Ledger → Ledger
+with_user_replaced id u l = with_user_at (id - 1) u l
 
 -- what is made of the user of an id, where there is one
 abbrev pub for_user : (User → Board → Board) → Option User → Board → Board
@@ -49,11 +49,11 @@ with_offer highs u = record u {
 }
 
 abbrev pub offered_to : ℕ → List ℕ → User → Board → Board
-offered_to id highs u b = record { ledger = with_user id (with_offer highs u) b.ledger; conferences = b.conferences }
+offered_to id highs u b = record { ledger = with_user_replaced id (with_offer highs u) b.ledger; conferences = b.conferences }
 
 -- the board on which one packet more is offered to the user of an id, with these highs
-abbrev pub offered : ℕ → List ℕ → Board → Board
-offered id highs b = for_user (offered_to id highs) (user_of id b) b
+abbrev pub offer_made : ℕ → List ℕ → Board → Board
+offer_made id highs b = for_user (offered_to id highs) (user_of id b) b
 
 -- ---- its acknowledgement
 -- the open offers but that of a number
@@ -65,14 +65,14 @@ abbrev pub without_offer : ℕ → User → User
 without_offer packet u = record u { offers = other_offers packet u.offers }
 
 -- a high is above a last-read pointer that there is
-abbrev pub is_above : ℕ → Option ℕ → Bool
-is_above high None = false
-is_above high (Some pointer) = nat_lt pointer high
+abbrev pub is_high_above : ℕ → Option ℕ → Bool
+is_high_above high None = false
+is_high_above high (Some pointer) = nat_lt pointer high
 
 -- the user of an id and a name has acknowledged a base up to a high at a moment, where the high is above his pointer
 abbrev pub read_up_to : ℕ → List ℕ → ℕ → ℕ → Contents → Contents
 read_up_to id name now high base =
-    if is_above high (pointer_of id base.shape.readers base.conference.pointers) then with_acknowledged id name high now base else base
+    if is_high_above high (pointer_of id base.shape.readers base.conference.pointers) then with_acknowledged id name high now base else base
 
 -- so he has each base, up to its high
 abbrev pub all_read : ℕ → List ℕ → ℕ → List Contents → List ℕ → List Contents
@@ -83,7 +83,7 @@ all_read id name now (base ∷ bases) (high ∷ highs) = read_up_to id name now 
 -- the user has acknowledged an open offer of his, which goes
 abbrev pub read_offer : ℕ → ℕ → User → OpenOffer → Board → Board
 read_offer id now u o b =
-    board_with (with_user id (without_offer o.number u) b.ledger) (all_read id u.name now (contents_of b) o.highs)
+    board_with (with_user_replaced id (without_offer o.number u) b.ledger) (all_read id u.name now (contents_of b) o.highs)
 
 -- so he has that of a number, where there is one
 abbrev pub read_by : ℕ → ℕ → ℕ → User → Board → Board

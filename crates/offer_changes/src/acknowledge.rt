@@ -1,10 +1,10 @@
 ghost use Rattle.std.specs.Prelude.{◌≡◌, ◌≤◌, Some, length, slice_index, IfOk, IfSome, OnOk};
-ghost use Rattle.board_changes.specs.Change.{Becomes, Changes};
+ghost use Rattle.board_changes.specs.Change.{Becomes, ChangesBase};
 ghost use Rattle.board_changes.specs.Outlined.{ChangesEach, GatheredEach, LeadsEach};
 ghost use Rattle.board_layout.specs.Renewed.{contents_of, renewed};
 ghost use Rattle.board_layout.specs.Lookups.{user_of as user_in};
 ghost use Rattle.offer_changes.specs.Changed.{acknowledged as acknowledged_of, offer_in, other_offers as other_offers_of, read_offer as read_offer_of, read_up_to as read_of, without_offer as without_offer_of, HasUser};
-ghost use Rattle.board_changes.specs.Steps.{base_after, patches_of};
+ghost use Rattle.board_changes.specs.Steps.{base_after, patches_or_none};
 
 use crate::user::{open_offer, user_intent, with_user};
 use board_changes::{BoardChange, gather};
@@ -63,8 +63,8 @@ fn read_up_to(
 ) -> Result<Option<BaseChange>, AllocError>
     requires { high ≤ length base.now.conference.slots }
     ensures base { IfOk result (λ change. base_after base.now change ≡ read_of id name.now now high base.now) }
-    ensures changes { IfOk result (λ change. IfSome change (Changes base.now)) }
-    ensures each { IfOk result (λ change. ChangesEach base.now (read_of id name.now now high) (patches_of change)) }
+    ensures changes { IfOk result (λ change. IfSome change (ChangesBase base.now)) }
+    ensures each { IfOk result (λ change. ChangesEach base.now (read_of id name.now now high) (patches_or_none change)) }
 {
     let Some(pointer) = base.pointer(id) else {
         return Ok(None);

@@ -3,7 +3,7 @@ ghost use Rattle.std.specs.Prelude.{◌≡◌, ◌↔◌, ◌≤◌, ◌<◌, �
 ghost use Rattle.board_layout.specs.Valid.{IsBoard};
 ghost use Rattle.open_offers.specs.Offers.{are_of_member as of_member};
 ghost use Rattle.board_ledger.specs.Users.{is_member};
-ghost use Rattle.offer_changes.specs.Changed.{acknowledged as acknowledged_of, offered as offered_of, HasOffer, MayOffer};
+ghost use Rattle.offer_changes.specs.Changed.{acknowledged as acknowledged_of, offer_made as offered_of, HasOffer, MayOffer};
 ghost use Rattle.offer_changes.specs.Highs.{may_have as may_have_of};
 
 use crate::user::open_offer;

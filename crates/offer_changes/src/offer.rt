@@ -2,7 +2,7 @@ ghost use Rattle.std.specs.Prelude.{◌≡◌, ◌<◌, ◌++◌, ◌∷◌, [],
 ghost use Rattle.board_changes.specs.Change.{Becomes};
 ghost use Rattle.board_changes.specs.Outlined.{LeadsEach};
 ghost use Rattle.board_layout.specs.Valid.{IsBoard};
-ghost use Rattle.offer_changes.specs.Changed.{latest, offered as offered_of, with_offer as with_offer_of, HasUser};
+ghost use Rattle.offer_changes.specs.Changed.{latest, offer_made as offered_of, with_offer as with_offer_of, HasUser};
 
 use crate::user::{user_intent, with_user};
 use board_changes::BoardChange;

@@ -3,7 +3,7 @@ ghost use Rattle.std.specs.Prelude.{◌≡◌, ◌≤◌, ◌<◌, ◌-◌, leng
 ghost use Rattle.std.specs.Option.{option_copied};
 ghost use Rattle.board_ledger.specs.UserPuts.{user_puts, IsAsLong};
 ghost use Rattle.board_ledger.specs.Valid.{IsLedger};
-ghost use Rattle.offer_changes.specs.Changed.{offer_in, with_user as with_user_of};
+ghost use Rattle.offer_changes.specs.Changed.{offer_in, with_user_replaced as with_user_of};
 
 use board_changes::intent_with;
 use board_layout::StoredBoard;

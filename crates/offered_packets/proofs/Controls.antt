@@ -20,7 +20,7 @@ use Rattle.board_ledger.specs.Users.{is_member, right_members, IsUser}
 use Rattle.board_ledger.specs.declared.user.User.{User}
 use Rattle.jam_records.specs.declared.message.Kind.TheVariants.{Local}
 use Rattle.qwk_control.specs.Line.{IsId}
-use Rattle.qwk_control.specs.Written.{IsText, ConferenceFits, ConferencesFit, FilesFit, Writable, control_text}
+use Rattle.qwk_control.specs.Written.{IsText, ConferenceFits, ConferencesFit, FilesFit, WritableControl, control_text}
 use Rattle.qwk_control.specs.declared.control.Control.{Control}
 use Rattle.qwk_moments.specs.Moments.{stamp_text}
 use Rattle.setup_file.specs.Texts.{is_printed_byte, is_printed, is_board_text, is_name_byte, has_bare_ends, is_user_name, is_letter_or_digit, is_bbsid, is_conference_name}
@@ -162,7 +162,7 @@ files_fit b u count now = record {
   goodbye = plain_is_text (codes "GOODBYE") (printed_plain (codes "GOODBYE") refl);
 }
 
-pub control_fits : (b : Board) (u : User) (count now : ℕ) → IsBoard b → Contains b.ledger.users u → count ≤ 999999999 → All (IsInRange 44 58) (stamp_text now) → Writable (control b u count now)
+pub control_fits : (b : Board) (u : User) (count now : ℕ) → IsBoard b → Contains b.ledger.users u → count ≤ 999999999 → All (IsInRange 44 58) (stamp_text now) → WritableControl (control b u count now)
 unfolding control
 control_fits b u count now ok has few stamp =
     let setup = ok.ledger.setup in

@@ -5,7 +5,7 @@ use Rattle.std.proofs.lemmas.Bool.{eq-eqb, ne_eqb, cases_eq, cases_Bool, cond-tr
 use Rattle.std.proofs.lemmas.List.Elements.{All-map}
 use Rattle.std.proofs.lemmas.List.{length-map, append_assoc, append-nil}
 use Rattle.std.proofs.lemmas.List.Splits.{slice_split_at, slice_split_none, slice_split-cons_yes, slice_split-cons_no, length-slice_split}
-use Rattle.qwk_blocks.specs.Text.{ended, IsLine}
+use Rattle.qwk_blocks.specs.Text.{joined_lines, IsLine}
 use Rattle.text_fields.specs.Split.{Lacks, SplitsAt}
 use Rattle.offered_packets.specs.Shown.{shown_line, body_lines, shown_lines}
 
@@ -60,12 +60,12 @@ are_lines body = All-map IsLine shown_line (body_lines body) (λ k d within. All
 
 -- how many bytes lines have, each with its end
 abbrev ended_len : List (List ℕ) → ℕ
-ended_len lines = length (ended (map shown_line lines))
+ended_len lines = length (joined_lines (map shown_line lines))
 
 ended_more : (line : List ℕ) (lines : List (List ℕ)) → ended_len (line ∷ lines) ≡ length line + 1 + ended_len lines
 ended_more line lines =
     let same : length (shown_line line) ≡ length line = length-map line (λ b. cond (eqb b 0xE3) 0x3F b) in
-    omega (arith, length-append (shown_line line ++ 0xE3 ∷ []) (ended (map shown_line lines)), length-append (shown_line line) (0xE3 ∷ []))
+    omega (arith, length-append (shown_line line ++ 0xE3 ∷ []) (joined_lines (map shown_line lines)), length-append (shown_line line) (0xE3 ∷ []))
 
 -- a byte more in the first of parts
 onto_le : (b n : ℕ) (parts : List (List ℕ)) → ended_len (but_last parts) ≤ n → ended_len (but_last (onto_first b parts)) ≤ n + 1
@@ -87,5 +87,5 @@ split_le (b ∷ body) = elim (cases_Bool (is_end b)) [
       omega (arith, ap ended_len parts, onto_le b (length body) (slice_split is_end body) (split_le body))
 ]
 
-pub lines_length : (body : List ℕ) → length (ended (shown_lines body)) ≤ length body
+pub lines_length : (body : List ℕ) → length (joined_lines (shown_lines body)) ≤ length body
 lines_length body = split_le body

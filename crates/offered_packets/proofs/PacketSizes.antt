@@ -8,8 +8,8 @@ use Rattle.board_layout.specs.Board.{Board}
 use Rattle.board_layout.specs.Valid.{IsBoard}
 use Rattle.jam_layout.specs.Outlines.{message_outline}
 use Rattle.jam_records.specs.declared.message.Message.{Message}
-use Rattle.qwk_blocks.specs.Text.{ended}
-use Rattle.qwk_blocks.specs.Written.{message_text, header_text, padded, blocks_of, spelling, Writable}
+use Rattle.qwk_blocks.specs.Text.{joined_lines}
+use Rattle.qwk_blocks.specs.Written.{message_text, header_block, padded, blocks_of, spelling, Writable}
 use Rattle.qwk_blocks.specs.declared.message.QwkMessage.{QwkMessage}
 use Rattle.qwk_blocks.proofs.Written.{header_back, length_padded}
 use Rattle.offered_packets.specs.Sees.{message_at}
@@ -57,10 +57,10 @@ all_writable b messages ok few = are_writable (shown_all b messages) (all_short 
 one_length : (m : QwkMessage) → IsShort m → length (message_text m) ≤ 16768
 unfolding message_text
 one_length m short =
-    let blocks : ℕ = blocks_of (length (ended m.lines)) in
-    let header : length (header_text m.header (1 + blocks)) ≡ 128 = (header_back m.header (1 + blocks) short.writable.header (omega arith) short.writable.blocks).size in
-    let text : length (padded (128 * blocks) (ended m.lines)) ≡ 128 * blocks = length_padded (128 * blocks) (ended m.lines) (omega arith) in
-    omega (arith, length-append (header_text m.header (1 + blocks)) (padded (128 * blocks) (ended m.lines)), short.short)
+    let blocks : ℕ = blocks_of (length (joined_lines m.lines)) in
+    let header : length (header_block m.header (1 + blocks)) ≡ 128 = (header_back m.header (1 + blocks) short.writable.header (omega arith) short.writable.blocks).size in
+    let text : length (padded (128 * blocks) (joined_lines m.lines)) ≡ 128 * blocks = length_padded (128 * blocks) (joined_lines m.lines) (omega arith) in
+    omega (arith, length-append (header_block m.header (1 + blocks)) (padded (128 * blocks) (joined_lines m.lines)), short.short)
 
 all_length : (messages : List QwkMessage) → All IsShort messages → length (flat_map message_text messages) ≤ 16768 * length messages
 all_length [] short = omega arith

@@ -26,7 +26,7 @@ use Rattle.jam_records.specs.declared.message.Slot.TheVariants.{Gone, Held}
 use Rattle.jam_threads.specs.Children.{original, slot_original}
 use Rattle.jam_threads.proofs.ChildrenLemmas.{slot_original-le}
 use Rattle.qwk_blocks.specs.Header.{IsPad}
-use Rattle.qwk_blocks.specs.Text.{ended}
+use Rattle.qwk_blocks.specs.Text.{joined_lines}
 use Rattle.qwk_blocks.specs.Written.{TextFits, Writable}
 use Rattle.qwk_blocks.specs.declared.message.Header.{Header}
 use Rattle.qwk_blocks.specs.declared.message.QwkMessage.{QwkMessage}
@@ -203,7 +203,7 @@ message_fits b place number logical m ok small there =
     capitals_writable (with_long whole) (long_fits whole (whole_fits b place number logical m ok small there))
 
 -- its text has at most 167 bytes more than its body
-message_size : (b : Board) (place number logical : ℕ) (m : Message) → IsThere b place number (message_outline m) → length (ended (shown_message b place number logical m).lines) ≤ 16551
+message_size : (b : Board) (place number logical : ℕ) (m : Message) → IsThere b place number (message_outline m) → length (joined_lines (shown_message b place number logical m).lines) ≤ 16551
 message_size b place number logical m there = omega (arith, long_text_size (whole_message b place number logical m), lines_length m.body, outlined_body b place number m there)
 
 -- it is shown so that it can be written, in at most the bytes of a body and of lines that give long values

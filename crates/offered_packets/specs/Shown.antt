@@ -8,7 +8,7 @@ use Rattle.long_names.specs.Plain.{with_long, in_capitals, with_read_names}
 use Rattle.long_names.specs.Value.{short_form, is_long, most_of}
 use Rattle.long_names.specs.declared.line_field.LineField.{LineField}
 use Rattle.long_names.specs.declared.line_field.LineField.TheVariants.{To, From, Subject}
-use Rattle.qwk_blocks.specs.Text.{ended}
+use Rattle.qwk_blocks.specs.Text.{joined_lines}
 use Rattle.qwk_blocks.specs.Written.{Writable}
 use Rattle.qwk_blocks.specs.declared.message.Header.{Header}
 use Rattle.qwk_blocks.specs.declared.message.QwkMessage.{QwkMessage}
@@ -75,7 +75,7 @@ shown_message b place number logical m = in_capitals (with_long (whole_message b
 -- it can be written, and its text has at most the bytes of a body and of lines that give long values
 pub record IsShort (m : QwkMessage) : Type 0 where
   pub writable : Writable m
-  pub short : length (ended m.lines) ≤ 16551
+  pub short : length (joined_lines m.lines) ≤ 16551
 
 -- the message of a number in a place as it is shown, where there is one
 unfoldable pub shown : Board → ℕ → ℕ → ℕ → Option QwkMessage

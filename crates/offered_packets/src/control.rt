@@ -1,6 +1,6 @@
 ghost use Rattle.std.specs.Prelude.{◌≡◌, ◌≤◌, ◌<◌, ◌+◌, ◌/◌, ◌%◌, length, codes, option_map, Some, IfOk, IsSome};
 ghost use Rattle.std.specs.Str.{str_to_ascii_uppercase};
-ghost use Rattle.qwk_control.specs.Written.{Writable};
+ghost use Rattle.qwk_control.specs.Written.{WritableControl};
 ghost use Rattle.qwk_moments.specs.Moments.{stamp_text};
 ghost use Rattle.offered_packets.specs.Control.{five_digits as five_digits_of, listed as listed_of, control};
 ghost use Rattle.board_layout.specs.Lookups.{user_of};
@@ -152,7 +152,7 @@ pub fn control_of(
 ) -> Result<Control, AllocError>
     requires { IsSome (user_of user board.now) }
     ensures control { IfOk result (λ made. Some made ≡ option_map (λ u. control board.now u count now) (user_of user board.now)) }
-    ensures writable { count ≤ 999999999 → IfOk result Writable }
+    ensures writable { count ≤ 999999999 → IfOk result WritableControl }
 {
     let Some(user) = board.user_at(user) else {
         unreachable!()

@@ -8,7 +8,7 @@ ghost use Rattle.jam_layout.specs.Outlines.{message_outline};
 ghost use Rattle.jam_records.specs.declared.message.Message.{Message};
 ghost use Rattle.long_names.specs.Plain.{plain};
 ghost use Rattle.qwk_blocks.specs.Written.{spelling, Writable as IsWritable};
-ghost use Rattle.qwk_control.specs.Written.{Writable as IsWritableControl};
+ghost use Rattle.qwk_control.specs.Written.{WritableControl as IsWritableControl};
 ghost use Rattle.offered_packets.specs.Control.{control};
 ghost use Rattle.offered_packets.specs.Offered.{highs, offered};
 ghost use Rattle.offered_packets.specs.Sees.{message_at, sees};

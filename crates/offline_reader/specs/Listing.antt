@@ -1,21 +1,12 @@
 -- The listing of a packet's messages.
-use Rattle.std.specs.Prelude.{ℕ, Bool, ◌==◌, ◌||◌, if◌then◌else◌, List, ◌++◌, length, codes, decimal}
+use Rattle.std.specs.Prelude.{ℕ, ◌==◌, if◌then◌else◌, List, ◌++◌, length, codes, decimal}
 use Rattle.std.specs.List.{flat_map, enumerate_from}
 use Rattle.offline_reader.specs.Printed.{printed, printed_number, printed_line}
 use Rattle.long_names.specs.Plain.{plain}
 use Rattle.qwk_blocks.specs.declared.message.Header.{Header}
 use Rattle.qwk_blocks.specs.declared.message.QwkMessage.{QwkMessage}
+use Rattle.qwk_blocks.specs.Status.{private_status, comment_status, password_status}
 use Rattle.qwk_control.specs.declared.control.Control.{Control}
-
--- the status bytes of Lee's layout
-abbrev pub private_status : ℕ → Bool
-private_status status = status == 43 || status == 42
-
-abbrev pub comment_status : ℕ → Bool
-comment_status status = status == 126 || status == 96
-
-abbrev pub password_status : ℕ → Bool
-password_status status = status == 37 || (status == 94 || (status == 33 || (status == 35 || status == 36)))
 
 -- the kind of a message by its activity byte, and else by its status byte
 unfoldable pub kind : Header → List ℕ

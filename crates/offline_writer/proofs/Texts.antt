@@ -10,7 +10,7 @@ use Rattle.std.specs.List.{All, suffix_len}
 use Rattle.text_fields.specs.Split.{Lacks, SplitsAt}
 use Rattle.text_fields.specs.Trim.{EndsWithNone, TrimmedEnd}
 use Rattle.qwk_blocks.specs.Header.{IsPad}
-use Rattle.qwk_blocks.specs.Text.{ended}
+use Rattle.qwk_blocks.specs.Text.{joined_lines}
 use Rattle.qwk_blocks.specs.Written.{TextFits}
 use Rattle.offline_writer.specs.Drafts.{is_pad, without_pads, sender, with_first, stored_lines}
 
@@ -105,30 +105,30 @@ abbrev ended_line : List ℕ → List ℕ
 ended_line line = line ++ 0xE3 ∷ []
 
 pub ended_more : (lines : List (List ℕ)) (i : ℕ) (line : List ℕ) → i < length lines → line ≡ get_or lines i line
-    → length (ended (take (i + 1) lines)) ≡ length (ended (take i lines)) + (length line + 1)
+    → length (joined_lines (take (i + 1) lines)) ≡ length (joined_lines (take i lines)) + (length line + 1)
 ended_more lines i line within is =
     let one : List ℕ = get_or lines i line in
     omega (
       arith,
-      ap (λ ls. length (ended ls)) (take_more lines i line within),
+      ap (λ ls. length (joined_lines ls)) (take_more lines i line within),
       ap length (flat_map-append ended_line (take i lines) (one ∷ [])),
-      length-append (ended (take i lines)) (ended_line one ++ []),
+      length-append (joined_lines (take i lines)) (ended_line one ++ []),
       length-append (ended_line one) [],
       length-append one (0xE3 ∷ []),
       ap length is,
     )
 
-pub ended_le : (lines : List (List ℕ)) (i : ℕ) → length (ended (take i lines)) ≤ length (ended lines)
+pub ended_le : (lines : List (List ℕ)) (i : ℕ) → length (joined_lines (take i lines)) ≤ length (joined_lines lines)
 ended_le lines i =
     omega (
       arith,
-      ap (λ ls. length (ended ls)) (take-append-drop i lines),
+      ap (λ ls. length (joined_lines ls)) (take-append-drop i lines),
       ap length (flat_map-append ended_line (take i lines) (drop i lines)),
-      length-append (ended (take i lines)) (ended (drop i lines)),
+      length-append (joined_lines (take i lines)) (joined_lines (drop i lines)),
     )
 
 -- a line for which no room is left
 pub too_long : (lines items : List (List ℕ)) (i left most : ℕ) (line : List ℕ) → items ≡ lines → i < length items → line ≡ get_or items i line
-    → left + length (ended (take i items)) ≡ most → left ≤ length line → length (ended lines) ≤ most → ⊥
+    → left + length (joined_lines (take i items)) ≡ most → left ≤ length line → length (joined_lines lines) ≤ most → ⊥
 too_long lines items i left most line same within is so_far full fits =
-    omega (arith, ended_more items i line within is, ended_le items (i + 1), ap (λ ls. length (ended ls)) same)
+    omega (arith, ended_more items i line within is, ended_le items (i + 1), ap (λ ls. length (joined_lines ls)) same)

@@ -22,7 +22,7 @@ use Rattle.rep_packet.specs.Written.{IsRep}
 use Rattle.rep_packet.specs.declared.rep.Rep.{Rep}
 use Rattle.offline_writer.specs.Drafts.{draft_header, reply_envelope, entry_envelope, entry_drafts, entry_draft}
 use Rattle.offline_writer.specs.Fitting.{FitsField, FitsQwk, IsClean}
-use Rattle.offline_writer.specs.Placing.{numbered, placed_from, placed, with_drafts}
+use Rattle.offline_writer.specs.Placing.{with_logical, placed_from, placed, with_drafts}
 use Rattle.offline_writer.specs.declared.drafting.Envelope.{Envelope}
 use Rattle.offline_writer.proofs.Texts.{sender_fits}
 
@@ -74,7 +74,7 @@ entries_writable control conference now (entry ∷ entries) small clean fit =
     (draft_writable control (entry_envelope conference entry) now draft refl (All-head IsCleanEntry entry entries clean) small (All-head FitsQwk draft drafts fit))
     (entries_writable control conference now entries small (All-tail IsCleanEntry entry entries clean) (All-tail FitsQwk draft drafts fit))
 
-numbered_writable : (place : ℕ) (m : QwkMessage) → Writable m → Writable (numbered place m)
+numbered_writable : (place : ℕ) (m : QwkMessage) → Writable m → Writable (with_logical place m)
 numbered_writable place m w = record {
   header = record {
     number = w.header.number;

@@ -4,7 +4,7 @@ use Rattle.std.specs.List.{suffix_len}
 use Rattle.std.specs.Str.Lines.{lines}
 use Rattle.import_sheet.specs.declared.sheet.Sheet.{Sheet}
 use Rattle.long_names.specs.Plain.{plain}
-use Rattle.offline_reader.specs.Listing.{private_status}
+use Rattle.qwk_blocks.specs.Status.{private_status}
 use Rattle.qwk_blocks.specs.declared.message.Header.{Header}
 use Rattle.qwk_blocks.specs.declared.message.QwkMessage.{QwkMessage}
 use Rattle.qwk_control.specs.declared.control.Control.{Control}

@@ -3,7 +3,7 @@ use Rattle.std.specs.Prelude.{◌≡◌, ◌⊎◌, ℕ, ◌+◌, ◌≤◌, Lis
 use Rattle.text_fields.specs.Split.{Lacks}
 use Rattle.text_fields.specs.Trim.{EndsWithNone}
 use Rattle.qwk_blocks.specs.Header.{IsPad}
-use Rattle.qwk_blocks.specs.Text.{ended, IsLine}
+use Rattle.qwk_blocks.specs.Text.{joined_lines, IsLine}
 use Rattle.qwk_blocks.specs.declared.message.QwkMessage.{QwkMessage}
 use Rattle.long_names.specs.Value.{is_long, most_of}
 use Rattle.long_names.specs.declared.line_field.LineField.{LineField}
@@ -20,7 +20,7 @@ pub record FitsQwk (draft : QwkMessage) : Type 0 where
   pub subject : FitsField Subject draft.header.subject
   pub no_end : All IsLine draft.lines
   pub no_return : All (Lacks 0x0D) draft.lines
-  pub short : length (ended draft.lines) ≤ 16384
+  pub short : length (joined_lines draft.lines) ≤ 16384
 
 -- the draft of this number, from 1, is the first that can't be put into QWK
 pub record IsFirstUnfit (drafts : List QwkMessage) (number : ℕ) : Type 0 where

@@ -8,12 +8,12 @@ use Rattle.rep_packet.specs.declared.rep.Rep.{Rep}
 use Rattle.offline_writer.specs.Fitting.{FitsQwk}
 
 -- a message with a logical number, up to 65,535
-abbrev pub numbered : ℕ → QwkMessage → QwkMessage
-numbered place m = record m { header = record m.header { logical = min place 65535 } }
+abbrev pub with_logical : ℕ → QwkMessage → QwkMessage
+with_logical place m = record m { header = record m.header { logical = min place 65535 } }
 
 -- a draft in a place of a reply packet, which is its logical number, with its long values as lines
 abbrev pub placed : ℕ × QwkMessage → QwkMessage
-placed (place, draft) = numbered place (with_long draft)
+placed (place, draft) = with_logical place (with_long draft)
 
 -- drafts of which the first has this place
 abbrev pub placed_from : ℕ → List QwkMessage → List QwkMessage

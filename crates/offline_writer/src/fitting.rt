@@ -1,7 +1,7 @@
 //! Whether a draft can be put into QWK.
 ghost use Rattle.std.specs.Prelude.{◌≤◌, ◌↔◌, All, IsTrue, length};
 ghost use Rattle.text_fields.specs.Split.{Lacks};
-ghost use Rattle.qwk_blocks.specs.Text.{ended};
+ghost use Rattle.qwk_blocks.specs.Text.{joined_lines};
 ghost use Rattle.offline_writer.specs.Fitting.{FitsField, FitsQwk};
 
 use byte_lists::Lines;
@@ -36,7 +36,7 @@ fn all_lack(lines: &Lines, byte: u8) -> bool
 
 /// Whether lines have at most so many bytes, with one behind each.
 fn are_short(lines: &Lines, most: usize) -> bool
-    ensures { IsTrue result ↔ (length (ended lines.now) ≤ most) }
+    ensures { IsTrue result ↔ (length (joined_lines lines.now) ≤ most) }
 {
     let mut left = most;
     for line in lines.as_slice() {

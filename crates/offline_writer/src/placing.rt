@@ -1,6 +1,6 @@
 //! Drafts at the end of a reply packet.
 ghost use Rattle.std.specs.Prelude.{◌≡◌, ◌+◌, ◌++◌, min, IfOk, OnOk, OnErr};
-ghost use Rattle.offline_writer.specs.Placing.{numbered as numbered_at, placed as placed_at, placed_from, with_drafts};
+ghost use Rattle.offline_writer.specs.Placing.{with_logical as numbered_at, placed as placed_at, placed_from, with_drafts};
 
 use byte_lists::List;
 use long_names::with_long;

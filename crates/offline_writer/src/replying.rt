@@ -2,7 +2,7 @@
 ghost use Rattle.std.specs.Prelude.{◌≡◌, ◌↔◌, ℕ, ◌<◌, ◌^◌, [], ◌∷◌, Some, None, Err, IfOk, OnOk, OnErr, IsErrOf, All};
 ghost use Rattle.std.specs.Option.{option_copied};
 ghost use Rattle.offline_reader.specs.Letter.{message_in};
-ghost use Rattle.offline_reader.specs.Listing.{private_status};
+ghost use Rattle.qwk_blocks.specs.Status.{private_status};
 ghost use Rattle.long_names.specs.Fits.{FitsWithLong};
 ghost use Rattle.qwk_blocks.specs.declared.message.QwkMessage.{QwkMessage};
 ghost use Rattle.offline_writer.specs.Answer.{DraftsOrUnfit};

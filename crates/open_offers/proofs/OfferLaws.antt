@@ -6,7 +6,7 @@ use Rattle.std.proofs.lemmas.Bool.{cases_eq, and_parts, and_from, cond-true, con
 use Rattle.std.proofs.lemmas.List.{length-replicate}
 use Rattle.std.proofs.lemmas.List.Elements.{All-nil, All-cons, All-head, All-tail, All-replicate}
 use Rattle.record_numbers.specs.Numbers.{IsU32}
-use Rattle.open_offers.specs.Offers.{cell_count, cells_for, no_offer, open_in, are_of_member, is_nothing, is_behind, is_last, rise, right_cells, IsOffer, NumbersRise, AreOffers, AreOldOffers}
+use Rattle.open_offers.specs.Offers.{cell_count, cells_for, no_offer, open_in, are_of_member, is_nothing, is_behind, is_last_packet, rise, right_cells, IsOffer, NumbersRise, AreOffers, AreOldOffers}
 use Rattle.open_offers.specs.declared.offer.OpenOffer.{OpenOffer}
 use Rattle.open_offers.specs.declared.version.Version.{Version}
 use Rattle.open_offers.specs.declared.version.Version.TheVariants.{First, Second}
@@ -115,11 +115,11 @@ module _ (count members last : ℕ) where
     | inr other ↦ let more : length (open_in (o ∷ cells)) ≡ suc (length (open_in cells)) = ap length (one_open o cells other) in omega (arith, more, read_few cells)
   ]
 
-  read_last : (cells : List OpenOffer) → is_last last cells ≡ true → is_last last (open_in cells) ≡ true
+  read_last : (cells : List OpenOffer) → is_last_packet last cells ≡ true → is_last_packet last (open_in cells) ≡ true
   read_last [] e = refl
   read_last (o ∷ cells) e = elim (cases_eq o.number 0) [
-    | inl is ↦ ap (is_last last) (none_open o cells is)
-    | inr other ↦ ap (is_last last) (one_open o cells other) ∙ e
+    | inl is ↦ ap (is_last_packet last) (none_open o cells is)
+    | inr other ↦ ap (is_last_packet last) (one_open o cells other) ∙ e
   ]
 
   -- ---- what is written of offers is read so
@@ -141,7 +141,7 @@ module _ (count members last : ℕ) where
       (and_from (leb o.number last) (are_of_member members 0 o.highs) (le-leb o.number last rises.1) here.of_member))
       (right o.number n offers (All-tail (IsOffer count members) o offers each) rises.2)
 
-  right_last : (n : ℕ) (offers : List OpenOffer) → is_last last offers ≡ true → is_last last (cells_for count n offers) ≡ true
+  right_last : (n : ℕ) (offers : List OpenOffer) → is_last_packet last offers ≡ true → is_last_packet last (cells_for count n offers) ≡ true
   right_last zero offers e = refl
   right_last (suc n) [] e = refl
   right_last (suc n) (o ∷ offers) e = e
@@ -180,11 +180,11 @@ few_cells First = omega arith
 few_cells Second = omega arith
 
 rises_in : (v : Version) (members last : ℕ) (cells : List OpenOffer) → right_cells v members last cells ≡ true → rise members last 0 cells ≡ true
-rises_in First members last cells e = (and_parts (rise members last 0 cells) (is_last last cells) e).0
+rises_in First members last cells e = (and_parts (rise members last 0 cells) (is_last_packet last cells) e).0
 rises_in Second members last cells e = e
 
-last_in : (v : Version) (members last : ℕ) (cells : List OpenOffer) → right_cells v members last cells ≡ true → v ≡ First → is_last last cells ≡ true
-last_in First members last cells e is = (and_parts (rise members last 0 cells) (is_last last cells) e).1
+last_in : (v : Version) (members last : ℕ) (cells : List OpenOffer) → right_cells v members last cells ≡ true → v ≡ First → is_last_packet last cells ≡ true
+last_in First members last cells e is = (and_parts (rise members last 0 cells) (is_last_packet last cells) e).1
 last_in Second members last cells e is = absurd (cc is)
 
 pub read_offers : (v : Version) (count members last : ℕ) (cells : List OpenOffer) → HasCells v count cells → right_cells v members last cells ≡ true → AreOffers count members last (open_in cells)

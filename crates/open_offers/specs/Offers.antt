@@ -92,12 +92,12 @@ rise members last before (o ∷ cells) =
     if o.number == 0 then list_all is_nothing (o ∷ cells) else is_behind members last before o && rise members last o.number cells
 
 -- the first cell has no offer, or that of the last packet
-abbrev pub is_last : ℕ → List OpenOffer → Bool
-is_last last [] = true
-is_last last (o ∷ cells) = o.number == 0 || o.number == last
+abbrev pub is_last_packet : ℕ → List OpenOffer → Bool
+is_last_packet last [] = true
+is_last_packet last (o ∷ cells) = o.number == 0 || o.number == last
 
 abbrev pub right_cells : Version → ℕ → ℕ → List OpenOffer → Bool
-right_cells First members last cells = rise members last 0 cells && is_last last cells
+right_cells First members last cells = rise members last 0 cells && is_last_packet last cells
 right_cells Second members last cells = rise members last 0 cells
 
 -- ---- what is valid
@@ -121,4 +121,4 @@ pub record AreOffers (count members last : ℕ) (offers : List OpenOffer) : Type
 -- as version 1 has them: none, or that of the last packet alone
 pub record AreOldOffers (last : ℕ) (offers : List OpenOffer) : Type 0 where
   pub few : length offers ≤ 1
-  pub of_last : IsTrue (is_last last offers)
+  pub of_last : IsTrue (is_last_packet last offers)

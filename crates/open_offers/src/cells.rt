@@ -3,7 +3,7 @@ ghost use Rattle.std.specs.Prelude.{◌≡◌, ◌≤◌, ◌<◌, ◌+◌, ◌+
 ghost use Rattle.std.specs.List.{flat_map, list_all};
 ghost use Rattle.std.specs.Int.{bit_at};
 ghost use Rattle.record_numbers.specs.Numbers.{u32s_text};
-ghost use Rattle.open_offers.specs.Offers.{are_of_member as of_member, behind_size, cell_text, cells_at as cells_from, cells_behind as cells_in, cells_for, cells_size, is_behind as behind_one, is_nothing, members_at as members_in, is_last as last_in, open_in as open_of, right_cells as cells_right, rise as rise_in};
+ghost use Rattle.open_offers.specs.Offers.{are_of_member as of_member, behind_size, cell_text, cells_at as cells_from, cells_behind as cells_in, cells_for, cells_size, is_behind as behind_one, is_nothing, members_at as members_in, is_last_packet as last_in, open_in as open_of, right_cells as cells_right, rise as rise_in};
 ghost use Rattle.open_offers.specs.declared.version.Version.TheVariants.{First};
 
 use crate::offer::{Offers, OpenOffer};

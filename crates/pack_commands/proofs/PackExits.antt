@@ -22,7 +22,7 @@ use Rattle.entry_runs.specs.declared.status.Status.TheVariants as status
 use Rattle.intent_journal.specs.Hosts.{IsSettled}
 use Rattle.intent_journal.specs.declared.recovery.JournalError.{JournalError}
 use Rattle.intent_journal.specs.declared.recovery.JournalError.TheVariants as journal
-use Rattle.jam_pack.specs.Packing.{LeavesAll}
+use Rattle.jam_pack.specs.Packing.{PackLeavesAll}
 use Rattle.jam_pack.specs.declared.error.PackError.{PackError}
 use Rattle.jam_pack.specs.declared.error.PackError.TheVariants.{DiskFault, Doubt, Damaged, OutOfMemory}
 use Rattle.jam_records.specs.declared.damage.Damage.{Damage}
@@ -33,7 +33,7 @@ use Rattle.slot_changes.proofs.PackLaws.{packed_board}
 use Rattle.slot_changes.specs.Packed.{packed}
 use Rattle.pack_commands.proofs.PackAlike.{packing}
 use Rattle.pack_commands.specs.Pack.{pack_turn, packed_line, packs}
-use Rattle.pack_commands.specs.Packing.{halted}
+use Rattle.pack_commands.specs.Packing.{pack_halted}
 
 abbrev turns : ℕ → Files → Option Board → Turn → Type 0
 turns conference files board turn = turn ≡ pack_turn conference board
@@ -45,7 +45,7 @@ pub record Leaves (place : ℕ) (b : Board) (mid new : Disk) (result : Result �
   pub settled : IsSettled new
   pub certain : result ≢ Err Doubt
   pub undamaged : (d : Damage) → result ≢ Err (Damaged d)
-  pub same : LeavesAll result → Unchanged mid new
+  pub same : PackLeavesAll result → Unchanged mid new
   pub rests : OnOk result (Rests (packed place b) new)
 
 module _ (conference place : ℕ) (b : Board) (ok : IsBoard b) where
@@ -60,7 +60,7 @@ module _ (conference place : ℕ) (b : Board) (ok : IsBoard b) where
     still same = found_still Stores at.board (Ok (tt {0})) finds same (λ never. absurd (cc never))
 
     pub works : {new : Disk} (result : Result ℕ PackError) → Leaves place b mid new result → ((count : ℕ) → result ≡ Ok count → packing conference place count b ≡ pack_turn conference (Some b)) → (some : ℕ) → packing conference place some b ≡ pack_turn conference (Some b)
-        → Works Stores (packs conference) unread world old new shelf (told (packed_line conference) (halted result))
+        → Works Stores (packs conference) unread world old new shelf (told (packed_line conference) (pack_halted result))
     works (Ok count) leaves gives some any =
         turned (turns conference) at {board = Some b} finds is (packing conference place count b) (gives count refl) (changes (Ok count) leaves {E = JournalError} (Ok (tt {0})) leaves.rests)
     works (Err DiskFault) leaves gives some any =
@@ -77,7 +77,7 @@ counted (Err e) count is counts = absurd (cc is)
 
 -- ---- the counts of faults
 module _ {disk voice shelf disk_after voice_after shelf_after : ℕ} (voice_same : voice_after ≡ voice) where
-  pub pack_causes : (text : ℕ → List ℕ) (result : Result ℕ PackError) → HasFault DiskFault disk disk_after result → shelf_after ≡ shelf → result ≢ Err Doubt → HasCauses (counts disk voice shelf) (counts disk_after voice_after shelf_after) (ended (told text (halted result)))
+  pub pack_causes : (text : ℕ → List ℕ) (result : Result ℕ PackError) → HasFault DiskFault disk disk_after result → shelf_after ≡ shelf → result ≢ Err Doubt → HasCauses (counts disk voice shelf) (counts disk_after voice_after shelf_after) (ended (told text (pack_halted result)))
   pack_causes text (Ok count) d s certain = quiet voice_same status.Done (λ is. absurd (cc is)) (λ is. absurd (cc is)) (λ is. absurd (cc is)) (unraised DiskFault _ d (λ is. cc is)) s
   pack_causes text (Err DiskFault) d s certain = disk_fails voice_same d.later (d.rose refl) s
   pack_causes text (Err Doubt) d s certain = absurd (certain refl)
@@ -93,7 +93,7 @@ pack_kept after disk rests settled = by after.doubtful refl
     by false is = rests is
 
 module _ (before after : HeldBoard) (next : Board) (certain : before.doubtful ≡ false) where
-  pub pack_sure : (result : Result ℕ PackError) → IsBoard before.board → OnOk result (Follows next after) → (LeavesAll result → after ≡ before) → (IsErrOf result DiskFault → (after ≡ before) ⊎ (after ≡ doubted before)) → AreSure (unless_doubtful after)
+  pub pack_sure : (result : Result ℕ PackError) → IsBoard before.board → OnOk result (Follows next after) → (PackLeavesAll result → after ≡ before) → (IsErrOf result DiskFault → (after ≡ before) ⊎ (after ≡ doubted before)) → AreSure (unless_doubtful after)
   pack_sure (Ok count) ok board same fault = next_sure before after certain next board
   pack_sure (Err DiskFault) ok board same fault = elim (fault refl) [ inl left ↦ same_sure before after certain left ok | inr is ↦ none_sure before after certain is ]
   pack_sure (Err Doubt) ok board same fault = same_sure before after certain (same tt) ok

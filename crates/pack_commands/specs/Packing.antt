@@ -6,12 +6,12 @@ use Rattle.jam_pack.specs.declared.error.PackError.{PackError}
 use Rattle.jam_pack.specs.declared.error.PackError.TheVariants as error
 
 -- (A board that is kept is in no doubt.)
-abbrev pub halt_of : PackError → BoardHalt
-halt_of error.DiskFault = DiskFault
-halt_of error.Doubt = DiskFault
-halt_of (error.Damaged d) = Damaged d
-halt_of error.OutOfMemory = OutOfMemory
+abbrev pub pack_halt : PackError → BoardHalt
+pack_halt error.DiskFault = DiskFault
+pack_halt error.Doubt = DiskFault
+pack_halt (error.Damaged d) = Damaged d
+pack_halt error.OutOfMemory = OutOfMemory
 
-abbrev pub halted : {T : Type 0} → Result T PackError → Result T BoardHalt
-halted (Ok value) = Ok value
-halted (Err e) = Err (halt_of e)
+abbrev pub pack_halted : {T : Type 0} → Result T PackError → Result T BoardHalt
+pack_halted (Ok value) = Ok value
+pack_halted (Err e) = Err (pack_halt e)

@@ -24,7 +24,7 @@ use Rattle.shelf_files.specs.declared.halt.Halt.TheVariants as halt
 use Rattle.shelf_files.specs.declared.refusal.Refusal.{Refusal}
 use Rattle.shelf_files.specs.declared.refusal.Refusal.TheVariants.{NoFile, TooLarge, Broken}
 use Rattle.packet_commands.specs.Packets.{control_halt, control_refusal}
-use Rattle.packet_commands.specs.Read.{shown}
+use Rattle.packet_commands.specs.Read.{shown_reply}
 
 pub control_comes : (file : Result (List ℕ) Refusal) (bytes : List ℕ) (error : ControlError) → Ok bytes ≡ file
     → (error ≡ OutOfMemory) ⊎ ControlFault bytes error → Comes {Value = Control} (Err (control_halt error)) (ReadAs ControlReads ControlFault control_refusal file)
@@ -42,7 +42,7 @@ comes_on P Q on (Err (Refused why)) comes = on (Err why) comes
 comes_on P Q on (Err ShelfFault) comes = tt
 comes_on P Q on (Err halt.OutOfMemory) comes = tt
 
-pub shown_text : (found : Option QwkMessage) (text : List ℕ) → option_map letter found ≡ Some text → done text ≡ shown found
+pub shown_text : (found : Option QwkMessage) (text : List ℕ) → option_map letter found ≡ Some text → done text ≡ shown_reply found
 shown_text None text is = cc
 shown_text (Some message) text is = cc
 

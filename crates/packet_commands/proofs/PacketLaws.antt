@@ -20,22 +20,22 @@ use Rattle.qwk_control.specs.Fault.{ControlFault}
 use Rattle.qwk_control.specs.declared.control.Control.{Control}
 use Rattle.shelf_files.proofs.Replies.{read_unique, some_refusal, some_reply, undamaged_reply, lawful_reading}
 use Rattle.shelf_files.specs.Halts.{replied}
-use Rattle.shelf_files.specs.ShelfFile.{file_of, file_limit, packet_limit}
+use Rattle.shelf_files.specs.ShelfFile.{file_within, file_limit, packet_limit}
 use Rattle.shelf_files.specs.declared.refusal.Refusal.{Refusal}
 use Rattle.shelf_files.specs.declared.refusal.Refusal.TheVariants.{Broken, NoMessage}
 use Rattle.packet_commands.specs.List.{lists}
 use Rattle.packet_commands.specs.Packets.{control_refusal, PacketOf, ControlOf, FolderOf}
-use Rattle.packet_commands.specs.Read.{reads, shows, shown, shown_in}
+use Rattle.packet_commands.specs.Read.{reads, shows, shown_reply, shown_in}
 use Rattle.packet_commands.specs.Scan.{scans, count_line}
 use Rattle.packet_commands.specs.declared.folder.Packet.{Packet}
 
 pub packet_of_unique : (shelf : Files) (name : List ℕ) (a b : Result (List QwkMessage) Refusal) → PacketOf shelf name a → PacketOf shelf name b → a ≡ b
-packet_of_unique shelf name = read_unique PacketReads FirstFault (λ (f : QwkFault). Broken f) packet_unique Packets.fault_unique Packets.no_fault (file_of shelf name packet_limit)
+packet_of_unique shelf name = read_unique PacketReads FirstFault (λ (f : QwkFault). Broken f) packet_unique Packets.fault_unique Packets.no_fault (file_within shelf name packet_limit)
 
 pub control_of_unique : (shelf : Files) (name : List ℕ) (a b : Result Control Refusal) → ControlOf shelf name a → ControlOf shelf name b → a ≡ b
 control_of_unique shelf name =
     read_unique ControlReads ControlFault control_refusal (λ (bytes : List ℕ). Controls.control_unique (lines bytes)) (λ (bytes : List ℕ). Controls.fault_unique (lines bytes))
-    (λ (bytes : List ℕ). Controls.no_fault (lines bytes)) (file_of shelf name file_limit)
+    (λ (bytes : List ℕ). Controls.no_fault (lines bytes)) (file_within shelf name file_limit)
 
 -- a folder reads as one packet at most, or is refused in one way
 pub folder_unique : (shelf : Files) (folder : List ℕ) (a b : Result Packet Refusal) → FolderOf shelf folder a → FolderOf shelf folder b → a ≡ b
@@ -60,11 +60,11 @@ some_listing messages = some_behind (flat_map listing_line (enumerate_from 1 mes
 some_letter : (message : QwkMessage) → letter message ≢ []
 some_letter message = some_behind (heading (plain message).header) _ (λ is. absurd (cc is))
 
-some_shown : (found : Option QwkMessage) → (shown found).text ≢ []
+some_shown : (found : Option QwkMessage) → (shown_reply found).text ≢ []
 some_shown None = some_refusal NoMessage
 some_shown (Some message) = some_letter message
 
-undamaged_shown : (found : Option QwkMessage) → (shown found).class ≢ class.Damaged
+undamaged_shown : (found : Option QwkMessage) → (shown_reply found).class ≢ class.Damaged
 undamaged_shown None is = absurd (cc is)
 undamaged_shown (Some message) is = absurd (cc is)
 

@@ -8,7 +8,7 @@ use Rattle.qwk_control.specs.Fault.{ControlFault}
 use Rattle.qwk_control.specs.declared.control.Control.{Control}
 use Rattle.qwk_control.specs.declared.fault.ControlError.{ControlError}
 use Rattle.qwk_control.specs.declared.fault.ControlError.TheVariants.{TooFewLines, BadNumber, BadBoardId, OutOfMemory}
-use Rattle.shelf_files.specs.ShelfFile.{ReadAs, file_of, file_limit, packet_limit}
+use Rattle.shelf_files.specs.ShelfFile.{ReadAs, file_within, file_limit, packet_limit}
 use Rattle.shelf_files.specs.declared.halt.Halt.{Halt}
 use Rattle.shelf_files.specs.declared.halt.Halt.TheVariants as halt
 use Rattle.shelf_files.specs.declared.refusal.Refusal.{Refusal}
@@ -17,7 +17,7 @@ use Rattle.packet_commands.specs.declared.folder.Packet.{Packet}
 
 -- the messages of a packet's file, or the first refusal
 abbrev pub PacketOf : Files → List ℕ → Result (List QwkMessage) Refusal → Type 0
-PacketOf shelf name read = ReadAs PacketReads FirstFault (λ fault. Broken fault) (file_of shelf name packet_limit) read
+PacketOf shelf name read = ReadAs PacketReads FirstFault (λ fault. Broken fault) (file_within shelf name packet_limit) read
 
 -- what a fault of CONTROL.DAT is refused as; want of memory is none
 abbrev pub control_refusal : ControlError → Refusal
@@ -35,7 +35,7 @@ control_halt OutOfMemory = halt.OutOfMemory
 
 -- what CONTROL.DAT says, or the first refusal
 abbrev pub ControlOf : Files → List ℕ → Result Control Refusal → Type 0
-ControlOf shelf name read = ReadAs ControlReads ControlFault control_refusal (file_of shelf name file_limit) read
+ControlOf shelf name read = ReadAs ControlReads ControlFault control_refusal (file_within shelf name file_limit) read
 
 -- What the two files of a packet's folder say. Where CONTROL.DAT is refused, MESSAGES.DAT isn't looked at.
 abbrev pub FolderOf : Files → List ℕ → Result Packet Refusal → Type 0

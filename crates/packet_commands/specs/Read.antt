@@ -19,14 +19,14 @@ ReadAnswers folder shelf reply =
 abbrev pub reads : List ℕ → ShelfAct
 reads folder = looks (ReadAnswers folder)
 
-abbrev pub shown : Option QwkMessage → Reply
-shown None = refused NoMessage
-shown (Some message) = done (letter message)
+abbrev pub shown_reply : Option QwkMessage → Reply
+shown_reply None = refused NoMessage
+shown_reply (Some message) = done (letter message)
 
 -- the message in a place of the packet
 abbrev pub shown_in : ℕ → Result Packet Refusal → Reply
 shown_in place (Err why) = refused why
-shown_in place (Ok packet) = shown (message_in packet.messages place)
+shown_in place (Ok packet) = shown_reply (message_in packet.messages place)
 
 -- that message, or the first refusal
 abbrev pub ShowAnswers : List ℕ → ℕ → Files → Reply → Type 0

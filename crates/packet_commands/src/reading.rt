@@ -5,7 +5,7 @@ ghost use Rattle.entry_runs.specs.Entry.{Serves};
 ghost use Rattle.offline_reader.specs.Letter.{message_in};
 ghost use Rattle.offline_reader.specs.Listing.{folder_listing};
 ghost use Rattle.shelf_files.specs.Halts.{Comes, ShelfCauses, done, replied, served};
-ghost use Rattle.packet_commands.specs.Read.{reads, shows, shown};
+ghost use Rattle.packet_commands.specs.Read.{reads, shows, shown_reply};
 
 use crate::folder::{Packet, folder_in};
 use byte_lists::Bytes;
@@ -25,7 +25,7 @@ fn listed(alloc: Global, packet: &Packet) -> Result<Bytes, Halt>
 
 /// The message in a place of a packet, from 1, refused where there is none.
 fn message_shown(alloc: Global, messages: &QwkMessages, place: u32) -> Result<Bytes, Halt>
-    ensures text { Comes result (λ read. replied (λ text. text) read ≡ shown (message_in messages.now place)) }
+    ensures text { Comes result (λ read. replied (λ text. text) read ≡ shown_reply (message_in messages.now place)) }
     ensures no_fault { ¬ IsErrOf result Halt.ShelfFault }
 {
     match show_message(alloc, messages, place) {

@@ -13,7 +13,7 @@ use Rattle.packet_verdicts.proofs.Steps.{one_outcome}
 use Rattle.packet_verdicts.proofs.Validity.{no_conference}
 use Rattle.packet_verdicts.specs.Judged.{is_refused, judged, judged_next, outcome_of, posts_after, refused_count}
 use Rattle.post_changes.specs.Posted.{spread}
-use Rattle.packet_verdicts.specs.Views.{conference_seen, conference_view, place_of, user_with, verdict_on, view_of}
+use Rattle.packet_verdicts.specs.Views.{conference_seen, conference_view, addressed_place, user_with, verdict_on, view_of}
 use Rattle.packet_verdicts.specs.declared.outcome.Outcome.{Outcome}
 use Rattle.qwk_blocks.specs.declared.message.QwkMessage.{QwkMessage}
 use Rattle.setup_file.specs.declared.conference.Conference.{Conference as SetupConference}
@@ -32,7 +32,7 @@ one_counted (Some c) (Some place) (Post d) posts outcomes same = omega (arith, c
 
 module _ (b : Board) (id now : ℕ) where
   -- the rules see a conference just where the number is that of one
-  seen_where : (posts : List (ℕ × Message)) (number o : Option ℕ) → place_of number b ≡ o → is_none o ≡ is_none (conference_seen (spread posts b) (user_with id b) o)
+  seen_where : (posts : List (ℕ × Message)) (number o : Option ℕ) → addressed_place number b ≡ o → is_none o ≡ is_none (conference_seen (spread posts b) (user_with id b) o)
   seen_where posts number None e = refl
   seen_where posts number (Some place) e =
       let conferences : List SetupConference = b.ledger.setup.conferences in
@@ -46,9 +46,9 @@ module _ (b : Board) (id now : ℕ) where
   unfolding counted
   counted_next so_far m =
       let board : Board = spread so_far.1 b in
-      let seen : is_none (place_of m.header.number b) ≡ is_none (view_of board id m).conference =
-      seen_where so_far.1 m.header.number (place_of m.header.number b) refl ∙ ap (λ (o : Option ℕ). is_none (conference_seen board (user_with id b) o)) (sym (place_same m.header.number b so_far.1)) in
-      one_counted (view_of board id m).conference (place_of m.header.number b) (verdict_on board id m now) so_far.1 so_far.0 seen
+      let seen : is_none (addressed_place m.header.number b) ≡ is_none (view_of board id m).conference =
+      seen_where so_far.1 m.header.number (addressed_place m.header.number b) refl ∙ ap (λ (o : Option ℕ). is_none (conference_seen board (user_with id b) o)) (sym (place_same m.header.number b so_far.1)) in
+      one_counted (view_of board id m).conference (addressed_place m.header.number b) (verdict_on board id m now) so_far.1 so_far.0 seen
 
   counted_all : (so_far : List Outcome × List (ℕ × Message)) (messages : List QwkMessage) → counted (fold (judged_next b id now) so_far messages) ≡ counted so_far + length messages
   counted_all so_far [] = omega arith

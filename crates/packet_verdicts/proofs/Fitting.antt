@@ -28,7 +28,7 @@ use Rattle.packet_verdicts.specs.Judged.{judged, judged_next, posts_after}
 use Rattle.post_changes.specs.Posted.{posts_in, spread}
 use Rattle.packet_verdicts.specs.Typed.{IsTypedPost}
 use Rattle.packet_verdicts.specs.declared.outcome.Outcome.{Outcome}
-use Rattle.packet_verdicts.specs.Views.{conference_seen, conference_view, msgid_at, next_number, nobody, place_of, reply_at, reply_seen, room_of, user_with, verdict_on, view_of}
+use Rattle.packet_verdicts.specs.Views.{conference_seen, conference_view, msgid_at, next_number, nobody, addressed_place, reply_at, reply_seen, room_of, user_with, verdict_on, view_of}
 use Rattle.packet_verdicts.proofs.PostLists.{posts_hit, posts_miss}
 use Rattle.packet_verdicts.proofs.Outcomes.{no_msgid}
 use Rattle.packet_verdicts.proofs.Places.{place_same, place_within}
@@ -68,7 +68,7 @@ right_seen b id (Some place) None ok = inl refl
 right_seen b id (Some place) (Some number) ok = right_reply b id place number ok
 
 right_view : (b : Board) (id : ℕ) (m : QwkMessage) → IsBoard b → IsSome (user_of id b) → IsView (view_of b id m)
-right_view b id m ok some = record { user = user_named b id ok some; sysop = ok.ledger.setup.sysop; reply = right_seen b id (place_of m.header.number b) m.header.reference ok }
+right_view b id m ok some = record { user = user_named b id ok some; sysop = ok.ledger.setup.sysop; reply = right_seen b id (addressed_place m.header.number b) m.header.reference ok }
 
 -- ---- one post more
 types_with : (d : Message) (msgid : List ℕ) → IsTyped d → IsMsgid msgid → IsTyped (with_msgid msgid d)
@@ -109,17 +109,17 @@ module _ (b : Board) (id now : ℕ) (ok : IsBoard b) where
 
   module _ (posts : List (ℕ × Message)) (m : QwkMessage) where
     -- the conference that the rules see
-    seen : (place : ℕ) (c : SetupConference) → slice_get b.ledger.setup.conferences place ≡ Some c → place_of m.header.number b ≡ Some place
+    seen : (place : ℕ) (c : SetupConference) → slice_get b.ledger.setup.conferences place ≡ Some c → addressed_place m.header.number b ≡ Some place
         → (view_of (spread posts b) id m).conference ≡ Some (conference_view (spread posts b) (user_with id b) place c)
     seen place c is here =
         ap (conference_seen (spread posts b) (user_with id b)) (place_same m.header.number b posts ∙ here) ∙ ap (option_map (conference_view (spread posts b) (user_with id b) place)) is
 
     -- what a posted draft leaves
-    left : (place : ℕ) (c : SetupConference) (d : Message) → slice_get b.ledger.setup.conferences place ≡ Some c → place_of m.header.number b ≡ Some place → verdict_on (spread posts b) id m now ≡ Post d
+    left : (place : ℕ) (c : SetupConference) (d : Message) → slice_get b.ledger.setup.conferences place ≡ Some c → addressed_place m.header.number b ≡ Some place → verdict_on (spread posts b) id m now ≡ Post d
         → (length (slots_in (spread posts b) place) < 9999) × (new_bytes d (length (msgid_in place b (next_number (spread posts b) place))) ≤ room_of (spread posts b))
     left place c d is here posted = posted_has_room (view_of (spread posts b) id m) (conference_view (spread posts b) (user_with id b) place c) m now d (seen place c is here) posted
 
-    room_stays : (o : Option ℕ) (w : Verdict) → place_of m.header.number b ≡ o → verdict_on (spread posts b) id m now ≡ w → HasRoom posts → HasRoom (posts_after o w posts)
+    room_stays : (o : Option ℕ) (w : Verdict) → addressed_place m.header.number b ≡ o → verdict_on (spread posts b) id m now ≡ w → HasRoom posts → HasRoom (posts_after o w posts)
     unfolding HasRoom
     room_stays None (Post d) here posted room = room
     room_stays None (Refused r) here posted room = room
@@ -136,7 +136,7 @@ module _ (b : Board) (id now : ℕ) (ok : IsBoard b) where
       unfolding HasRoom
       valid = fit_board b posts ok fit (omega (arith, room))
 
-      may : (place : ℕ) (c : SetupConference) (d : Message) → slice_get b.ledger.setup.conferences place ≡ Some c → place_of m.header.number b ≡ Some place → verdict_on (spread posts b) id m now ≡ Post d → IsTyped d → MayHold c.kind d
+      may : (place : ℕ) (c : SetupConference) (d : Message) → slice_get b.ledger.setup.conferences place ≡ Some c → addressed_place m.header.number b ≡ Some place → verdict_on (spread posts b) id m now ≡ Post d → IsTyped d → MayHold c.kind d
       may place c d is here posted types msgid id_is =
           let none : d.msgid ≡ [] = no_msgid (view_of (spread posts b) id m) m now d (sym posted) in
           let own : msgid ≡ or_else d.msgid msgid = sym (ap (λ (xs : List ℕ). or_else xs msgid) none) in
@@ -164,7 +164,7 @@ module _ (b : Board) (id now : ℕ) (ok : IsBoard b) where
         | inr other ↦ omega (arith, ap length (posts_miss k place posts d (ne_eqb place k other)), fit.few k within)
       ]
 
-      fit_stays : (o : Option ℕ) (w : Verdict) → place_of m.header.number b ≡ o → verdict_on (spread posts b) id m now ≡ w → All IsTypedPost (posts_after o w posts) → AreFit b (posts_after o w posts)
+      fit_stays : (o : Option ℕ) (w : Verdict) → addressed_place m.header.number b ≡ o → verdict_on (spread posts b) id m now ≡ w → All IsTypedPost (posts_after o w posts) → AreFit b (posts_after o w posts)
       fit_stays None (Post d) here posted types = fit
       fit_stays None (Refused r) here posted types = fit
       fit_stays (Some place) (Refused r) here posted types = fit
@@ -185,20 +185,20 @@ module _ (b : Board) (id now : ℕ) (ok : IsBoard b) where
   unfolding after
   room_after_all so_far [] room = room
   room_after_all so_far (m ∷ messages) room =
-      room_after_all (judged_next b id now so_far m) messages (room_stays so_far.1 m (place_of m.header.number b) (verdict_on (spread so_far.1 b) id m now) refl refl room)
+      room_after_all (judged_next b id now so_far m) messages (room_stays so_far.1 m (addressed_place m.header.number b) (verdict_on (spread so_far.1 b) id m now) refl refl room)
 
   typed_before : (so_far : List Outcome × List (ℕ × Message)) (messages : List QwkMessage) → All IsTypedPost (after so_far messages).1 → All IsTypedPost so_far.1
   unfolding after
   typed_before so_far [] all = all
   typed_before so_far (m ∷ messages) all =
-      posts_before IsTypedPost (place_of m.header.number b) (verdict_on (spread so_far.1 b) id m now) so_far.1 (typed_before (judged_next b id now so_far m) messages all)
+      posts_before IsTypedPost (addressed_place m.header.number b) (verdict_on (spread so_far.1 b) id m now) so_far.1 (typed_before (judged_next b id now so_far m) messages all)
 
   fit_after_all : (so_far : List Outcome × List (ℕ × Message)) (messages : List QwkMessage) → IsSome (user_of id b) → AreFit b so_far.1 → HasRoom so_far.1 → All (λ m. HasShortTexts m.header) messages → All IsTypedPost (after so_far messages).1
       → AreFit b (after so_far messages).1
   unfolding after
   fit_after_all so_far [] there fit room short types = fit
   fit_after_all so_far (m ∷ messages) there fit room short types =
-      let place : Option ℕ = place_of m.header.number b in
+      let place : Option ℕ = addressed_place m.header.number b in
       let w : Verdict = verdict_on (spread so_far.1 b) id m now in
       let next : List Outcome × List (ℕ × Message) = judged_next b id now so_far m in
       let one : HasShortTexts m.header = All-head (λ (m : QwkMessage). HasShortTexts m.header) m messages short in

@@ -19,7 +19,7 @@ use Rattle.qwk_blocks.specs.declared.message.QwkMessage.{QwkMessage}
 use Rattle.setup_file.specs.declared.conference.Conference.{Conference as SetupConference}
 use Rattle.slot_changes.specs.Msgids.{msgid_in}
 use Rattle.packet_verdicts.specs.Judged.{outcome_of, posts_after, judged_next, judged}
-use Rattle.packet_verdicts.specs.Views.{user_with, place_of, conference_view, conference_seen, msgid_at, reply_at, reply_seen, room_of, view_with, view_of}
+use Rattle.packet_verdicts.specs.Views.{user_with, addressed_place, conference_view, conference_seen, msgid_at, reply_at, reply_seen, room_of, view_with, view_of}
 use Rattle.packet_verdicts.specs.declared.outcome.Outcome.{Outcome}
 
 -- ---- what the rules see of a board
@@ -53,14 +53,14 @@ reply_outline b id (Some place) (Some number) = one_reply b id place number
 room_outline : (b : Board) → room_of (board_outline b) ≡ room_of b
 room_outline b = ap (λ size. board_limit - (size + 42)) (outline_size b)
 
-place_outline : (b : Board) (number : Option ℕ) → place_of number (board_outline b) ≡ place_of number b
+place_outline : (b : Board) (number : Option ℕ) → addressed_place number (board_outline b) ≡ addressed_place number b
 place_outline b None = refl
 place_outline b (Some number) = refl
 
 pub outline_view : (b : Board) (id : ℕ) (m : QwkMessage) → view_of (board_outline b) id m ≡ view_of b id m
 outline_view b id m =
     ap (λ (place : Option ℕ). view_with b.ledger (user_with id b) (conference_seen (board_outline b) (user_with id b) place) (reply_seen (board_outline b) id place m.header.reference) (room_of (board_outline b))) (place_outline b m.header.number)
-    ∙ (λ i. view_with b.ledger (user_with id b) (conference_outline b (user_with id b) (place_of m.header.number b) i) (reply_outline b id (place_of m.header.number b) m.header.reference i) (room_outline b i))
+    ∙ (λ i. view_with b.ledger (user_with id b) (conference_outline b (user_with id b) (addressed_place m.header.number b) i) (reply_outline b id (addressed_place m.header.number b) m.header.reference i) (room_outline b i))
 
 -- ---- verdicts
 pub outline_spread : (b : Board) (posts : List (ℕ × Message)) → board_outline (spread posts (board_outline b)) ≡ board_outline (spread posts b)
@@ -74,7 +74,7 @@ next_outline : (b : Board) (id now : ℕ) (so_far : List Outcome × List (ℕ ×
 next_outline b id now so_far m =
     let view : View = view_of (spread so_far.1 (board_outline b)) id m in
     ap (λ (place : Option ℕ). (so_far.0 ++ outcome_of view.conference (verdict view m now) ∷ [], posts_after place (verdict view m now) so_far.1)) (place_outline b m.header.number)
-    ∙ ap (λ (v : View). (so_far.0 ++ outcome_of v.conference (verdict v m now) ∷ [], posts_after (place_of m.header.number b) (verdict v m now) so_far.1)) (view_next b so_far.1 id m)
+    ∙ ap (λ (v : View). (so_far.0 ++ outcome_of v.conference (verdict v m now) ∷ [], posts_after (addressed_place m.header.number b) (verdict v m now) so_far.1)) (view_next b so_far.1 id m)
 
 pub outline_judged : (b : Board) (id now : ℕ) (messages : List QwkMessage) → judged (board_outline b) id now messages ≡ judged b id now messages
 unfolding judged

@@ -12,7 +12,7 @@ use Rattle.board_layout.specs.Valid.{IsBoard}
 use Rattle.jam_base.specs.Contents.{Contents}
 use Rattle.jam_records.specs.declared.message.Message.{Message}
 use Rattle.post_changes.specs.Posted.{spread}
-use Rattle.packet_verdicts.specs.Views.{place_of}
+use Rattle.packet_verdicts.specs.Views.{addressed_place}
 use Rattle.setup_file.specs.declared.conference.Conference.{Conference as SetupConference}
 
 position_within : {A : Type 0} (p : A → Bool) (xs : List A) (k : ℕ) → position p xs ≡ Some k → k < length xs
@@ -20,12 +20,12 @@ position_within p xs k e =
     let parts = cond_some (ltb (position_or_len p xs) (length xs)) (position_or_len p xs) k e in
     omega (arith, ltb-true (position_or_len p xs) (length xs) parts.0, parts.1)
 
-pub place_within : (number : Option ℕ) (b : Board) (place : ℕ) → place_of number b ≡ Some place → place < length b.ledger.setup.conferences
+pub place_within : (number : Option ℕ) (b : Board) (place : ℕ) → addressed_place number b ≡ Some place → place < length b.ledger.setup.conferences
 place_within None b place e = absurd (none-some place e)
 place_within (Some number) b place e = position_within (λ (c : SetupConference). eqb c.number number) b.ledger.setup.conferences place e
 
 -- posts don't change the setup
-pub place_same : (number : Option ℕ) (b : Board) (posts : List (ℕ × Message)) → place_of number (spread posts b) ≡ place_of number b
+pub place_same : (number : Option ℕ) (b : Board) (posts : List (ℕ × Message)) → addressed_place number (spread posts b) ≡ addressed_place number b
 place_same None b posts = refl
 place_same (Some number) b posts = refl
 

@@ -22,7 +22,7 @@ use Rattle.packet_verdicts.specs.Accepted.{IsIndexed}
 use Rattle.packet_verdicts.specs.Judged.{judged_next, outcome_of, posts_after, refused_count, room_left}
 use Rattle.packet_verdicts.specs.Judging.{IsJudging}
 use Rattle.post_changes.specs.Posted.{all_posted, spread}
-use Rattle.packet_verdicts.specs.Views.{conference_seen, conference_view, nobody, place_of, room_of, user_with, verdict_on, view_of, view_with}
+use Rattle.packet_verdicts.specs.Views.{conference_seen, conference_view, nobody, addressed_place, room_of, user_with, verdict_on, view_of, view_with}
 use Rattle.packet_verdicts.specs.declared.judging.Judging.{Judging}
 use Rattle.packet_verdicts.specs.declared.outcome.Outcome.{Outcome}
 use Rattle.setup_file.specs.declared.conference.Conference.{Conference as SetupConference}
@@ -68,7 +68,7 @@ few_after (Some place) d posts = omega (arith, length-append posts ((place, d) �
 pub record Looked (b : Board) (old mid : Judging) (m : QwkMessage) (place : Option ℕ) : Type 0 where
   pub board : IsBoard b
   pub before : IsJudging b old
-  pub number : place ≡ place_of m.header.number b
+  pub number : place ≡ addressed_place m.header.number b
   pub within : IfSome place (λ place. place < length b.ledger.setup.conferences)
   pub view : mid.view ≡ view_of (spread old.accepted.posts b) old.user m
   pub rest : mid ≡ record old { view = mid.view }

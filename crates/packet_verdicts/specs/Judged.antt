@@ -9,7 +9,7 @@ use Rattle.netmail_rules.specs.declared.verdict.Verdict.TheVariants as verdict
 use Rattle.netmail_rules.specs.declared.view.ConferenceView.{ConferenceView}
 use Rattle.qwk_blocks.specs.declared.message.QwkMessage.{QwkMessage}
 use Rattle.post_changes.specs.Posted.{spread}
-use Rattle.packet_verdicts.specs.Views.{place_of, view_of, verdict_on}
+use Rattle.packet_verdicts.specs.Views.{addressed_place, view_of, verdict_on}
 use Rattle.packet_verdicts.specs.declared.outcome.Outcome.{Outcome}
 use Rattle.packet_verdicts.specs.declared.outcome.Outcome.TheVariants.{Posted, Refused}
 
@@ -35,7 +35,7 @@ room_left (Some c) draft room = room - new_bytes draft c.msgid_len
 abbrev pub judged_next : Board → ℕ → ℕ → List Outcome × List (ℕ × Message) → QwkMessage → List Outcome × List (ℕ × Message)
 judged_next b id now so_far m =
     let board = spread so_far.1 b in
-    (so_far.0 ++ outcome_of (view_of board id m).conference (verdict_on board id m now) ∷ [], posts_after (place_of m.header.number b) (verdict_on board id m now) so_far.1)
+    (so_far.0 ++ outcome_of (view_of board id m).conference (verdict_on board id m now) ∷ [], posts_after (addressed_place m.header.number b) (verdict_on board id m now) so_far.1)
 
 -- the outcomes of the messages that a user uploads at a moment, and the posts of those that are accepted
 unfoldable pub judged : Board → ℕ → ℕ → List QwkMessage → List Outcome × List (ℕ × Message)

@@ -27,9 +27,9 @@ user_with id b = unwrap_or (user_of id b) nobody
 
 -- ---- the conference
 -- the place of the conference of a number
-abbrev pub place_of : Option ℕ → Board → Option ℕ
-place_of None b = None
-place_of (Some number) b = position (λ c. c.number == number) b.ledger.setup.conferences
+abbrev pub addressed_place : Option ℕ → Board → Option ℕ
+addressed_place None b = None
+addressed_place (Some number) b = position (λ c. c.number == number) b.ledger.setup.conferences
 
 -- the message number that comes next in a place
 abbrev pub next_number : Board → ℕ → ℕ
@@ -88,7 +88,7 @@ view_with l u conference reply room = record {
 -- what the rules see of a board for a message of the user of an id
 abbrev pub view_of : Board → ℕ → QwkMessage → View
 view_of b id m =
-    view_with b.ledger (user_with id b) (conference_seen b (user_with id b) (place_of m.header.number b)) (reply_seen b id (place_of m.header.number b) m.header.reference) (room_of b)
+    view_with b.ledger (user_with id b) (conference_seen b (user_with id b) (addressed_place m.header.number b)) (reply_seen b id (addressed_place m.header.number b) m.header.reference) (room_of b)
 
 -- the verdict on a message of the user of an id at a moment
 abbrev pub verdict_on : Board → ℕ → QwkMessage → ℕ → Verdict

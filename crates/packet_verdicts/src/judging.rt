@@ -6,7 +6,7 @@ ghost use Rattle.packet_verdicts.specs.Judged.{judged, judged_next, refused_coun
 ghost use Rattle.packet_verdicts.specs.Judging.{IsJudging};
 ghost use Rattle.post_changes.specs.Posted.{spread};
 ghost use Rattle.packet_verdicts.specs.Typed.{IsTypedPost};
-ghost use Rattle.packet_verdicts.specs.Views.{place_of as place_in, view_of};
+ghost use Rattle.packet_verdicts.specs.Views.{addressed_place as place_in, view_of};
 
 use crate::accepted::Accepted;
 use crate::lookups::place_of;

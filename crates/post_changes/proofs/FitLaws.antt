@@ -19,7 +19,7 @@ use Rattle.jam_records.specs.declared.message.Message.{Message}
 use Rattle.post_changes.proofs.PlacePosts.{elsewhere, here, posted_base, posted_messages}
 use Rattle.post_changes.proofs.PostLaws.{posted_bases, posted_board, were_bases}
 use Rattle.post_changes.proofs.RecordLaws.{ledger_is, record_shapes, was_free}
-use Rattle.post_changes.specs.Posted.{ArePlaced, MayHoldIn, all_posted, posted_in, posts_in, record_of, spread, uploaded, with_record}
+use Rattle.post_changes.specs.Posted.{ArePlaced, MayHoldIn, all_posted, posted_in, posts_in, upload_record, spread, uploaded, with_record}
 use Rattle.post_changes.specs.Recorded.{may_record}
 use Rattle.setup_file.specs.Valid.{IsSetupConference}
 use Rattle.setup_file.specs.declared.conference.Conference.{Conference as SetupConference}
@@ -96,9 +96,9 @@ module _ (b : Board) (posts : List (ℕ × Message)) (ok : IsBoard b) where
 
   module _ (user : ℕ) (digest : List ℕ) (refused : ℕ) where
     upload : UploadRecord
-    upload = record_of user digest refused posts
+    upload = upload_record user digest refused posts
 
-    pub uploaded_fits : length digest ≡ 32 → All IsByte digest → may_record b.ledger (record_of user digest refused posts) ≡ true → All IsBase (all_posted b posts 0 (contents_of b))
+    pub uploaded_fits : length digest ≡ 32 → All IsByte digest → may_record b.ledger (upload_record user digest refused posts) ≡ true → All IsBase (all_posted b posts 0 (contents_of b))
         → board_size (uploaded user digest refused posts b) ≤ board_limit → IsBoard (uploaded user digest refused posts b)
     unfolding upload
     uploaded_fits whole bytes may bases small =
@@ -108,6 +108,6 @@ module _ (b : Board) (posts : List (ℕ × Message)) (ok : IsBoard b) where
     unfolding upload
     uploaded_bases next = posted_bases b posts (with_record upload b.ledger) ok (record_shapes b.ledger upload) next
 
-    pub uploaded_free : IsBoard (uploaded user digest refused posts b) → may_record b.ledger (record_of user digest refused posts) ≡ true
+    pub uploaded_free : IsBoard (uploaded user digest refused posts b) → may_record b.ledger (upload_record user digest refused posts) ≡ true
     unfolding upload
     uploaded_free next = was_free b.ledger upload next.ledger

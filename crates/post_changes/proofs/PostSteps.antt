@@ -10,11 +10,11 @@ use Rattle.board_changes.proofs.LeadLaws.{places_count}
 use Rattle.board_changes.proofs.MemberLaws.{files_at, files_count, place_known, renewed_pushed}
 use Rattle.board_changes.proofs.PlaceSteps.{step_joins}
 use Rattle.board_changes.proofs.StepLaws.{change_joins, change_suits}
-use Rattle.board_changes.specs.Change.{Becomes, Changes}
+use Rattle.board_changes.specs.Change.{Becomes, ChangesBase}
 use Rattle.board_changes.specs.Gathered.{at_place, Joins}
 use Rattle.board_changes.specs.Outlined.{ChangesEach, GatheredEach, LeadsEach}
 use Rattle.board_changes.specs.Spending.{Spends, SpendsHere}
-use Rattle.board_changes.specs.Steps.{base_after, patches_of}
+use Rattle.board_changes.specs.Steps.{base_after, patches_or_none}
 use Rattle.board_changes.specs.declared.change.BoardChange.{BoardChange}
 use Rattle.board_layout.proofs.BasePlaces.{shapes_count}
 use Rattle.board_layout.proofs.OutlineLaws.{base_size_outline, outline_base, outline_contents}
@@ -102,7 +102,7 @@ posting_begun b posts change shapes next none gathered spent = record {
 
 -- ---- one place more
 module _ (b : Board) (posts : List (ℕ × Message)) (place : ℕ) (base : Contents) (change : BoardChange) (made : Option BaseChange) (ok : IsBoard b) (here : slice_get (contents_of b) place ≡ Some base)
-    (is : base_after base made ≡ outlined (posted_in b posts place base)) (changes : IfSome made (Changes base)) (each : ChangesEach base (posted_in b posts place) (patches_of made)) (so_far : Posting b posts place change) where
+    (is : base_after base made ≡ outlined (posted_in b posts place base)) (changes : IfSome made (ChangesBase base)) (each : ChangesEach base (posted_in b posts place) (patches_or_none made)) (so_far : Posting b posts place change) where
   abbrev next : Board
   next = posted_with (next_ledger b change) posts b
 
@@ -112,26 +112,26 @@ module _ (b : Board) (posts : List (ℕ × Message)) (place : ℕ) (base : Conte
   there_outlined : slice_get (contents_of (board_outline next)) place ≡ Some (base_after base made)
   there_outlined = outline_base next place ∙ (ap (option_map outlined) there ∙ ap Some (sym is))
 
-  suits : SuitsIntent base.shape.place (files_in (posted_in b posts place base)) (patches_of made)
+  suits : SuitsIntent base.shape.place (files_in (posted_in b posts place base)) (patches_or_none made)
   suits =
-      suits_alike base.shape.place (files_in (outlined (posted_in b posts place base))) (files_in (posted_in b posts place base)) (patches_of made) (base_size_outline (posted_in b posts place base))
+      suits_alike base.shape.place (files_in (outlined (posted_in b posts place base))) (files_in (posted_in b posts place base)) (patches_or_none made) (base_size_outline (posted_in b posts place base))
       (change_suits base (outlined (posted_in b posts place base)) made changes is)
 
   pub post_joins : IfSome made (λ c. Joins change.intent c.patches)
   post_joins = change_joins change.intent made
-      (step_joins b next place base (posted_in b posts place base) change.intent (patches_of made) ok so_far.next here there (so_far.gathered.gathered b ok refl) (each.files.turns base refl) suits)
+      (step_joins b next place base (posted_in b posts place base) change.intent (patches_or_none made) ok so_far.next here there (so_far.gathered.gathered b ok refl) (each.files.turns base refl) suits)
 
-  spent_more : SpendsHere (length (posts_in place posts)) (files_in base) (files_in (base_after base made)) (patches_of made) → SpentSoFar b posts (place + 1) (next_ledger b change) (change.intent ++ patches_of made)
+  spent_more : SpendsHere (length (posts_in place posts)) (files_in base) (files_in (base_after base made)) (patches_or_none made) → SpentSoFar b posts (place + 1) (next_ledger b change) (change.intent ++ patches_or_none made)
   spent_more costs =
       let posts_more = before_more place posts in
       record {
-        few = omega (arith, so_far.spent.few, costs.few, posts_more, length-append change.intent (patches_of made));
+        few = omega (arith, so_far.spent.few, costs.few, posts_more, length-append change.intent (patches_or_none made));
         grown = omega (
           arith,
           so_far.spent.grown,
           costs.grown,
           posts_more,
-          count_append change.intent (patches_of made),
+          count_append change.intent (patches_or_none made),
           size_more b place base ok here,
           size_more next place (posted_in b posts place base) so_far.next there,
           ap base_size is,
@@ -139,20 +139,20 @@ module _ (b : Board) (posts : List (ℕ × Message)) (place : ℕ) (base : Conte
         );
       }
 
-  one_more : (new : Option Contents) → SpendsHere (length (posts_in place posts)) (files_in base) (files_in (base_after base made)) (patches_of made) → new ≡ option_map (λ c. c.base) made → Posting b posts (place + 1) (record { ledger = change.ledger; bases = change.bases ++ new ∷ []; intent = change.intent ++ patches_of made })
+  one_more : (new : Option Contents) → SpendsHere (length (posts_in place posts)) (files_in base) (files_in (base_after base made)) (patches_or_none made) → new ≡ option_map (λ c. c.base) made → Posting b posts (place + 1) (record { ledger = change.ledger; bases = change.bases ++ new ∷ []; intent = change.intent ++ patches_or_none made })
   one_more new costs same = record {
     shapes = so_far.shapes;
     next = so_far.next;
     bases = renewed_pushed (contents_of b) (contents_of (board_outline next)) change.bases place base new so_far.bases so_far.counted here (there_outlined ∙ ap (λ (o : Option Contents). Some (unwrap_or o base)) (sym same));
     counted = omega (arith, length-append change.bases (new ∷ []), so_far.counted);
-    gathered = step_each b (posted_with (next_ledger b change) posts) place base (posted_in b posts place) change.intent (patches_of made) here (posted_keeps b posts (next_ledger b change) ok so_far.shapes so_far.next)
+    gathered = step_each b (posted_with (next_ledger b change) posts) place base (posted_in b posts place) change.intent (patches_or_none made) here (posted_keeps b posts (next_ledger b change) ok so_far.shapes so_far.next)
         (λ other valid alike one at. posted_at b posts (next_ledger b change) ok so_far.shapes other valid alike place one at) each suits so_far.gathered;
     spent = spent_more costs;
   }
 
-  pub post_more : (after : BoardChange) (new : Option Contents) → SpendsHere (length (posts_in place posts)) (files_in base) (files_in (base_after base made)) (patches_of made) → new ≡ option_map (λ c. c.base) made → after.ledger ≡ change.ledger → after.bases ≡ change.bases ++ new ∷ [] → after.intent ≡ change.intent ++ patches_of made → Posting b posts (place + 1) after
+  pub post_more : (after : BoardChange) (new : Option Contents) → SpendsHere (length (posts_in place posts)) (files_in base) (files_in (base_after base made)) (patches_or_none made) → new ≡ option_map (λ c. c.base) made → after.ledger ≡ change.ledger → after.bases ≡ change.bases ++ new ∷ [] → after.intent ≡ change.intent ++ patches_or_none made → Posting b posts (place + 1) after
   post_more after new costs same ledger bases intent =
-      let all : after ≡ record { ledger = change.ledger; bases = change.bases ++ new ∷ []; intent = change.intent ++ patches_of made } = λ i. record { ledger = ledger i; bases = bases i; intent = intent i } in
+      let all : after ≡ record { ledger = change.ledger; bases = change.bases ++ new ∷ []; intent = change.intent ++ patches_or_none made } = λ i. record { ledger = ledger i; bases = bases i; intent = intent i } in
       subst (Posting b posts (place + 1)) (sym all) (one_more new costs same)
 
 -- ---- all places

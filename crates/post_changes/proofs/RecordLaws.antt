@@ -14,7 +14,7 @@ use Rattle.board_ledger.specs.declared.upload.UploadRecord.{UploadRecord}
 use Rattle.byte_lists.specs.Byte.{IsByte}
 use Rattle.open_offers.specs.declared.version.Version.TheVariants.{Second}
 use Rattle.post_changes.specs.Posted.{with_record}
-use Rattle.post_changes.specs.Recorded.{is_new, may_record}
+use Rattle.post_changes.specs.Recorded.{is_new_upload, may_record}
 use Rattle.setup_file.specs.declared.conference.Conference.{Conference as SetupConference}
 
 -- ---- shapes
@@ -47,7 +47,7 @@ module _ (l : Ledger) (r : UploadRecord) where
 
   pub ledger_is : IsLedger l → length r.digest ≡ 32 → All IsByte r.digest → may_record l r ≡ true → IsLedger (with_record r l)
   ledger_is ok digest bytes may =
-      let halves = and_parts (not (wrong_user (length l.users) r) && not (too_many r.counts)) (is_new l r) may in
+      let halves = and_parts (not (wrong_user (length l.users) r) && not (too_many r.counts)) (is_new_upload l r) may in
       let own = and_parts (not (wrong_user (length l.users) r)) (not (too_many r.counts)) halves.0 in
       let others = and_parts (nat_lt (length l.uploads) 100000) (not (is_repeated l.uploads r)) halves.1 in
       let few : length l.uploads < 100000 = ltb-true (length l.uploads) 100000 others.0 in
@@ -70,7 +70,7 @@ module _ (l : Ledger) (r : UploadRecord) where
       let few : length l.uploads < 100000 = omega (arith, next.few_uploads, length-append l.uploads (r ∷ [])) in
       let free : is_repeated l.uploads r ≡ false = each_last (λ before e. is_repeated before e ≡ false) [] l.uploads r next.pairs in
       let user : wrong_user (length l.users) r ≡ false = λ i. ne_eqb r.user 0 (λ e. omega (arith, e, is.some)) i || le-ltb (length l.users) r.user is.user i in
-      and_from (not (wrong_user (length l.users) r) && not (too_many r.counts)) (is_new l r)
+      and_from (not (wrong_user (length l.users) r) && not (too_many r.counts)) (is_new_upload l r)
       (and_from (not (wrong_user (length l.users) r)) (not (too_many r.counts)) (not_from_false (wrong_user (length l.users) r) user) (not_from_false (too_many r.counts) (le-ltb 8191 (r.counts.posted + r.counts.refused) is.counts)))
       (and_from (nat_lt (length l.uploads) 100000) (not (is_repeated l.uploads r)) (lt-ltb (length l.uploads) 100000 few) (not_from_false (is_repeated l.uploads r) free))
 

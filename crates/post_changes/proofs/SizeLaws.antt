@@ -14,7 +14,7 @@ use Rattle.jam_records.specs.declared.message.Message.{Message}
 use Rattle.post_changes.proofs.PlacePosts.{posted_bytes}
 use Rattle.post_changes.proofs.PostLaws.{old_conferences, old_shapes, posted_size}
 use Rattle.post_changes.proofs.RecordLaws.{record_length, record_shapes}
-use Rattle.post_changes.specs.Posted.{all_posted, posted_in, posts_in, record_of, spread, uploaded, with_record}
+use Rattle.post_changes.specs.Posted.{all_posted, posted_in, posts_in, upload_record, spread, uploaded, with_record}
 use Rattle.slot_changes.proofs.SlotBytes.{message_size}
 use Rattle.slot_changes.specs.Msgids.{all_identified, msgid_in}
 
@@ -62,5 +62,5 @@ module _ (b : Board) (posts : List (ℕ × Message)) (ok : IsBoard b) where
 
   pub uploaded_bytes : (user : ℕ) (digest : List ℕ) (refused : ℕ) → length digest ≡ 32 → board_size (uploaded user digest refused posts b) ≡ board_size (spread posts b) + 42
   uploaded_bytes user digest refused same =
-      let r : UploadRecord = record_of user digest refused posts in
+      let r : UploadRecord = upload_record user digest refused posts in
       omega (arith, posted_size b posts b.ledger ok refl, posted_size b posts (with_record r b.ledger) ok (record_shapes b.ledger r), record_length b.ledger r ok.ledger same)

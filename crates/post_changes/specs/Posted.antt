@@ -43,8 +43,8 @@ abbrev pub spread : List (ℕ × Message) → Board → Board
 spread posts b = posted_with b.ledger posts b
 
 -- the record of a packet of which these posts were posted, and so many messages were refused
-abbrev pub record_of : ℕ → List ℕ → ℕ → List (ℕ × Message) → UploadRecord
-record_of user digest refused posts = record { user = user; digest = digest; counts = record { posted = length posts; refused = refused } }
+abbrev pub upload_record : ℕ → List ℕ → ℕ → List (ℕ × Message) → UploadRecord
+upload_record user digest refused posts = record { user = user; digest = digest; counts = record { posted = length posts; refused = refused } }
 
 -- the ledger with a record behind the others
 abbrev pub with_record : UploadRecord → Ledger → Ledger
@@ -52,4 +52,4 @@ with_record r l = record l { uploads = l.uploads ++ r ∷ [] }
 
 -- the board with the posts of a packet at the ends of their conferences, and with its record
 abbrev pub uploaded : ℕ → List ℕ → ℕ → List (ℕ × Message) → Board → Board
-uploaded user digest refused posts b = posted_with (with_record (record_of user digest refused posts) b.ledger) posts b
+uploaded user digest refused posts b = posted_with (with_record (upload_record user digest refused posts) b.ledger) posts b

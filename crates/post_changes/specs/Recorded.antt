@@ -5,9 +5,9 @@ use Rattle.board_ledger.specs.declared.ledger.Ledger.{Ledger}
 use Rattle.board_ledger.specs.declared.upload.UploadRecord.{UploadRecord}
 
 -- there are fewer than 100,000 records, and none of the same user and digest
-abbrev pub is_new : Ledger → UploadRecord → Bool
-is_new l r = nat_lt (length l.uploads) 100000 && not (is_repeated l.uploads r)
+abbrev pub is_new_upload : Ledger → UploadRecord → Bool
+is_new_upload l r = nat_lt (length l.uploads) 100000 && not (is_repeated l.uploads r)
 
 -- so it is, its user is there, and its counts aren't too many
 abbrev pub may_record : Ledger → UploadRecord → Bool
-may_record l r = (not (wrong_user (length l.users) r) && not (too_many r.counts)) && is_new l r
+may_record l r = (not (wrong_user (length l.users) r) && not (too_many r.counts)) && is_new_upload l r

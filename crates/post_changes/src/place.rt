@@ -1,12 +1,12 @@
 // The posts in one place.
 ghost use Rattle.std.specs.Prelude.{◌≡◌, ◌≤◌, ◌+◌, Some, length, IfOk, IfSome};
-ghost use Rattle.board_changes.specs.Change.{Changes};
+ghost use Rattle.board_changes.specs.Change.{ChangesBase};
 ghost use Rattle.board_changes.specs.Changed.{base_at};
 ghost use Rattle.board_changes.specs.Outlined.{ChangesEach};
 ghost use Rattle.board_changes.specs.Spending.{SpendsHere};
 ghost use Rattle.jam_base.specs.Outlined.{outlined};
 ghost use Rattle.jam_layout.specs.Valid.{IsConference};
-ghost use Rattle.board_changes.specs.Steps.{base_after, patches_of};
+ghost use Rattle.board_changes.specs.Steps.{base_after, patches_or_none};
 ghost use Rattle.board_layout.specs.Layout.{files_in};
 ghost use Rattle.post_changes.specs.Posted.{posted_in, posts_in};
 ghost use Rattle.slot_changes.specs.Msgids.{all_identified, generated};
@@ -53,9 +53,9 @@ pub(crate) fn place_posted(
     requires base { base_at place board.now ≡ Some base.now }
     requires next { IsConference (posted_in board.now posts.now place base.now).shape (posted_in board.now posts.now place base.now).conference }
     ensures base { IfOk result (λ change. base_after base.now change ≡ outlined (posted_in board.now posts.now place base.now)) }
-    ensures changes { IfOk result (λ change. IfSome change (Changes base.now)) }
-    ensures each { IfOk result (λ change. ChangesEach base.now (posted_in board.now posts.now place) (patches_of change)) }
-    ensures costs { IfOk result (λ change. SpendsHere (length (posts_in place posts.now)) (files_in base.now) (files_in (base_after base.now change)) (patches_of change)) }
+    ensures changes { IfOk result (λ change. IfSome change (ChangesBase base.now)) }
+    ensures each { IfOk result (λ change. ChangesEach base.now (posted_in board.now posts.now place) (patches_or_none change)) }
+    ensures costs { IfOk result (λ change. SpendsHere (length (posts_in place posts.now)) (files_in base.now) (files_in (base_after base.now change)) (patches_or_none change)) }
 {
     let conference = board.conference_of(place).number;
     let bbsid = board.ledger().setup.bbsid.as_slice();

@@ -1,8 +1,8 @@
 // Upload records, and a ledger with one more.
 ghost use Rattle.std.specs.Prelude.{◌≡◌, ◌<◌, ◌^◌, length, IfOk};
 ghost use Rattle.board_ledger.specs.Uploads.{is_repeated as repeated};
-ghost use Rattle.post_changes.specs.Posted.{record_of as record_of_posts, with_record as with_record_of};
-ghost use Rattle.post_changes.specs.Recorded.{is_new as new_in, may_record as may_record_of};
+ghost use Rattle.post_changes.specs.Posted.{upload_record as record_of_posts, with_record as with_record_of};
+ghost use Rattle.post_changes.specs.Recorded.{is_new_upload as new_in, may_record as may_record_of};
 
 use crate::post::Post;
 use board_ledger::{Counts, Ledger, UploadRecord, Uploads};

@@ -11,8 +11,8 @@ use Rattle.text_fields.specs.Number.{Digits}
 use Rattle.text_fields.specs.Trim.{TrimmedEnd, Trimmed}
 use Rattle.text_fields.proofs.Numbers.{no_number}
 use Rattle.text_fields.proofs.Trimming.{CutBoth, nothing_begins, nothing_ends}
-use Rattle.qwk_blocks.specs.Header.{IsPad, field, byte, number_in, HasNumber, CountReads, HeaderReads}
-use Rattle.qwk_blocks.specs.Text.{ended, IsLine, if_any, TextReads}
+use Rattle.qwk_blocks.specs.Header.{IsPad, field, byte, number_in, HasNumber, BlockCountReads, HeaderReads}
+use Rattle.qwk_blocks.specs.Text.{joined_lines, IsLine, if_any, TextReads}
 use Rattle.qwk_blocks.specs.Packet.{MessageReads}
 use Rattle.qwk_blocks.specs.declared.message.Header.{Header}
 use Rattle.qwk_blocks.specs.declared.message.QwkMessage.{QwkMessage}
@@ -119,8 +119,8 @@ some_number place width block =
       ]
     ]
 
-byte_more : (x : ℕ) (xs : List ℕ) (ls : List (List ℕ)) (rest : List ℕ) → x ≢ 0xE3 → xs ≡ ended ls ++ rest → All IsLine ls → IsLine rest
-    → (more : List (List ℕ)) × (behind : List ℕ) × (x ∷ xs ≡ ended more ++ behind) × All IsLine more × IsLine behind
+byte_more : (x : ℕ) (xs : List ℕ) (ls : List (List ℕ)) (rest : List ℕ) → x ≢ 0xE3 → xs ≡ joined_lines ls ++ rest → All IsLine ls → IsLine rest
+    → (more : List (List ℕ)) × (behind : List ℕ) × (x ∷ xs ≡ joined_lines more ++ behind) × All IsLine more × IsLine behind
 byte_more x xs [] rest ne e each clear = ([], x ∷ rest, ap (λ ys. x ∷ ys) e, each, All-cons (λ b. b ≢ 0xE3) x rest ne clear)
 byte_more x xs (l ∷ ls) rest ne e each clear = (
   (x ∷ l) ∷ ls,
@@ -130,10 +130,10 @@ byte_more x xs (l ∷ ls) rest ne e each clear = (
   clear,
 )
 
-some_lines : (xs : List ℕ) → (ls : List (List ℕ)) × (rest : List ℕ) × (xs ≡ ended ls ++ rest) × All IsLine ls × IsLine rest
+some_lines : (xs : List ℕ) → (ls : List (List ℕ)) × (rest : List ℕ) × (xs ≡ joined_lines ls ++ rest) × All IsLine ls × IsLine rest
 some_lines [] = ([], [], refl, All-nil IsLine, All-nil (λ b. b ≢ 0xE3))
 some_lines (x ∷ xs) =
-    let t : (ls : List (List ℕ)) × (rest : List ℕ) × (xs ≡ ended ls ++ rest) × All IsLine ls × IsLine rest = some_lines xs in
+    let t : (ls : List (List ℕ)) × (rest : List ℕ) × (xs ≡ joined_lines ls ++ rest) × All IsLine ls × IsLine rest = some_lines xs in
     elim (cases_eq x 0xE3) [
       | inl e ↦ ([] ∷ t.0, t.1, (λ i. e i ∷ t.2 i), All-cons IsLine [] t.0 (All-nil (λ b. b ≢ 0xE3)) t.3, t.4)
       | inr ne ↦ byte_more x xs t.0 t.1 ne t.2 t.3 t.4
@@ -141,11 +141,11 @@ some_lines (x ∷ xs) =
 
 some_text : (bytes : List ℕ) → (lines : List (List ℕ)) × TextReads bytes lines
 some_text bytes =
-    let s : (ls : List (List ℕ)) × (rest : List ℕ) × (bytes ≡ ended ls ++ rest) × All IsLine ls × IsLine rest = some_lines bytes in
+    let s : (ls : List (List ℕ)) × (rest : List ℕ) × (bytes ≡ joined_lines ls ++ rest) × All IsLine ls × IsLine rest = some_lines bytes in
     let t : (last : List ℕ) × TrimmedEnd IsPad s.1 last = some_trimmed_end s.1 in
     (s.0 ++ if_any t.0, record { ended_lines = s.0; rest = s.1; last = t.0; whole = s.2; each = s.3; no_end = s.4; trimmed = t.1; all = refl })
 
-some_header : (block : List ℕ) (count : ℕ) → length block ≡ 128 → CountReads block count → (h : Header) × HeaderReads block h count
+some_header : (block : List ℕ) (count : ℕ) → length block ≡ 128 → BlockCountReads block count → (h : Header) × HeaderReads block h count
 some_header block count len c =
     let number : (r : Option ℕ) × HasNumber 2 7 block r = some_number 2 7 block in
     let reference : (r : Option ℕ) × HasNumber 109 8 block r = some_number 109 8 block in
@@ -188,7 +188,7 @@ some_header block count len c =
     )
 
 -- bytes of the length that their count says are a message
-pub some_message : (bytes : List ℕ) (count : ℕ) → CountReads bytes count → length bytes ≡ 128 * count → (m : QwkMessage) × MessageReads bytes m
+pub some_message : (bytes : List ℕ) (count : ℕ) → BlockCountReads bytes count → length bytes ≡ 128 * count → (m : QwkMessage) × MessageReads bytes m
 some_message bytes count c len =
     let big : 128 ≤ length bytes = omega (arith, c.positive) in
     let block : List ℕ = take 128 bytes in

@@ -4,7 +4,7 @@ use borrow.Rule.Slice.PartMut.{put_mid}
 use Rattle.std.proofs.lemmas.Bool.{cases_lt}
 use Rattle.std.proofs.lemmas.Slice.{take-put_mid}
 use Rattle.std.proofs.lemmas.List.{take_all, drop_all, take-append-le, drop-append-le, length-drop, length-take-le, append-nil, drop-drop}
-use Rattle.qwk_blocks.specs.Header.{CountReads}
+use Rattle.qwk_blocks.specs.Header.{BlockCountReads}
 use Rattle.qwk_blocks.specs.Packet.{FirstFault}
 use Rattle.qwk_blocks.specs.Reader.{CountsMessages, IsLastBlock, PacketBefore, Awaits, IsProgress, ReaderState, HoldsStream, next_bytes}
 use Rattle.qwk_blocks.specs.declared.event.Fed.{Fed}
@@ -18,9 +18,9 @@ use Rattle.qwk_blocks.proofs.OneFault.{fault_unique, no_fault}
 use Rattle.qwk_blocks.proofs.Stream.{awaits_known, header_whole, header_cut, notice_cut, text_cut, bad_count}
 
 -- a count stands in the first block, whatever follows
-count_more : (xs ys : List ℕ) (count : ℕ) → 128 ≤ length xs → CountReads xs count → CountReads (xs ++ ys) count
+count_more : (xs ys : List ℕ) (count : ℕ) → 128 ≤ length xs → BlockCountReads xs count → BlockCountReads (xs ++ ys) count
 count_more xs ys count big c =
-    count_of_whole 128 (xs ++ ys) count (omega arith) (subst (λ (l : List ℕ). CountReads l count) (sym (take-append-le 128 xs ys big)) (count_of_front 128 xs count (omega arith) c))
+    count_of_whole 128 (xs ++ ys) count (omega arith) (subst (λ (l : List ℕ). BlockCountReads l count) (sym (take-append-le 128 xs ys big)) (count_of_front 128 xs count (omega arith) c))
 
 packet_more : (front messages : ℕ) (s t : List ℕ) → PacketBefore front messages s → PacketBefore front messages (s ++ t)
 packet_more front messages s t p =
@@ -32,7 +32,7 @@ awaits_more Notice front messages g s t some h = (omega (arith, h.0, length-appe
 awaits_more Header front messages g s t some h = (packet_more front messages s t h.0, omega (arith, h.1, length-append s t))
 awaits_more (Text left) front messages g s t some h =
     let big : 128 ≤ length (drop front s) = omega (arith, h.1.2, h.1.3, length-drop front s) in
-    let c : CountReads (drop front (s ++ t)) h.1.0 = subst (λ (l : List ℕ). CountReads l h.1.0) (sym (drop-append-le front s t h.0.0)) (count_more (drop front s) t h.1.0 big h.1.1) in
+    let c : BlockCountReads (drop front (s ++ t)) h.1.0 = subst (λ (l : List ℕ). BlockCountReads l h.1.0) (sym (drop-append-le front s t h.0.0)) (count_more (drop front s) t h.1.0 big h.1.1) in
     (packet_more front messages s t h.0, (h.1.0, c, h.1.2, omega (arith, h.1.3, length-append s t)))
 awaits_more Nothing front messages g s t some h = absurd (some refl)
 

@@ -8,22 +8,22 @@ use Rattle.text_fields.specs.Trim.{TrimmedEnd}
 use Rattle.text_fields.proofs.Numbers.{number_unique}
 use Rattle.text_fields.proofs.Splits.{not_split, split_once}
 use Rattle.text_fields.proofs.Trimming.{same_front, same_rest, trimmed_end_unique}
-use Rattle.qwk_blocks.specs.Header.{IsPad, field, HasNumber, CountReads, HeaderReads}
-use Rattle.qwk_blocks.specs.Text.{ended, IsLine, if_any, TextReads}
+use Rattle.qwk_blocks.specs.Header.{IsPad, field, HasNumber, BlockCountReads, HeaderReads}
+use Rattle.qwk_blocks.specs.Text.{joined_lines, IsLine, if_any, TextReads}
 use Rattle.qwk_blocks.specs.Packet.{MessageReads, MessagesRead, PacketReads, PacketAt}
 use Rattle.qwk_blocks.specs.declared.message.Header.{Header}
 use Rattle.qwk_blocks.specs.declared.message.QwkMessage.{QwkMessage}
 
 -- the first line of several, and what follows it
-front_line : (x : List ℕ) (xs : List (List ℕ)) (r : List ℕ) → ended (x ∷ xs) ++ r ≡ x ++ 0xE3 ∷ (ended xs ++ r)
-front_line x xs r = append_assoc (x ++ 0xE3 ∷ []) (ended xs) r ∙ append_assoc x (0xE3 ∷ []) (ended xs ++ r)
+front_line : (x : List ℕ) (xs : List (List ℕ)) (r : List ℕ) → joined_lines (x ∷ xs) ++ r ≡ x ++ 0xE3 ∷ (joined_lines xs ++ r)
+front_line x xs r = append_assoc (x ++ 0xE3 ∷ []) (joined_lines xs) r ∙ append_assoc x (0xE3 ∷ []) (joined_lines xs ++ r)
 
-lines_once : (xs ys : List (List ℕ)) (r s : List ℕ) → All IsLine xs → All IsLine ys → IsLine r → IsLine s → ended xs ++ r ≡ ended ys ++ s → (xs ≡ ys) × (r ≡ s)
+lines_once : (xs ys : List (List ℕ)) (r s : List ℕ) → All IsLine xs → All IsLine ys → IsLine r → IsLine s → joined_lines xs ++ r ≡ joined_lines ys ++ s → (xs ≡ ys) × (r ≡ s)
 lines_once [] [] r s p q a b e = (refl, e)
-lines_once [] (y ∷ ys) r s p q a b e = absurd (not_split 0xE3 r y (ended ys ++ s) a (e ∙ front_line y ys s))
-lines_once (x ∷ xs) [] r s p q a b e = absurd (not_split 0xE3 s x (ended xs ++ r) b (sym e ∙ front_line x xs r))
+lines_once [] (y ∷ ys) r s p q a b e = absurd (not_split 0xE3 r y (joined_lines ys ++ s) a (e ∙ front_line y ys s))
+lines_once (x ∷ xs) [] r s p q a b e = absurd (not_split 0xE3 s x (joined_lines xs ++ r) b (sym e ∙ front_line x xs r))
 lines_once (x ∷ xs) (y ∷ ys) r s p q a b e =
-    let t : (x ≡ y) × (ended xs ++ r ≡ ended ys ++ s) = split_once 0xE3 x y _ _ (All-head IsLine x xs p) (All-head IsLine y ys q) (sym (front_line x xs r) ∙ (e ∙ front_line y ys s)) in
+    let t : (x ≡ y) × (joined_lines xs ++ r ≡ joined_lines ys ++ s) = split_once 0xE3 x y _ _ (All-head IsLine x xs p) (All-head IsLine y ys q) (sym (front_line x xs r) ∙ (e ∙ front_line y ys s)) in
     let u : (xs ≡ ys) × (r ≡ s) = lines_once xs ys r s (All-tail IsLine x xs p) (All-tail IsLine y ys q) a b t.1 in
     let h : x ≡ y = t.0 in
     let k : xs ≡ ys = u.0 in
@@ -57,7 +57,7 @@ made_is : (h : Header) → h ≡ made h.status h.number h.date h.time h.to h.fro
 unfolding made
 made_is h = refl
 
-pub count_unique : (block : List ℕ) (m n : ℕ) → CountReads block m → CountReads block n → m ≡ n
+pub count_unique : (block : List ℕ) (m n : ℕ) → BlockCountReads block m → BlockCountReads block n → m ≡ n
 count_unique block m n x y = number_unique IsPad 6 6 (field 117 6 block) m n x.number y.number
 
 number_is_one : (place width : ℕ) (block : List ℕ) (m n : Option ℕ) → HasNumber place width block m → HasNumber place width block n → m ≡ n
@@ -105,7 +105,7 @@ heads a b x y m n s t e =
     let sizes : length s.block ≡ length t.block = s.header.size ∙ sym t.header.size in
     let blocks : s.block ≡ t.block = same_front s.block t.block _ _ sizes e' in
     let texts' : s.text ++ x ≡ t.text ++ y = same_rest s.block t.block _ _ sizes e' in
-    let counts : s.count ≡ t.count = count_unique t.block s.count t.count (subst (λ (k : List ℕ). CountReads k s.count) blocks s.header.blocks) t.header.blocks in
+    let counts : s.count ≡ t.count = count_unique t.block s.count t.count (subst (λ (k : List ℕ). BlockCountReads k s.count) blocks s.header.blocks) t.header.blocks in
     let lens : length s.text ≡ length t.text = omega (arith, s.size, t.size, counts) in
     let texts : s.text ≡ t.text = same_front s.text t.text x y lens texts' in
     let rests : x ≡ y = same_rest s.text t.text x y lens texts' in

@@ -3,7 +3,7 @@ use Rattle.std.proofs.Common.{◌≡◌, ⊎_elim, ℕ, ◌+◌, ◌-◌, ◌*�
 use Rattle.std.proofs.Math.Seq.{take-add}
 use Rattle.std.proofs.lemmas.Bool.{cases_lt}
 use Rattle.std.proofs.lemmas.List.{append_assoc, take-append-drop, take_all, take-take, take-append-le, drop-append-le, length-drop}
-use Rattle.qwk_blocks.specs.Header.{CountReads}
+use Rattle.qwk_blocks.specs.Header.{BlockCountReads}
 use Rattle.qwk_blocks.specs.Packet.{MessageReads, PacketReads, FirstFault}
 use Rattle.qwk_blocks.specs.Answer.{HasRead}
 use Rattle.qwk_blocks.specs.Reader.{CountsMessages, EndsMessage, IsEvent, MovesFront, Awaits, ReaderState, HoldsStream, next_bytes}
@@ -26,7 +26,7 @@ packet_long : (s : List ℕ) (ms : List QwkMessage) → PacketReads s ms → 128
 packet_long s ms p = omega (arith, ap length p.whole, length-append p.notice p.rest, p.size)
 
 -- a message that ends has the length that its count says
-pub ended_size : (front : ℕ) (s : List ℕ) (e : Event) → IsEvent front s e → EndsMessage e → (count : ℕ) × CountReads (drop front s) count × (length s ≡ front + 128 * count)
+pub ended_size : (front : ℕ) (s : List ℕ) (e : Event) → IsEvent front s e → EndsMessage e → (count : ℕ) × BlockCountReads (drop front s) count × (length s ≡ front + 128 * count)
 ended_size front s event.Notice h ends = absurd ends
 ended_size front s (event.Head blocks) h ends = (blocks, h.2, omega (arith, h.1))
 ended_size front s (event.Text left) h ends = (h.2.0, h.2.1, omega (arith, h.2.2))
@@ -38,10 +38,10 @@ event_front front s (event.Text left) h ends = omega (arith, packet_long (take f
 
 -- the message that ends with the stream
 pub reads_ended : (front : ℕ) (s : List ℕ) (e : Event) (ms new : List QwkMessage) (m : QwkMessage) → IsEvent front s e → EndsMessage e
-    → ((count : ℕ) → CountReads (drop front s) count → length (drop front s) ≡ 128 * count → MessageReads (drop front s) m) → new ≡ ms ++ m ∷ [] → HasRead front s ms → HasRead (length s) s new
+    → ((count : ℕ) → BlockCountReads (drop front s) count → length (drop front s) ≡ 128 * count → MessageReads (drop front s) m) → new ≡ ms ++ m ∷ [] → HasRead front s ms → HasRead (length s) s new
 reads_ended front s e ms new m h ends reads made (inl (zero, none)) = absurd (omega (arith, event_front front s e h ends))
 reads_ended front s e ms new m h ends reads made (inr packet) =
-    let c : (count : ℕ) × CountReads (drop front s) count × (length s ≡ front + 128 * count) = ended_size front s e h ends in
+    let c : (count : ℕ) × BlockCountReads (drop front s) count × (length s ≡ front + 128 * count) = ended_size front s e h ends in
     let message : MessageReads (drop front s) m = reads c.0 c.1 (omega (arith, c.2, length-drop front s)) in
     let first : MessageReads (take (128 * c.0) (drop front s)) m = subst (λ (l : List ℕ). MessageReads l m) (sym (take_all (128 * c.0) (drop front s) (omega (arith, c.2, length-drop front s)))) message in
     inr (subst (λ (n : ℕ). PacketReads (take n s) new) (sym c.2) (goes_on s front (128 * c.0) ms new m packet first made))
@@ -53,15 +53,15 @@ reads_notice front s ms len (inr packet) =
     inr (subst (λ (l : List ℕ). PacketReads l ms) (take_all front s far ∙ sym (take_all (length s) s (omega arith))) packet)
 
 -- a bad count stays one, whatever follows
-count_less : (xs ys : List ℕ) (count : ℕ) → 128 ≤ length xs → CountReads (xs ++ ys) count → CountReads xs count
+count_less : (xs ys : List ℕ) (count : ℕ) → 128 ≤ length xs → BlockCountReads (xs ++ ys) count → BlockCountReads xs count
 count_less xs ys count big c =
-    count_of_whole 128 xs count (omega arith) (subst (λ (l : List ℕ). CountReads l count) (take-append-le 128 xs ys big) (count_of_front 128 (xs ++ ys) count (omega arith) c))
+    count_of_whole 128 xs count (omega arith) (subst (λ (l : List ℕ). BlockCountReads l count) (take-append-le 128 xs ys big) (count_of_front 128 (xs ++ ys) count (omega arith) c))
 
 pub fault_stays : (s t : List ℕ) (at : ℕ) → FirstFault s (BadBlocks at) → FirstFault (s ++ t) (BadBlocks at)
 fault_stays s t at (inl (none, e)) = cc
 fault_stays s t at (inr (end, packet, most, lt, stop)) =
     let here : drop end (s ++ t) ≡ drop end s ++ t = drop-append-le end s t packet.0 in
-    let none : (n : ℕ) → CountReads (drop end (s ++ t)) n → ⊥ = λ n c. stop.2 n (count_less (drop end s) t n stop.1 (subst (λ (l : List ℕ). CountReads l n) here c)) in
+    let none : (n : ℕ) → BlockCountReads (drop end (s ++ t)) n → ⊥ = λ n c. stop.2 n (count_less (drop end s) t n stop.1 (subst (λ (l : List ℕ). BlockCountReads l n) here c)) in
     let reads : PacketReads (take end (s ++ t)) packet.1.0 = subst (λ (l : List ℕ). PacketReads l packet.1.0) (sym (take-append-le end s t packet.0)) packet.1.1 in
     let within : end ≤ length (s ++ t) = omega (arith, packet.0, length-append s t) in
     inr (

@@ -11,7 +11,7 @@ use Rattle.qwk_blocks.specs.Header.{IsPad, HasText, HasNumber, HeaderReads}
 use Rattle.text_fields.specs.Trim.{TrimmedEnd}
 use Rattle.qwk_blocks.specs.Packet.{MessageReads, MessagesRead}
 use Rattle.qwk_blocks.specs.Answer.{ReadsOrFaults}
-use Rattle.qwk_blocks.specs.Text.{ended, IsLine, if_any, TextReads}
+use Rattle.qwk_blocks.specs.Text.{joined_lines, IsLine, if_any, TextReads}
 use Rattle.qwk_blocks.specs.Written.{TextFits, HeaderFits, Writable}
 use Rattle.qwk_blocks.specs.declared.message.Header.{Header}
 use Rattle.qwk_blocks.specs.declared.message.QwkMessage.{QwkMessage}
@@ -66,22 +66,22 @@ last_line rest (b ∷ bs) t line =
     let e : take (length (b ∷ bs)) rest ≡ b ∷ bs = ap (take (length (b ∷ bs))) t.whole ∙ take_at (b ∷ bs) t.pad (length (b ∷ bs)) refl in
     All-cons IsLine (b ∷ bs) [] (subst IsLine e (All-take (λ c. c ≢ 0xE3) (length (b ∷ bs)) rest line)) (All-nil IsLine)
 
-last_length : (last : List ℕ) → length (ended (if_any last)) ≤ length last + 1
+last_length : (last : List ℕ) → length (joined_lines (if_any last)) ≤ length last + 1
 last_length [] = omega arith
 last_length (b ∷ bs) = omega (arith, length-append ((b ∷ bs) ++ 0xE3 ∷ []) [], length-append (b ∷ bs) (0xE3 ∷ []))
 
-text_length : (text : List ℕ) (lines : List (List ℕ)) → TextReads text lines → length (ended lines) ≤ length text + 1
+text_length : (text : List ℕ) (lines : List (List ℕ)) → TextReads text lines → length (joined_lines lines) ≤ length text + 1
 text_length text lines t =
-    let e : ended lines ≡ ended t.ended_lines ++ ended (if_any t.last) = ap ended t.all ∙ flat_map-append (λ (line : List ℕ). line ++ 0xE3 ∷ []) t.ended_lines (if_any t.last) in
+    let e : joined_lines lines ≡ joined_lines t.ended_lines ++ joined_lines (if_any t.last) = ap joined_lines t.all ∙ flat_map-append (λ (line : List ℕ). line ++ 0xE3 ∷ []) t.ended_lines (if_any t.last) in
     omega (
       arith,
       ap length e,
-      length-append (ended t.ended_lines) (ended (if_any t.last)),
+      length-append (joined_lines t.ended_lines) (joined_lines (if_any t.last)),
       last_length t.last,
       ap length t.trimmed.whole,
       length-append t.last t.trimmed.pad,
       ap length t.whole,
-      length-append (ended t.ended_lines) t.rest,
+      length-append (joined_lines t.ended_lines) t.rest,
     )
 
 message_fits : (bytes : List ℕ) (m : QwkMessage) → IsBytes bytes → length bytes ≤ 1048576 → MessageReads bytes m → Writable m

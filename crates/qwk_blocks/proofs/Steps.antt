@@ -1,7 +1,7 @@
 -- How far a reader has come with one more full block.
 use Rattle.std.proofs.Common.{◌≡◌, ℕ, ◌+◌, ◌-◌, ◌*◌, ◌≤◌, List, [], ◌∷◌, ◌++◌, length, take, drop, refl, sym, ◌∙◌, ap, subst, inl, inr, arith, length-append, Some, None}
 use Rattle.std.proofs.lemmas.List.{take_all, length-drop}
-use Rattle.qwk_blocks.specs.Header.{CountReads}
+use Rattle.qwk_blocks.specs.Header.{BlockCountReads}
 use Rattle.qwk_blocks.specs.Packet.{MessageReads, PacketReads, PacketAt}
 use Rattle.qwk_blocks.specs.Reader.{PacketBefore, Awaits, AwaitsText, IsProgress, FollowsBlock}
 use Rattle.qwk_blocks.specs.declared.event.Event.TheVariants as event
@@ -12,7 +12,7 @@ use Rattle.qwk_blocks.proofs.Exists.{some_message}
 use Rattle.qwk_blocks.proofs.First.{goes_on, notice_alone}
 
 -- a message that ends the stream makes the packet longer
-whole_message : (front messages count : ℕ) (s : List ℕ) → PacketBefore front messages s → CountReads (drop front s) count → length s ≡ front + 128 * count → PacketBefore (length s) (messages + 1) s
+whole_message : (front messages count : ℕ) (s : List ℕ) → PacketBefore front messages s → BlockCountReads (drop front s) count → length s ≡ front + 128 * count → PacketBefore (length s) (messages + 1) s
 whole_message front messages count s p c len =
     let m : (m : QwkMessage) × MessageReads (drop front s) m = some_message (drop front s) count c (omega (arith, length-drop front s)) in
     let first : MessageReads (take (128 * count) (drop front s)) m.0 = subst (λ (l : List ℕ). MessageReads l m.0) (sym (take_all (128 * count) (drop front s) (omega (arith, length-drop front s)))) m.1 in
@@ -20,7 +20,7 @@ whole_message front messages count s p c len =
     let reads : PacketReads (take (front + 128 * count) s) all = goes_on s front (128 * count) p.1.0 all m.0 p.1.1 first refl in
     (omega arith, (all, subst (λ (n : ℕ). PacketReads (take n s) all) (sym len) reads, omega (arith, length-append p.1.0 (m.0 ∷ []), p.1.2)))
 
-text_on : (old new : Progress) (blocks end count : ℕ) (s : List ℕ) → PacketBefore old.front old.messages s → CountReads (drop old.front s) count → blocks + 1 ≤ count
+text_on : (old new : Progress) (blocks end count : ℕ) (s : List ℕ) → PacketBefore old.front old.messages s → BlockCountReads (drop old.front s) count → blocks + 1 ≤ count
     → length s ≡ end → length s + 128 * blocks ≡ old.front + 128 * count → AwaitsText old blocks end new → IsProgress new 0 s
 text_on old new blocks end count s p c fewer is len (inl (zero, made)) =
     let whole : PacketBefore (length s) (old.messages + 1) s = whole_message old.front old.messages count s p c (omega arith) in
@@ -47,9 +47,9 @@ front_block : (old : Progress) (end : ℕ) (s block : List ℕ) → length s ≡
 front_block old end s block is at len = let e : old.front ≡ end - 128 = omega arith in ap (λ n. drop n s) e ∙ at
 
 pub after_header : (old new : Progress) (blocks end : ℕ) (s block : List ℕ) → length s ≡ end → drop (end - 128) s ≡ block → Awaits Header old.front old.messages 128 s
-    → CountReads block blocks → AwaitsText old (blocks - 1) end new → FollowsBlock old s (Some (new, event.Head blocks))
+    → BlockCountReads block blocks → AwaitsText old (blocks - 1) end new → FollowsBlock old s (Some (new, event.Head blocks))
 after_header old new blocks end s block is at h c more =
-    let c' : CountReads (drop old.front s) blocks = subst (λ (l : List ℕ). CountReads l blocks) (sym (front_block old end s block is at h.1)) c in
+    let c' : BlockCountReads (drop old.front s) blocks = subst (λ (l : List ℕ). BlockCountReads l blocks) (sym (front_block old end s block is at h.1)) c in
     (text_on old new (blocks - 1) end blocks s h.0 c' (omega (arith, c.positive)) is (omega (arith, c.positive, h.1)) more, awaits_some old new (blocks - 1) end more, (packet_at old.front old.messages s h.0, h.1, c'))
 
 pub after_text : (old new : Progress) (left end : ℕ) (s : List ℕ) → length s ≡ end → Awaits (Text left) old.front old.messages 128 s
@@ -59,6 +59,6 @@ after_text old new left end s is h more =
     (text_on old new left end h.1.0 s h.0 h.1.1 (omega (arith, h.1.2)) is len more, awaits_some old new left end more, (packet_at old.front old.messages s h.0, omega (arith, h.1.2), (h.1.0, h.1.1, len)))
 
 pub after_bad : (old : Progress) (end : ℕ) (s block : List ℕ) → length s ≡ end → drop (end - 128) s ≡ block → Awaits Header old.front old.messages 128 s
-    → ((n : ℕ) → CountReads block n → ⊥) → FollowsBlock old s None
+    → ((n : ℕ) → BlockCountReads block n → ⊥) → FollowsBlock old s None
 after_bad old end s block is at h none =
-    (h.0, h.1, refl, λ n c. none n (subst (λ (l : List ℕ). CountReads l n) (front_block old end s block is at h.1) c))
+    (h.0, h.1, refl, λ n c. none n (subst (λ (l : List ℕ). BlockCountReads l n) (front_block old end s block is at h.1) c))

@@ -13,8 +13,8 @@ use Rattle.text_fields.proofs.Numbers.{decimal_digits, digits_begin, digits_end,
 use Rattle.text_fields.proofs.Trimming.{nothing_begins, nothing_ends}
 use Rattle.qwk_blocks.specs.Header.{IsPad, HasNumber, HeaderReads}
 use Rattle.qwk_blocks.specs.Packet.{MessageReads, MessagesRead, PacketReads}
-use Rattle.qwk_blocks.specs.Text.{ended, IsLine, TextReads}
-use Rattle.qwk_blocks.specs.Written.{padded, number_text, low_first, header_text, message_text, blocks_of, spelling, TextFits, HeaderFits, Writable}
+use Rattle.qwk_blocks.specs.Text.{joined_lines, IsLine, TextReads}
+use Rattle.qwk_blocks.specs.Written.{padded, number_text, low_first, header_block, message_text, blocks_of, spelling, TextFits, HeaderFits, Writable}
 use Rattle.qwk_blocks.specs.declared.message.Header.{Header}
 use Rattle.qwk_blocks.specs.declared.message.QwkMessage.{QwkMessage}
 use Rattle.qwk_blocks.proofs.Messages.{packet_unique}
@@ -94,10 +94,10 @@ digits_option : (k w : ℕ) (n : Option ℕ) → k < 2 ^ 64 → k < 10 ^ w → I
 digits_option k w None lt lt' h = tt
 digits_option k w (Some n) lt lt' h = (omega arith, omega arith)
 
-pub header_back : (h : Header) (count : ℕ) → HeaderFits h → 1 ≤ count → count ≤ 999999 → HeaderReads (header_text h count) h count
-unfolding header_text
+pub header_back : (h : Header) (count : ℕ) → HeaderFits h → 1 ≤ count → count ≤ 999999 → HeaderReads (header_block h count) h count
+unfolding header_block
 header_back h count fits some small =
-    let block : List ℕ = header_text h count in
+    let block : List ℕ = header_block h count in
     let l7 = length_number 7 h.number (omega arith) (digits_option 9999999 7 h.number (omega arith) (omega arith) fits.number) in
     let l8 = length_number 8 h.reference (omega arith) (digits_option 99999999 8 h.reference (omega arith) (omega arith) fits.reference) in
     let l6 = length-decimal-le 6 count (omega arith) (omega arith) (omega arith) in
@@ -139,25 +139,25 @@ header_back h count fits some small =
       tag = sym (sym (get_or-drop 127 block 0 0) ∙ ap (λ xs. get_or xs 0 0) e13);
     }
 
-lines_back : (lines : List (List ℕ)) (n : ℕ) → All IsLine lines → TextReads (padded n (ended lines)) lines
+lines_back : (lines : List (List ℕ)) (n : ℕ) → All IsLine lines → TextReads (padded n (joined_lines lines)) lines
 lines_back lines n each = record {
   ended_lines = lines;
-  rest = replicate (n - length (ended lines)) 32;
+  rest = replicate (n - length (joined_lines lines)) 32;
   last = [];
   whole = refl;
   each = each;
-  no_end = All-replicate (λ b. b ≢ 0xE3) (n - length (ended lines)) 32 (λ e. omega arith);
-  trimmed = record { pad = replicate (n - length (ended lines)) 32; whole = refl; blank = blank_spaces _; ends = nothing_ends IsPad };
+  no_end = All-replicate (λ b. b ≢ 0xE3) (n - length (joined_lines lines)) 32 (λ e. omega arith);
+  trimmed = record { pad = replicate (n - length (joined_lines lines)) 32; whole = refl; blank = blank_spaces _; ends = nothing_ends IsPad };
   all = sym (append-nil lines);
 }
 
 pub message_back : (m : QwkMessage) → Writable m → MessageReads (message_text m) m
 unfolding message_text
 message_back m w =
-    let text : List ℕ = ended m.lines in
+    let text : List ℕ = joined_lines m.lines in
     let blocks : ℕ = blocks_of (length text) in
     record {
-      block = header_text m.header (1 + blocks);
+      block = header_block m.header (1 + blocks);
       text = padded (128 * blocks) text;
       count = 1 + blocks;
       whole = refl;

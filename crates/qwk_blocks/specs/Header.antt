@@ -35,7 +35,7 @@ HasNumber place width block (Some n) = IsNumber place width block n
 HasNumber place width block None = (n : ℕ) → ¬ IsNumber place width block n
 
 -- the count of the blocks of a message, its header among them
-pub record CountReads (block : List ℕ) (count : ℕ) : Type 0 where
+pub record BlockCountReads (block : List ℕ) (count : ℕ) : Type 0 where
   pub number : IsNumber 117 6 block count
   pub positive : 1 ≤ count
 
@@ -50,7 +50,7 @@ pub record HeaderReads (block : List ℕ) (header : Header) (count : ℕ) : Type
   pub subject : HasText 72 25 block header.subject
   pub password : HasText 97 12 block header.password
   pub reference : HasNumber 109 8 block header.reference
-  pub blocks : CountReads block count
+  pub blocks : BlockCountReads block count
   pub activity : header.activity ≡ byte 123 block
   pub conference : header.conference ≡ number_in 124 block
   pub logical : header.logical ≡ number_in 126 block

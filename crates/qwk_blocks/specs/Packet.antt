@@ -1,7 +1,7 @@
 -- MESSAGES.DAT, by Lee's layout: a block of the producer's notice, whose bytes are free, and then the
 -- messages, each a header block and the blocks of its text.
 use Rattle.std.specs.Prelude.{◌≡◌, ◌⊎◌, ℕ, ◌-◌, ◌*◌, ◌<◌, ◌≤◌, List, [], ◌∷◌, ◌++◌, length, take, drop}
-use Rattle.qwk_blocks.specs.Header.{CountReads, HeaderReads}
+use Rattle.qwk_blocks.specs.Header.{BlockCountReads, HeaderReads}
 use Rattle.qwk_blocks.specs.Text.{TextReads}
 use Rattle.qwk_blocks.specs.declared.message.QwkMessage.{QwkMessage}
 use Rattle.qwk_blocks.specs.declared.fault.QwkFault.{QwkFault}
@@ -35,8 +35,8 @@ PacketAt bytes n = (n ≤ length bytes) × ((messages : List QwkMessage) × Pack
 
 -- what is wrong where rest, which isn't empty, should begin with a message
 abbrev pub StopsWith : ℕ → List ℕ → QwkFault → Type 0
-StopsWith place rest (Truncated at) = (at ≡ place) × ((length rest < 128) ⊎ ((count : ℕ) × CountReads rest count))
-StopsWith place rest (BadBlocks at) = (at ≡ place) × (128 ≤ length rest) × ((count : ℕ) → ¬ CountReads rest count)
+StopsWith place rest (Truncated at) = (at ≡ place) × ((length rest < 128) ⊎ ((count : ℕ) × BlockCountReads rest count))
+StopsWith place rest (BadBlocks at) = (at ≡ place) × (128 ≤ length rest) × ((count : ℕ) → ¬ BlockCountReads rest count)
 
 -- The first fault stands at the end of the longest front that is a packet, or at 0 where none is.
 abbrev pub FirstFault : List ℕ → QwkFault → Type 0

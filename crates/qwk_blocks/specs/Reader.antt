@@ -1,7 +1,7 @@
 -- A reader of blocks, which takes a file in pieces, and the stream of all bytes that it took. Of the stream it keeps
 -- the last block and the bytes behind it.
 use Rattle.std.specs.Prelude.{◌≡◌, ◌⊎◌, ℕ, ◌+◌, ◌-◌, ◌*◌, ◌/◌, ◌%◌, ◌<◌, ◌≤◌, List, length, take, drop, replicate, Option, Some, None}
-use Rattle.qwk_blocks.specs.Header.{CountReads}
+use Rattle.qwk_blocks.specs.Header.{BlockCountReads}
 use Rattle.qwk_blocks.specs.Packet.{PacketReads, PacketAt, FirstFault}
 use Rattle.qwk_blocks.specs.declared.message.QwkMessage.{QwkMessage}
 use Rattle.qwk_blocks.specs.declared.fault.QwkFault.TheVariants.{BadBlocks}
@@ -37,9 +37,9 @@ FillsBlock stream bytes = (1 ≤ length bytes) × ((length stream + length bytes
 -- packet, and its count is that of its header.
 abbrev pub IsEvent : ℕ → List ℕ → Event → Type 0
 IsEvent front stream Notice = length stream ≡ 128
-IsEvent front stream (Head blocks) = PacketAt stream front × (length stream ≡ front + 128) × CountReads (drop front stream) blocks
+IsEvent front stream (Head blocks) = PacketAt stream front × (length stream ≡ front + 128) × BlockCountReads (drop front stream) blocks
 IsEvent front stream (Text left) =
-    PacketAt stream front × (front + 128 < length stream) × ((count : ℕ) × CountReads (drop front stream) count × (length stream + 128 * left ≡ front + 128 * count))
+    PacketAt stream front × (front + 128 < length stream) × ((count : ℕ) × BlockCountReads (drop front stream) count × (length stream + 128 * left ≡ front + 128 * count))
 
 abbrev pub EndsMessage : Event → Type 0
 EndsMessage Notice = ⊥
@@ -67,9 +67,9 @@ Awaits awaited.Notice front messages gathered stream = (length stream ≡ gather
 Awaits awaited.Header front messages gathered stream = PacketBefore front messages stream × (length stream ≡ front + gathered)
 Awaits (awaited.Text left) front messages gathered stream =
     PacketBefore front messages stream
-    × ((count : ℕ) × CountReads (drop front stream) count × (left + 2 ≤ count) × (length stream + 128 * (left + 1) ≡ front + 128 * count + gathered))
+    × ((count : ℕ) × BlockCountReads (drop front stream) count × (left + 2 ≤ count) × (length stream + 128 * (left + 1) ≡ front + 128 * count + gathered))
 Awaits awaited.Nothing front messages gathered stream =
-    PacketBefore front messages stream × (length stream ≡ front + 128) × (gathered ≡ 0) × ((count : ℕ) → ¬ CountReads (drop front stream) count)
+    PacketBefore front messages stream × (length stream ≡ front + 128) × (gathered ≡ 0) × ((count : ℕ) → ¬ BlockCountReads (drop front stream) count)
 
 abbrev pub IsProgress : Progress → ℕ → List ℕ → Type 0
 IsProgress progress gathered stream = Awaits progress.awaited progress.front progress.messages gathered stream

@@ -6,8 +6,8 @@ use Rattle.text_fields.specs.Trim.{TrimmedEnd}
 use Rattle.qwk_blocks.specs.Header.{IsPad}
 
 -- each line, and E3h behind it
-abbrev pub ended : List (List ℕ) → List ℕ
-ended lines = flat_map (λ line. line ++ 0xE3 ∷ []) lines
+abbrev pub joined_lines : List (List ℕ) → List ℕ
+joined_lines lines = flat_map (λ line. line ++ 0xE3 ∷ []) lines
 
 abbrev pub IsLine : List ℕ → Type 0
 IsLine line = Lacks 0xE3 line
@@ -23,7 +23,7 @@ pub record TextReads (bytes : List ℕ) (lines : List (List ℕ)) : Type 0 where
   pub ended_lines : List (List ℕ)
   pub rest : List ℕ
   pub last : List ℕ
-  pub whole : bytes ≡ ended ended_lines ++ rest
+  pub whole : bytes ≡ joined_lines ended_lines ++ rest
   pub each : All IsLine ended_lines
   pub no_end : IsLine rest
   pub trimmed : TrimmedEnd IsPad rest last

@@ -3,7 +3,7 @@ use Rattle.std.specs.Prelude.{◌≡◌, ℕ, ◌+◌, ◌-◌, ◌*◌, ◌/◌
 use Rattle.std.specs.List.{flat_map}
 use Rattle.text_fields.specs.Trim.{EndsWithNone}
 use Rattle.qwk_blocks.specs.Header.{IsPad}
-use Rattle.qwk_blocks.specs.Text.{ended, IsLine}
+use Rattle.qwk_blocks.specs.Text.{joined_lines, IsLine}
 use Rattle.qwk_blocks.specs.declared.message.Header.{Header}
 use Rattle.qwk_blocks.specs.declared.message.QwkMessage.{QwkMessage}
 
@@ -21,8 +21,8 @@ abbrev pub low_first : ℕ → List ℕ
 low_first n = n % 256 ∷ n / 256 ∷ []
 
 -- the header block, field after field
-unfoldable pub header_text : Header → ℕ → List ℕ
-header_text h count =
+unfoldable pub header_block : Header → ℕ → List ℕ
+header_block h count =
     (h.status ∷ []) ++ (padded 7 (number_text h.number) ++ (h.date ++ (h.time
     ++ (padded 25 h.to ++ (padded 25 h.from ++ (padded 25 h.subject ++ (padded 12 h.password
     ++ (padded 8 (number_text h.reference) ++ (padded 6 (decimal count)
@@ -34,9 +34,9 @@ blocks_of n = max 1 ((n + 127) / 128)
 
 unfoldable pub message_text : QwkMessage → List ℕ
 message_text m =
-    let text = ended m.lines in
+    let text = joined_lines m.lines in
     let blocks = blocks_of (length text) in
-    header_text m.header (1 + blocks) ++ padded (128 * blocks) text
+    header_block m.header (1 + blocks) ++ padded (128 * blocks) text
 
 abbrev pub spelling : List ℕ → List QwkMessage → List ℕ
 spelling notice messages = padded 128 notice ++ flat_map message_text messages
@@ -45,7 +45,7 @@ pub record TextFits (width : ℕ) (text : List ℕ) : Type 0 where
   pub short : length text ≤ width
   pub trimmed : EndsWithNone IsPad text
 
-pub record TextsFit (h : Header) : Type 0 where
+pub record HeaderTextsFit (h : Header) : Type 0 where
   pub to : TextFits 25 h.to
   pub from : TextFits 25 h.from
   pub subject : TextFits 25 h.subject
@@ -56,7 +56,7 @@ pub record HeaderFits (h : Header) : Type 0 where
   pub number : IfSome h.number (λ n. n ≤ 9999999)
   pub date : length h.date ≡ 8
   pub time : length h.time ≡ 5
-  pub texts : TextsFit h
+  pub texts : HeaderTextsFit h
   pub reference : IfSome h.reference (λ n. n ≤ 99999999)
   pub conference : h.conference < 2 ^ 16
   pub logical : h.logical < 2 ^ 16
@@ -64,4 +64,4 @@ pub record HeaderFits (h : Header) : Type 0 where
 pub record Writable (m : QwkMessage) : Type 0 where
   pub header : HeaderFits m.header
   pub lines : All IsLine m.lines
-  pub blocks : 1 + blocks_of (length (ended m.lines)) ≤ 999999
+  pub blocks : 1 + blocks_of (length (joined_lines m.lines)) ≤ 999999

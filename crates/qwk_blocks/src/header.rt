@@ -1,5 +1,5 @@
 ghost use Rattle.std.specs.Prelude.{◌≡◌, ◌≤◌, ◌+◌, ◌-◌, ℕ, length, MatchOption, IfOk};
-ghost use Rattle.qwk_blocks.specs.Header.{number_in, HasText, HasNumber, CountReads, HeaderReads};
+ghost use Rattle.qwk_blocks.specs.Header.{number_in, HasText, HasNumber, BlockCountReads, HeaderReads};
 
 use crate::message::Header;
 use byte_lists::Bytes;
@@ -49,7 +49,7 @@ fn word_at(block: &[u8], place: usize) -> u16
 /// How many blocks the message has with its header, or None where the field has no number above 0.
 pub fn count_of(block: &[u8]) -> Option<u32>
     requires { 128 ≤ length block.now }
-    ensures { MatchOption result ((n : ℕ) → ¬ CountReads block.now n) (λ n. CountReads block.now n) }
+    ensures { MatchOption result ((n : ℕ) → ¬ BlockCountReads block.now n) (λ n. BlockCountReads block.now n) }
 {
     match number_at(block, 117, 6) {
         Some(count) if count > 0 => Some(count),
@@ -60,7 +60,7 @@ pub fn count_of(block: &[u8]) -> Option<u32>
 /// The header of a block.
 pub fn header_of(alloc: Global, block: &[u8]) -> Result<Header, AllocError>
     requires { length block.now ≡ 128 }
-    ensures { IfOk result (λ header. (count : ℕ) → CountReads block.now count → HeaderReads block.now header count) }
+    ensures { IfOk result (λ header. (count : ℕ) → BlockCountReads block.now count → HeaderReads block.now header count) }
 {
     let mut date = [0u8; 8];
     date.copy_from_slice(&block[8..16]);

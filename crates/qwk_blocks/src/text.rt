@@ -1,5 +1,5 @@
 ghost use Rattle.std.specs.Prelude.{◌≡◌, ◌-◌, ◌^◌, length, min, IfOk};
-ghost use Rattle.qwk_blocks.specs.Text.{ended, TextReads};
+ghost use Rattle.qwk_blocks.specs.Text.{joined_lines, TextReads};
 
 use byte_lists::{Bytes, Lines};
 use std::alloc::{AllocError, Global};
@@ -27,7 +27,7 @@ pub fn lines_of(alloc: Global, text: &[u8]) -> Result<Lines, AllocError>
 
 /// The bytes of a text of these lines, each with its end, up to the greatest number.
 pub fn text_len(lines: &Lines) -> usize
-    ensures { result ≡ min (length (ended lines.now)) (2 ^ 64 - 1) }
+    ensures { result ≡ min (length (joined_lines lines.now)) (2 ^ 64 - 1) }
 {
     let mut len = 0usize;
     for line in lines.as_slice() {

@@ -1,6 +1,6 @@
 ghost use Rattle.std.specs.Prelude.{◌≡◌, ◌≤◌, ◌<◌, ◌^◌, ◌-◌, ◌↔◌, All, length, min, IsTrue, IfSome};
 ghost use Rattle.qwk_blocks.specs.Text.{IsLine};
-ghost use Rattle.qwk_blocks.specs.Written.{TextFits, TextsFit, HeaderFits, Writable};
+ghost use Rattle.qwk_blocks.specs.Written.{TextFits, HeaderTextsFit, HeaderFits, Writable};
 
 use crate::header::BLOCK;
 use crate::message::{Header, QwkMessage};
@@ -33,7 +33,7 @@ fn number_fits(most: u32, number: Option<u32>) -> bool
 
 /// Whether the texts of a header fit their fields.
 fn texts_fit(header: &Header) -> bool
-    ensures { IsTrue result ↔ TextsFit header.now }
+    ensures { IsTrue result ↔ HeaderTextsFit header.now }
 {
     if !text_fits(25, header.to.as_slice()) {
         return false;

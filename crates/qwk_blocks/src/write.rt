@@ -1,6 +1,6 @@
 ghost use Rattle.std.specs.Prelude.{◌≡◌, ◌≤◌, ◌<◌, ◌^◌, ◌*◌, ◌+◌, ◌++◌, length, replicate, OnOk, IfOk, All};
-ghost use Rattle.qwk_blocks.specs.Text.{ended};
-ghost use Rattle.qwk_blocks.specs.Written.{padded, number_text, low_first, header_text, message_text, spelling, Writable};
+ghost use Rattle.qwk_blocks.specs.Text.{joined_lines};
+ghost use Rattle.qwk_blocks.specs.Written.{padded, number_text, low_first, header_block, message_text, spelling, Writable};
 
 use crate::header::BLOCK;
 use crate::message::{Header, QwkMessage, QwkMessages};
@@ -51,9 +51,9 @@ fn add_word(out: &mut Bytes, n: u16) -> Result<(), AllocError>
 }
 
 /// Adds a header block.
-#[tactic(auto, unfolding(crate::specs::Written::header_text))]
+#[tactic(auto, unfolding(crate::specs::Written::header_block))]
 fn add_header(out: &mut Bytes, header: &Header, count: u32) -> Result<(), AllocError>
-    ensures { OnOk result (out.new ≡ out.old ++ header_text header.now count) }
+    ensures { OnOk result (out.new ≡ out.old ++ header_block header.now count) }
 {
     out.add(&[header.status])?;
     add_number(out, header.number, 7)?;
@@ -73,7 +73,7 @@ fn add_header(out: &mut Bytes, header: &Header, count: u32) -> Result<(), AllocE
 
 /// Adds lines, each with its end.
 fn add_lines(out: &mut Bytes, lines: &Lines) -> Result<(), AllocError>
-    ensures { OnOk result (out.new ≡ out.old ++ ended lines.now) }
+    ensures { OnOk result (out.new ≡ out.old ++ joined_lines lines.now) }
 {
     for line in lines.as_slice() {
         out.add(line.as_slice())?;

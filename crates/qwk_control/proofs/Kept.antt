@@ -5,8 +5,8 @@ use Rattle.std.proofs.lemmas.List.{length-drop}
 use Rattle.std.specs.Borrow.{Bor}
 use Rattle.std.specs.List.{slice_get}
 use Rattle.qwk_control.specs.Line.{line, or_empty, texts, PlaceLine, IdLine}
-use Rattle.qwk_control.specs.Control.{ConferencesRead, CountReads, LinesRead}
-use Rattle.qwk_control.specs.Fault.{IsNumberPlace, Keeps, KeepsUpto, BreaksUpto, Breaks, LineFault, KeptBefore, FaultBehind}
+use Rattle.qwk_control.specs.Control.{ListedRead, CountReads, ControlLinesRead}
+use Rattle.qwk_control.specs.Fault.{IsNumberPlace, LineKeeps, KeepsUpto, BreaksUpto, BreaksLine, LineFault, KeptBefore, FaultBehind}
 use Rattle.qwk_control.specs.declared.control.Control.{Control}
 use Rattle.qwk_control.specs.declared.fault.ControlError.{ControlError}
 use Rattle.qwk_control.specs.declared.fault.ControlError.TheVariants.{TooFewLines, BadNumber, BadBoardId}
@@ -14,10 +14,10 @@ use Rattle.qwk_control.specs.declared.fault.ControlError.TheVariants.{TooFewLine
 pub some_once : {X : Type 0} (a b : X) → Some a ≡ Some b → a ≡ b
 some_once a b e = cc
 
-keeps_more : (all : List (List ℕ)) (i : ℕ) → KeepsUpto all i → Keeps all (i + 1) → KeepsUpto all (i + 1)
+keeps_more : (all : List (List ℕ)) (i : ℕ) → KeepsUpto all i → LineKeeps all (i + 1) → KeepsUpto all (i + 1)
 keeps_more all i h k j from upto = elim (cases_lt j (i + 1)) [
   | inl lt ↦ h j from (omega arith)
-  | inr ge ↦ let e : i + 1 ≡ j = omega arith in subst (Keeps all) e k
+  | inr ge ↦ let e : i + 1 ≡ j = omega arith in subst (LineKeeps all) e k
 ]
 
 -- the line that heads the lines from it on, and those behind it
@@ -82,7 +82,7 @@ number_more : (all : List (List ℕ)) (k n : ℕ) (text : List ℕ) (rest : List
 number_more all k n text rest h place number = one_more all k text rest h (λ e. absurd (not_fifth (k + 1) place e)) (λ p. (n, number))
 
 -- the line after those that keep their rules breaks its own
-breaks_next : (all : List (List ℕ)) (k upto : ℕ) (rest : List (List ℕ)) (fault : ControlError) → KeptBefore all k rest → k < upto → Breaks all (k + 1) fault → BreaksUpto all upto fault
+breaks_next : (all : List (List ℕ)) (k upto : ℕ) (rest : List (List ℕ)) (fault : ControlError) → KeptBefore all k rest → k < upto → BreaksLine all (k + 1) fault → BreaksUpto all upto fault
 breaks_next all k upto rest fault h lt b = (k + 1, omega arith, omega arith, λ j from below. h.keeps j from (omega arith), b)
 
 too_few : (all : List (List ℕ)) (k upto : ℕ) → KeptBefore all k [] → k < upto → BreaksUpto all upto (TooFewLines (k + 1))
@@ -164,7 +164,7 @@ conference_more all i n text name rest more h e number =
     let k : 11 + 2 * i + 1 + 1 ≡ 11 + 2 * (i + 1) = omega arith in
     subst (λ (m : ℕ). KeptBefore all m more) k (plain_more all (11 + 2 * i + 1) name more (first_more all i n text rest (name ∷ more) h e number) (name_plain i))
 
-pub conference_push : (all : List (List ℕ)) (cs : List (ℕ × List ℕ)) (number name : List ℕ) (more : List (List ℕ)) (n : ℕ) → ConferencesRead all cs (number ∷ name ∷ more) → PlaceLine number n → ConferencesRead all (cs ++ (n, name) ∷ []) more
+pub conference_push : (all : List (List ℕ)) (cs : List (ℕ × List ℕ)) (number name : List ℕ) (more : List (List ℕ)) (n : ℕ) → ListedRead all cs (number ∷ name ∷ more) → PlaceLine number n → ListedRead all (cs ++ (n, name) ∷ []) more
 conference_push all [] number name more n p q = (number, more, p, q, refl)
 conference_push all (c ∷ cs) number name more n p q = (p.0, p.1, p.2, p.3, conference_push p.1 cs number name more n p.4 q)
 
@@ -181,9 +181,9 @@ late_fault all text n fault there last b = (b.0, b.1, inr (text, n, there, last,
 -- the value of a file
 pub lines_read : (all listed rest : List (List ℕ)) (board city phone sysop fifth serial id stamp user menu ninth tenth eleventh : List ℕ) (count n : ℕ) (conferences : List (ℕ × List ℕ)) (c : Control)
     → all ≡ board ∷ city ∷ phone ∷ sysop ∷ fifth ∷ stamp ∷ user ∷ menu ∷ ninth ∷ tenth ∷ eleventh ∷ listed → IdLine fifth serial id → CountReads tenth count → PlaceLine eleventh n
-    → length conferences ≡ n + 1 → ConferencesRead listed conferences rest
+    → length conferences ≡ n + 1 → ListedRead listed conferences rest
     → (c.board ≡ board) × (c.city ≡ city) × (c.phone ≡ phone) × (c.sysop ≡ sysop) × (c.serial ≡ serial) × (c.bbsid ≡ id) → (c.stamp ≡ stamp) × (c.user ≡ user) × (c.menu ≡ menu) × (c.count ≡ count)
-    → c.conferences ≡ conferences → (c.welcome ≡ or_empty rest 1) × (c.news ≡ or_empty rest 2) × (c.goodbye ≡ or_empty rest 3) → LinesRead all c
+    → c.conferences ≡ conferences → (c.welcome ≡ or_empty rest 1) × (c.news ≡ or_empty rest 2) × (c.goodbye ≡ or_empty rest 3) → ControlLinesRead all c
 lines_read all listed rest board city phone sysop fifth serial id stamp user menu ninth tenth eleventh count n conferences c whole is_id counted last len read boards packets same files =
     let a1 : c.board ≡ board = boards.0 in
     let a2 : c.city ≡ city = boards.1 in
@@ -205,7 +205,7 @@ lines_read all listed rest board city phone sysop fifth serial id stamp user men
       counted = subst (CountReads tenth) (sym packets.3) counted;
       last = subst (PlaceLine eleventh) many last;
       some = omega (arith, ap length same);
-      conferences = subst (λ (cs : List (ℕ × List ℕ)). ConferencesRead listed cs rest) (sym same) read;
+      conferences = subst (λ (cs : List (ℕ × List ℕ)). ListedRead listed cs rest) (sym same) read;
       welcome = files.0;
       news = files.1;
       goodbye = files.2;

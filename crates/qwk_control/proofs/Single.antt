@@ -5,8 +5,8 @@ use Rattle.std.proofs.lemmas.List.{get_or-append-add}
 use Rattle.std.proofs.lemmas.Option.{slice_get-get_or, slice_get_within}
 use Rattle.std.specs.Result.{MatchResult}
 use Rattle.qwk_control.specs.Line.{line, or_empty, PlaceLine, IdLine}
-use Rattle.qwk_control.specs.Control.{CountReads, ConferencesRead, LinesRead}
-use Rattle.qwk_control.specs.Fault.{IsNumberPlace, IsWanted, Keeps, Breaks, LineFault, MemoryOr, UnlessMemory}
+use Rattle.qwk_control.specs.Control.{CountReads, ListedRead, ControlLinesRead}
+use Rattle.qwk_control.specs.Fault.{IsNumberPlace, IsWanted, LineKeeps, BreaksLine, LineFault, MemoryOr, ControlUnlessMemory}
 use Rattle.qwk_control.specs.declared.control.Control.{Control}
 use Rattle.qwk_control.specs.declared.fault.ControlError.{ControlError}
 use Rattle.qwk_control.specs.declared.fault.ControlError.TheVariants.{TooFewLines, BadNumber, BadBoardId, OutOfMemory}
@@ -40,7 +40,7 @@ pair_is : (c d : ℕ × List ℕ) → c.0 ≡ d.0 → c.1 ≡ d.1 → c ≡ d
 pair_is c d e f = ap (λ (x : ℕ). (x, c.1)) e ∙ ap (λ (y : List ℕ). (d.0, y)) f
 
 -- as many conferences are the same ones, and the same lines follow
-conferences_unique : (all : List (List ℕ)) (cs ds : List (ℕ × List ℕ)) (r s : List (List ℕ)) → length cs ≡ length ds → ConferencesRead all cs r → ConferencesRead all ds s → (cs ≡ ds) × (r ≡ s)
+conferences_unique : (all : List (List ℕ)) (cs ds : List (ℕ × List ℕ)) (r s : List (List ℕ)) → length cs ≡ length ds → ListedRead all cs r → ListedRead all ds s → (cs ≡ ds) × (r ≡ s)
 conferences_unique all [] [] r s len p q = (refl, sym p ∙ q)
 conferences_unique all [] (d ∷ ds) r s len p q = absurd (omega arith)
 conferences_unique all (c ∷ cs) [] r s len p q = absurd (omega arith)
@@ -50,12 +50,12 @@ conferences_unique all (c ∷ cs) (d ∷ ds) r s len p q =
     let name : c.1 ≡ d.1 = cc in
     let more : p.1 ≡ q.1 = cc in
     let value : c.0 ≡ d.0 = place_unique q.0 c.0 d.0 (subst (λ (t : List ℕ). PlaceLine t c.0) number p.3) q.3 in
-    let u : (cs ≡ ds) × (r ≡ s) = conferences_unique q.1 cs ds r s (omega arith) (subst (λ (k : List (List ℕ)). ConferencesRead k cs r) more p.4) q.4 in
+    let u : (cs ≡ ds) × (r ≡ s) = conferences_unique q.1 cs ds r s (omega arith) (subst (λ (k : List (List ℕ)). ListedRead k cs r) more p.4) q.4 in
     let first : c ≡ d = pair_is c d value name in
     let others : cs ≡ ds = u.0 in
     (cc, u.1)
 
-pub control_unique : (all : List (List ℕ)) (a b : Control) → LinesRead all a → LinesRead all b → a ≡ b
+pub control_unique : (all : List (List ℕ)) (a b : Control) → ControlLinesRead all a → ControlLinesRead all b → a ≡ b
 control_unique all a b x y =
     let e : a.board ∷ a.city ∷ a.phone ∷ a.sysop ∷ x.fifth ∷ a.stamp ∷ a.user ∷ a.menu ∷ x.ninth ∷ x.tenth ∷ x.eleventh ∷ x.listed
     ≡ b.board ∷ b.city ∷ b.phone ∷ b.sysop ∷ y.fifth ∷ b.stamp ∷ b.user ∷ b.menu ∷ y.ninth ∷ y.tenth ∷ y.eleventh ∷ y.listed = sym x.whole ∙ y.whole in
@@ -76,7 +76,7 @@ control_unique all a b x y =
     let count : a.count ≡ b.count = count_unique y.tenth a.count b.count (subst (λ (t : List ℕ). CountReads t a.count) tenth x.counted) y.counted in
     let last : length a.conferences - 1 ≡ length b.conferences - 1 = place_unique y.eleventh _ _ (subst (λ (t : List ℕ). PlaceLine t (length a.conferences - 1)) eleventh x.last) y.last in
     let len : length a.conferences ≡ length b.conferences = omega (arith, x.some, y.some, last) in
-    let u : (a.conferences ≡ b.conferences) × (x.rest ≡ y.rest) = conferences_unique y.listed a.conferences b.conferences x.rest y.rest len (subst (λ (k : List (List ℕ)). ConferencesRead k a.conferences x.rest) listed x.conferences) y.conferences in
+    let u : (a.conferences ≡ b.conferences) × (x.rest ≡ y.rest) = conferences_unique y.listed a.conferences b.conferences x.rest y.rest len (subst (λ (k : List (List ℕ)). ListedRead k a.conferences x.rest) listed x.conferences) y.conferences in
     let conferences : a.conferences ≡ b.conferences = u.0 in
     let welcome : a.welcome ≡ b.welcome = x.welcome ∙ (ap (λ r. or_empty r 1) u.1 ∙ sym y.welcome) in
     let news : a.news ≡ b.news = x.news ∙ (ap (λ r. or_empty r 2) u.1 ∙ sym y.news) in
@@ -86,7 +86,7 @@ control_unique all a b x y =
     cc
 
 -- a line that keeps its rule doesn't break it
-keeps_not_breaks : (all : List (List ℕ)) (k : ℕ) (fault : ControlError) → 1 ≤ k → Keeps all k → Breaks all k fault → ⊥
+keeps_not_breaks : (all : List (List ℕ)) (k : ℕ) (fault : ControlError) → 1 ≤ k → LineKeeps all k → BreaksLine all k fault → ⊥
 keeps_not_breaks all k (TooFewLines at) from h b = omega (arith, b.1, slice_get_within all (k - 1) h.text h.there)
 keeps_not_breaks all k (BadNumber at) from h b =
     let p : (n : ℕ) × PlaceLine h.text n = h.number b.1 in
@@ -105,7 +105,7 @@ fifth_no_number : (k : ℕ) → k ≡ 5 → IsNumberPlace k → ⊥
 fifth_no_number k e p = elim p [ inl f ↦ omega arith | inr j ↦ omega (arith, j.1) ]
 
 -- a line breaks its rule in one way
-breaks_once : (all : List (List ℕ)) (k : ℕ) (f g : ControlError) → 1 ≤ k → Breaks all k f → Breaks all k g → f ≡ g
+breaks_once : (all : List (List ℕ)) (k : ℕ) (f g : ControlError) → 1 ≤ k → BreaksLine all k f → BreaksLine all k g → f ≡ g
 breaks_once all k (TooFewLines i) (TooFewLines j) from x y = ap TooFewLines (x.0 ∙ sym y.0)
 breaks_once all k (BadNumber i) (BadNumber j) from x y = ap BadNumber (x.0 ∙ sym y.0)
 breaks_once all k BadBoardId BadBoardId from x y = refl
@@ -125,17 +125,17 @@ fault_unique all f g x y = elim (cases_lt x.0 y.0) [
     | inl lt ↦ absurd (keeps_not_breaks all y.0 g y.1 (x.3 y.0 y.1 lt) y.4)
     | inr le ↦
         let e : x.0 ≡ y.0 = omega arith in
-        breaks_once all y.0 f g y.1 (subst (λ (k : ℕ). Breaks all k f) e x.4) y.4
+        breaks_once all y.0 f g y.1 (subst (λ (k : ℕ). BreaksLine all k f) e x.4) y.4
   ]
 ]
 
 -- two lines for each conference
-conferences_length : (all : List (List ℕ)) (cs : List (ℕ × List ℕ)) (rest : List (List ℕ)) → ConferencesRead all cs rest → length all ≡ 2 * length cs + length rest
+conferences_length : (all : List (List ℕ)) (cs : List (ℕ × List ℕ)) (rest : List (List ℕ)) → ListedRead all cs rest → length all ≡ 2 * length cs + length rest
 conferences_length all [] rest p = omega (arith, ap length p)
 conferences_length all (c ∷ cs) rest p = omega (arith, ap length p.2, conferences_length p.1 cs rest p.4)
 
 -- the first line of each conference is a number
-conference_number : (all : List (List ℕ)) (cs : List (ℕ × List ℕ)) (rest : List (List ℕ)) (j : ℕ) → ConferencesRead all cs rest → j < length cs → (n : ℕ) × PlaceLine (get_or all (2 * j) []) n
+conference_number : (all : List (List ℕ)) (cs : List (ℕ × List ℕ)) (rest : List (List ℕ)) (j : ℕ) → ListedRead all cs rest → j < length cs → (n : ℕ) × PlaceLine (get_or all (2 * j) []) n
 conference_number all [] rest j p lt = absurd (omega arith)
 conference_number all (c ∷ cs) rest zero p lt = (c.0, subst (λ (t : List ℕ). PlaceLine t c.0) (sym (ap (λ (k : List (List ℕ)). get_or k 0 []) p.2)) p.3)
 conference_number all (c ∷ cs) rest (suc j) p lt =
@@ -147,7 +147,7 @@ past_eleven : (a b c d e f g h i j k : List ℕ) (rest : List (List ℕ)) (n : �
 past_eleven a b c d e f g h i j k rest n = get_or-append-add (a ∷ b ∷ c ∷ d ∷ e ∷ f ∷ g ∷ h ∷ i ∷ j ∷ k ∷ []) rest n []
 
 -- each line that must be there keeps its rule
-kept : (all : List (List ℕ)) (c : Control) → LinesRead all c → (k : ℕ) → 1 ≤ k → k ≤ 11 + 2 * length c.conferences → Keeps all k
+kept : (all : List (List ℕ)) (c : Control) → ControlLinesRead all c → (k : ℕ) → 1 ≤ k → k ≤ 11 + 2 * length c.conferences → LineKeeps all k
 kept all c x k from upto =
     let len : length all ≡ 11 + length x.listed = ap length x.whole ∙ omega arith in
     let many : length x.listed ≡ 2 * length c.conferences + length x.rest = conferences_length x.listed c.conferences x.rest x.conferences in
@@ -172,7 +172,7 @@ kept all c x k from upto =
     }
 
 -- a line that must be there is one of those that keep their rules
-wanted_upto : (all : List (List ℕ)) (c : Control) → LinesRead all c → (k : ℕ) → IsWanted all k → k ≤ 11 + 2 * length c.conferences
+wanted_upto : (all : List (List ℕ)) (c : Control) → ControlLinesRead all c → (k : ℕ) → IsWanted all k → k ≤ 11 + 2 * length c.conferences
 wanted_upto all c x k w = elim w [
   | inl le ↦ omega arith
   | inr v ↦
@@ -182,16 +182,16 @@ wanted_upto all c x k w = elim w [
       omega (arith, v.4, n, x.some)
 ]
 
-pub no_fault : (all : List (List ℕ)) (c : Control) (fault : ControlError) → LinesRead all c → LineFault all fault → ⊥
+pub no_fault : (all : List (List ℕ)) (c : Control) (fault : ControlError) → ControlLinesRead all c → LineFault all fault → ⊥
 no_fault all c fault x f = keeps_not_breaks all f.0 fault f.1 (kept all c x f.0 f.1 (wanted_upto all c x f.0 f.2)) f.4
 
 pub no_memory_fault : (all : List (List ℕ)) → LineFault all OutOfMemory → ⊥
 no_memory_fault all f = f.4
 
-pub only_ok : (all : List (List ℕ)) (r : Result Control ControlError) → MatchResult r (LinesRead all) (MemoryOr (LineFault all)) → (c : Control) → LinesRead all c → UnlessMemory r (Ok c)
+pub only_ok : (all : List (List ℕ)) (r : Result Control ControlError) → MatchResult r (ControlLinesRead all) (MemoryOr (LineFault all)) → (c : Control) → ControlLinesRead all c → ControlUnlessMemory r (Ok c)
 only_ok all (Ok d) h c x = inl (ap Ok (control_unique all d c h x))
 only_ok all (Err e) h c x = elim h [ inl m ↦ inr (ap Err m) | inr f ↦ absurd (no_fault all c e x f) ]
 
-pub only_fault : (all : List (List ℕ)) (r : Result Control ControlError) → MatchResult r (LinesRead all) (MemoryOr (LineFault all)) → (e : ControlError) → LineFault all e → UnlessMemory r (Err e)
+pub only_fault : (all : List (List ℕ)) (r : Result Control ControlError) → MatchResult r (ControlLinesRead all) (MemoryOr (LineFault all)) → (e : ControlError) → LineFault all e → ControlUnlessMemory r (Err e)
 only_fault all (Ok d) h e f = absurd (no_fault all d e h f)
 only_fault all (Err g) h e f = elim h [ inl m ↦ inr (ap Err m) | inr k ↦ inl (ap Err (fault_unique all g e k f)) ]

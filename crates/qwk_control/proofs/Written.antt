@@ -14,8 +14,8 @@ use Rattle.text_fields.specs.declared.blank.Blank.TheVariants.{Spaces}
 use Rattle.text_fields.proofs.LineLists.{lines_back}
 use Rattle.text_fields.proofs.Numbers.{decimal_digits, digits_begin, digits_end}
 use Rattle.qwk_control.specs.Line.{IsSpace, NumberLine, PlaceLine, IsId}
-use Rattle.qwk_control.specs.Control.{ConferencesRead, LinesRead, ControlReads}
-use Rattle.qwk_control.specs.Written.{conference_lines, control_lines, control_text, IsText, ConferenceFits, Writable}
+use Rattle.qwk_control.specs.Control.{ListedRead, ControlLinesRead, ControlReads}
+use Rattle.qwk_control.specs.Written.{conference_lines, control_lines, control_text, IsText, ConferenceFits, WritableControl}
 use Rattle.qwk_control.specs.declared.control.Control.{Control}
 use Rattle.qwk_control.proofs.Single.{control_unique}
 
@@ -57,13 +57,13 @@ id_trimmed id x = trimmed_same id
     (λ first rest e b. let p = All-head IsPrinted first rest (subst (All IsPrinted) e x.printed) in omega (arith, p.0, b))
     (λ front last e b. let p = last_printed front last (subst (All IsPrinted) e x.printed) in omega (arith, p.0, b))
 
-conferences_back : (cs : List (ℕ × List ℕ)) (rest : List (List ℕ)) → All ConferenceFits cs → ConferencesRead (conference_lines cs ++ rest) cs rest
+conferences_back : (cs : List (ℕ × List ℕ)) (rest : List (List ℕ)) → All ConferenceFits cs → ListedRead (conference_lines cs ++ rest) cs rest
 conferences_back [] rest h = refl
 conferences_back (c ∷ cs) rest h =
     let fits : ConferenceFits c = All-head ConferenceFits c cs h in
     (decimal c.0, conference_lines cs ++ rest, refl, place_back c.0 (omega (arith, fits.number)), conferences_back cs rest (All-tail ConferenceFits c cs h))
 
-pub lines_read : (c : Control) → Writable c → LinesRead (control_lines c) c
+pub lines_read : (c : Control) → WritableControl c → ControlLinesRead (control_lines c) c
 lines_read c w = record {
   fifth = c.serial ++ 44 ∷ c.bbsid;
   ninth = 48 ∷ [];
@@ -118,7 +118,7 @@ conferences_clear (c ∷ cs) more h m =
     let fits : ConferenceFits c = All-head ConferenceFits c cs h in
     (decimal_clear c.0 (omega (arith, fits.number)), (text_clear c.1 fits.name, conferences_clear cs more (All-tail ConferenceFits c cs h) m))
 
-lines_clear : (c : Control) → Writable c → Clear (control_lines c)
+lines_clear : (c : Control) → WritableControl c → Clear (control_lines c)
 lines_clear c w =
     let count = decimal_clear c.count (omega (arith, w.count)) in
     let last = decimal_clear (length c.conferences - 1) (omega (arith, w.conferences.many)) in
@@ -150,8 +150,8 @@ lines_clear c w =
       ),
     )
 
-pub control_back : (c : Control) → Writable c → ControlReads (control_text c) c
-control_back c w = subst (λ (all : List (List ℕ)). LinesRead all c) (sym (lines_back (control_lines c) (all_clear (control_lines c) (lines_clear c w)))) (lines_read c w)
+pub control_back : (c : Control) → WritableControl c → ControlReads (control_text c) c
+control_back c w = subst (λ (all : List (List ℕ)). ControlLinesRead all c) (sym (lines_back (control_lines c) (all_clear (control_lines c) (lines_clear c w)))) (lines_read c w)
 
-pub no_others : (c other : Control) → Writable c → ControlReads (control_text c) other → other ≡ c
+pub no_others : (c other : Control) → WritableControl c → ControlReads (control_text c) other → other ≡ c
 no_others c other w x = control_unique (lines (control_text c)) other c x (control_back c w)

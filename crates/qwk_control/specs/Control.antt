@@ -9,11 +9,11 @@ abbrev pub CountReads : List ℕ → ℕ → Type 0
 CountReads text n = NumberLine text n ⊎ (((m : ℕ) → ¬ NumberLine text m) × (n ≡ 0))
 
 -- a number line and a name line for each conference, and then the rest
-abbrev pub ConferencesRead : List (List ℕ) → List (ℕ × List ℕ) → List (List ℕ) → Type 0
-ConferencesRead all [] rest = all ≡ rest
-ConferencesRead all (c ∷ cs) rest = (number : List ℕ) × (more : List (List ℕ)) × (all ≡ number ∷ c.1 ∷ more) × PlaceLine number c.0 × ConferencesRead more cs rest
+abbrev pub ListedRead : List (List ℕ) → List (ℕ × List ℕ) → List (List ℕ) → Type 0
+ListedRead all [] rest = all ≡ rest
+ListedRead all (c ∷ cs) rest = (number : List ℕ) × (more : List (List ℕ)) × (all ≡ number ∷ c.1 ∷ more) × PlaceLine number c.0 × ListedRead more cs rest
 
-pub record LinesRead (all : List (List ℕ)) (c : Control) : Type 0 where
+pub record ControlLinesRead (all : List (List ℕ)) (c : Control) : Type 0 where
   pub fifth : List ℕ
   pub ninth : List ℕ
   pub tenth : List ℕ
@@ -25,10 +25,10 @@ pub record LinesRead (all : List (List ℕ)) (c : Control) : Type 0 where
   pub counted : CountReads tenth c.count
   pub last : PlaceLine eleventh (length c.conferences - 1)
   pub some : 1 ≤ length c.conferences
-  pub conferences : ConferencesRead listed c.conferences rest
+  pub conferences : ListedRead listed c.conferences rest
   pub welcome : c.welcome ≡ or_empty rest 1
   pub news : c.news ≡ or_empty rest 2
   pub goodbye : c.goodbye ≡ or_empty rest 3
 
 abbrev pub ControlReads : List ℕ → Control → Type 0
-ControlReads bytes c = LinesRead (lines bytes) c
+ControlReads bytes c = ControlLinesRead (lines bytes) c

@@ -48,7 +48,7 @@ pub record ConferencesFit (conferences : List (ℕ × List ℕ)) : Type 0 where
   pub each : All ConferenceFits conferences
 
 -- what has a written form
-pub record Writable (c : Control) : Type 0 where
+pub record WritableControl (c : Control) : Type 0 where
   pub texts : TextsFit c
   pub comma : Lacks 44 c.serial
   pub id : IsId c.bbsid

@@ -1,7 +1,7 @@
 ghost use Rattle.std.specs.Prelude.{◌≡◌, ◌≤◌, ◌+◌, ◌*◌, ℕ, List, ◌∷◌, length, MatchResult};
 ghost use Rattle.std.specs.Str.Lines.{lines};
 ghost use Rattle.qwk_control.specs.Line.{PlaceLine};
-ghost use Rattle.qwk_control.specs.Control.{ConferencesRead};
+ghost use Rattle.qwk_control.specs.Control.{ListedRead};
 ghost use Rattle.qwk_control.specs.Fault.{FaultBehind, MemoryOr};
 
 use crate::control::Listed;
@@ -36,7 +36,7 @@ pub fn conferences_of(
     last: u16,
 ) -> Result<(Listed, &[u8]), ControlError>
     ensures { MatchResult result
-        (λ found. (length found.0 ≡ last + 1) × ConferencesRead (lines text.now) found.0 (lines found.1.now))
+        (λ found. (length found.0 ≡ last + 1) × ListedRead (lines text.now) found.0 (lines found.1.now))
         (MemoryOr (FaultBehind 11 (lines text.now) (13 + 2 * last))) }
 {
     let mut listed = Listed::new(alloc);

@@ -2,7 +2,7 @@
 ghost use Rattle.std.specs.Prelude.{◌≡◌, ℕ, List};
 ghost use Rattle.qwk_control.specs.Control.{ControlReads};
 ghost use Rattle.qwk_control.specs.Fault.{ControlFault};
-ghost use Rattle.qwk_control.specs.Written.{control_text, Writable};
+ghost use Rattle.qwk_control.specs.Written.{control_text, WritableControl};
 ghost use Rattle.qwk_control.specs.declared.control.Control.{Control};
 ghost use Rattle.qwk_control.specs.declared.fault.ControlError.{ControlError};
 
@@ -19,6 +19,6 @@ pub fn one_fault()
 
 /// The written form of a writable value reads as it, and as no other.
 pub fn written_reads_back()
-    ensures reads { (control : Control) → Writable control → ControlReads (control_text control) control }
-    ensures no_others { (control other : Control) → Writable control → ControlReads (control_text control) other → other ≡ control }
+    ensures reads { (control : Control) → WritableControl control → ControlReads (control_text control) control }
+    ensures no_others { (control other : Control) → WritableControl control → ControlReads (control_text control) other → other ≡ control }
 {}

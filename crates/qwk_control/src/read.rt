@@ -2,7 +2,7 @@ ghost use Rattle.std.specs.Prelude.{◌≡◌, ◌⊎◌, Err, Ok, MatchResult, 
 ghost use Rattle.std.specs.Str.Lines.{lines};
 ghost use Rattle.qwk_control.specs.Line.{or_empty};
 ghost use Rattle.qwk_control.specs.Control.{ControlReads};
-ghost use Rattle.qwk_control.specs.Fault.{ControlFault, MemoryOr, UnlessMemory};
+ghost use Rattle.qwk_control.specs.Fault.{ControlFault, MemoryOr, ControlUnlessMemory};
 ghost use Rattle.qwk_control.specs.declared.control.Control.{Control};
 ghost use Rattle.qwk_control.specs.declared.fault.ControlError.{ControlError};
 ghost use Rattle.qwk_control.specs.declared.fault.ControlError.TheVariants.{OutOfMemory};
@@ -131,11 +131,11 @@ fn control_in(alloc: Global, bytes: &[u8]) -> Result<Control, ControlError>
 pub fn read_control(alloc: Global, bytes: &[u8]) -> Result<Control, ControlError>
     // A value is answered exactly where the bytes read as it, unless memory runs out.
     ensures ok { IfOk result (λ control. ControlReads bytes.now control) }
-    ensures only_ok { (control : Control) → ControlReads bytes.now control → UnlessMemory result (Ok control) }
+    ensures only_ok { (control : Control) → ControlReads bytes.now control → ControlUnlessMemory result (Ok control) }
 
     // So is a fault, exactly where it is the first one.
     ensures fault { (error : ControlError) → result ≡ Err error → (error ≡ OutOfMemory) ⊎ ControlFault bytes.now error }
-    ensures only_fault { (error : ControlError) → ControlFault bytes.now error → UnlessMemory result (Err error) }
+    ensures only_fault { (error : ControlError) → ControlFault bytes.now error → ControlUnlessMemory result (Err error) }
 {
     control_in(alloc, bytes)
 }

@@ -87,13 +87,13 @@ fn conferences_fit(conferences: &Listed) -> bool
 
 impl Control {
     ghost use Rattle.std.specs.Prelude.{◌↔◌, IsTrue};
-    ghost use Rattle.qwk_control.specs.Written.{Writable};
+    ghost use Rattle.qwk_control.specs.Written.{WritableControl};
 
     /// Whether there is a written form: no text has a CR or an LF, the serial has no comma, the board
     /// id has 1 to 8 bytes from 21h to 7Eh, the count is at most 999,999,999, and there are 1 to 65,536
     /// conferences.
     pub fn writable(&self) -> bool
-        ensures { IsTrue result ↔ Writable self.now }
+        ensures { IsTrue result ↔ WritableControl self.now }
     {
         if !texts_fit(self) {
             return false;

@@ -1,6 +1,6 @@
 ghost use Rattle.std.specs.Prelude.{◌≡◌, ◌≤◌, ◌-◌, ◌++◌, ◌∷◌, [], decimal, length, OnOk, IfOk};
-ghost use Rattle.text_fields.specs.Lines.{ended, text_of_lines};
-ghost use Rattle.qwk_control.specs.Written.{conference_lines, control_text, Writable};
+ghost use Rattle.text_fields.specs.Lines.{crlf_line, text_of_lines};
+ghost use Rattle.qwk_control.specs.Written.{conference_lines, control_text, WritableControl};
 
 use crate::control::{Control, Listed};
 use byte_lists::Bytes;
@@ -10,7 +10,7 @@ use text_fields::add_line;
 
 /// Adds the line of a number.
 fn add_number(out: &mut Bytes, number: u32) -> Result<(), AllocError>
-    ensures { OnOk result (out.new ≡ out.old ++ ended (decimal number)) }
+    ensures { OnOk result (out.new ≡ out.old ++ crlf_line (decimal number)) }
 {
     let mut buffer = Buffer::new();
     add_line(out, buffer.format(number).as_bytes())
@@ -18,7 +18,7 @@ fn add_number(out: &mut Bytes, number: u32) -> Result<(), AllocError>
 
 /// Adds the line of the serial and the board id.
 fn add_id(out: &mut Bytes, serial: &[u8], bbsid: &[u8]) -> Result<(), AllocError>
-    ensures { OnOk result (out.new ≡ out.old ++ ended (serial.now ++ 44 ∷ bbsid.now)) }
+    ensures { OnOk result (out.new ≡ out.old ++ crlf_line (serial.now ++ 44 ∷ bbsid.now)) }
 {
     out.add(serial)?;
     out.add(b",")?;
@@ -72,7 +72,7 @@ fn add_files(out: &mut Bytes, control: &Control) -> Result<(), AllocError>
 
 /// The written form as CONTROL.DAT: each line with CR LF behind it.
 pub fn write_control(alloc: Global, control: &Control) -> Result<Bytes, AllocError>
-    requires { Writable control.now }
+    requires { WritableControl control.now }
     ensures { IfOk result (λ text. text ≡ control_text control.now) }
 {
     let mut out = Bytes::new(alloc);

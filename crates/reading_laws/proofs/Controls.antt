@@ -3,7 +3,7 @@ use Rattle.std.proofs.Common.{◌≡◌, ◌⊎◌, inl, inr, ℕ, zero, suc, �
 use Rattle.std.proofs.lemmas.Bool.{cases_eq, cases_lt}
 use Rattle.std.specs.Str.Lines.{lines}
 use Rattle.qwk_control.proofs.Kept.{bad_first, board_ends, board_more, conference_more, conference_push, early_fault, from_first, late_fault, lines_read, no_board_id, no_first, no_last, no_name, packet_ends, packet_more, within_more}
-use Rattle.qwk_control.specs.Control.{ConferencesRead, ControlReads, CountReads, LinesRead}
+use Rattle.qwk_control.specs.Control.{ListedRead, ControlReads, CountReads, ControlLinesRead}
 use Rattle.qwk_control.specs.Fault.{BreaksUpto, ControlFault, KeptBefore, LineFault}
 use Rattle.qwk_control.specs.Line.{IdLine, IsId, IsSpace, PlaceLine, line, or_empty}
 use Rattle.qwk_control.specs.declared.control.Control.{Control}
@@ -93,7 +93,7 @@ six_or_fewer (a ∷ all) = elim (five_or_fewer all) [
 ]
 
 abbrev IsControl : List (List ℕ) → Type 0
-IsControl all = ((c : Control) × LinesRead all c) ⊎ ((fault : ControlError) × LineFault all fault)
+IsControl all = ((c : Control) × ControlLinesRead all c) ⊎ ((fault : ControlError) × LineFault all fault)
 
 early : (all : List (List ℕ)) (upto : ℕ) (fault : ControlError) → upto ≤ 11 → BreaksUpto all upto fault → IsControl all
 early all upto fault le b = inr (fault, early_fault all upto fault le b)
@@ -105,7 +105,7 @@ module _ (all listed : List (List ℕ)) (board city phone sysop fifth serial id 
   late : (i : ℕ) (fault : ControlError) → i ≤ n → BreaksUpto all (13 + 2 * i) fault → IsControl all
   late i fault le b = inr (fault, late_fault all eleventh n fault (ap (λ (ls : List (List ℕ)). line ls 11) whole) last (within_more all (13 + 2 * i) (13 + 2 * n) fault (omega (arith, le)) b))
 
-  read_all : (conferences : List (ℕ × List ℕ)) (rest : List (List ℕ)) → length conferences ≡ n + 1 → ConferencesRead listed conferences rest → IsControl all
+  read_all : (conferences : List (ℕ × List ℕ)) (rest : List (List ℕ)) → length conferences ≡ n + 1 → ListedRead listed conferences rest → IsControl all
   read_all conferences rest many read =
       let c : Control = record {
         board = board;
@@ -129,7 +129,7 @@ module _ (all listed : List (List ℕ)) (board city phone sysop fifth serial id 
             (refl, refl, refl, refl, refl, refl) (refl, refl, refl, refl) refl (refl, refl, refl),
       )
 
-  walks : (left i : ℕ) (conferences : List (ℕ × List ℕ)) (rest : List (List ℕ)) → i + left ≡ n + 1 → length conferences ≡ i → ConferencesRead listed conferences rest → KeptBefore all (11 + 2 * i) rest → IsControl all
+  walks : (left i : ℕ) (conferences : List (ℕ × List ℕ)) (rest : List (List ℕ)) → i + left ≡ n + 1 → length conferences ≡ i → ListedRead listed conferences rest → KeptBefore all (11 + 2 * i) rest → IsControl all
   walks zero i conferences rest so_many many read kept = read_all conferences rest (omega (arith, so_many, many)) read
   walks (suc left) i conferences [] so_many many read kept = late i (TooFewLines (12 + 2 * i)) (omega (arith, so_many)) (no_first i [] refl all kept)
   walks (suc left) i conferences (text ∷ []) so_many many read kept = elim (place_or_none text) [

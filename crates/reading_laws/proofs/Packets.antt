@@ -5,7 +5,7 @@ use Rattle.std.proofs.lemmas.List.{length-drop, length-take-le, take_all}
 use Rattle.qwk_blocks.proofs.Exists.{some_message}
 use Rattle.qwk_blocks.proofs.First.{count_of_front, goes_on, no_count, notice_alone, past_end, too_short}
 use Rattle.qwk_blocks.proofs.Messages.{longest}
-use Rattle.qwk_blocks.specs.Header.{CountReads, IsPad, field}
+use Rattle.qwk_blocks.specs.Header.{BlockCountReads, IsPad, field}
 use Rattle.qwk_blocks.specs.Packet.{FirstFault, MessageReads, PacketAt, PacketReads, StopsWith}
 use Rattle.qwk_blocks.specs.declared.fault.QwkFault.{QwkFault}
 use Rattle.qwk_blocks.specs.declared.fault.QwkFault.TheVariants.{Truncated, BadBlocks}
@@ -34,7 +34,7 @@ pad_or_not b = elim (cases_eq b 32) [
   ]
 ]
 
-count_or_none : (rest : List ℕ) → ((count : ℕ) × CountReads rest count) ⊎ ((count : ℕ) → CountReads rest count → ⊥)
+count_or_none : (rest : List ℕ) → ((count : ℕ) × BlockCountReads rest count) ⊎ ((count : ℕ) → BlockCountReads rest count → ⊥)
 count_or_none rest = elim (number_or_none IsPad pad_or_not 6 (field 117 6 rest)) [
   | inl v ↦ elim (cases_lt 0 v.0) [
     | inl some ↦ inl (v.0, record { number = v.1; positive = omega (arith, some) })
@@ -43,7 +43,7 @@ count_or_none rest = elim (number_or_none IsPad pad_or_not 6 (field 117 6 rest))
   | inr none ↦ inr (λ count c. none count c.number)
 ]
   where
-    one_count : (n count : ℕ) → Number IsPad 6 (field 117 6 rest) n → n ≤ 0 → CountReads rest count → ⊥
+    one_count : (n count : ℕ) → Number IsPad 6 (field 117 6 rest) n → n ≤ 0 → BlockCountReads rest count → ⊥
     one_count n count x none c = omega (arith, number_unique IsPad 6 6 (field 117 6 rest) n count x c.number, c.positive, none)
 
 module _ (bytes : List ℕ) where
@@ -59,7 +59,7 @@ module _ (bytes : List ℕ) where
   Walks left = (at : ℕ) (messages : List QwkMessage) → at ≤ length bytes → length bytes - at ≤ left → PacketReads (take at bytes) messages → IsPacket bytes
 
   message_at : (left at : ℕ) (messages : List QwkMessage) → Walks left → at < length bytes → length bytes - at ≤ suc left → PacketReads (take at bytes) messages
-      → (count : ℕ) → CountReads (drop at bytes) count → IsPacket bytes
+      → (count : ℕ) → BlockCountReads (drop at bytes) count → IsPacket bytes
   message_at left at messages on below few reads count counts = elim (cases_lt (length (drop at bytes)) (128 * count)) [
     | inl short ↦ stops at messages (Truncated at) below reads (past_end (drop at bytes) count counts short) (refl, inr (count, counts))
     | inr long ↦

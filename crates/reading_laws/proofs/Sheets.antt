@@ -11,8 +11,8 @@ use Rattle.import_sheet.proofs.Heads.{gives_fits, header_push}
 use Rattle.import_sheet.proofs.Lines.{nothing_starts}
 use Rattle.import_sheet.proofs.Reading.{sheets_blanks, sheets_push}
 use Rattle.import_sheet.proofs.Words.{no_word_of}
-use Rattle.import_sheet.specs.Fault.{BodyBreaks, HeaderBreaks, LinesFault, MessageFault, SheetFault, WholeHeaders, bad_value, by_line, in_body, in_headers, no_dot, no_line, no_word, too_long, too_soon, with_return, word_again}
-use Rattle.import_sheet.specs.Header.{BeginsWithWord, DateIs, HeaderReads, IsPlainText, ValueFits, rule_of, word_of}
+use Rattle.import_sheet.specs.Fault.{BodyBreaks, HeaderBreaks, SheetLinesFault, MessageFault, SheetFault, WholeHeaders, bad_value, by_line, in_body, in_headers, no_dot, no_line, no_word, too_long, too_soon, with_return, word_again}
+use Rattle.import_sheet.specs.Header.{BeginsWithWord, DateIs, HeaderLineReads, IsPlainText, ValueFits, rule_of_field, word_of}
 use Rattle.import_sheet.specs.Sheet.{AllEmpty, BodyLines, FieldsAre, Has, HasNone, HeaderGives, HeaderGivesDate, HeaderGivesOrEmpty, Headers, SheetIs, SheetReads, SheetsAre, dot, stored_body, without_dot}
 use Rattle.import_sheet.specs.State.{StartsWithText}
 use Rattle.import_sheet.specs.declared.fault.SheetRule.{SheetRule}
@@ -74,7 +74,7 @@ field_or_none : (line : List ℕ) → ((field : Field) × BeginsWithWord field l
 unfolding fields
 field_or_none line = elim (field_among line fields) [ inl found ↦ inl found | inr none ↦ inr (no_word_of line none) ]
 
-value_of : (field : Field) (line : List ℕ) → BeginsWithWord field line → (value : List ℕ) × HeaderReads line field value
+value_of : (field : Field) (line : List ℕ) → BeginsWithWord field line → (value : List ℕ) × HeaderLineReads line field value
 value_of field line begins =
     let t : (text : List ℕ) × Trimmed (IsBlank Spaces) begins.0 text = some_trimmed (IsBlank Spaces) space_or_not begins.0 in
     (t.0, record { rest = begins.0; whole = begins.1; trimmed = t.1 })
@@ -143,7 +143,7 @@ has_or_none (line ∷ hs) field = elim (front_or_not (word_of field) line) [
 
 given : (hs : List (List ℕ)) (field : Field) → Has hs field → (value : List ℕ) × HeaderGives hs field value
 given hs field has =
-    let v : (value : List ℕ) × HeaderReads has.0 field value = value_of field has.0 has.2 in
+    let v : (value : List ℕ) × HeaderLineReads has.0 field value = value_of field has.0 has.2 in
     (v.0, (has.0, has.1, v.1))
 
 given_or_empty : (hs : List (List ℕ)) (field : Field) → (text : List ℕ) × HeaderGivesOrEmpty hs field text
@@ -234,16 +234,16 @@ module _ (all : List (List ℕ)) where
 
   -- a line that isn't empty
   head_line : (headers rest : List (List ℕ)) (line : List ℕ) → line ≢ [] → all ≡ headers ++ line ∷ rest → Headers headers
-      → ((value : List ℕ) (field : Field) → HasNone headers field → HeaderReads line field value → ValueFits field value → IsMessage all) → IsMessage all
+      → ((value : List ℕ) (field : Field) → HasNone headers field → HeaderLineReads line field value → ValueFits field value → IsMessage all) → IsMessage all
   head_line headers rest line some whole heads on = elim (field_or_none line) [
     | inr none ↦ breaks_in_heads headers (line ∷ rest) Header whole heads (by_line line (rest, refl) (no_word refl some none))
     | inl f ↦ elim (has_or_none headers f.0) [
       | inl has ↦ breaks_in_heads headers (line ∷ rest) Twice whole heads (by_line line (rest, refl) (word_again f.0 refl f.1 has))
       | inr none ↦
-          let v : (value : List ℕ) × HeaderReads line f.0 value = value_of f.0 line f.1 in
+          let v : (value : List ℕ) × HeaderLineReads line f.0 value = value_of f.0 line f.1 in
           elim (fits_or_not f.0 v.0) [
             | inl fits ↦ on v.0 f.0 none v.1 fits
-            | inr bad ↦ breaks_in_heads headers (line ∷ rest) (rule_of f.0) whole heads (by_line line (rest, refl) (bad_value f.0 v.0 refl none v.1 bad))
+            | inr bad ↦ breaks_in_heads headers (line ∷ rest) (rule_of_field f.0) whole heads (by_line line (rest, refl) (bad_value f.0 v.0 refl none v.1 bad))
           ]
     ]
   ]
@@ -264,7 +264,7 @@ message all starts = heads all all [] refl tt (λ e. starts)
 
 -- ---- all lines
 abbrev IsSheet : List (List ℕ) → Type 0
-IsSheet all = ((sheets : List Sheet) × SheetsAre all sheets) ⊎ ((number : ℕ) × (rule : SheetRule) × LinesFault all number rule)
+IsSheet all = ((sheets : List Sheet) × SheetsAre all sheets) ⊎ ((number : ℕ) × (rule : SheetRule) × SheetLinesFault all number rule)
 
 blanks_of : (all : List (List ℕ)) → (blanks left : List (List ℕ)) × (all ≡ blanks ++ left) × AllEmpty blanks × ((left ≡ []) ⊎ StartsWithText left)
 blanks_of [] = ([], [], refl, All-nil (λ line. line ≡ []), inl refl)

@@ -3,8 +3,8 @@ use Rattle.std.proofs.Common.{◌≡◌, ℕ, ◌+◌, ◌-◌, ◌*◌, ◌^◌
 use Rattle.std.proofs.lemmas.Bool.{cases_lt}
 use Rattle.std.proofs.lemmas.List.{length-replicate}
 use Rattle.std.specs.Fmt.{decimal}
-use Rattle.qwk_blocks.specs.Text.{ended}
-use Rattle.qwk_blocks.specs.Written.{padded, number_text, low_first, header_text, message_text, blocks_of}
+use Rattle.qwk_blocks.specs.Text.{joined_lines}
+use Rattle.qwk_blocks.specs.Written.{padded, number_text, low_first, header_block, message_text, blocks_of}
 use Rattle.qwk_blocks.specs.declared.message.Header.{Header}
 use Rattle.qwk_blocks.specs.declared.message.QwkMessage.{QwkMessage}
 
@@ -15,10 +15,10 @@ length_padded_max width text = omega (arith, length-append text (replicate (widt
 pub min_of_sum : (m r a b s : ℕ) → r ≡ min a m → s ≡ min (r + b) m → s ≡ min (a + b) m
 min_of_sum m r a b s e f = omega arith
 
-pub header_length : (h : Header) (count : ℕ) → length (header_text h count)
+pub header_length : (h : Header) (count : ℕ) → length (header_block h count)
     ≡ 7 + (length h.date + length h.time) + length (padded 7 (number_text h.number)) + length (padded 25 h.to) + length (padded 25 h.from) + length (padded 25 h.subject)
     + length (padded 12 h.password) + length (padded 8 (number_text h.reference)) + length (padded 6 (decimal count))
-unfolding header_text
+unfolding header_block
 header_length h count =
     let p7 : List ℕ = padded 7 (number_text h.number) in
     let to : List ℕ = padded 25 h.to in
@@ -45,12 +45,12 @@ header_length h count =
 blocks_length : (text : List ℕ) → length (padded (128 * blocks_of (length text)) text) ≡ 128 * blocks_of (length text)
 blocks_length text = length_padded_max (128 * blocks_of (length text)) text ∙ omega arith
 
-pub message_length : (m : QwkMessage) → length (message_text m) ≡ length (header_text m.header (1 + blocks_of (length (ended m.lines)))) + 128 * blocks_of (length (ended m.lines))
+pub message_length : (m : QwkMessage) → length (message_text m) ≡ length (header_block m.header (1 + blocks_of (length (joined_lines m.lines)))) + 128 * blocks_of (length (joined_lines m.lines))
 unfolding message_text
 message_length m =
-    let text : List ℕ = ended m.lines in
-    length-append (header_text m.header (1 + blocks_of (length text))) (padded (128 * blocks_of (length text)) text)
-    ∙ ap (λ n. length (header_text m.header (1 + blocks_of (length text))) + n) (blocks_length text)
+    let text : List ℕ = joined_lines m.lines in
+    length-append (header_block m.header (1 + blocks_of (length text))) (padded (128 * blocks_of (length text)) text)
+    ∙ ap (λ n. length (header_block m.header (1 + blocks_of (length text))) + n) (blocks_length text)
 
 -- The size of a message, where h is that of its header with a count of blocks, n that of its lines, and k what is known of n.
 pub whole_size : (h : ℕ → ℕ) (n k size : ℕ) → k ≡ min n (2 ^ 64 - 1) → size ≡ min (min (h (1 + blocks_of k)) (2 ^ 64 - 1) + min (blocks_of k * 128) (2 ^ 64 - 1)) (2 ^ 64 - 1)

@@ -8,8 +8,8 @@ use Rattle.rep_packet.specs.declared.fault.RepError.{RepError}
 use Rattle.rep_packet.specs.declared.fault.RepError.TheVariants.{Fault, NoBoardId, OutOfMemory}
 
 -- the answer, or want of memory, which may come at any time
-abbrev pub UnlessMemory : {T : Type 0} → Result T RepError → Result T RepError → Type 0
-UnlessMemory result answer = (result ≡ answer) ⊎ (result ≡ Err OutOfMemory)
+abbrev pub RepUnlessMemory : {T : Type 0} → Result T RepError → Result T RepError → Type 0
+RepUnlessMemory result answer = (result ≡ answer) ⊎ (result ≡ Err OutOfMemory)
 
 -- what a packet's error is called here
 abbrev pub error_of_packet : QwkError → RepError

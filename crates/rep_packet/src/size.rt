@@ -1,7 +1,7 @@
 //! How many bytes are written, up to the greatest number.
 ghost use Rattle.std.specs.Prelude.{◌≡◌, ◌≤◌, ◌-◌, ◌+◌, ◌^◌, ℕ, decimal, length, min};
-ghost use Rattle.qwk_blocks.specs.Text.{ended};
-ghost use Rattle.qwk_blocks.specs.Written.{padded, number_text, blocks_of, header_text, message_text};
+ghost use Rattle.qwk_blocks.specs.Text.{joined_lines};
+ghost use Rattle.qwk_blocks.specs.Written.{padded, number_text, blocks_of, header_block, message_text};
 
 use byte_lists::Lines;
 use itoa::Buffer;
@@ -43,7 +43,7 @@ fn moment_size(header: &Header) -> u64
 
 /// A header with its count of blocks.
 fn header_size(header: &Header, count: u64) -> u64
-    ensures { result ≡ min (length (header_text header.now count)) (2 ^ 64 - 1) }
+    ensures { result ≡ min (length (header_block header.now count)) (2 ^ 64 - 1) }
 {
     // The status, the activity, the two numbers of two bytes and the tag take seven.
     moment_size(header)
@@ -59,7 +59,7 @@ fn header_size(header: &Header, count: u64) -> u64
 
 /// The lines of a text, each with its end.
 fn lines_size(lines: &Lines) -> u64
-    ensures { result ≡ min (length (ended lines.now)) (2 ^ 64 - 1) }
+    ensures { result ≡ min (length (joined_lines lines.now)) (2 ^ 64 - 1) }
 {
     let mut size = 0u64;
     for line in lines.as_slice() {

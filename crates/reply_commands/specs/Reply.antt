@@ -7,7 +7,7 @@ use Rattle.offline_writer.specs.Drafts.{reply_draft}
 use Rattle.packet_commands.specs.Packets.{FolderOf}
 use Rattle.qwk_blocks.specs.declared.message.QwkMessage.{QwkMessage}
 use Rattle.qwk_control.specs.declared.control.Control.{Control}
-use Rattle.shelf_files.specs.ShelfFile.{file_of, file_limit}
+use Rattle.shelf_files.specs.ShelfFile.{file_within, file_limit}
 use Rattle.shelf_files.specs.declared.refusal.Refusal.{Refusal}
 use Rattle.shelf_files.specs.declared.refusal.Refusal.TheVariants.{NoMessage}
 use Rattle.reply_commands.specs.RepFile.{Enlarges}
@@ -22,7 +22,7 @@ MessageIn messages place found = found ≡ or_refused NoMessage (message_in mess
 
 -- the bytes of a text
 abbrev pub TextOf : Files → List ℕ → Result (List ℕ) Refusal → Type 0
-TextOf shelf name read = read ≡ file_of shelf name file_limit
+TextOf shelf name read = read ≡ file_within shelf name file_limit
 
 -- what a text makes of the message that it answers, in a reply packet
 abbrev pub AnswerMakes : Control → QwkMessage → List ℕ → List ℕ → ℕ → Files → Result Enlarged Refusal → Type 0

@@ -12,10 +12,10 @@ use Rattle.setup_file.specs.Texts.{is_conference_name}
 use Rattle.setup_file.specs.Rising.{are_rising, rise_above}
 use Rattle.setup_file.specs.Valid.{IsSetupConference, numbers_of}
 use Rattle.setup_file.specs.Words.{is_number, number_of, kind_of, rights_of, begins_with, value_behind}
-use Rattle.setup_file.specs.Rules.{LineRules, broken_in, conference_key, number_word, kind_word, rights_word, name_behind, is_place_number, is_out_of_order, value_rules, conference_rules, line_number, number_before, broken_rule}
+use Rattle.setup_file.specs.Rules.{LineRules, broken_in, conference_key, number_word, kind_word, rights_word, name_behind, is_place_number, is_out_of_order, conference_value_rules, conference_rules, line_number, number_before, broken_rule}
 use Rattle.setup_file.specs.Reads.{ConferenceIs, ConferenceReads, ConferencesRead}
 use Rattle.setup_file.specs.Fault.{KeepRules}
-use Rattle.setup_file.specs.State.{NoneBroken, Breaks, PartsAre, conference_of, conferences_of}
+use Rattle.setup_file.specs.State.{NoneBroken, Breaks, PartsAre, conference_of_value, conferences_of_lines}
 use Rattle.setup_file.specs.declared.conference.Conference.{Conference}
 use Rattle.setup_file.specs.declared.conference_line.Parts.{Parts}
 use Rattle.setup_file.specs.declared.error.SetupRule.{SetupRule}
@@ -34,19 +34,19 @@ at_rule false r rules e = refl
 
 -- what a value says of a line that has the key
 pub value_line : (line value : List ℕ) (count : ℕ) (last : Option ℕ) (r : Result Parts SetupRule) → begins_with conference_key line ≡ true → value ≡ value_behind conference_key line
-    → MatchResult r (λ parts. NoneBroken (value_rules count last value) × PartsAre value parts) (Breaks (value_rules count last value))
+    → MatchResult r (λ parts. NoneBroken (conference_value_rules count last value) × PartsAre value parts) (Breaks (conference_value_rules count last value))
     → MatchResult r (λ parts. NoneBroken (conference_rules count last line) × PartsAre (value_behind conference_key line) parts) (Breaks (conference_rules count last line))
 value_line line value count last (Ok parts) b e h =
     let v = value_behind conference_key line in (
-      past_rule (begins_with conference_key line) rule.Key (value_rules count last v) b ∙ (ap (λ (t : List ℕ). broken_in (value_rules count last t)) (sym e) ∙ h.0),
+      past_rule (begins_with conference_key line) rule.Key (conference_value_rules count last v) b ∙ (ap (λ (t : List ℕ). broken_in (conference_value_rules count last t)) (sym e) ∙ h.0),
       subst (λ (t : List ℕ). PartsAre t parts) e h.1,
     )
 value_line line value count last (Err r) b e h =
     let v = value_behind conference_key line in
-    past_rule (begins_with conference_key line) rule.Key (value_rules count last v) b ∙ (ap (λ (t : List ℕ). broken_in (value_rules count last t)) (sym e) ∙ h)
+    past_rule (begins_with conference_key line) rule.Key (conference_value_rules count last v) b ∙ (ap (λ (t : List ℕ). broken_in (conference_value_rules count last t)) (sym e) ∙ h)
 
 pub no_key_line : (line : List ℕ) (count : ℕ) (last : Option ℕ) → begins_with conference_key line ≡ false → Breaks (conference_rules count last line) rule.Key
-no_key_line line count last e = at_rule (begins_with conference_key line) rule.Key (value_rules count last (value_behind conference_key line)) e
+no_key_line line count last e = at_rule (begins_with conference_key line) rule.Key (conference_value_rules count last (value_behind conference_key line)) e
 
 -- the last line of some
 slice_last : (xs : List (List ℕ)) (x : List ℕ) → slice_get (xs ++ x ∷ []) (length xs) ≡ Some x
@@ -74,18 +74,18 @@ rule_of_next kept own line count last seven e f =
     ∙ (ap (λ (m : ℕ). broken_in (conference_rules m (number_before (kept ++ own)) line)) n ∙ ap (λ (o : Option ℕ). broken_in (conference_rules count o line)) (sym f))
 
 -- the conferences of lines, one at a time
-pub conferences_append : (own : List (List ℕ)) (line : List ℕ) → conferences_of (own ++ line ∷ []) ≡ conferences_of own ++ conference_of (value_behind conference_key line) ∷ []
+pub conferences_append : (own : List (List ℕ)) (line : List ℕ) → conferences_of_lines (own ++ line ∷ []) ≡ conferences_of_lines own ++ conference_of_value (value_behind conference_key line) ∷ []
 conferences_append [] line = refl
-conferences_append (x ∷ own) line = ap (λ (cs : List Conference). conference_of (value_behind conference_key x) ∷ cs) (conferences_append own line)
+conferences_append (x ∷ own) line = ap (λ (cs : List Conference). conference_of_value (value_behind conference_key x) ∷ cs) (conferences_append own line)
 
-pub conferences_more : (cs : List Conference) (own : List (List ℕ)) (line : List ℕ) (c : Conference) → cs ≡ conferences_of own → c ≡ conference_of (value_behind conference_key line) → cs ++ c ∷ [] ≡ conferences_of (own ++ line ∷ [])
-conferences_more cs own line c e f = ap (λ (l : List Conference). l ++ c ∷ []) e ∙ (ap (λ (d : Conference). conferences_of own ++ d ∷ []) f ∙ sym (conferences_append own line))
+pub conferences_more : (cs : List Conference) (own : List (List ℕ)) (line : List ℕ) (c : Conference) → cs ≡ conferences_of_lines own → c ≡ conference_of_value (value_behind conference_key line) → cs ++ c ∷ [] ≡ conferences_of_lines (own ++ line ∷ [])
+conferences_more cs own line c e f = ap (λ (l : List Conference). l ++ c ∷ []) e ∙ (ap (λ (d : Conference). conferences_of_lines own ++ d ∷ []) f ∙ sym (conferences_append own line))
 
-pub conference_count : (own : List (List ℕ)) → length (conferences_of own) ≡ length own
+pub conference_count : (own : List (List ℕ)) → length (conferences_of_lines own) ≡ length own
 conference_count [] = refl
 conference_count (line ∷ own) = omega (arith, conference_count own)
 
-pub count_is : (cs : List Conference) (own : List (List ℕ)) → cs ≡ conferences_of own → length cs ≡ length own
+pub count_is : (cs : List Conference) (own : List (List ℕ)) → cs ≡ conferences_of_lines own → length cs ≡ length own
 count_is cs own e = ap length e ∙ conference_count own
 
 -- there is a number before exactly where there are lines
@@ -156,7 +156,7 @@ pub some_is : {X : Type 0} (o : Option X) (x : X) → o ≡ Some x → is_none o
 some_is o x e = ap is_none e
 
 -- the conference that the line says
-pub line_reads : (front : List (List ℕ)) (line : List ℕ) → ConferencePasses front line → ConferenceReads line (conference_of (value_behind conference_key line))
+pub line_reads : (front : List (List ℕ)) (line : List ℕ) → ConferencePasses front line → ConferenceReads line (conference_of_value (value_behind conference_key line))
 line_reads front line p =
     let value = value_behind conference_key line in (
       value,
@@ -169,14 +169,14 @@ line_reads front line p =
       },
     )
 
-pub line_valid : (front : List (List ℕ)) (line : List ℕ) → ConferencePasses front line → IsSetupConference (conference_of (value_behind conference_key line))
+pub line_valid : (front : List (List ℕ)) (line : List ℕ) → ConferencePasses front line → IsSetupConference (conference_of_value (value_behind conference_key line))
 line_valid front line p =
     let word = number_word (value_behind conference_key line) in
     let small : leb (number_of word) 65535 ≡ true = and_right (is_number word) (leb (number_of word) 65535) p.number in
     record { number = grind (arith, nat_tests); name = p.name }
 
 -- what the lines of conferences that break no rule say
-pub lines_read : (front own : List (List ℕ)) → 7 ≤ length front → KeepRules front own → ConferencesRead own (conferences_of own)
+pub lines_read : (front own : List (List ℕ)) → 7 ≤ length front → KeepRules front own → ConferencesRead own (conferences_of_lines own)
 lines_read front [] many k = tt
 lines_read front (line ∷ own) many k = (
   line_reads front line (conference_passes front line many k.0),
@@ -191,10 +191,10 @@ lines_few front (line ∷ own) many small k =
     let more : length (front ++ line ∷ []) + length own ≤ 71 = lines_few (front ++ line ∷ []) own (omega (arith, length-append front (line ∷ []))) (omega (arith, length-append front (line ∷ []))) k.1 in
     omega (arith, more, length-append front (line ∷ []))
 
-pub lines_valid : (front own : List (List ℕ)) → 7 ≤ length front → KeepRules front own → All IsSetupConference (conferences_of own)
+pub lines_valid : (front own : List (List ℕ)) → 7 ≤ length front → KeepRules front own → All IsSetupConference (conferences_of_lines own)
 lines_valid front [] many k = All-nil IsSetupConference
 lines_valid front (line ∷ own) many k =
-    All-cons IsSetupConference (conference_of (value_behind conference_key line)) (conferences_of own) (line_valid front line (conference_passes front line many k.0))
+    All-cons IsSetupConference (conference_of_value (value_behind conference_key line)) (conferences_of_lines own) (line_valid front line (conference_passes front line many k.0))
     (lines_valid (front ++ line ∷ []) own (omega (arith, length-append front (line ∷ []))) k.1)
 
 -- the numbers rise from the one before, where there is one
@@ -218,13 +218,13 @@ rise_nil : (o : Option ℕ) → RiseFrom o []
 rise_nil None = refl
 rise_nil (Some last) = refl
 
-pub lines_rise : (front own : List (List ℕ)) → 7 ≤ length front → KeepRules front own → RiseFrom (number_before front) (numbers_of (conferences_of own))
+pub lines_rise : (front own : List (List ℕ)) → 7 ≤ length front → KeepRules front own → RiseFrom (number_before front) (numbers_of (conferences_of_lines own))
 lines_rise front [] many k = rise_nil (number_before front)
 lines_rise front (line ∷ own) many k =
     let p : ConferencePasses front line = conference_passes front line many k.0 in
-    let rest : RiseFrom (number_before (front ++ line ∷ [])) (numbers_of (conferences_of own)) = lines_rise (front ++ line ∷ []) own (omega (arith, length-append front (line ∷ []))) k.1 in
-    rise_push (number_before front) (line_number line) (numbers_of (conferences_of own)) p.order
-    (subst (λ (o : Option ℕ). RiseFrom o (numbers_of (conferences_of own))) (number_behind front line many) rest)
+    let rest : RiseFrom (number_before (front ++ line ∷ [])) (numbers_of (conferences_of_lines own)) = lines_rise (front ++ line ∷ []) own (omega (arith, length-append front (line ∷ []))) k.1 in
+    rise_push (number_before front) (line_number line) (numbers_of (conferences_of_lines own)) p.order
+    (subst (λ (o : Option ℕ). RiseFrom o (numbers_of (conferences_of_lines own))) (number_behind front line many) rest)
 
 -- conferences that the lines say, and are valid, break no rule
 read_passes : (front : List (List ℕ)) (line : List ℕ) (c : Conference) (numbers : List ℕ) → length front < 71 → ConferenceReads line c → IsSetupConference c → RiseFrom (number_before front) (c.number ∷ numbers) → ConferencePasses front line
@@ -272,19 +272,19 @@ same_conference a b number kind readonly private name =
     cc
 
 -- lines say the conferences that are made of them, and no others
-one_conference : (line : List ℕ) (c : Conference) → ConferenceReads line c → c ≡ conference_of (value_behind conference_key line)
+one_conference : (line : List ℕ) (c : Conference) → ConferenceReads line c → c ≡ conference_of_value (value_behind conference_key line)
 one_conference line c r =
     let value = value_behind conference_key line in
     let is : ConferenceIs value c = subst (λ (v : List ℕ). ConferenceIs v c) r.1.rest r.2 in
     let kind : unwrap_or (kind_of (kind_word value)) Local ≡ c.kind = ap (λ (o : Option Kind). unwrap_or o Local) is.kind in
     let rights : unwrap_or (rights_of (rights_word value)) (false, false) ≡ (c.readonly, c.private) = ap (λ (o : Option (Bool × Bool)). unwrap_or o (false, false)) is.rights in
-    same_conference c (conference_of value) is.number.value (sym kind) (sym (ap (λ (p : Bool × Bool). p.0) rights)) (sym (ap (λ (p : Bool × Bool). p.1) rights)) is.name
+    same_conference c (conference_of_value value) is.number.value (sym kind) (sym (ap (λ (p : Bool × Bool). p.0) rights)) (sym (ap (λ (p : Bool × Bool). p.1) rights)) is.name
 
-pub one_list : (own : List (List ℕ)) (cs : List Conference) → ConferencesRead own cs → cs ≡ conferences_of own
+pub one_list : (own : List (List ℕ)) (cs : List Conference) → ConferencesRead own cs → cs ≡ conferences_of_lines own
 one_list [] [] r = refl
 one_list [] (c ∷ cs) r = absurd r
 one_list (line ∷ own) [] r = absurd r
 one_list (line ∷ own) (c ∷ cs) r =
-    let first : c ≡ conference_of (value_behind conference_key line) = one_conference line c r.0 in
-    let rest : cs ≡ conferences_of own = one_list own cs r.1 in
-    ap (λ (d : Conference). d ∷ cs) first ∙ ap (λ (l : List Conference). conference_of (value_behind conference_key line) ∷ l) rest
+    let first : c ≡ conference_of_value (value_behind conference_key line) = one_conference line c r.0 in
+    let rest : cs ≡ conferences_of_lines own = one_list own cs r.1 in
+    ap (λ (d : Conference). d ∷ cs) first ∙ ap (λ (l : List Conference). conference_of_value (value_behind conference_key line) ∷ l) rest

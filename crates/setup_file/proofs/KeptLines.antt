@@ -6,7 +6,7 @@ use Rattle.std.specs.List.{slice_get}
 use Rattle.setup_file.specs.Rules.{keys, broken_rule}
 use Rattle.setup_file.specs.Reads.{is_skipped, counted}
 use Rattle.setup_file.specs.Fault.{KeepRules, LinesFault, at_line, at_end}
-use Rattle.setup_file.specs.State.{Ahead, SkippedTo, Kept, FaultOrMemory}
+use Rattle.setup_file.specs.State.{Ahead, SkippedTo, Kept, SetupFaultOrMemory}
 use Rattle.setup_file.specs.declared.error.SetupRule.{SetupRule}
 use Rattle.setup_file.specs.declared.error.SetupRule.TheVariants.{Missing}
 use Rattle.setup_file.specs.declared.error.SetupError.{SetupError}
@@ -72,6 +72,6 @@ key_place n key e = elim (cases_lt n 6) [
   | inr ge ↦ absurd (some_none key (slice_get keys n) e (no_key n ge))
 ]
 
-pub weaker_fault : (P Q : ℕ → SetupRule → Type 0) → ((n : ℕ) (rule : SetupRule) → P n rule → Q n rule) → (e : SetupError) → FaultOrMemory P e → FaultOrMemory Q e
+pub weaker_fault : (P Q : ℕ → SetupRule → Type 0) → ((n : ℕ) (rule : SetupRule) → P n rule → Q n rule) → (e : SetupError) → SetupFaultOrMemory P e → SetupFaultOrMemory Q e
 weaker_fault P Q f (Line n broken) h = f n broken h
 weaker_fault P Q f OutOfMemory h = tt

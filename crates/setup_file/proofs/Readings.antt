@@ -3,11 +3,11 @@ use Rattle.std.proofs.Common.{◌≡◌, ℕ, ◌+◌, ◌≤◌, true, List, []
 use Rattle.std.proofs.lemmas.List.{append-nil}
 use Rattle.setup_file.specs.Zones.{are_zones}
 use Rattle.setup_file.specs.Valid.{AreSetupConferences, numbers_of}
-use Rattle.setup_file.specs.Words.{is_number, number_of, numbers_in, value_behind}
+use Rattle.setup_file.specs.Words.{is_number, number_of, numbers_of_words, value_behind}
 use Rattle.setup_file.specs.Rules.{key_text, fits, zones_key, zones_fit}
-use Rattle.setup_file.specs.Reads.{counted, ValueReads, LinesRead}
+use Rattle.setup_file.specs.Reads.{counted, ValueReads, SetupLinesRead}
 use Rattle.setup_file.specs.Fault.{KeepRules}
-use Rattle.setup_file.specs.State.{Kept, HeadIs, IsMadeOf, conferences_of}
+use Rattle.setup_file.specs.State.{Kept, HeadIs, IsMadeOf, conferences_of_lines}
 use Rattle.setup_file.specs.declared.conference.Conference.{Conference}
 use Rattle.setup_file.specs.declared.head.Head.{Head}
 use Rattle.setup_file.specs.declared.key.Key.{Key}
@@ -43,8 +43,8 @@ setup_of l own = record {
   sysop = value_behind (key_text Sysop) l.sysop;
   bbsid = value_behind (key_text Bbsid) l.bbsid;
   serial = number_of (value_behind (key_text Serial) l.serial);
-  zones = numbers_in (value_behind zones_key l.zones);
-  conferences = conferences_of own;
+  zones = numbers_of_words (value_behind zones_key l.zones);
+  conferences = conferences_of_lines own;
 }
 
 -- what lines have that break no rule
@@ -91,7 +91,7 @@ keeping l own p = (
   ),
 )
 
-own_valid : (l : First) (own : List (List ℕ)) → 1 ≤ length own → KeepRules (first_lines l) own → AreSetupConferences (conferences_of own)
+own_valid : (l : First) (own : List (List ℕ)) → 1 ≤ length own → KeepRules (first_lines l) own → AreSetupConferences (conferences_of_lines own)
 own_valid l own some k =
     let front = first_lines l in
     let few : 7 + length own ≤ 71 = lines_few front own (omega arith) (omega arith) k in
@@ -99,11 +99,11 @@ own_valid l own some k =
       some = omega (arith, conference_count own);
       many = omega (arith, few, conference_count own);
       each = lines_valid front own (omega arith) k;
-      order = subst (λ (o : Option ℕ). RiseFrom o (numbers_of (conferences_of own))) (no_number_before front refl) (lines_rise front own (omega arith) k);
+      order = subst (λ (o : Option ℕ). RiseFrom o (numbers_of (conferences_of_lines own))) (no_number_before front refl) (lines_rise front own (omega arith) k);
     }
 
 -- lines that break no rule say a setup
-pub kept_reads : (all : List (List ℕ)) (l : First) (own : List (List ℕ)) → counted all ≡ lines_of l own → KeepRules [] (lines_of l own) → 1 ≤ length own → LinesRead all (setup_of l own)
+pub kept_reads : (all : List (List ℕ)) (l : First) (own : List (List ℕ)) → counted all ≡ lines_of l own → KeepRules [] (lines_of l own) → 1 ≤ length own → SetupLinesRead all (setup_of l own)
 kept_reads all l own e k some =
     let p : Passing l own = passing l own k in
     record {
@@ -137,7 +137,7 @@ kept_reads all l own e k some =
     }
 
 -- the lines of a reading
-abbrev pub first_of : (all : List (List ℕ)) (s : Setup) → LinesRead all s → First
+abbrev pub first_of : (all : List (List ℕ)) (s : Setup) → SetupLinesRead all s → First
 first_of all s r = record {
   board = r.board_line;
   city = r.city_line;
@@ -151,11 +151,11 @@ first_of all s r = record {
 key_reads : (key : Key) (line value : List ℕ) → ValueReads (key_text key) line value → fits key value ≡ true → KeyPasses key line
 key_reads key line value r f = record { begins = r.begins; fit = ap (fits key) (sym r.rest) ∙ f }
 
-reads_passing : (all : List (List ℕ)) (s : Setup) (r : LinesRead all s) → Passing (first_of all s r) r.conference_lines
+reads_passing : (all : List (List ℕ)) (s : Setup) (r : SetupLinesRead all s) → Passing (first_of all s r) r.conference_lines
 reads_passing all s r =
     let l : First = first_of all s r in
     let own : List (List ℕ) = r.conference_lines in
-    let same : s.conferences ≡ conferences_of own = one_list own s.conferences r.conferences in
+    let same : s.conferences ≡ conferences_of_lines own = one_list own s.conferences r.conferences in
     let count : length s.conferences ≡ length own = ap length same ∙ conference_count own in
     let many : length s.conferences ≤ 64 = r.valid.conferences.many in
     record {
@@ -174,11 +174,11 @@ reads_passing all s r =
     }
 
 -- the lines of a setup break no rule
-pub reads_keep : (all : List (List ℕ)) (s : Setup) → LinesRead all s → KeepRules [] (counted all)
+pub reads_keep : (all : List (List ℕ)) (s : Setup) → SetupLinesRead all s → KeepRules [] (counted all)
 reads_keep all s r = subst (KeepRules []) (sym r.whole) (keeping (first_of all s r) r.conference_lines (reads_passing all s r))
 
 -- and none is missing
-pub reads_many : (all : List (List ℕ)) (s : Setup) → LinesRead all s → 8 ≤ length (counted all)
+pub reads_many : (all : List (List ℕ)) (s : Setup) → SetupLinesRead all s → 8 ≤ length (counted all)
 reads_many all s r =
     let own : List (List ℕ) = r.conference_lines in
     let count : length s.conferences ≡ length own = ap length (one_list own s.conferences r.conferences) ∙ conference_count own in
@@ -207,11 +207,11 @@ same_setup a b board city phone sysop bbsid serial zones conferences =
     cc
 
 -- a setup is what its lines say
-reads_setup : (all : List (List ℕ)) (s : Setup) (r : LinesRead all s) → s ≡ setup_of (first_of all s r) r.conference_lines
+reads_setup : (all : List (List ℕ)) (s : Setup) (r : SetupLinesRead all s) → s ≡ setup_of (first_of all s r) r.conference_lines
 reads_setup all s r =
     let l : First = first_of all s r in
     same_setup s (setup_of l r.conference_lines) r.board.rest r.city.rest r.phone.rest r.sysop.rest r.bbsid.rest (r.serial.2.value ∙ ap number_of r.serial.1.rest)
-    (r.zones.3 ∙ ap numbers_in r.zones.1.rest) (one_list r.conference_lines s.conferences r.conferences)
+    (r.zones.3 ∙ ap numbers_of_words r.zones.1.rest) (one_list r.conference_lines s.conferences r.conferences)
 
 -- what the lines in order say
 setup_in : List (List ℕ) → Setup
@@ -223,11 +223,11 @@ in_lines : (l : First) (own : List (List ℕ)) → setup_of l own ≡ setup_in (
 unfolding setup_in
 in_lines l own = refl
 
-setup_is : (all : List (List ℕ)) (s : Setup) → LinesRead all s → s ≡ setup_in (counted all)
+setup_is : (all : List (List ℕ)) (s : Setup) → SetupLinesRead all s → s ≡ setup_in (counted all)
 setup_is all s r = reads_setup all s r ∙ (in_lines (first_of all s r) r.conference_lines ∙ ap setup_in (sym r.whole))
 
 -- lines are those of one setup at most
-pub one_reading : (all : List (List ℕ)) (a b : Setup) → LinesRead all a → LinesRead all b → a ≡ b
+pub one_reading : (all : List (List ℕ)) (a b : Setup) → SetupLinesRead all a → SetupLinesRead all b → a ≡ b
 one_reading all a b x y = setup_is all a x ∙ sym (setup_is all b y)
 
 -- all lines were kept
@@ -236,9 +236,9 @@ all_kept all kept number k = ap counted (k.whole ∙ append-nil k.before) ∙ k.
 
 -- what was read of the lines is a setup
 pub setup_reads : (all : List (List ℕ)) (l : First) (own : List (List ℕ)) (number : ℕ) (head : Head) (zones : List ℕ) (conferences : List Conference) (s : Setup) → Kept all [] number (lines_of l own) → 1 ≤ length own
-    → HeadIs l.board l.city l.phone l.sysop l.bbsid l.serial head → zones ≡ numbers_in (value_behind zones_key l.zones) → conferences ≡ conferences_of own → IsMadeOf head zones conferences s → LinesRead all s
+    → HeadIs l.board l.city l.phone l.sysop l.bbsid l.serial head → zones ≡ numbers_of_words (value_behind zones_key l.zones) → conferences ≡ conferences_of_lines own → IsMadeOf head zones conferences s → SetupLinesRead all s
 setup_reads all l own number head zones conferences s k some t z q m =
     let digits : IsTrue (is_number head.serial.now) = ap is_number t.serial ∙ (passing l own k.keep).serial.fit in
     let same : s ≡ setup_of l own
     = same_setup s (setup_of l own) (m.board ∙ t.board) (m.city ∙ t.city) (m.phone ∙ t.phone) (m.sysop ∙ t.sysop) (m.bbsid ∙ t.bbsid) (m.serial digits ∙ ap number_of t.serial) (m.zone_list ∙ z) (m.conference_list ∙ q) in
-    subst (LinesRead all) (sym same) (kept_reads all l own (all_kept all (lines_of l own) number k) k.keep some)
+    subst (SetupLinesRead all) (sym same) (kept_reads all l own (all_kept all (lines_of l own) number k) k.keep some)

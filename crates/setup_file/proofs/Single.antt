@@ -5,9 +5,9 @@ use Rattle.std.proofs.lemmas.List.{append-nil}
 use Rattle.std.specs.Result.{MatchResult}
 use Rattle.text_fields.proofs.Trimming.{same_front, same_rest}
 use Rattle.setup_file.specs.Rules.{broken_rule}
-use Rattle.setup_file.specs.Reads.{is_skipped, counted, LinesRead}
-use Rattle.setup_file.specs.Fault.{KeepRules, LinesFault, at_line, at_end, UnlessMemory}
-use Rattle.setup_file.specs.State.{FaultOrMemory}
+use Rattle.setup_file.specs.Reads.{is_skipped, counted, SetupLinesRead}
+use Rattle.setup_file.specs.Fault.{KeepRules, LinesFault, at_line, at_end, SetupUnlessMemory}
+use Rattle.setup_file.specs.State.{SetupFaultOrMemory}
 use Rattle.setup_file.specs.declared.error.SetupError.{SetupError}
 use Rattle.setup_file.specs.declared.error.SetupError.TheVariants.{Line, OutOfMemory}
 use Rattle.setup_file.specs.declared.error.SetupRule.{SetupRule}
@@ -66,13 +66,13 @@ line_once all m n q r f g = (fault_once all m n q r f g).number
 pub rule_once : (all : List (List ℕ)) (m n : ℕ) (q r : SetupRule) → LinesFault all m q → LinesFault all n r → q ≡ r
 rule_once all m n q r f g = (fault_once all m n q r f g).rule
 
-pub no_fault : (all : List (List ℕ)) (s : Setup) (n : ℕ) (r : SetupRule) → LinesRead all s → LinesFault all n r → ⊥
+pub no_fault : (all : List (List ℕ)) (s : Setup) (n : ℕ) (r : SetupRule) → SetupLinesRead all s → LinesFault all n r → ⊥
 no_fault all s n r x (at_line before more line e counts k breaks is) = not_kept all before more line r e counts breaks (reads_keep all s x)
 no_fault all s n r x (at_end rule k few is) = omega (arith, reads_many all s x)
 
 -- a setup, or a first fault
 abbrev ReadsOrFault : List (List ℕ) → Type 0
-ReadsOrFault all = ((s : Setup) × LinesRead all s) ⊎ ((n : ℕ) × (r : SetupRule) × LinesFault all n r)
+ReadsOrFault all = ((s : Setup) × SetupLinesRead all s) ⊎ ((n : ℕ) × (r : SetupRule) × LinesFault all n r)
 
 few_fault : (all : List (List ℕ)) → KeepRules [] (counted all) → length (counted all) < 8 → ReadsOrFault all
 few_fault all k few = inr (length all + 1, Missing, at_end refl k few refl)
@@ -138,9 +138,9 @@ reads_or_fault all = from_here all [] all refl tt
 
 -- what an answer for the lines says
 abbrev pub Answers : List (List ℕ) → Result Setup SetupError → Type 0
-Answers all r = MatchResult r (LinesRead all) (FaultOrMemory (LinesFault all))
+Answers all r = MatchResult r (SetupLinesRead all) (SetupFaultOrMemory (LinesFault all))
 
-pub only_ok : (all : List (List ℕ)) (r : Result Setup SetupError) → Answers all r → (a : Setup) → LinesRead all a → UnlessMemory r (Ok a)
+pub only_ok : (all : List (List ℕ)) (r : Result Setup SetupError) → Answers all r → (a : Setup) → SetupLinesRead all a → SetupUnlessMemory r (Ok a)
 only_ok all (Ok b) h a x = inl (ap Ok (one_reading all b a h x))
 only_ok all (Err (Line n q)) h a x = absurd (no_fault all a n q x h)
 only_ok all (Err OutOfMemory) h a x = inr refl
@@ -153,7 +153,7 @@ is_fault all (Err (Line m p)) h n q e =
     subst (LinesFault all n) rule (subst (λ (k : ℕ). LinesFault all k p) line h)
 is_fault all (Err OutOfMemory) h n q e = cc
 
-pub only_fault : (all : List (List ℕ)) (r : Result Setup SetupError) → Answers all r → (n : ℕ) (q : SetupRule) → LinesFault all n q → UnlessMemory r (Err (Line n q))
+pub only_fault : (all : List (List ℕ)) (r : Result Setup SetupError) → Answers all r → (n : ℕ) (q : SetupRule) → LinesFault all n q → SetupUnlessMemory r (Err (Line n q))
 only_fault all (Ok b) h n q f = absurd (no_fault all b n q h f)
 only_fault all (Err (Line m p)) h n q f =
     let line : m ≡ n = line_once all m n p q h f in

@@ -4,7 +4,7 @@ use Rattle.std.proofs.lemmas.Bool.{false≢true}
 use Rattle.std.proofs.lemmas.Bool.Decides.{nat_tests}
 use Rattle.std.proofs.lemmas.List.{append-nil, length-map}
 use Rattle.std.specs.List.{list_all}
-use Rattle.setup_file.specs.Words.{words, is_number, number_of, numbers_in}
+use Rattle.setup_file.specs.Words.{words, is_number, number_of, numbers_of_words}
 use Rattle.setup_file.specs.Zones.{is_zone, are_zones}
 use Rattle.setup_file.specs.Rules.{zones_fit}
 
@@ -29,11 +29,11 @@ abbrev zones_test : List (List ℕ) → Bool
 zones_test all = list_all is_number all && are_zones (map number_of all)
 
 fit_is : (value : List ℕ) → zones_fit value ≡ zones_test (words value)
-unfolding zones_fit numbers_in
+unfolding zones_fit numbers_of_words
 fit_is value = refl
 
-numbers_are : (value : List ℕ) → numbers_in value ≡ map number_of (words value)
-unfolding numbers_in
+numbers_are : (value : List ℕ) → numbers_of_words value ≡ map number_of (words value)
+unfolding numbers_of_words
 numbers_are value = refl
 
 -- these words were taken, and the zones are theirs
@@ -110,15 +110,15 @@ pub good_zones : (value : List ℕ) (left : List (List ℕ)) (zones : List ℕ) 
 good_zones value left zones h e good =
     fit_is value ∙ (ap zones_test (all_taken value left zones h e) ∙ both_true (list_all is_number h.taken) (are_zones (map number_of h.taken)) h.numbers (sym (ap are_zones h.are) ∙ good))
 
-pub zones_are : (value : List ℕ) (left : List (List ℕ)) (zones : List ℕ) → ZonesTaken value left zones → left ≡ [] → zones ≡ numbers_in value
+pub zones_are : (value : List ℕ) (left : List (List ℕ)) (zones : List ℕ) → ZonesTaken value left zones → left ≡ [] → zones ≡ numbers_of_words value
 zones_are value left zones h e = h.are ∙ (ap (λ (l : List (List ℕ)). map number_of l) (sym (all_taken value left zones h e)) ∙ sym (numbers_are value))
 
 -- the parts of the test
 pub fits_numbers : (value : List ℕ) → zones_fit value ≡ true → list_all is_number (words value) ≡ true
 fits_numbers value t = and_left (list_all is_number (words value)) (are_zones (map number_of (words value))) (sym (fit_is value) ∙ t)
 
-pub fits_zones : (value : List ℕ) → zones_fit value ≡ true → are_zones (numbers_in value) ≡ true
+pub fits_zones : (value : List ℕ) → zones_fit value ≡ true → are_zones (numbers_of_words value) ≡ true
 fits_zones value t = ap are_zones (numbers_are value) ∙ and_right (list_all is_number (words value)) (are_zones (map number_of (words value))) (sym (fit_is value) ∙ t)
 
-pub fits_both : (value : List ℕ) → list_all is_number (words value) ≡ true → are_zones (numbers_in value) ≡ true → zones_fit value ≡ true
+pub fits_both : (value : List ℕ) → list_all is_number (words value) ≡ true → are_zones (numbers_of_words value) ≡ true → zones_fit value ≡ true
 fits_both value numbers zones = fit_is value ∙ both_true (list_all is_number (words value)) (are_zones (map number_of (words value))) numbers (sym (ap are_zones (numbers_are value)) ∙ zones)

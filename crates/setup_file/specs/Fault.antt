@@ -25,5 +25,5 @@ abbrev pub SetupFault : List ℕ → ℕ → SetupRule → Type 0
 SetupFault bytes number rule = LinesFault (lines bytes) number rule
 
 -- the answer, or want of memory, which may come at any time
-abbrev pub UnlessMemory : {T : Type 0} → Result T SetupError → Result T SetupError → Type 0
-UnlessMemory result answer = (result ≡ answer) ⊎ (result ≡ Err OutOfMemory)
+abbrev pub SetupUnlessMemory : {T : Type 0} → Result T SetupError → Result T SetupError → Type 0
+SetupUnlessMemory result answer = (result ≡ answer) ⊎ (result ≡ Err OutOfMemory)

@@ -3,7 +3,7 @@ use Rattle.std.specs.Prelude.{◌≡◌, ℕ, List, [], ◌∷◌, Some, Bool, t
 use Rattle.std.specs.List.{list_all}
 use Rattle.std.specs.Str.Lines.{lines}
 use Rattle.setup_file.specs.Valid.{IsSetup}
-use Rattle.setup_file.specs.Words.{words, is_number, number_of, numbers_in, kind_of, rights_of, begins_with, value_behind}
+use Rattle.setup_file.specs.Words.{words, is_number, number_of, numbers_of_words, kind_of, rights_of, begins_with, value_behind}
 use Rattle.setup_file.specs.Rules.{key_text, zones_key, conference_key, number_word, kind_word, rights_word, name_behind}
 use Rattle.setup_file.specs.declared.conference.Conference.{Conference}
 use Rattle.setup_file.specs.declared.key.Key.TheVariants.{Board, City, Phone, Sysop, Bbsid, Serial}
@@ -50,10 +50,10 @@ SerialReads line n = (value : List ℕ) × ValueReads (key_text Serial) line val
 
 -- the words of the value are numbers, and these are the zones
 abbrev pub ZonesRead : List ℕ → List ℕ → Type 0
-ZonesRead line zones = (value : List ℕ) × ValueReads zones_key line value × IsTrue (list_all is_number (words value)) × (zones ≡ numbers_in value)
+ZonesRead line zones = (value : List ℕ) × ValueReads zones_key line value × IsTrue (list_all is_number (words value)) × (zones ≡ numbers_of_words value)
 
 -- the lines that count are those of the setup, which is valid
-pub record LinesRead (all : List (List ℕ)) (s : Setup) : Type 0 where
+pub record SetupLinesRead (all : List (List ℕ)) (s : Setup) : Type 0 where
   pub board_line : List ℕ
   pub city_line : List ℕ
   pub phone_line : List ℕ
@@ -74,4 +74,4 @@ pub record LinesRead (all : List (List ℕ)) (s : Setup) : Type 0 where
   pub valid : IsSetup s
 
 abbrev pub SetupReads : List ℕ → Setup → Type 0
-SetupReads bytes s = LinesRead (lines bytes) s
+SetupReads bytes s = SetupLinesRead (lines bytes) s

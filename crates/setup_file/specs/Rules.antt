@@ -3,7 +3,7 @@ use Rattle.std.specs.Prelude.{ℕ, ◌-◌, List, [], ◌∷◌, length, slice_g
 use Rattle.std.specs.List.{list_all}
 use Rattle.setup_file.specs.Texts.{is_board_text, is_user_name, is_bbsid, is_conference_name}
 use Rattle.setup_file.specs.Zones.{are_zones}
-use Rattle.setup_file.specs.Words.{first_word, behind_word, words, is_number, number_of, numbers_in, kind_of, rights_of, begins_with, value_behind}
+use Rattle.setup_file.specs.Words.{first_word, behind_word, words, is_number, number_of, numbers_of_words, kind_of, rights_of, begins_with, value_behind}
 use Rattle.setup_file.specs.declared.error.SetupRule.{SetupRule}
 use Rattle.setup_file.specs.declared.error.SetupRule.TheVariants as rule
 use Rattle.setup_file.specs.declared.key.Key.{Key}
@@ -40,18 +40,18 @@ fits Bbsid value = is_bbsid value
 fits Serial value = is_number value
 
 -- the rule that another value breaks
-abbrev pub rule_of : Key → SetupRule
-rule_of Board = rule.Text
-rule_of City = rule.Text
-rule_of Phone = rule.Text
-rule_of Sysop = rule.Text
-rule_of Bbsid = rule.Id
-rule_of Serial = rule.Number
+abbrev pub key_rule : Key → SetupRule
+key_rule Board = rule.Text
+key_rule City = rule.Text
+key_rule Phone = rule.Text
+key_rule Sysop = rule.Text
+key_rule Bbsid = rule.Id
+key_rule Serial = rule.Number
 
 abbrev pub key_rules : Key → List ℕ → LineRules
 key_rules key line =
     (rule.Key, not (begins_with (key_text key) line))
-    ∷ (rule_of key, not (fits key (value_behind (key_text key) line)))
+    ∷ (key_rule key, not (fits key (value_behind (key_text key) line)))
     ∷ []
 
 abbrev pub zones_key : List ℕ
@@ -59,7 +59,7 @@ zones_key = codes "zones:"
 
 -- the words of a value are numbers of zones, each above the one before
 unfoldable pub zones_fit : List ℕ → Bool
-zones_fit value = list_all is_number (words value) && are_zones (numbers_in value)
+zones_fit value = list_all is_number (words value) && are_zones (numbers_of_words value)
 
 abbrev pub zones_rules : List ℕ → LineRules
 zones_rules line =
@@ -93,8 +93,8 @@ is_out_of_order None n = false
 is_out_of_order (Some last) n = nat_le n last
 
 -- the rules of a value behind so many conference lines, of which the last has this number
-abbrev pub value_rules : ℕ → Option ℕ → List ℕ → LineRules
-value_rules count last value =
+abbrev pub conference_value_rules : ℕ → Option ℕ → List ℕ → LineRules
+conference_value_rules count last value =
     (rule.Many, nat_le 64 count)
     ∷ (rule.Number, not (is_place_number (number_word value)))
     ∷ (rule.Kind, is_none (kind_of (kind_word value)))
@@ -106,7 +106,7 @@ value_rules count last value =
 abbrev pub conference_rules : ℕ → Option ℕ → List ℕ → LineRules
 conference_rules count last line =
     (rule.Key, not (begins_with conference_key line))
-    ∷ value_rules count last (value_behind conference_key line)
+    ∷ conference_value_rules count last (value_behind conference_key line)
 
 -- the number of a conference line
 abbrev pub line_number : List ℕ → ℕ

@@ -1,5 +1,5 @@
 -- What the reader knows between two lines.
-use Rattle.std.specs.Prelude.{◌≡◌, ℕ, ◌+◌, ◌<◌, ◌≤◌, ◌^◌, List, [], ◌∷◌, ◌++◌, length, map, All, Some, None, true, false, IsTrue, unwrap_or}
+use Rattle.std.specs.Prelude.{◌≡◌, ℕ, ◌+◌, ◌≤◌, List, [], ◌∷◌, ◌++◌, length, map, All, Some, None, true, false, IsTrue, unwrap_or}
 use Rattle.setup_file.specs.Words.{is_number, number_of, kind_of, rights_of, value_behind}
 use Rattle.setup_file.specs.Rules.{LineRules, broken_in, key_text, conference_key, number_word, kind_word, rights_word, name_behind}
 use Rattle.setup_file.specs.Reads.{is_skipped, counted}
@@ -13,15 +13,7 @@ use Rattle.setup_file.specs.declared.conference_line.Parts.{Parts}
 use Rattle.setup_file.specs.declared.head.Head.{Head}
 use Rattle.setup_file.specs.declared.key.Key.TheVariants.{Board, City, Phone, Sysop, Bbsid, Serial}
 use Rattle.setup_file.specs.declared.setup.Setup.{Setup}
-
--- the lines have numbers of 32 bits, one past the last too
-abbrev pub IsNumbered : List (List ℕ) → ℕ → Type 0
-IsNumbered all number = number + length all < 2 ^ 32
-
--- these lines were taken from the first, and the others are left; each with the number of its first line
-pub record Ahead (all : List (List ℕ)) (number : ℕ) (left : List (List ℕ)) (at : ℕ) (taken : List (List ℕ)) : Type 0 where
-  pub whole : all ≡ taken ++ left
-  pub count : at ≡ number + length taken
+pub use Rattle.text_fields.specs.Numbered.{IsNumbered, Ahead}
 
 abbrev pub AllSkipped : List (List ℕ) → Type 0
 AllSkipped all = All (λ line. is_skipped line ≡ true) all
@@ -48,9 +40,9 @@ pub record Kept (all left : List (List ℕ)) (at : ℕ) (kept : List (List ℕ))
   pub keep : KeepRules [] kept
 
 -- a line with a number breaks a rule so, or there was no memory
-abbrev pub FaultOrMemory : (ℕ → SetupRule → Type 0) → SetupError → Type 0
-FaultOrMemory P (Line number rule) = P number rule
-FaultOrMemory P OutOfMemory = Unit {0}
+abbrev pub SetupFaultOrMemory : (ℕ → SetupRule → Type 0) → SetupError → Type 0
+SetupFaultOrMemory P (Line number rule) = P number rule
+SetupFaultOrMemory P OutOfMemory = Unit {0}
 
 -- no rule is broken
 abbrev pub NoneBroken : LineRules → Type 0
@@ -65,8 +57,8 @@ abbrev pub BreaksAt : ℕ → LineRules → ℕ → SetupRule → Type 0
 BreaksAt number rules at rule = (at ≡ number) × Breaks rules rule
 
 -- the conference of a value that breaks no rule
-abbrev pub conference_of : List ℕ → Conference
-conference_of value = record {
+abbrev pub conference_of_value : List ℕ → Conference
+conference_of_value value = record {
   number = number_of (number_word value);
   kind = unwrap_or (kind_of (kind_word value)) Local;
   readonly = (unwrap_or (rights_of (rights_word value)) (false, false)).0;
@@ -74,8 +66,8 @@ conference_of value = record {
   name = name_behind value;
 }
 
-abbrev pub conferences_of : List (List ℕ) → List Conference
-conferences_of all = map (λ line. conference_of (value_behind conference_key line)) all
+abbrev pub conferences_of_lines : List (List ℕ) → List Conference
+conferences_of_lines all = map (λ line. conference_of_value (value_behind conference_key line)) all
 
 -- one line more was kept, and what it says is known
 abbrev pub OneMore : List (List ℕ) → List (List ℕ) → List (List ℕ) → ℕ → (List ℕ → Type 0) → Type 0
@@ -107,7 +99,7 @@ pub record PartsAre (value : List ℕ) (parts : Parts) : Type 0 where
 pub record ConferencesTaken (all kept : List (List ℕ)) (conferences : List Conference) : Type 0 where
   pub own : List (List ℕ)
   pub some : 1 ≤ length own
-  pub are : conferences ≡ conferences_of own
+  pub are : conferences ≡ conferences_of_lines own
   pub number : ℕ
   pub whole : Kept all [] number (kept ++ own)
 

@@ -4,11 +4,9 @@ use Rattle.std.specs.Char.{is_digit}
 use Rattle.std.specs.List.{list_all, prefix_len, suffix_len, slice_split}
 use Rattle.std.specs.Str.{bytes_eq}
 use Rattle.std.specs.Str.Parse.{digits_value}
+pub use Rattle.text_fields.specs.Blank.{is_space}
 use Rattle.jam_records.specs.declared.message.Kind.{Kind}
 use Rattle.jam_records.specs.declared.message.Kind.TheVariants.{Local, Echo, Net}
-
-abbrev pub is_space : ℕ → Bool
-is_space b = b == 0x20
 
 -- without the spaces at the front
 abbrev pub past_spaces : List ℕ → List ℕ
@@ -64,5 +62,5 @@ unfoldable pub value_behind : List ℕ → List ℕ → List ℕ
 value_behind key line = trim (drop (length key) line)
 
 -- the numbers that the words of a value spell
-unfoldable pub numbers_in : List ℕ → List ℕ
-numbers_in value = map number_of (words value)
+unfoldable pub numbers_of_words : List ℕ → List ℕ
+numbers_of_words value = map number_of (words value)

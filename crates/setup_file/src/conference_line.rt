@@ -1,9 +1,9 @@
 ghost use Rattle.std.specs.Prelude.{◌≡◌, ◌≤◌, ℕ, List, [], ◌++◌, length, IsTrue, ◌↔◌, IfOk, Option, MatchResult, MatchOption, true, false, ◌&&◌, nat_le};
 ghost use Rattle.std.specs.Str.Lines.{lines};
 ghost use Rattle.setup_file.specs.Words.{value_behind as value_in, number_of as number_in};
-ghost use Rattle.setup_file.specs.Rules.{conference_key, is_place_number, is_out_of_order as is_out_of_order_test, value_rules, conference_rules};
+ghost use Rattle.setup_file.specs.Rules.{conference_key, is_place_number, is_out_of_order as is_out_of_order_test, conference_value_rules, conference_rules};
 ghost use Rattle.setup_file.specs.Fault.{LinesFault};
-ghost use Rattle.setup_file.specs.State.{IsNumbered, Kept, FaultOrMemory, BreaksAt, Breaks, NoneBroken, conference_of as conference_in, conferences_of as conferences_in, PartsAre, ConferencesTaken};
+ghost use Rattle.setup_file.specs.State.{IsNumbered, Kept, SetupFaultOrMemory, BreaksAt, Breaks, NoneBroken, conference_of_value as conference_in, conferences_of_lines as conferences_in, PartsAre, ConferencesTaken};
 
 use crate::conference::{Conference, Conferences};
 use crate::error::{SetupError, SetupRule};
@@ -50,8 +50,8 @@ fn is_out_of_order(last: Option<u16>, number: u16) -> bool
 /// it breaks.
 fn parts_of(value: &[u8], count: usize, last: Option<u16>) -> Result<Parts<'_>, SetupRule>
     ensures { MatchResult result
-        (λ parts. NoneBroken (value_rules count last value.now) × PartsAre value.now parts)
-        (Breaks (value_rules count last value.now)) }
+        (λ parts. NoneBroken (conference_value_rules count last value.now) × PartsAre value.now parts)
+        (Breaks (conference_value_rules count last value.now)) }
 {
     if count >= 64 {
         return Err(SetupRule::Many);
@@ -115,7 +115,7 @@ impl Parts<'_> {
 pub fn conferences_of(alloc: Global, start: Unread<'_>) -> Result<Conferences, SetupError>
     requires { IsNumbered (lines start.text.now) start.line }
     ensures { (all kept : List (List ℕ)) → length kept ≡ 7 → Kept all (lines start.entry.text.now) start.entry.line kept
-        → MatchResult result (ConferencesTaken all kept) (FaultOrMemory (LinesFault all)) }
+        → MatchResult result (ConferencesTaken all kept) (SetupFaultOrMemory (LinesFault all)) }
 {
     let mut conferences = Conferences::new(alloc);
     let mut last = None;

@@ -3,7 +3,7 @@ ghost use Rattle.std.specs.Str.Lines.{lines};
 ghost use Rattle.setup_file.specs.Words.{value_behind};
 ghost use Rattle.setup_file.specs.Rules.{key_text, keys};
 ghost use Rattle.setup_file.specs.Fault.{LinesFault};
-ghost use Rattle.setup_file.specs.State.{IsNumbered, Kept, OneMore, HeadTaken, FaultOrMemory};
+ghost use Rattle.setup_file.specs.State.{IsNumbered, Kept, OneMore, HeadTaken, SetupFaultOrMemory};
 
 use crate::error::{SetupError, SetupRule};
 use crate::key::Key;
@@ -28,7 +28,7 @@ fn value_of<'a>(key: Key, start: Unread<'a>) -> Result<(&'a [u8], Unread<'a>), S
         → Kept all (lines start.entry.text.now) start.entry.line kept
         → MatchResult result
         (λ found. OneMore all kept (lines found.1.text.now) found.1.line (λ line. found.0.now ≡ value_behind (key_text key) line))
-        (FaultOrMemory (LinesFault all)) }
+        (SetupFaultOrMemory (LinesFault all)) }
 {
     let here = start.past_skipped();
     let Some((line, after)) = here.next() else {
@@ -47,7 +47,7 @@ pub fn head_of<'a>(start: Unread<'a>) -> Result<(Head<'a>, Unread<'a>), SetupErr
     ensures head { (all : List (List ℕ)) → Kept all (lines start.entry.text.now) start.entry.line []
         → MatchResult result
         (λ found. HeadTaken all found.0 (lines found.1.text.now) found.1.line)
-        (FaultOrMemory (LinesFault all)) }
+        (SetupFaultOrMemory (LinesFault all)) }
 {
     let (board, behind_board) = value_of(Key::Board, start)?;
     let (city, behind_city) = value_of(Key::City, behind_board)?;

@@ -1,6 +1,6 @@
 ghost use Rattle.std.specs.Prelude.{◌≡◌, MatchResult};
 ghost use Rattle.setup_file.specs.Words.{value_behind as value_in};
-ghost use Rattle.setup_file.specs.Rules.{key_text, fits as fits_key, rule_of, key_rules};
+ghost use Rattle.setup_file.specs.Rules.{key_text, fits as fits_key, key_rule, key_rules};
 ghost use Rattle.setup_file.specs.State.{NoneBroken, Breaks};
 
 use crate::error::SetupRule;
@@ -47,7 +47,7 @@ impl Key {
 
     /// The rule that another value breaks.
     fn rule(self) -> SetupRule
-        ensures { result ≡ rule_of self }
+        ensures { result ≡ key_rule self }
     {
         match self {
             Key::Board | Key::City | Key::Phone | Key::Sysop => SetupRule::Text,

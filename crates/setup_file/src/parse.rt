@@ -2,7 +2,7 @@ ghost use Rattle.std.specs.Prelude.{◌≡◌, ◌<◌, ◌^◌, length, IfOk, M
 ghost use Rattle.setup_file.specs.Words.{number_of as number_in, is_number};
 ghost use Rattle.setup_file.specs.Reads.{SetupReads};
 ghost use Rattle.setup_file.specs.Fault.{SetupFault};
-ghost use Rattle.setup_file.specs.State.{FaultOrMemory, IsMadeOf};
+ghost use Rattle.setup_file.specs.State.{SetupFaultOrMemory, IsMadeOf};
 
 use crate::conference::Conferences;
 use crate::conference_line::conferences_of;
@@ -47,7 +47,7 @@ fn setup_of(
 /// The setup of a file, or its first fault.
 pub fn setup_in(alloc: Global, bytes: &[u8]) -> Result<Setup, SetupError>
     requires { length bytes.now < 2 ^ 31 }
-    ensures { MatchResult result (SetupReads bytes.now) (FaultOrMemory (SetupFault bytes.now)) }
+    ensures { MatchResult result (SetupReads bytes.now) (SetupFaultOrMemory (SetupFault bytes.now)) }
 {
     let start = Unread {
         text: bytes,

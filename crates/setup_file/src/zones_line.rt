@@ -1,10 +1,10 @@
 ghost use Rattle.std.specs.Prelude.{◌≡◌, ◌≤◌, ◌<◌, ℕ, List, Some, None, length, IfOk, MatchResult, MatchOption, IsTrue, true, false, ◌&&◌, nat_le};
 ghost use Rattle.std.specs.Str.Lines.{lines};
-ghost use Rattle.setup_file.specs.Words.{value_behind as value_in, numbers_in, is_number, number_of as number_in};
+ghost use Rattle.setup_file.specs.Words.{value_behind as value_in, numbers_of_words, is_number, number_of as number_in};
 ghost use Rattle.setup_file.specs.Zones.{is_zone};
 ghost use Rattle.setup_file.specs.Rules.{zones_key, zones_fit, zones_rules};
 ghost use Rattle.setup_file.specs.Fault.{LinesFault};
-ghost use Rattle.setup_file.specs.State.{IsNumbered, Kept, OneMore, FaultOrMemory, BreaksAt, NoneBroken};
+ghost use Rattle.setup_file.specs.State.{IsNumbered, Kept, OneMore, SetupFaultOrMemory, BreaksAt, NoneBroken};
 
 use crate::error::{SetupError, SetupRule};
 use crate::unread::Unread;
@@ -28,7 +28,7 @@ fn zone_of(word: &[u8]) -> Option<u16>
 fn zones_in(alloc: Global, value: &[u8]) -> Result<Option<Zones>, AllocError>
     ensures { IfOk result (λ found. MatchOption found
         (zones_fit value.now ≡ false)
-        (λ zones. (zones_fit value.now ≡ true) × (zones ≡ numbers_in value.now))) }
+        (λ zones. (zones_fit value.now ≡ true) × (zones ≡ numbers_of_words value.now))) }
 {
     let mut zones = Zones::new(alloc);
     let mut here = value;
@@ -51,8 +51,8 @@ fn zones_in(alloc: Global, value: &[u8]) -> Result<Option<Zones>, AllocError>
 /// The zones of a line with this number, or the rule that it breaks.
 fn line_zones(alloc: Global, line: &[u8], number: u32) -> Result<Zones, SetupError>
     ensures { MatchResult result
-        (λ zones. NoneBroken (zones_rules line.now) × (zones ≡ numbers_in (value_in zones_key line.now)))
-        (FaultOrMemory (BreaksAt number (zones_rules line.now))) }
+        (λ zones. NoneBroken (zones_rules line.now) × (zones ≡ numbers_of_words (value_in zones_key line.now)))
+        (SetupFaultOrMemory (BreaksAt number (zones_rules line.now))) }
 {
     let Some(value) = value_behind(b"zones:", line) else {
         return Err(SetupError::Line {
@@ -75,8 +75,8 @@ pub fn zones_of<'a>(alloc: Global, start: Unread<'a>) -> Result<(Zones, Unread<'
     ensures numbered { IfOk result (λ found. IsNumbered (lines found.1.text.now) found.1.line) }
     ensures zones { (all kept : List (List ℕ)) → length kept ≡ 6 → Kept all (lines start.entry.text.now) start.entry.line kept
         → MatchResult result
-        (λ found. OneMore all kept (lines found.1.text.now) found.1.line (λ line. found.0 ≡ numbers_in (value_in zones_key line)))
-        (FaultOrMemory (LinesFault all)) }
+        (λ found. OneMore all kept (lines found.1.text.now) found.1.line (λ line. found.0 ≡ numbers_of_words (value_in zones_key line)))
+        (SetupFaultOrMemory (LinesFault all)) }
 {
     let here = start.past_skipped();
     let Some((line, after)) = here.next() else {

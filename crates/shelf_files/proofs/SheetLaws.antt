@@ -10,7 +10,7 @@ use Rattle.import_sheet.specs.declared.fault.SheetError.TheVariants.{Line, OutOf
 use Rattle.import_sheet.specs.declared.sheet.Sheet.{Sheet}
 use Rattle.shelf_files.proofs.Replies.{read_unique}
 use Rattle.shelf_files.specs.Sheets.{SheetBreaks, SheetOf, sheet_refusal}
-use Rattle.shelf_files.specs.ShelfFile.{file_of, file_limit}
+use Rattle.shelf_files.specs.ShelfFile.{file_within, file_limit}
 use Rattle.shelf_files.specs.declared.refusal.Refusal.{Refusal}
 
 sheet_fault_once : (bytes : List ℕ) (e f : SheetError) → SheetBreaks bytes e → SheetBreaks bytes f → e ≡ f
@@ -24,4 +24,4 @@ sheet_no_fault bytes sheets OutOfMemory x y = y
 
 pub sheet_unique : (shelf : Files) (name : List ℕ) (a b : Result (List Sheet) Refusal) → SheetOf shelf name a → SheetOf shelf name b → a ≡ b
 sheet_unique shelf name =
-    read_unique SheetReads SheetBreaks sheet_refusal (λ (bytes : List ℕ). Sheets.sheets_once (lines bytes)) sheet_fault_once sheet_no_fault (file_of shelf name file_limit)
+    read_unique SheetReads SheetBreaks sheet_refusal (λ (bytes : List ℕ). Sheets.sheets_once (lines bytes)) sheet_fault_once sheet_no_fault (file_within shelf name file_limit)

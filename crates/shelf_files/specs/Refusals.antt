@@ -1,7 +1,7 @@
 -- What is said of a refused command.
 use Rattle.std.specs.Prelude.{ℕ, List, [], ◌++◌, codes, decimal, Option, Some, None}
 use Rattle.fts_packet.specs.RuleWord.{packet_word}
-use Rattle.import_sheet.specs.RuleWord.{rule_word}
+use Rattle.import_sheet.specs.RuleWord.{sheet_rule_word}
 use Rattle.qwk_blocks.specs.declared.fault.QwkFault.TheVariants.{Truncated, BadBlocks}
 use Rattle.setup_file.specs.declared.error.SetupRule.{SetupRule}
 use Rattle.setup_file.specs.declared.error.SetupRule.TheVariants as setup
@@ -64,7 +64,7 @@ refusal_line NoMessage = line_of (codes "nomessage") []
 refusal_line NoBoardId = line_of (codes "noboardid") []
 refusal_line OtherBoard = line_of (codes "board") []
 refusal_line NoConference = line_of (codes "noconference") []
-refusal_line (Sheet line rule) = ruled_line (codes "sheet ") line (rule_word rule)
+refusal_line (Sheet line rule) = ruled_line (codes "sheet ") line (sheet_rule_word rule)
 refusal_line (Text number) = line_of (codes "text ") (decimal number)
 refusal_line NotMade = line_of (codes "notmade") []
 refusal_line Exists = line_of (codes "exists") []

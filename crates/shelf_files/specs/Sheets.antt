@@ -6,7 +6,7 @@ use Rattle.import_sheet.specs.Sheet.{SheetReads}
 use Rattle.import_sheet.specs.declared.fault.SheetError.{SheetError}
 use Rattle.import_sheet.specs.declared.fault.SheetError.TheVariants.{Line, OutOfMemory}
 use Rattle.import_sheet.specs.declared.sheet.Sheet.{Sheet}
-use Rattle.shelf_files.specs.ShelfFile.{ReadAs, file_of, file_limit}
+use Rattle.shelf_files.specs.ShelfFile.{ReadAs, file_within, file_limit}
 use Rattle.shelf_files.specs.declared.halt.Halt.{Halt}
 use Rattle.shelf_files.specs.declared.halt.Halt.TheVariants as halt
 use Rattle.shelf_files.specs.declared.refusal.Refusal.{Refusal}
@@ -29,7 +29,7 @@ sheet_halt OutOfMemory = halt.OutOfMemory
 
 -- the entries of a sheet
 abbrev pub SheetOf : Files → List ℕ → Result (List Sheet) Refusal → Type 0
-SheetOf shelf name read = ReadAs SheetReads SheetBreaks sheet_refusal (file_of shelf name file_limit) read
+SheetOf shelf name read = ReadAs SheetReads SheetBreaks sheet_refusal (file_within shelf name file_limit) read
 
 -- what was read of the bytes of some file
 abbrev pub AreSheets : List Sheet → Type 0

@@ -25,8 +25,8 @@ abbrev pub within : List ℕ → ℕ → Option (List ℕ) → Result (List ℕ)
 within name most None = Err (NoFile name)
 within name most (Some file) = if nat_le (length file) most then Ok file else Err (TooLarge name)
 
-abbrev pub file_of : Files → List ℕ → ℕ → Result (List ℕ) Refusal
-file_of shelf name most = within name most (held shelf name)
+abbrev pub file_within : Files → List ℕ → ℕ → Result (List ℕ) Refusal
+file_within shelf name most = within name most (held shelf name)
 
 -- a file reads as a value, or its first fault refuses it
 module _ {Value Fault : Type 0} (Reads : List ℕ → Value → Type 0) (Breaks : List ℕ → Fault → Type 0) (refusal : Fault → Refusal) where

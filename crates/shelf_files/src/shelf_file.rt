@@ -1,6 +1,6 @@
 ghost use Rattle.std.specs.Prelude.{◌≡◌, ◌<◌, ◌≤◌, ◌^◌, length, IsTrue, IfOk};
 ghost use Rattle.shelf_files.specs.Halts.{Comes, ShelfCauses};
-ghost use Rattle.shelf_files.specs.ShelfFile.{file_of};
+ghost use Rattle.shelf_files.specs.ShelfFile.{file_within};
 
 use crate::halt::Halt;
 use crate::refusal::Refusal;
@@ -28,7 +28,7 @@ pub fn file_in<S: Shelf>(
     most: u32,
 ) -> Result<Bytes, Halt>
     requires { most < 2 ^ 31 }
-    ensures file { IsTrue S.tells → Comes result (λ read. read ≡ file_of (S.files shelf.old) name.now most) }
+    ensures file { IsTrue S.tells → Comes result (λ read. read ≡ file_within (S.files shelf.old) name.now most) }
     ensures short { IfOk result (λ bytes. length bytes ≤ most) }
     ensures unchanged { IsTrue S.tells → S.files shelf.new ≡ S.files shelf.old }
     ensures causes { ShelfCauses (S.faults shelf.old) (S.faults shelf.new) result }

@@ -5,7 +5,7 @@ use Rattle.std.specs.Option.{option_map_or}
 use Rattle.std.proofs.lemmas.List.{drop_at}
 use Rattle.std.proofs.lemmas.List.Elements.{All-cons, All-drop, All-head, All-nil, All-tail}
 use Rattle.board_changes.proofs.OneBase.{base_fits, base_was, board_next, size_next}
-use Rattle.board_changes.specs.Change.{Changes}
+use Rattle.board_changes.specs.Change.{ChangesBase}
 use Rattle.board_changes.specs.Changed.{base_at, with_base}
 use Rattle.board_changes.specs.Spending.{Spends}
 use Rattle.board_layout.specs.Board.{Board}
@@ -33,7 +33,7 @@ use Rattle.setup_file.specs.declared.conference.Conference.{Conference as SetupC
 use Rattle.slot_changes.proofs.MsgidLaws.{identified_count}
 use Rattle.slot_changes.proofs.SlotBytes.{all_at_end, base_grows, message_size}
 use Rattle.slot_changes.specs.Changed.{appended, with_identified}
-use Rattle.slot_changes.specs.Msgids.{all_identified, generated, msgid_in, number_at}
+use Rattle.slot_changes.specs.Msgids.{all_identified, generated, msgid_in, number_of_place}
 
 -- ---- the base
 pub shape_stays : (base : Contents) (messages : List Message) → (with_messages messages base).shape ≡ base.shape
@@ -62,12 +62,12 @@ messages_are base (m ∷ messages) ok =
     let all : All (IsSlot base.shape.kind) (slots ++ behind) = subst (All (IsSlot base.shape.kind)) (all_at_end slots (m ∷ messages)) ok.slots in
     held_all base.shape.kind (m ∷ messages) (subst (All (IsSlot base.shape.kind)) (drop_at slots behind (length slots) refl) (All-drop (IsSlot base.shape.kind) (length slots) (slots ++ behind) all))
 
-pub changes : (base : Contents) (messages : List Message) (change : BaseChange) → change.base ≡ outlined (with_messages messages base) → SuitsIntent base.shape.place (files_in change.base) change.patches → Changes base change
+pub changes : (base : Contents) (messages : List Message) (change : BaseChange) → change.base ≡ outlined (with_messages messages base) → SuitsIntent base.shape.place (files_in change.base) change.patches → ChangesBase base change
 changes base messages change is intent = record { shape = ap (λ (c : Contents). c.shape) is ∙ shape_stays base messages; intent = intent }
 
 -- ---- the board
 -- the number of a conference that the setup has
-pub named : (b : Board) (place : ℕ) (c : SetupConference) → slice_get b.ledger.setup.conferences place ≡ Some c → c.number ≡ number_at place b
+pub named : (b : Board) (place : ℕ) (c : SetupConference) → slice_get b.ledger.setup.conferences place ≡ Some c → c.number ≡ number_of_place place b
 named b place c is = sym (ap (λ (o : Option SetupConference). option_map_or (λ (k : SetupConference). k.number) o 0) is)
 
 -- messages with msgids that are made of what the board says

@@ -4,7 +4,7 @@ use Rattle.std.specs.Prelude.{All, IsSomeAnd, option_map}
 use Rattle.std.proofs.lemmas.List.Sums.{get_or-le-sum_by}
 use Rattle.std.proofs.lemmas.Option.{get_or_from_slice_get, slice_get_within}
 use Rattle.board_changes.proofs.OneBase.{base_fits, base_was, board_next, conferences_back, shapes_back, size_next}
-use Rattle.board_changes.specs.Change.{Changes}
+use Rattle.board_changes.specs.Change.{ChangesBase}
 use Rattle.board_changes.specs.Changed.{base_at, with_base}
 use Rattle.board_changes.specs.Outlined.{ChangesEach, KeepsEach, MadeBy}
 use Rattle.board_layout.proofs.OneOutline.{alike_base, alike_base_size, alike_count, alike_size}
@@ -59,7 +59,7 @@ same_base slots x y alike = ap (λ (c : Contents). with_slots slots c) alike
 pub replaced_each : (slots : List Slot) (base : Contents) (patches : List Patch) → TurnsEach base (with_slots slots) patches → ChangesEach base (with_slots slots) patches
 replaced_each slots base patches each = record { files = each; outline = λ other alike. ap outlined (same_base slots other base alike) }
 
-pub replaced_changes : (slots : List Slot) (base : Contents) (change : BaseChange) → change.base ≡ outlined (with_slots slots base) → SuitsIntent base.shape.place (files_in change.base) change.patches → Changes base change
+pub replaced_changes : (slots : List Slot) (base : Contents) (change : BaseChange) → change.base ≡ outlined (with_slots slots base) → SuitsIntent base.shape.place (files_in change.base) change.patches → ChangesBase base change
 replaced_changes slots base change is intent = record { shape = ap (λ (c : Contents). c.shape) is; intent = intent }
 
 module _ (b : Board) (place : ℕ) (slots : List Slot) (base : Contents) (ok : IsBoard b) (here : base_at place b ≡ Some base) where

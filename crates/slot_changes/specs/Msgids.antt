@@ -11,12 +11,12 @@ abbrev pub generated : ℕ → List ℕ → ℕ → List ℕ
 generated conference bbsid number = decimal conference ++ (46 ∷ (decimal number ++ (46 ∷ bbsid)))
 
 -- the number of the conference in a place that has one
-abbrev pub number_at : ℕ → Board → ℕ
-number_at place b = option_map_or (λ c. c.number) (slice_get b.ledger.setup.conferences place) 0
+abbrev pub number_of_place : ℕ → Board → ℕ
+number_of_place place b = option_map_or (λ c. c.number) (slice_get b.ledger.setup.conferences place) 0
 
 -- the msgid that is generated for a message number in a place
 abbrev pub msgid_in : ℕ → Board → ℕ → List ℕ
-msgid_in place b number = generated (number_at place b) b.ledger.setup.bbsid number
+msgid_in place b number = generated (number_of_place place b) b.ledger.setup.bbsid number
 
 -- a msgid that a message may have
 pub record IsMsgid (msgid : List ℕ) : Type 0 where

@@ -1,5 +1,5 @@
 ghost use Rattle.std.specs.Prelude.{◌≡◌, ◌≤◌, length, IfOk, IsTrue};
-ghost use Rattle.board_changes.specs.Change.{Becomes, Changes};
+ghost use Rattle.board_changes.specs.Change.{Becomes, ChangesBase};
 ghost use Rattle.board_changes.specs.Outlined.{LeadsEach};
 ghost use Rattle.board_layout.specs.Valid.{IsBoard};
 ghost use Rattle.intent_journal.specs.Patches.{byte_count};
@@ -17,7 +17,7 @@ use std::alloc::{AllocError, Global};
 fn killed(alloc: Global, base: &Base, number: u32) -> Result<BaseChange, AllocError>
     requires { IsTrue (has_live number base.now.conference.slots) }
     ensures base { IfOk result (λ change. change.base ≡ with_deleted number base.now) }
-    ensures changes { IfOk result (λ change. Changes base.now change) }
+    ensures changes { IfOk result (λ change. ChangesBase base.now change) }
     ensures each { IfOk result (λ change. TurnsEach base.now (with_deleted number) change.patches) }
     ensures costs { IfOk result (λ change. (length change.patches ≤ 2) × (byte_count change.patches ≤ 24)) }
 {

@@ -3,3 +3,4 @@ pub mod Trim
 pub mod Number
 pub mod Split
 pub mod Lines
+pub mod Numbered

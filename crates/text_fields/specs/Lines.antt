@@ -1,9 +1,13 @@
--- Lines as they are written: each with CR and LF behind it.
-use Rattle.std.specs.Prelude.{ℕ, List, [], ◌∷◌, ◌++◌}
+-- Lines as they are written, each with CR and LF behind it, and texts without LF.
+use Rattle.std.specs.Prelude.{ℕ, List, [], ◌∷◌, ◌++◌, filter, not, ◌==◌}
 use Rattle.std.specs.List.{flat_map}
 
-abbrev pub ended : List ℕ → List ℕ
-ended line = line ++ 13 ∷ 10 ∷ []
+abbrev pub crlf_line : List ℕ → List ℕ
+crlf_line line = line ++ 13 ∷ 10 ∷ []
 
 abbrev pub text_of_lines : List (List ℕ) → List ℕ
-text_of_lines all = flat_map ended all
+text_of_lines all = flat_map crlf_line all
+
+-- without the line feeds
+abbrev pub without_feeds : List ℕ → List ℕ
+without_feeds text = filter (λ b. not (b == 0x0A)) text

@@ -1,6 +1,6 @@
 ghost use Rattle.std.specs.Prelude.{◌≡◌, [], ◌∷◌, ◌++◌, MatchOption, IfOk, OnOk};
 ghost use Rattle.std.specs.Str.Lines.{lines, strip_carriage_return};
-ghost use Rattle.text_fields.specs.Lines.{ended};
+ghost use Rattle.text_fields.specs.Lines.{crlf_line};
 
 use crate::split::split_at_byte;
 use byte_lists::{Bytes, Lines};
@@ -46,7 +46,7 @@ pub fn lines_of(alloc: Global, text: &[u8]) -> Result<Lines, AllocError>
 
 /// Adds a line, and CR LF behind it.
 pub fn add_line(out: &mut Bytes, line: &[u8]) -> Result<(), AllocError>
-    ensures { OnOk result (out.new ≡ out.old ++ ended line.now) }
+    ensures { OnOk result (out.new ≡ out.old ++ crlf_line line.now) }
 {
     out.add(line)?;
     out.add(b"\r\n")

@@ -8,9 +8,9 @@ use Rattle.std.proofs.lemmas.Option.{cond_some, slice_get-get_or}
 use Rattle.board_layout.specs.Board.{Board}
 use Rattle.byte_lists.specs.Byte.{IsByte}
 use Rattle.fts_packet.proofs.Posted.{posted_id, posted_is_message}
-use Rattle.fts_packet.specs.Draft.{draft_of}
+use Rattle.fts_packet.specs.Draft.{tossed_draft}
 use Rattle.fts_packet.specs.Lines.{tag_of}
-use Rattle.fts_packet.specs.Tossed.{place_for, rules_of, takes, toss_verdict, unless_refused, verdict_at}
+use Rattle.fts_packet.specs.Tossed.{place_for, toss_rules, takes_tag, toss_verdict, tossed_unless_refused, verdict_by_place}
 use Rattle.fts_packet.specs.declared.packet.FtsMessage.{FtsMessage}
 use Rattle.fts_packet.specs.declared.rule.TossRule.{TossRule}
 use Rattle.fts_packet.specs.declared.toss.TossDraft.TheVariants.{Post}
@@ -33,21 +33,21 @@ position_within p xs k e =
     omega (arith, ltb-true (position_or_len p xs) (length xs) parts.0, parts.1)
 
 place_within : (tag : Option (List ℕ)) (s : Setup) (place : ℕ) → place_for tag s ≡ Some place → place < length s.conferences
-place_within tag s place e = omega (arith, position_within (takes tag) (take 255 s.conferences) place e, length-take 255 s.conferences)
+place_within tag s place e = omega (arith, position_within (takes_tag tag) (take 255 s.conferences) place e, length-take 255 s.conferences)
 
-unrefused : (o : Option TossRule) (n place : ℕ) (made draft : Message) → unless_refused o n made ≡ Post place draft → n ≡ place
+unrefused : (o : Option TossRule) (n place : ℕ) (made draft : Message) → tossed_unless_refused o n made ≡ Post place draft → n ≡ place
 unrefused None n place made draft e = cc
 unrefused (Some rule) n place made draft e = absurd (cc)
 
-placed_in : (s : Setup) (m : FtsMessage) (made draft : Message) (p : Option ℕ) (place : ℕ) → place_for (tag_of m.lines) s ≡ p → verdict_at m made p ≡ Post place draft → place < length s.conferences
+placed_in : (s : Setup) (m : FtsMessage) (made draft : Message) (p : Option ℕ) (place : ℕ) → place_for (tag_of m.lines) s ≡ p → verdict_by_place m made p ≡ Post place draft → place < length s.conferences
 placed_in s m made draft None place at e = absurd (cc)
 placed_in s m made draft (Some n) place at e =
-    let same : n ≡ place = unrefused (first_refusing (rules_of m made)) n place made draft e in
+    let same : n ≡ place = unrefused (first_refusing (toss_rules m made)) n place made draft e in
     place_within (tag_of m.lines) s place (at ∙ ap Some same)
 
 pub posted_place : (s : Setup) (m : FtsMessage) (now place : ℕ) (draft : Message) → toss_verdict s m now ≡ Post place draft → place < length s.conferences
 unfolding toss_verdict
-posted_place s m now place draft e = placed_in s m (draft_of m now) draft (place_for (tag_of m.lines) s) place refl e
+posted_place s m now place draft e = placed_in s m (tossed_draft m now) draft (place_for (tag_of m.lines) s) place refl e
 
 -- ---- the message
 own_text : (own other : List ℕ) → EmptyOr (is_text 80) own → IsMsgid other → is_text 80 (or_else own other) ≡ true

@@ -11,7 +11,7 @@ use Rattle.fts_packet.specs.declared.fault.FtsRule.{FtsRule}
 use Rattle.fts_packet.specs.declared.packet.FtsMessage.{FtsMessage}
 use Rattle.shelf_files.proofs.Replies.{read_unique, refused_by}
 use Rattle.shelf_files.specs.Halts.{Comes}
-use Rattle.shelf_files.specs.ShelfFile.{file_of, file_limit}
+use Rattle.shelf_files.specs.ShelfFile.{file_within, file_limit}
 use Rattle.shelf_files.specs.declared.halt.Halt.{Halt}
 use Rattle.shelf_files.specs.declared.refusal.Refusal.{Refusal}
 use Rattle.toss_commands.specs.PacketFiles.{FtsBreaks, FtsPacketOf, fts_halt, fts_refusal}
@@ -27,14 +27,14 @@ packet_no_fault bytes messages (Fault rule at) x y = no_fault bytes messages rul
 packet_no_fault bytes messages OutOfMemory x y = y
 
 pub packet_unique : (shelf : Files) (name : List ℕ) (a b : Result (List FtsMessage) Refusal) → FtsPacketOf shelf name a → FtsPacketOf shelf name b → a ≡ b
-packet_unique shelf name = read_unique FtsReads FtsBreaks fts_refusal packet_once packet_fault_once packet_no_fault (file_of shelf name file_limit)
+packet_unique shelf name = read_unique FtsReads FtsBreaks fts_refusal packet_once packet_fault_once packet_no_fault (file_within shelf name file_limit)
 
 -- a packet with a fault is refused, unless there is no memory
-pub packet_refused : (shelf : Files) (name bytes : List ℕ) (error : FtsError) (halt : Halt) → halt ≡ fts_halt error → Ok bytes ≡ file_of shelf name file_limit → ((rule : FtsRule) (at : ℕ) → error ≡ Fault rule at → FtsFault bytes rule at)
+pub packet_refused : (shelf : Files) (name bytes : List ℕ) (error : FtsError) (halt : Halt) → halt ≡ fts_halt error → Ok bytes ≡ file_within shelf name file_limit → ((rule : FtsRule) (at : ℕ) → error ≡ Fault rule at → FtsFault bytes rule at)
     → Comes {Value = List FtsMessage} (Err halt) (FtsPacketOf shelf name)
 packet_refused shelf name bytes (Fault rule at) halt is file faults =
     subst (λ (h : Halt). Comes {Value = List FtsMessage} (Err h) (FtsPacketOf shelf name)) (sym is)
-    (refused_by FtsReads FtsBreaks fts_refusal (file_of shelf name file_limit) bytes (Fault rule at) file (faults rule at refl))
+    (refused_by FtsReads FtsBreaks fts_refusal (file_within shelf name file_limit) bytes (Fault rule at) file (faults rule at refl))
 packet_refused shelf name bytes OutOfMemory halt is file faults = subst (λ (h : Halt). Comes {Value = List FtsMessage} (Err h) (FtsPacketOf shelf name)) (sym is) tt
 
 -- a message has its front at least

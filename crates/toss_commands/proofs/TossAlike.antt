@@ -31,7 +31,7 @@ use Rattle.offered_packets.proofs.OutlineLaws.{outline_slots}
 use Rattle.board_layout.specs.Lookups.{slots_in}
 use Rattle.post_changes.specs.Posted.{spread}
 use Rattle.shelf_files.specs.Halts.{done}
-use Rattle.slot_changes.specs.Msgids.{number_at}
+use Rattle.slot_changes.specs.Msgids.{number_of_place}
 use Rattle.toss_commands.specs.Toss.{tossing}
 use Rattle.toss_commands.specs.Tossed.{is_dupe, last_rule, posted_as, tossed, tossed_as, tossed_from}
 
@@ -59,8 +59,8 @@ module _ (a b : Board) (alike : AreAlike a b) where
   rule_alike posts post = λ i. cond (dupe_alike posts post i) (Some Dupe) (cond (full_alike a b alike posts post i) (Some Full) None)
 
   -- ---- one message more
-  number_alike : (place : ℕ) → number_at place a ≡ number_at place b
-  number_alike place = ap (λ (l : Ledger). number_at place (bare l)) (alike_ledger a b alike)
+  number_alike : (place : ℕ) → number_of_place place a ≡ number_of_place place b
+  number_alike place = ap (λ (l : Ledger). number_of_place place (bare l)) (alike_ledger a b alike)
 
   post_alike : (at : ℕ) (so_far : List ℕ × List (ℕ × Message)) (post : ℕ × Message) (rule : Option TossRule) → posted_as a at so_far post rule ≡ posted_as b at so_far post rule
   post_alike at so_far post (Some rule) = refl

@@ -6,7 +6,7 @@ use Rattle.fts_packet.specs.Packet.{FtsReads}
 use Rattle.fts_packet.specs.declared.fault.FtsError.{FtsError}
 use Rattle.fts_packet.specs.declared.fault.FtsError.TheVariants.{Fault, OutOfMemory}
 use Rattle.fts_packet.specs.declared.packet.FtsMessage.{FtsMessage}
-use Rattle.shelf_files.specs.ShelfFile.{ReadAs, file_of, file_limit}
+use Rattle.shelf_files.specs.ShelfFile.{ReadAs, file_within, file_limit}
 use Rattle.shelf_files.specs.declared.halt.Halt.{Halt}
 use Rattle.shelf_files.specs.declared.halt.Halt.TheVariants as halt
 use Rattle.shelf_files.specs.declared.refusal.Refusal.{Refusal}
@@ -29,4 +29,4 @@ fts_halt OutOfMemory = halt.OutOfMemory
 
 -- the messages of a packet
 abbrev pub FtsPacketOf : Files → List ℕ → Result (List FtsMessage) Refusal → Type 0
-FtsPacketOf shelf name read = ReadAs FtsReads FtsBreaks fts_refusal (file_of shelf name file_limit) read
+FtsPacketOf shelf name read = ReadAs FtsReads FtsBreaks fts_refusal (file_within shelf name file_limit) read

@@ -16,7 +16,7 @@ use Rattle.mail_intake.specs.Room.{is_full}
 use Rattle.board_layout.specs.Lookups.{slots_in}
 use Rattle.packet_verdicts.specs.Views.{next_number}
 use Rattle.post_changes.specs.Posted.{spread}
-use Rattle.slot_changes.specs.Msgids.{number_at}
+use Rattle.slot_changes.specs.Msgids.{number_of_place}
 
 -- its msgid isn't absent, and a message that the conference holds has it, the posts before it included
 abbrev pub is_dupe : Board → List (ℕ × Message) → ℕ × Message → Bool
@@ -29,7 +29,7 @@ last_rule b posts post = if is_dupe b posts post then Some Dupe else (if is_full
 -- the lines and the posts so far, and those with one message more, which a rule refuses or none
 abbrev pub posted_as : Board → ℕ → List ℕ × List (ℕ × Message) → ℕ × Message → Option TossRule → List ℕ × List (ℕ × Message)
 posted_as b at so_far post (Some rule) = (so_far.0 ++ refused_line at (toss_word rule), so_far.1)
-posted_as b at so_far post None = (so_far.0 ++ posted_line at (number_at post.0 b) (next_number (spread so_far.1 b) post.0), so_far.1 ++ post ∷ [])
+posted_as b at so_far post None = (so_far.0 ++ posted_line at (number_of_place post.0 b) (next_number (spread so_far.1 b) post.0), so_far.1 ++ post ∷ [])
 
 abbrev pub tossed_as : Board → ℕ → List ℕ × List (ℕ × Message) → TossDraft → List ℕ × List (ℕ × Message)
 tossed_as b at so_far (Refused rule) = (so_far.0 ++ refused_line at (toss_word rule), so_far.1)

@@ -8,7 +8,7 @@ ghost use Rattle.memory_outside.specs.MemoryHost.{disk_of};
 use byte_lists::Bytes;
 use door_outside::{DiskFault, FileId, Host, VoiceFault};
 use example_runs::{Miss, no_faults, played};
-use jam_records::Message;
+use jam_records::{Message, Slot, Slots};
 use mail_board::{Board, Loaded};
 use memory_outside::{ImageChoice, MemoryHost};
 use std::alloc::{AllocError, Global};
@@ -310,6 +310,48 @@ fn a_body_is_read_from_the_host_at_hand(rt: HostRuntime) -> Result<(), Miss> {
     for (number, text, wanted) in ELSEWHERE {
         let found = told_elsewhere(alloc, &stage.host, number, text)?;
         expect_row(alloc, found.as_str(), wanted)?;
+    }
+    Ok(())
+}
+
+/// Whether a place of the board that the last run has synced may get so many slots that are Gone, as a text.
+fn gone_fit(
+    alloc: Global,
+    last: &MemoryHost,
+    place: u8,
+    count: usize,
+) -> Result<&'static str, AllocError> {
+    let mut host = synced(alloc, last)?;
+    let mut slots = Slots::new(alloc);
+    for _ in 0..count {
+        slots.add(Slot::Gone)?;
+    }
+    let Ok(Loaded::Ready(board)) = Board::load(alloc, &mut host) else {
+        return Ok("there is no board");
+    };
+    Ok(if board.fits_slots(place, &slots) {
+        "fits"
+    } else {
+        "refused"
+    })
+}
+
+/// A place, a count of slots, and whether so many may stand there in place of those that do.
+const GONE: [(u8, usize, &str); 5] = [
+    (0, 4, "fits"),
+    (0, 3, "refused"),
+    (0, 5, "refused"),
+    (2, 0, "fits"),
+    (3, 0, "refused"),
+];
+
+#[test]
+fn as_many_slots_fit_in_a_place(rt: HostRuntime) -> Result<(), Miss> {
+    let alloc = rt.alloc();
+    let stage = played(alloc, BOARD)?;
+    for (place, count, wanted) in GONE {
+        let found = gone_fit(alloc, &stage.host, place, count)?;
+        expect_row(alloc, found, wanted)?;
     }
     Ok(())
 }

@@ -1,7 +1,8 @@
 //! A conference of as many slots as there may be.
 use example_runs::{Miss, expect_transcript};
 
-/// A conference that `sample` fills: what 5,000 messages of the seed 1 and 4,999 of the seed 2 are.
+/// A conference that `sample` fills, what 5,000 messages of the seed 1 and 4,999 of the seed 2 are, and that is packed
+/// when it is full: its slots stay as many.
 const SAMPLED: &str = r#"
 * put setup board: One\ncity: Springfield\nphone: 555-0100\nsysop: Sam Sysop\nbbsid: ONE\nserial: 1\nzones:\nconference: 0 local - C0\n
 * put one From: Bob Ray\nTo: All\n\nHi\n.\n
@@ -22,6 +23,12 @@ packet 1: 2000 messages
 > kill 0 9999
 killed 0 9999
 > kill 0 10000
+refused nomessage
+> pack 0
+packed 0: 1
+> pack 0
+packed 0: 0
+> kill 0 9999
 refused nomessage
 > sample 3 1
 refused slots 10000

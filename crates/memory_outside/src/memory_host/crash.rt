@@ -1,7 +1,7 @@
 ghost use Rattle.std.specs.Prelude.{◌≡◌, ◌≢◌, ℕ, ◌<◌, ◌≤◌, ◌^◌, None, [], length, reverse, All, IfOk, OnOk};
 ghost use Rattle.memory_outside.specs.Contents.{content};
 ghost use Rattle.door_outside.specs.Disk.{NothingPending, Now, as_read};
-ghost use Rattle.memory_outside.specs.Events.{IsShort, Left, read, spoken, synced};
+ghost use Rattle.memory_outside.specs.Events.{IsShortEvent, Left, read, spoken, synced};
 ghost use Rattle.memory_outside.specs.Images.{Chosen, IsFresh};
 ghost use Rattle.memory_outside.specs.MemoryHost.{OnlyReads, disk_of};
 
@@ -19,7 +19,7 @@ use std::alloc::{AllocError, Global};
 /// The files of an image that a crash after these events, the oldest first, may leave. Without draws they are as
 /// of their last syncs.
 fn image_of(alloc: Global, events: &[Event], draws: Option<Draws>) -> Result<Contents, AllocError>
-    requires { All IsShort events.now }
+    requires { All IsShortEvent events.now }
     ensures left { IfOk result (λ files. Left (reverse events.now) (record { files = content files; said = spoken (reverse events.now) })) }
     ensures synced { draws ≡ None → IfOk result (λ files. (file : ℕ) → content files file ≡ synced (reverse events.now) file) }
 {

@@ -1,7 +1,7 @@
 ghost use Rattle.std.specs.Prelude.{◌≡◌, ℕ, ◌+◌, ◌-◌, ◌≤◌, ◌<◌, ◌^◌, ◌∷◌, ◌++◌, true, length, take, min, IfOk, OnOk, OnErr, MatchResult, IsErr, IsTrue, ◌↔◌};
 ghost use Rattle.door_outside.specs.Cause.{HasCause};
-ghost use Rattle.door_outside.specs.Disk.{AllNow, as_read, Passes, InFile, Same, Torn, Cut, Says, Holds, Unchanged, written, read_count, read_into};
-ghost use Rattle.memory_outside.specs.Events.{IsShort};
+ghost use Rattle.door_outside.specs.Disk.{AllNow, as_read, Passes, InFile, Same, Torn, Cut, Says, HoldsBytes, Unchanged, written, read_count, read_into};
+ghost use Rattle.memory_outside.specs.Events.{IsShortEvent};
 ghost use Rattle.memory_outside.specs.MemoryHost.{disk_of, Recorded};
 ghost use Rattle.memory_outside.specs.Plan.{ByPlan, ByPlanOrMemory, FailsNext, Faulted, one_more};
 ghost use Rattle.memory_outside.specs.declared.event.Event.TheVariants.{Write, Shorten, Sync, Say};
@@ -65,7 +65,7 @@ impl MemoryHost {
 
     /// Takes in and records an event, where there was memory to make it.
     fn note_made(&mut self, event: Result<Event, AllocError>) -> Result<(), AllocError>
-        requires { IfOk event IsShort }
+        requires { IfOk event IsShortEvent }
         ensures ok { OnOk result (IfOk event (λ event. self.new ≡ record self.old { events = event ∷ self.old.events })) }
         ensures made { IsErr event → IsErr result }
         ensures err { OnErr result (self.new ≡ self.old) }
@@ -76,7 +76,7 @@ impl MemoryHost {
 
     /// A file call that takes in an event.
     fn perform(&mut self, event: Result<Event, AllocError>) -> Result<(), DiskFault>
-        requires { IfOk event IsShort }
+        requires { IfOk event IsShortEvent }
         ensures ok { OnOk result (IfOk event (λ event. self.new.events ≡ event ∷ self.old.events)) }
         ensures made { IsErr event → IsErr result }
         ensures err { OnErr result (self.new.events ≡ self.old.events) }
@@ -123,7 +123,7 @@ impl MemoryHost {
 
     /// A call of the voice that takes in an event.
     fn speak(&mut self, event: Result<Event, AllocError>) -> Result<(), VoiceFault>
-        requires { IfOk event IsShort }
+        requires { IfOk event IsShortEvent }
         ensures ok { OnOk result (IfOk event (λ event. self.new.events ≡ event ∷ self.old.events)) }
         ensures made { IsErr event → IsErr result }
         ensures err { OnErr result (self.new.events ≡ self.old.events) }
@@ -191,7 +191,7 @@ impl Host for MemoryHost {
 
     fn write_at(&mut self, file: FileId, at: u32, bytes: &[u8]) -> Result<(), DiskFault>
         requires { at + length bytes.now < 2 ^ 31 }
-        ensures done { OnOk result (Holds file (written ((disk_of self.old).files file) at bytes.now) (disk_of self.old).files (disk_of self.new).files) }
+        ensures done { OnOk result (HoldsBytes file (written ((disk_of self.old).files file) at bytes.now) (disk_of self.old).files (disk_of self.new).files) }
         ensures torn { InFile file (Torn at (length bytes.now)) (as_read (disk_of self.old)) (as_read (disk_of self.new)) }
         ensures crash { Passes (InFile file (Torn at (length bytes.now))) (InFile file (Torn at (length bytes.now))) (disk_of self.old) (disk_of self.new) }
         ensures wrote { self.new.wrote ≡ min (self.old.wrote + length bytes.now) (2 ^ 64 - 1) }
@@ -207,7 +207,7 @@ impl Host for MemoryHost {
     }
 
     fn cut(&mut self, file: FileId, len: u32) -> Result<(), DiskFault>
-        ensures done { OnOk result (Holds file (take len ((disk_of self.old).files file)) (disk_of self.old).files (disk_of self.new).files) }
+        ensures done { OnOk result (HoldsBytes file (take len ((disk_of self.old).files file)) (disk_of self.old).files (disk_of self.new).files) }
         ensures torn { InFile file (Cut len) (as_read (disk_of self.old)) (as_read (disk_of self.new)) }
         ensures crash { Passes (InFile file (Cut len)) (InFile file (Cut len)) (disk_of self.old) (disk_of self.new) }
         ensures wrote { self.new.wrote ≡ self.old.wrote }

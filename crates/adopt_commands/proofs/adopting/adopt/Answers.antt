@@ -4,7 +4,7 @@ use Rattle.board_commands.proofs.CauseLaws.{no_fault}
 use Rattle.board_commands.proofs.Exits.{unfound}
 use Rattle.board_commands.proofs.FindLaws.{same_host}
 use Rattle.board_commands.proofs.WriteLaws.{found_within}
-use Rattle.board_commands.specs.Halts.{told, of_read, of_shelf, of_journal}
+use Rattle.board_commands.specs.Halts.{told, halt_of_read, of_shelf, of_journal}
 use Rattle.board_commands.specs.Kept.{kept_board, unread}
 use Rattle.board_commands.specs.State.{Stores}
 use Rattle.board_commands.specs.declared.halt.BoardHalt.{BoardHalt}
@@ -24,7 +24,7 @@ use Rattle.adopt_commands.proofs.adopting.adopt.Goals as goal
 
 pub returns-in_err-find-clause-works : goal.returns-in_err-find-clause-works
 returns-in_err-find-clause-works g c tells shelf_tells world at =
-    let is : c.from_residual.result ≡ Err (of_read c.in_err-find.field-0.0) = search rules in
+    let is : c.from_residual.result ≡ Err (halt_of_read c.in_err-find.field-0.0) = search rules in
     subst (λ (r : Result (List ℕ) BoardHalt). Works Stores (adopts c.args.conference c.args.prefix.now) unread world (g.H.Host.disk c.args.host.now) (g.H.Host.disk c.find.new.host) (g.S.Shelf.files c.args.shelf.now) (told said r)) (sym is)
     (unfound (Turns c.args.conference c.args.prefix.now) at said c.find.new.kept c.in_err-find.field-0.0
     (c.in_err-find.ensures.finds tells world.state at.board.stores) (c.in_err-find.ensures.state tells world.state at.board.stores))

@@ -4,7 +4,7 @@ use Rattle.entry_runs.specs.Entry.{Works}
 use Rattle.board_layout.specs.Board.{Board}
 use Rattle.shelf_files.specs.Halts.{done}
 use Rattle.board_commands.specs.Check.{checks, checked}
-use Rattle.board_commands.specs.Halts.{told, of_read}
+use Rattle.board_commands.specs.Halts.{told, halt_of_read}
 use Rattle.board_commands.specs.Kept.{kept_board, unread}
 use Rattle.board_commands.specs.State.{Stores}
 use Rattle.board_commands.specs.declared.halt.BoardHalt.{BoardHalt}
@@ -14,7 +14,7 @@ use Rattle.board_commands.proofs.checking.check.Goals as goal
 
 pub returns-in_err-find-clause-works : goal.returns-in_err-find-clause-works
 returns-in_err-find-clause-works g c tells world shelf at =
-    let is : c.from_residual.result ≡ Err (of_read c.in_err-find.field-0.0) = search rules in
+    let is : c.from_residual.result ≡ Err (halt_of_read c.in_err-find.field-0.0) = search rules in
     subst (λ (r : Result (List ℕ) BoardHalt). Works Stores checks unread world (g.H.Host.disk c.args.host.now) (g.H.Host.disk c.find.new.host) shelf (told (λ text. text) r)) (sym is)
     (unfound (λ shelf board turn. turn ≡ checked board) at (λ (text : List ℕ). text) c.find.new.kept c.in_err-find.field-0.0
     (c.in_err-find.ensures.finds tells world.state at.board.stores) (c.in_err-find.ensures.state tells world.state at.board.stores))

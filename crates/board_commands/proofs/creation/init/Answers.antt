@@ -3,7 +3,7 @@ use Rattle.std.specs.Prelude.{Result}
 use Rattle.door_outside.specs.Disk.{Unchanged}
 use Rattle.entry_runs.specs.Entry.{Works}
 use Rattle.board_layout.specs.Board.{Board}
-use Rattle.board_commands.specs.Halts.{told, of_read, of_shelf, of_journal}
+use Rattle.board_commands.specs.Halts.{told, halt_of_read, of_shelf, of_journal}
 use Rattle.board_commands.specs.Init.{Inits, inits, made_line}
 use Rattle.board_commands.specs.Kept.{kept_board, unread}
 use Rattle.board_commands.specs.State.{Stores}
@@ -16,7 +16,7 @@ use Rattle.board_commands.proofs.creation.init.Goals as goal
 
 pub returns-in_err-find-clause-works : goal.returns-in_err-find-clause-works
 returns-in_err-find-clause-works g c tells shelf_tells world at =
-    let is : c.from_residual.result ≡ Err (of_read c.in_err-find.field-0.0) = search rules in
+    let is : c.from_residual.result ≡ Err (halt_of_read c.in_err-find.field-0.0) = search rules in
     subst (λ (r : Result ℕ BoardHalt). Works Stores (inits c.args.file.now c.args.now) unread world (g.H.Host.disk c.args.host.now) (g.H.Host.disk c.find.new.host) (g.S.Shelf.files c.args.shelf.now) (told made_line r)) (sym is)
     (unfound (Inits c.args.file.now c.args.now) at made_line c.find.new.kept c.in_err-find.field-0.0
     (c.in_err-find.ensures.finds tells world.state at.board.stores) (c.in_err-find.ensures.state tells world.state at.board.stores))

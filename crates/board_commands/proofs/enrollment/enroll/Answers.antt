@@ -6,7 +6,7 @@ use Rattle.entry_runs.specs.Promise.{Counts, HasCauses, counts, ended}
 use Rattle.entry_runs.specs.declared.status.Status.TheVariants as status
 use Rattle.mail_board.specs.Changes.{Fits}
 use Rattle.board_commands.specs.Enroll.{Enrolls, enrolled_line, enrolls}
-use Rattle.board_commands.specs.Halts.{told, of_read, of_journal}
+use Rattle.board_commands.specs.Halts.{told, halt_of_read, of_journal}
 use Rattle.board_commands.specs.Kept.{kept_board, unread}
 use Rattle.board_commands.specs.State.{Stores}
 use Rattle.board_commands.specs.declared.enrollment.Enrolled.{Enrolled}
@@ -20,7 +20,7 @@ use Rattle.board_commands.proofs.enrollment.enroll.Goals as goal
 
 pub returns-in_err-find-clause-works : goal.returns-in_err-find-clause-works
 returns-in_err-find-clause-works g c tells world shelf at =
-    let is : c.from_residual.result ≡ Err (of_read c.in_err-find.field-0.0) = search rules in
+    let is : c.from_residual.result ≡ Err (halt_of_read c.in_err-find.field-0.0) = search rules in
     subst (λ (r : Result Enrolled BoardHalt). Works Stores (enrolls c.args.name.now c.args.flags.now c.args.conferences.now) unread world (g.H.Host.disk c.args.host.now) (g.H.Host.disk c.find.new.host) shelf (told enrolled_line r)) (sym is)
     (unfound (λ files. Enrolls c.args.name.now c.args.flags.now c.args.conferences.now) at enrolled_line c.find.new.kept c.in_err-find.field-0.0
     (c.in_err-find.ensures.finds tells world.state at.board.stores) (c.in_err-find.ensures.state tells world.state at.board.stores))

@@ -1,6 +1,6 @@
 use Rattle.std.proofs.Common.{rules, ◌≡◌, ◌+◌, Bool, Some, None, sym, ◌∙◌, ap}
 use Rattle.board_layout.specs.Board.{Board}
-use Rattle.command_words.specs.Choice.{ChoiceReads, places_from}
+use Rattle.command_words.specs.Choice.{ChoiceReads, chosen_from}
 use Rattle.command_words.specs.declared.choice.Choice.{Choice}
 use Rattle.mail_board.specs.declared.change.Change.TheVariants.{Enroll}
 use Rattle.mail_board.specs.declared.loading.Loaded.TheVariants.{Ready}
@@ -33,5 +33,5 @@ returns c board like =
     ap (λ (n : Bool). first_refusal (enroll_refusals c.args.name.now n choice held)) (sym c.is_net-net.ensures) ∙ (sym c.refusal_of.ensures ∙ c.in_default-refusal_of.is) in
     may_alike c.args.name.now c.args.flags.now c.args.conferences.now choice reads held (kept_board c.args.kept.now) (ap kept_board here)
     (record { change = c.in_ok-change.change; user = record { id = c.user_count.result + 1; name = c.in_ok-from_slice.field-0 } }) none
-    (c.in_ok-change.ensures ∙ ap (λ (n : Bool). Enroll c.args.name.now n (places_from choice 0 held.ledger.setup.conferences)) c.is_net-net.ensures)
+    (c.in_ok-change.ensures ∙ ap (λ (n : Bool). Enroll c.args.name.now n (chosen_from choice 0 held.ledger.setup.conferences)) c.is_net-net.ensures)
     (ap (λ n. n + 1) c.user_count.ensures) c.in_ok-from_slice.ensures board like

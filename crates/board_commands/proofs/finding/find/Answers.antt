@@ -1,13 +1,13 @@
 use Rattle.std.proofs.Common.{rules, ◌≡◌, Result, Err, sym, subst}
 use Rattle.board_layout.specs.Damage.{board_in}
-use Rattle.board_layout.specs.Rules.{told}
+use Rattle.board_layout.specs.Rules.{damage_of_read}
 use Rattle.board_layout.specs.declared.error.ReadError.{ReadError}
 use Rattle.damage_rules.specs.Rules.{Stops}
 use Rattle.entry_runs.specs.Entry.{Finds}
 use Rattle.intent_journal.specs.Recovered.{recovered}
 use Rattle.mail_board.proofs.LoadLaws.{damage_back}
 use Rattle.mail_board.specs.Loading.{outline_in}
-use Rattle.board_commands.specs.Kept.{IsFound, found, unread}
+use Rattle.board_commands.specs.Kept.{IsStateFound, found, unread}
 use Rattle.board_commands.specs.State.{Stores, migrated}
 use Rattle.board_commands.proofs.FindLaws.{kept_settled, load_finds, load_is_found, loaded_is, still_finds, still_is, told_finds}
 use Rattle.board_commands.proofs.finding.find.Goals as goal
@@ -21,7 +21,7 @@ returns-in_err-load-clause-finds g c tells s stores =
     let is : c.from_residual.result ≡ Err e = search rules in
     subst (λ (r : Result (Unit {0}) ReadError). Finds Stores unread s (migrated s) old new (found r)) (sym is)
     (load_finds (kept_settled c.args.kept.now old (c.requires.kept tells)) (gives.moments tells) (gives.same tells) (gives.settled tells) stores e
-    (λ d damaged. damage_back (board_in (recovered old.files)) d (subst (λ (error : ReadError). Stops (told error) (outline_in (recovered old.files))) damaged (gives.gives tells)))
+    (λ d damaged. damage_back (board_in (recovered old.files)) d (subst (λ (error : ReadError). Stops (damage_of_read error) (outline_in (recovered old.files))) damaged (gives.gives tells)))
     (λ starved. gives.firm starved tells) (λ is. gives.calm is tells) (λ is. gives.done is tells))
 
 pub returns-in_ok-load-clause-finds : goal.returns-in_ok-load-clause-finds
@@ -38,9 +38,9 @@ pub returns-in_err-load-clause-state : goal.returns-in_err-load-clause-state
 returns-in_err-load-clause-state g c tells s stores =
     let old = g.H.Host.disk c.args.host.now in
     let is : c.from_residual.result ≡ Err c.in_err-load.field-0.0 = search rules in
-    subst (IsFound s c.args.kept.now) (sym is)
+    subst (IsStateFound s c.args.kept.now) (sym is)
     (load_is_found c.in_err-load.field-0.0 old s c.args.kept.now
-    (λ d damaged. damage_back (board_in (recovered old.files)) d (subst (λ (e : ReadError). Stops (told e) (outline_in (recovered old.files))) damaged (c.in_err-load.ensures.gives tells))) stores)
+    (λ d damaged. damage_back (board_in (recovered old.files)) d (subst (λ (e : ReadError). Stops (damage_of_read e) (outline_in (recovered old.files))) damaged (c.in_err-load.ensures.gives tells))) stores)
 
 pub returns-in_ok-load-clause-state : goal.returns-in_ok-load-clause-state
 returns-in_ok-load-clause-state g c tells s stores =

@@ -3,7 +3,7 @@ use Rattle.std.proofs.lemmas.List.{append-nil, drop_all}
 use Rattle.entry_runs.proofs.Running.{next_entry}
 use Rattle.board_layout.specs.Board.{Board}
 use Rattle.setup_file.specs.declared.conference.Conference.{Conference as SetupConference}
-use Rattle.board_commands.specs.Check.{conference_lines, slots_text}
+use Rattle.board_commands.specs.Check.{checked_lines, slots_text}
 use Rattle.board_commands.proofs.ReportLaws.{lines_more, place_within}
 use Rattle.board_commands.proofs.report.add_conferences.Goals as goal
 
@@ -25,7 +25,7 @@ loop-place-preserved c =
     subst (λ (xs : List SetupConference). drop place xs ≡ one ∷ drop (place + 1) xs) c.loop-place.invariant.all (next_entry items place one (omega arith) c.index-conferences-place.is) in
     let slots : ℕ = c.slot_count.result in
     let live : ℕ = c.live_count.result in
-    let rest : List ℕ = conference_lines (drop (place + 1) named) (drop (place + 1) b.conferences) in
+    let rest : List ℕ = checked_lines (drop (place + 1) named) (drop (place + 1) b.conferences) in
     record {
       lines = ap (λ (text : List ℕ). text ++ rest) (c.in_ok-add_tally.ensures ∙ ap (λ (text : List ℕ). text ++ slots_text slots live) c.in_ok-add_label.ensures)
           ∙ (lines_more named b.conferences place slots live one c.loop-place.text next (place_within b place c.setup.ensures.valid below) c.slot_count.ensures c.live_count.ensures
@@ -40,4 +40,4 @@ returns c =
     let named : List SetupConference = b.ledger.setup.conferences in
     let none : drop c.loop-place.place named ≡ [] = drop_all c.loop-place.place named (omega (arith, ap length c.loop-place.invariant.all)) in
     sym (append-nil c.loop-place.text)
-    ∙ (ap (λ (xs : List SetupConference). c.loop-place.text ++ conference_lines xs (drop c.loop-place.place b.conferences)) (sym none) ∙ c.loop-place.invariant.lines)
+    ∙ (ap (λ (xs : List SetupConference). c.loop-place.text ++ checked_lines xs (drop c.loop-place.place b.conferences)) (sym none) ∙ c.loop-place.invariant.lines)

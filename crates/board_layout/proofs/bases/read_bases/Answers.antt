@@ -11,7 +11,7 @@ use Rattle.jam_base.specs.Outlined.{outlined}
 use Rattle.jam_layout.specs.Layout.{conference_of}
 use Rattle.setup_file.specs.declared.conference.Conference.{Conference as SetupConference}
 use Rattle.board_layout.specs.Board.{shape_of}
-use Rattle.board_layout.specs.Rules.{IsOutlineOf, ReadSo, told}
+use Rattle.board_layout.specs.Rules.{IsOutlineOf, ReadSo, damage_of_read}
 use Rattle.board_layout.proofs.ReadingBases.{BasesRead, WholesRead, bases_more, next_left, wholes_done, wholes_fail, wholes_more}
 use Rattle.board_layout.proofs.ReadingClauses.{kept_at_ok, unchanged_twice}
 use Rattle.board_layout.proofs.bases.read_bases.Goals as goal
@@ -48,7 +48,7 @@ returns-in_err-base-clause-gives g c =
     let place = c.loop-place.place in
     let conference : SetupConference = c.conference-item.result in
     let files : Files = (g.H.Host.disk c.args.host.now).files in
-    let e = told c.in_err-base.field-0.0 in
+    let e = damage_of_read c.in_err-base.field-0.0 in
     rw (p.1, p.2) (λ tells.
     let within : place < length setup = omega (arith, ap length c.as_slice-conference-items.ensures) in
     let is : conference ≡ get_or setup place conference = c.conference-item.is ∙ ap (λ (xs : List SetupConference). get_or xs place conference) c.as_slice-conference-items.ensures in

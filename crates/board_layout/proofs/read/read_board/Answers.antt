@@ -5,7 +5,7 @@ use Rattle.door_outside.specs.File.{ledger_file}
 use Rattle.intent_journal.specs.Patches.{Files}
 use Rattle.board_layout.specs.Damage.{parts_of, size_limit, board_in}
 use Rattle.board_layout.specs.Layout.{data_size}
-use Rattle.board_layout.specs.Rules.{IsFoundOf, ReadSo, told}
+use Rattle.board_layout.specs.Rules.{IsFoundOf, ReadSo, damage_of_read}
 use Rattle.board_layout.specs.declared.error.ReadError.{ReadError}
 use Rattle.board_layout.proofs.ReadingBoard.{no_bytes, too_long, parts_fail, parts_read}
 use Rattle.board_layout.proofs.SizeLaws.{empty}
@@ -24,12 +24,12 @@ returns-then-branch-clause-gives g c = λ tells.
     let some : data_size files ≡ 0 → ⊥ = λ none. c.if-size-eq0.false (size ∙ none) in
     let same = ap (λ (now : Files). size_limit (now ledger_file)) (c.data_size.ensures.unchanged tells).files in
     let long : size_limit (files ledger_file) < data_size files = omega (arith, size, c.in_ok-size_limit.ensures.value tells, same, c.if-branch.true) in
-    subst (λ (e : ReadError). Stops (told e) (board_in files)) (sym c.too_long.ensures) (too_long files some long)
+    subst (λ (e : ReadError). Stops (damage_of_read e) (board_in files)) (sym c.too_long.ensures) (too_long files some long)
 
 pub returns-in_err-found-clause-gives : goal.returns-in_err-found-clause-gives
 returns-in_err-found-clause-gives g c =
     let p = err_from_is_err_and c.from_residual-in_err-found.result c.from_residual-in_err-found.ensures.1 in
-    let e = told c.in_err-found.field-0.0 in
+    let e = damage_of_read c.in_err-found.field-0.0 in
     let files : Files = (g.H.Host.disk c.args.host.now).files in
     rw (p.1, p.2) (λ tells.
     let size = c.in_ok-size.ensures.value tells in

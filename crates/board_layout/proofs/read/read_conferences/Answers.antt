@@ -7,7 +7,7 @@ use Rattle.jam_base.specs.Contents.{Contents}
 use Rattle.jam_layout.specs.declared.conference.Conference.{Conference}
 use Rattle.board_layout.specs.Board.{conferences_in}
 use Rattle.board_layout.specs.Damage.{highs_of}
-use Rattle.board_layout.specs.Rules.{told}
+use Rattle.board_layout.specs.Rules.{damage_of_read}
 use Rattle.board_layout.proofs.BoardParts.{bases_fail, rest_fails, highs_fail, all_parts}
 use Rattle.board_layout.proofs.HighLaws.{highs_alike, highs_asked, highs_take}
 use Rattle.board_layout.proofs.ReadingParts.{has_places}
@@ -17,7 +17,7 @@ use Rattle.board_layout.proofs.read.read_conferences.Goals as goal
 pub returns-in_err-bases-clause-gives : goal.returns-in_err-bases-clause-gives
 returns-in_err-bases-clause-gives g c =
     let p = err_from_is_err_and c.from_residual.result c.from_residual.ensures.1 in
-    rw (p.1, p.2) (λ tells. bases_fail (g.H.Host.disk c.args.host.now).files c.args.ledger.now (told c.in_err-bases.field-0.0) (c.in_err-bases.ensures.gives tells))
+    rw (p.1, p.2) (λ tells. bases_fail (g.H.Host.disk c.args.host.now).files c.args.ledger.now (damage_of_read c.in_err-bases.field-0.0) (c.in_err-bases.ensures.gives tells))
 
 pub returns-in_err-check_rests-clause-gives : goal.returns-in_err-check_rests-clause-gives
 returns-in_err-check_rests-clause-gives g c =
@@ -26,7 +26,7 @@ returns-in_err-check_rests-clause-gives g c =
     let many = c.requires.setup.conferences.many in
     let places : c.conference_count-places.result ≡ length l.setup.conferences = omega (arith, c.conference_count-places.ensures, many) in
     let files : Files = (g.H.Host.disk c.args.host.now).files in
-    let e = told c.in_err-check_rests.field-0.0 in
+    let e = damage_of_read c.in_err-check_rests.field-0.0 in
     rw (p.1, p.2) (λ tells.
     let read = c.in_ok-bases.ensures.gives tells in
     let same = (c.read_bases.ensures.unchanged tells).files in

@@ -11,7 +11,7 @@ use Rattle.jam_layout.specs.Valid.{IsConference}
 use Rattle.board_layout.specs.Board.{Board, shapes_of}
 use Rattle.board_layout.specs.Damage.{parts_behind}
 use Rattle.board_layout.specs.Layout.{board_size}
-use Rattle.board_layout.specs.Rules.{ArePartsOf, IsLaidOutAs, told}
+use Rattle.board_layout.specs.Rules.{ArePartsOf, IsLaidOutAs, damage_of_read}
 use Rattle.board_layout.specs.Valid.{offers_fit}
 use Rattle.board_layout.proofs.BoardParts.{after_ledger, ledger_fails}
 use Rattle.board_layout.proofs.OutlineLaws.{outline_size}
@@ -21,12 +21,12 @@ use Rattle.board_layout.proofs.read.read_parts.Goals as goal
 pub returns-in_err-ledger-clause-gives : goal.returns-in_err-ledger-clause-gives
 returns-in_err-ledger-clause-gives g c =
     let p = err_from_is_err_and c.from_residual.result c.from_residual.ensures.1 in
-    rw (p.1, p.2) (λ tells. ledger_fails (g.H.Host.disk c.args.host.now).files (told c.in_err-ledger.field-0.0) (c.in_err-ledger.ensures.gives tells))
+    rw (p.1, p.2) (λ tells. ledger_fails (g.H.Host.disk c.args.host.now).files (damage_of_read c.in_err-ledger.field-0.0) (c.in_err-ledger.ensures.gives tells))
 
 pub returns-in_err-bases-clause-gives : goal.returns-in_err-bases-clause-gives
 returns-in_err-bases-clause-gives g c =
     let p = err_from_is_err_and c.from_residual-in_err-bases.result c.from_residual-in_err-bases.ensures.1 in
-    let e = told c.in_err-bases.field-0.0 in
+    let e = damage_of_read c.in_err-bases.field-0.0 in
     let raw : Ledger = c.in_ok-ledger.ledger in
     let files : Files = (g.H.Host.disk c.args.host.now).files in
     rw (p.1, p.2) (λ tells.

@@ -1,21 +1,21 @@
 use Rattle.std.proofs.Common.{◌∙◌, sym, subst}
 use Rattle.std.proofs.lemmas.Result.{err_from_is_err_and}
 use Rattle.damage_rules.specs.Rules.{Stops}
-use Rattle.board_layout.specs.Rules.{told, Gives}
+use Rattle.board_layout.specs.Rules.{damage_of_read, ReadGives}
 use Rattle.board_layout.proofs.RestLaws.{asked, jhr_fails, jdt_fails, jdx_fails, at_last}
 use Rattle.board_layout.proofs.rest.check_place.Goals as goal
 
 pub returns-in_err-check_rest-clause-gives : goal.returns-in_err-check_rest-clause-gives
 returns-in_err-check_rest-clause-gives g c =
     let p = err_from_is_err_and c.from_residual.result c.from_residual.ensures.1 in
-    let e = told c.in_err-check_rest.field-0.0 in
+    let e = damage_of_read c.in_err-check_rest.field-0.0 in
     let files = (g.H.Host.disk c.args.host.now).files in
     rw (p.1, p.2) (λ tells. jhr_fails c.args.place files e (subst (Stops e) (asked _ _ files files c.jhr.ensures (λ i. files)) (c.in_err-check_rest.ensures.gives tells)))
 
 pub returns-in_err-check_rest-2-clause-gives : goal.returns-in_err-check_rest-2-clause-gives
 returns-in_err-check_rest-2-clause-gives g c =
     let p = err_from_is_err_and c.from_residual-in_err-check_rest-2.result c.from_residual-in_err-check_rest-2.ensures.1 in
-    let e = told c.in_err-check_rest-2.field-0.0 in
+    let e = damage_of_read c.in_err-check_rest-2.field-0.0 in
     let files = (g.H.Host.disk c.args.host.now).files in
     rw (p.1, p.2) (λ tells.
     let same = (c.check_rest.ensures.unchanged tells).files in
@@ -25,7 +25,7 @@ returns-in_err-check_rest-2-clause-gives g c =
 pub returns-in_err-check_rest-3-clause-gives : goal.returns-in_err-check_rest-3-clause-gives
 returns-in_err-check_rest-3-clause-gives g c =
     let p = err_from_is_err_and c.from_residual-in_err-check_rest-3.result c.from_residual-in_err-check_rest-3.ensures.1 in
-    let e = told c.in_err-check_rest-3.field-0.0 in
+    let e = damage_of_read c.in_err-check_rest-3.field-0.0 in
     let files = (g.H.Host.disk c.args.host.now).files in
     rw (p.1, p.2) (λ tells.
     let one = (c.check_rest.ensures.unchanged tells).files in
@@ -43,4 +43,4 @@ returns-clause-gives g c = λ tells.
     let jhr = sym (asked _ _ files files c.jhr.ensures (λ i. files)) ∙ c.in_ok-check_rest.ensures.gives tells in
     let jdt = sym (asked _ _ _ files c.jdt.ensures one) ∙ c.in_ok-check_rest-2.ensures.gives tells in
     let jdx = sym (asked _ _ _ files c.jdx.ensures two) ∙ c.in_ok-check_rest-3.ensures.gives tells in
-    subst (Gives (λ x. x) c.check_rest-4.result) (asked _ _ _ files c.jlr.ensures three ∙ sym (at_last c.args.place files _ _ _ jhr jdt jdx)) (c.check_rest-4.ensures.gives tells)
+    subst (ReadGives (λ x. x) c.check_rest-4.result) (asked _ _ _ files c.jlr.ensures three ∙ sym (at_last c.args.place files _ _ _ jhr jdt jdx)) (c.check_rest-4.ensures.gives tells)

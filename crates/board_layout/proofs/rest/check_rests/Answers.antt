@@ -3,7 +3,7 @@ use Rattle.std.proofs.lemmas.Result.{err_from_is_err_and}
 use Rattle.damage_rules.specs.Rules.{Stops}
 use Rattle.intent_journal.specs.Patches.{Files}
 use Rattle.board_layout.specs.Damage.{is_rest_place}
-use Rattle.board_layout.specs.Rules.{told}
+use Rattle.board_layout.specs.Rules.{damage_of_read}
 use Rattle.board_layout.proofs.ReadingClauses.{kept_at_ok, unchanged_twice}
 use Rattle.board_layout.proofs.RestLaws.{one_place_more, one_place_fails, no_place}
 use Rattle.board_layout.proofs.rest.check_rests.Goals as goal
@@ -11,7 +11,7 @@ use Rattle.board_layout.proofs.rest.check_rests.Goals as goal
 pub returns-in_err-check_place-clause-gives : goal.returns-in_err-check_place-clause-gives
 returns-in_err-check_place-clause-gives g c =
     let p = err_from_is_err_and c.from_residual.result c.from_residual.ensures.1 in
-    let e = told c.in_err-check_place.field-0.0 in
+    let e = damage_of_read c.in_err-check_place.field-0.0 in
     let place = c.loop-place.place in
     let count : 64 - place ≡ suc (64 - (place + 1)) = omega arith in
     rw (p.1, p.2) (λ tells.

@@ -1,7 +1,7 @@
 use Rattle.std.proofs.Common.{◌+◌, ◌-◌, List, length, subst, sym, ap, ◌∙◌, arith}
 use Rattle.std.proofs.lemmas.List.{take_rest, length_push}
 use Rattle.std.proofs.lemmas.Result.{err_from_is_err_and}
-use Rattle.board_ledger.specs.Rules.{told}
+use Rattle.board_ledger.specs.Rules.{damage_of_ledger}
 use Rattle.damage_rules.specs.Rules.{Stops}
 use Rattle.setup_file.specs.declared.conference.Conference.{Conference}
 use Rattle.board_ledger.specs.Conferences.{conference_at}
@@ -11,8 +11,8 @@ use Rattle.board_ledger.proofs.conferences.conferences_of.Goals as goal
 pub returns-in_err-conference : goal.returns-in_err-conference
 returns-in_err-conference c =
     let p = err_from_is_err_and c.from_residual.result c.from_residual.ensures.1 in
-    let failed = subst (λ (xs : List Conference). Stops (told c.in_err-conference.field-0.0) (conference_at xs c.loop.rest.now)) c.as_slice.ensures c.in_err-conference.ensures.gives in
-    rw (p.1, p.2) (records_fail conference_at (c.args.count - c.loop.counter) (c.args.count - (c.loop.counter + 1)) c.loop.conferences c.loop.rest.now (told c.in_err-conference.field-0.0) _ (omega arith) failed c.loop.invariant.read)
+    let failed = subst (λ (xs : List Conference). Stops (damage_of_ledger c.in_err-conference.field-0.0) (conference_at xs c.loop.rest.now)) c.as_slice.ensures c.in_err-conference.ensures.gives in
+    rw (p.1, p.2) (records_fail conference_at (c.args.count - c.loop.counter) (c.args.count - (c.loop.counter + 1)) c.loop.conferences c.loop.rest.now (damage_of_ledger c.in_err-conference.field-0.0) _ (omega arith) failed c.loop.invariant.read)
 
 pub loop-preserved : goal.loop-preserved
 loop-preserved c =

@@ -1,13 +1,13 @@
 use Rattle.std.proofs.Common.{◌∙◌, sym, Ok}
 use Rattle.std.proofs.lemmas.Result.{err_from_is_err_and}
-use Rattle.board_ledger.specs.Rules.{told}
+use Rattle.board_ledger.specs.Rules.{damage_of_ledger}
 use Rattle.board_ledger.proofs.ReadingSteps.{opening_fails}
 use Rattle.board_ledger.proofs.read.ledger_of.Goals as goal
 
 pub returns-in_err-opening : goal.returns-in_err-opening
 returns-in_err-opening c =
     let p = err_from_is_err_and c.from_residual.result c.from_residual.ensures.1 in
-    rw (p.1, p.2) (opening_fails c.args.bytes.now (told c.in_err-opening.field-0.0) c.in_err-opening.ensures.gives)
+    rw (p.1, p.2) (opening_fails c.args.bytes.now (damage_of_ledger c.in_err-opening.field-0.0) c.in_err-opening.ensures.gives)
 
 pub returns-in_err-conferences : goal.returns-in_err-conferences
 returns-in_err-conferences c =

@@ -3,7 +3,7 @@ use Rattle.std.proofs.lemmas.List.{take_rest}
 use Rattle.std.proofs.lemmas.Result.{err_from_is_err_and}
 use Rattle.jam_records.specs.declared.damage.DamageRule.TheVariants.{Rest}
 use Rattle.damage_rules.specs.Rules.{Stops, by_rules}
-use Rattle.board_ledger.specs.Rules.{told}
+use Rattle.board_ledger.specs.Rules.{damage_of_ledger}
 use Rattle.board_ledger.specs.Records.{records_at}
 use Rattle.board_ledger.specs.Conferences.{conference_at}
 use Rattle.board_ledger.specs.Uploads.{upload_at}
@@ -17,7 +17,7 @@ returns-in_err-conferences c =
     let o = c.args.opening.now in
     let bytes = c.args.bytes.now in
     let same = take_rest bytes o.size in
-    let e = told c.in_err-conferences.field-0.0 in
+    let e = damage_of_ledger c.in_err-conferences.field-0.0 in
     let failed = subst (λ (xs : List ℕ). Stops e (records_at conference_at o.conferences [] xs)) same c.in_err-conferences.ensures in
     rw (p.1, p.2) (conferences_fail bytes o e c.requires.opening failed)
 
@@ -28,7 +28,7 @@ returns-in_err-users c =
     let bytes = c.args.bytes.now in
     let same = take_rest bytes o.size in
     let conferences = ap (records_at conference_at o.conferences []) (sym same) ∙ c.in_ok-conferences.ensures in
-    let e = told c.in_err-users.field-0.0 in
+    let e = damage_of_ledger c.in_err-users.field-0.0 in
     rw (p.1, p.2) (users_fail bytes o (c.in_ok-conferences.conferences, c.in_ok-conferences.rest.now) e c.requires.opening conferences c.in_err-users.ensures)
 
 pub returns-in_err-uploads : goal.returns-in_err-uploads
@@ -39,7 +39,7 @@ returns-in_err-uploads c =
     let same = take_rest bytes o.size in
     let conferences = ap (records_at conference_at o.conferences []) (sym same) ∙ c.in_ok-conferences.ensures in
     let first : 1 + c.from.result + c.from-2.result ≡ 1 + o.conferences + o.users = omega (arith, c.from.ensures, c.from-2.ensures) in
-    let e = told c.in_err-uploads.field-0.0 in
+    let e = damage_of_ledger c.in_err-uploads.field-0.0 in
     let failed = subst (λ (n : ℕ). Stops e (records_at (upload_at n o.users) o.uploads [] c.in_ok-users.rest.now)) first c.in_err-uploads.ensures in
     rw (p.1, p.2) (uploads_fail bytes o (c.in_ok-conferences.conferences, c.in_ok-conferences.rest.now) (c.in_ok-users.users, c.in_ok-users.rest.now) e c.requires.opening conferences c.in_ok-users.ensures failed)
 

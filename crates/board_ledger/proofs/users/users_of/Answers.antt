@@ -1,7 +1,7 @@
 use Rattle.std.proofs.Common.{◌+◌, ◌-◌, ◌||◌, List, length, subst, sym, ap, ◌∙◌, arith}
 use Rattle.std.proofs.lemmas.List.{take_rest, length_push}
 use Rattle.std.proofs.lemmas.Result.{err_from_is_err_and}
-use Rattle.board_ledger.specs.Rules.{told}
+use Rattle.board_ledger.specs.Rules.{damage_of_ledger}
 use Rattle.damage_rules.specs.Rules.{Stops}
 use Rattle.std.specs.List.{list_any}
 use Rattle.std.specs.Str.{bytes_eq}
@@ -14,8 +14,8 @@ use Rattle.board_ledger.proofs.users.users_of.Goals as goal
 pub returns-in_err-user : goal.returns-in_err-user
 returns-in_err-user c =
     let p = err_from_is_err_and c.from_residual.result c.from_residual.ensures.1 in
-    let failed = subst (λ (xs : List User). Stops (told c.in_err-user.field-0.0) (user_at c.args.version c.args.conferences xs c.loop.rest.now)) c.as_slice.ensures c.in_err-user.ensures.gives in
-    rw (p.1, p.2) (records_fail (user_at c.args.version c.args.conferences) (c.args.count - c.loop.counter) (c.args.count - (c.loop.counter + 1)) c.loop.users c.loop.rest.now (told c.in_err-user.field-0.0) _ (omega arith) failed c.loop.invariant.read)
+    let failed = subst (λ (xs : List User). Stops (damage_of_ledger c.in_err-user.field-0.0) (user_at c.args.version c.args.conferences xs c.loop.rest.now)) c.as_slice.ensures c.in_err-user.ensures.gives in
+    rw (p.1, p.2) (records_fail (user_at c.args.version c.args.conferences) (c.args.count - c.loop.counter) (c.args.count - (c.loop.counter + 1)) c.loop.users c.loop.rest.now (damage_of_ledger c.in_err-user.field-0.0) _ (omega arith) failed c.loop.invariant.read)
 
 pub loop-preserved : goal.loop-preserved
 loop-preserved c =

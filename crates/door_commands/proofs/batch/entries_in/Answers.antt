@@ -6,7 +6,7 @@ use Rattle.std.specs.Str.Lines.{lines}
 use Rattle.setup_file.proofs.Lines.{lines_numbered}
 use Rattle.setup_file.specs.Reads.{is_skipped}
 use Rattle.door_commands.proofs.Batches.{SoFar, runs_on, skips_on}
-use Rattle.door_commands.specs.Batch.{LinesRead}
+use Rattle.door_commands.specs.Batch.{BatchLinesRead}
 use Rattle.door_commands.specs.Entries.{EntryCanRun, IsWrong}
 use Rattle.door_commands.specs.declared.entry.Entry.{Entry}
 use Rattle.door_commands.proofs.batch.entries_in.Goals as goal
@@ -56,4 +56,4 @@ pub returns-clause-reads : goal.returns-clause-reads
 returns-clause-reads c =
     let all = lines c.args.text.now in
     let none : lines c.loop-line.rest.now ≡ [] = c.in_default.ensures in
-    subst (LinesRead 1 all) (append-nil c.loop-line.entries) (c.loop-line.invariant.reads [] (subst (λ (left : List (List ℕ)). LinesRead c.loop-line.number left []) (sym none) refl))
+    subst (BatchLinesRead 1 all) (append-nil c.loop-line.entries) (c.loop-line.invariant.reads [] (subst (λ (left : List (List ℕ)). BatchLinesRead c.loop-line.number left []) (sym none) refl))

@@ -9,7 +9,7 @@ use Rattle.mail_board.specs.declared.change.ChangeError.{ChangeError}
 use Rattle.door_export.proofs.ExportLaws.{kept_never, undone, undone_sure}
 use Rattle.mail_board.proofs.FetchedHosts.{behind_moments, behind_now, fetched_now}
 use Rattle.door_export.specs.Export.{after_export, export_of}
-use Rattle.door_export.specs.Exporting.{of_change}
+use Rattle.door_export.specs.Exporting.{export_change_error}
 use Rattle.door_export.proofs.exporting.export.Goals as goal
 
 pub returns-in_err-exporting-clause-now : goal.returns-in_err-exporting-clause-now
@@ -117,7 +117,7 @@ returns-clause-next g c = λ kept tells b holds.
 pub returns-in_err-change-clause-unchanged : goal.returns-in_err-change-clause-unchanged
 returns-in_err-change-clause-unchanged g c early =
     let e : ChangeError = c.in_err-change.field-0.0 in
-    let is : c.from_residual-in_err-change.result ≡ Err (of_change e) = search rules in
+    let is : c.from_residual-in_err-change.result ≡ Err (export_change_error e) = search rules in
     let host_is : c.change.new.host ≡ c.prepared.new.host = elim (undone e c.from_residual-in_err-change.result is early) [
       | inl doubt ↦ (c.in_err-change.ensures.unchanged (ap Err doubt)).1
       | inr starved ↦ (c.in_err-change.ensures.starved (ap Err starved)).1
@@ -137,13 +137,13 @@ returns-in_err-change-clause-unchanged g c early =
 pub returns-in_err-change-clause-board : goal.returns-in_err-change-clause-board
 returns-in_err-change-clause-board g c kept =
     let e : ChangeError = c.in_err-change.field-0.0 in
-    let is : c.from_residual-in_err-change.result ≡ Err (of_change e) = search rules in
+    let is : c.from_residual-in_err-change.result ≡ Err (export_change_error e) = search rules in
     absurd (kept_never e c.from_residual-in_err-change.result is kept)
 
 pub returns-in_err-change-clause-next : goal.returns-in_err-change-clause-next
 returns-in_err-change-clause-next g c kept =
     let e : ChangeError = c.in_err-change.field-0.0 in
-    let is : c.from_residual-in_err-change.result ≡ Err (of_change e) = search rules in
+    let is : c.from_residual-in_err-change.result ≡ Err (export_change_error e) = search rules in
     absurd (kept_never e c.from_residual-in_err-change.result is kept)
 
 -- behind one that leaves the board in no doubt all is as it was

@@ -5,7 +5,7 @@ use Rattle.board_layout.specs.Outlines.{board_outline}
 use Rattle.door_outside.specs.Disk.{AllNow, Between}
 use Rattle.door_upload.proofs.AnswerLaws.{again_answers, again_board, again_not_new, change_undamaged, new_answers, new_board, new_certain, new_kept, new_valid, unchanged_answers, unprepared_answers, unprepared_undamaged, unprepared_valid}
 use Rattle.door_upload.specs.Upload.{after_upload}
-use Rattle.door_upload.specs.Uploading.{Answers, FindsIn, of_change}
+use Rattle.door_upload.specs.Uploading.{UploadAnswers, FindsIn, upload_change_error}
 use Rattle.door_upload.specs.declared.answer.UploadError.TheVariants.{Damaged}
 use Rattle.door_upload.specs.declared.preparing.Uploading.{Uploading}
 use Rattle.mail_board.proofs.CommitLaws.{calm_now}
@@ -25,7 +25,7 @@ returns-in_err-counts-clause-now g c = λ tells certain b holds r gives.
 pub returns-in_err-counts-clause-answer : goal.returns-in_err-counts-clause-answer
 returns-in_err-counts-clause-answer g c = λ b ok alike r gives.
     let is : c.from_residual.result ≡ Err c.in_err-counts.field-0.0 = search rules in
-    subst (Answers c.args.board.now.doubtful r) (sym is) (unprepared_answers c.args.user.now c.args.bytes.now c.args.now (record { board = b; doubtful = c.args.board.now.doubtful }) c.in_err-counts.field-0.0 (c.in_err-counts.ensures.each b ok alike) r gives)
+    subst (UploadAnswers c.args.board.now.doubtful r) (sym is) (unprepared_answers c.args.user.now c.args.bytes.now c.args.now (record { board = b; doubtful = c.args.board.now.doubtful }) c.in_err-counts.field-0.0 (c.in_err-counts.ensures.each b ok alike) r gives)
 
 pub returns-in_err-counts-clause-undamaged : goal.returns-in_err-counts-clause-undamaged
 returns-in_err-counts-clause-undamaged g c = λ damage damaged.
@@ -82,16 +82,16 @@ returns-in_err-change-in-Judged-clause-now g c = λ tells certain b holds r give
 pub returns-in_err-change-in-Judged-clause-answer : goal.returns-in_err-change-in-Judged-clause-answer
 returns-in_err-change-in-Judged-clause-answer g c = λ b ok alike r gives.
     let e = c.in_err-change-in-Judged.field-0.0 in
-    let is : c.from_residual-in_err-change-in-Judged.result ≡ Err (of_change e) = search rules in
+    let is : c.from_residual-in_err-change-in-Judged.result ≡ Err (upload_change_error e) = search rules in
     let finds = subst (λ (u : Uploading). FindsIn c.args.user.now c.args.bytes.now c.args.now (record { board = b; doubtful = c.args.board.now.doubtful }) (Ok u)) c.in-Judged.is (c.in_ok-counts.ensures.each b ok alike) in
     let certain : e ≢ Doubt = λ doubt. true≢false (sym (c.change.ensures.doubt.0 (c.in_err-change-in-Judged.was ∙ ap Err doubt)) ∙ new_certain c.args.user.now c.args.bytes.now c.args.now (record { board = b; doubtful = c.args.board.now.doubtful }) c.in-Judged.change c.in-Judged.outcomes finds) in
-    subst (Answers c.args.board.now.doubtful r) (sym is) (unchanged_answers c.args.user.now c.args.bytes.now c.args.now (record { board = b; doubtful = c.args.board.now.doubtful }) c.in-Judged.change c.in-Judged.outcomes finds r gives e certain)
+    subst (UploadAnswers c.args.board.now.doubtful r) (sym is) (unchanged_answers c.args.user.now c.args.bytes.now c.args.now (record { board = b; doubtful = c.args.board.now.doubtful }) c.in-Judged.change c.in-Judged.outcomes finds r gives e certain)
 
 pub returns-in_err-change-in-Judged-clause-undamaged : goal.returns-in_err-change-in-Judged-clause-undamaged
 returns-in_err-change-in-Judged-clause-undamaged g c = λ damage damaged.
     let e = c.in_err-change-in-Judged.field-0.0 in
-    let is : c.from_residual-in_err-change-in-Judged.result ≡ Err (of_change e) = search rules in
-    let same : of_change e ≡ Damaged damage = cc (sym is ∙ damaged) in
+    let is : c.from_residual-in_err-change-in-Judged.result ≡ Err (upload_change_error e) = search rules in
+    let same : upload_change_error e ≡ Damaged damage = cc (sym is ∙ damaged) in
     change_undamaged damage e same
 
 pub returns-in_err-change-in-Judged-clause-valid : goal.returns-in_err-change-in-Judged-clause-valid

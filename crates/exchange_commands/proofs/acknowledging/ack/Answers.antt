@@ -4,7 +4,7 @@ use Rattle.std.proofs.lemmas.Result.{on_ok_weaker}
 use Rattle.board_commands.proofs.ChangeLaws.{stores_holds}
 use Rattle.board_commands.proofs.LikeLaws.{none_outlined, real_stored, some_outlined}
 use Rattle.board_commands.proofs.FindLaws.{same_host}
-use Rattle.board_commands.specs.Halts.{told, of_read}
+use Rattle.board_commands.specs.Halts.{told, halt_of_read}
 use Rattle.board_commands.specs.Kept.{AreSure, IsKept, kept_board, unread}
 use Rattle.board_commands.specs.State.{Stores, migrated}
 use Rattle.board_commands.specs.declared.halt.BoardHalt.{BoardHalt}
@@ -30,7 +30,7 @@ use Rattle.exchange_commands.proofs.acknowledging.ack.Goals as goal
 
 pub returns-in_err-find-clause-works : goal.returns-in_err-find-clause-works
 returns-in_err-find-clause-works g c tells world shelf at =
-    let is : c.from_residual.result ≡ Err (of_read c.in_err-find.field-0.0) = search rules in
+    let is : c.from_residual.result ≡ Err (halt_of_read c.in_err-find.field-0.0) = search rules in
     subst (λ (r : Result (Unit {0}) BoardHalt). Works Stores (acknowledges c.args.user.now c.args.packet c.args.now) unread world (g.H.Host.disk c.args.host.now) (g.H.Host.disk c.find.new.host) shelf (told (λ done. acknowledged_line c.args.packet) r)) (sym is)
     (unfound (λ files board turn. turn ≡ ack_turn c.args.user.now c.args.packet c.args.now board) at (λ (done : Unit {0}). acknowledged_line c.args.packet) c.find.new.kept c.in_err-find.field-0.0
     (c.in_err-find.ensures.finds tells world.state at.board.stores) (c.in_err-find.ensures.state tells world.state at.board.stores))

@@ -2,7 +2,7 @@ use Rattle.std.proofs.Common.{rules, ◌≡◌, ℕ, inl, inr, true≢false, Opt
 use Rattle.std.specs.Prelude.{Result}
 use Rattle.board_commands.proofs.ChangeLaws.{stores_holds}
 use Rattle.board_commands.proofs.LikeLaws.{none_outlined, real_stored, some_outlined}
-use Rattle.board_commands.specs.Halts.{told, of_read}
+use Rattle.board_commands.specs.Halts.{told, halt_of_read}
 use Rattle.board_commands.specs.Kept.{AreSure, IsKept, kept_board, unread}
 use Rattle.board_commands.specs.State.{Stores, migrated}
 use Rattle.board_commands.specs.declared.halt.BoardHalt.{BoardHalt}
@@ -23,12 +23,12 @@ use Rattle.exchange_commands.proofs.ExportExits.{works}
 use Rattle.exchange_commands.proofs.HandingExits.{answered, unfound}
 use Rattle.exchange_commands.proofs.KeptExports.{answered_alike, export_kept, export_sure}
 use Rattle.exchange_commands.specs.Export.{export_handing, exports, packet_line}
-use Rattle.exchange_commands.specs.Handing.{refuses}
+use Rattle.exchange_commands.specs.Handing.{refused_handing}
 use Rattle.exchange_commands.proofs.exporting.export.Goals as goal
 
 pub returns-in_err-find-clause-works : goal.returns-in_err-find-clause-works
 returns-in_err-find-clause-works g c tells shelf_tells world at =
-    let is : c.from_residual.result ≡ Err (of_read c.in_err-find.field-0.0) = search rules in
+    let is : c.from_residual.result ≡ Err (halt_of_read c.in_err-find.field-0.0) = search rules in
     subst (λ (r : Result Exported BoardHalt). Works Stores (exports c.args.user.now c.args.limit c.args.folder.now c.args.now) unread world (g.H.Host.disk c.args.host.now) (g.H.Host.disk c.find.new.host) (g.S.Shelf.files c.args.shelf.now) (told packet_line r)) (sym is)
     (unfound (folder_names c.args.folder.now) (λ files board h. h ≡ export_handing c.args.user.now c.args.limit c.args.folder.now c.args.now files board) at packet_line c.find.new.kept c.in_err-find.field-0.0
     (c.in_err-find.ensures.finds tells world.state at.board.stores) (c.in_err-find.ensures.state tells world.state at.board.stores))
@@ -40,7 +40,7 @@ returns-in_err-board-clause-works g c tells shelf_tells world at =
     let none = none_outlined (migrated world.state) (kept_board c.find.new.kept) c.in_err-board.ensures.none.1 (c.in_ok-find.ensures.state tells world.state at.board.stores) in
     subst (λ (r : Result Exported BoardHalt). Works Stores (exports c.args.user.now c.args.limit c.args.folder.now c.args.now) unread world (g.H.Host.disk c.args.host.now) (g.H.Host.disk c.find.new.host) (g.S.Shelf.files c.args.shelf.now) (told packet_line r)) (sym is)
     (subst (λ (halt : BoardHalt). Works Stores (exports c.args.user.now c.args.limit c.args.folder.now c.args.now) unread world (g.H.Host.disk c.args.host.now) (g.H.Host.disk c.find.new.host) (g.S.Shelf.files c.args.shelf.now) (told packet_line (Err halt))) (sym c.in_err-board.ensures.none.0)
-    (answered (folder_names c.args.folder.now) (λ files board h. h ≡ export_handing c.args.user.now c.args.limit c.args.folder.now c.args.now files board) at {board = None} (c.in_ok-find.ensures.finds tells world.state at.board.stores) none (refuses NotMade world.shelf None) refl refl refl))
+    (answered (folder_names c.args.folder.now) (λ files board h. h ≡ export_handing c.args.user.now c.args.limit c.args.folder.now c.args.now files board) at {board = None} (c.in_ok-find.ensures.finds tells world.state at.board.stores) none (refused_handing NotMade world.shelf None) refl refl refl))
 
 pub returns-clause-works : goal.returns-clause-works
 returns-clause-works g c tells shelf_tells world at =

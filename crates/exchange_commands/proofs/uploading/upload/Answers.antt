@@ -5,7 +5,7 @@ use Rattle.board_commands.proofs.Exits.{answered, unfound}
 use Rattle.board_commands.proofs.FindLaws.{same_host}
 use Rattle.board_commands.proofs.LikeLaws.{none_outlined, real_stored, some_outlined}
 use Rattle.board_commands.proofs.WriteLaws.{found_within, WritesFound}
-use Rattle.board_commands.specs.Halts.{told, of_read, of_shelf}
+use Rattle.board_commands.specs.Halts.{told, halt_of_read, of_shelf}
 use Rattle.board_commands.specs.Kept.{AreSure, IsKept, kept_board, unread}
 use Rattle.board_commands.specs.State.{Stores, migrated}
 use Rattle.board_commands.specs.Turns.{refuses}
@@ -14,13 +14,13 @@ use Rattle.board_layout.specs.Board.{Board}
 use Rattle.door_outside.specs.Disk.{Unchanged}
 use Rattle.door_upload.proofs.UploadAlike.{gives_alike, id_alike}
 use Rattle.door_upload.specs.Upload.{UploadGives, UploadsAs}
-use Rattle.door_upload.specs.Uploading.{Answers, LeavesAll}
+use Rattle.door_upload.specs.Uploading.{UploadAnswers, UploadLeavesAll}
 use Rattle.door_upload.specs.declared.answer.Uploaded.{Uploaded}
 use Rattle.entry_runs.specs.Entry.{Works}
 use Rattle.mail_board.specs.Held.{RestsOn}
 use Rattle.mail_board.specs.Readers.{user_id}
 use Rattle.mail_board.specs.declared.loading.Loaded.{Loaded}
-use Rattle.shelf_files.specs.ShelfFile.{file_of, rep_limit}
+use Rattle.shelf_files.specs.ShelfFile.{file_within, rep_limit}
 use Rattle.shelf_files.specs.declared.refusal.Refusal.TheVariants.{NotMade}
 use Rattle.exchange_commands.proofs.KeptUploads.{upload_kept, upload_sure}
 use Rattle.exchange_commands.proofs.UploadExits.{no_file, on_ok, out_of_memory, some_is, unknown, works}
@@ -30,7 +30,7 @@ use Rattle.exchange_commands.proofs.uploading.upload.Goals as goal
 
 pub returns-in_err-find-clause-works : goal.returns-in_err-find-clause-works
 returns-in_err-find-clause-works g c tells shelf_tells world at =
-    let is : c.from_residual.result ≡ Err (of_read c.in_err-find.field-0.0) = search rules in
+    let is : c.from_residual.result ≡ Err (halt_of_read c.in_err-find.field-0.0) = search rules in
     subst (λ (r : Result Uploaded BoardHalt). Works Stores (uploads c.args.user.now c.args.file.now c.args.now) unread world (g.H.Host.disk c.args.host.now) (g.H.Host.disk c.find.new.host) (g.S.Shelf.files c.args.shelf.now) (told uploaded_text r)) (sym is)
     (unfound (Uploads c.args.user.now c.args.file.now c.args.now) at uploaded_text c.find.new.kept c.in_err-find.field-0.0
     (c.in_err-find.ensures.finds tells world.state at.board.stores) (c.in_err-find.ensures.state tells world.state at.board.stores))
@@ -80,10 +80,10 @@ returns-clause-works g c tells shelf_tells world at =
     let him = some_is (user_id name held.board) (subst (λ (b : Board). IsSome (user_id name b)) one c.in_ok-look_for.ensures) in
     let id : user_id name b ≡ Some him.0 = id_alike b held.board real.alike name ∙ him.1 in
     let bytes = c.as_slice.result.now in
-    let read : file_of (g.S.Shelf.files c.args.shelf.now) c.args.file.now rep_limit ≡ Ok bytes = sym (c.in_ok-bytes.ensures.file shelf_tells) ∙ ap Ok (sym c.as_slice.ensures.same) in
+    let read : file_within (g.S.Shelf.files c.args.shelf.now) c.args.file.now rep_limit ≡ Ok bytes = sym (c.in_ok-bytes.ensures.file shelf_tells) ∙ ap Ok (sym c.as_slice.ensures.same) in
     let result = c.upload-uploaded.result in
     let gives = c.upload-uploaded.ensures in
-    let same : LeavesAll result → Unchanged disk (g.H.Host.disk c.upload-uploaded.new.host) = λ early. subst (λ host. Unchanged disk (g.H.Host.disk host)) (sym (gives.unchanged early).1) (same_host disk) in
+    let same : UploadLeavesAll result → Unchanged disk (g.H.Host.disk c.upload-uploaded.new.host) = λ early. subst (λ host. Unchanged disk (g.H.Host.disk host)) (sym (gives.unchanged early).1) (same_host disk) in
     subst (λ (r : Result Uploaded BoardHalt). Works Stores (uploads name c.args.file.now c.args.now) unread world (g.H.Host.disk c.args.host.now) (g.H.Host.disk c.upload-uploaded.new.host) (g.S.Shelf.files c.file_in.new.shelf) (told uploaded_text r)) (sym c.answered.ensures)
     (⊎_elim
     (λ starved. out_of_memory name c.args.file.now c.args.now b at finds real.is him.0 id (c.in_ok-bytes.ensures.unchanged shelf_tells) result starved same)
@@ -95,7 +95,7 @@ returns-clause-works g c tells shelf_tells world at =
       moments = gives.moments tells certain.1 b holds r.0 r.1;
       now_is = gives.now tells certain.1 b holds r.0 r.1;
       settled = gives.settled tells certain.1;
-      answers = subst (λ (doubtful : Bool). Answers doubtful r.0 result) certain.1 (gives.answer b real.valid real.alike r.0 r.1);
+      answers = subst (λ (doubtful : Bool). UploadAnswers doubtful r.0 result) certain.1 (gives.answer b real.valid real.alike r.0 r.1);
       same = same;
       rests = on_ok result (λ next. next tells certain.1 b holds r.0 r.1) gives.next;
       valid = gives.valid certain.1 b real.valid real.alike r.0 r.1;
@@ -147,14 +147,14 @@ returns-clause-wrote g c tells shelf_tells closed =
     let one : c.in_ok-board_in.field-0.now.board ≡ held.board = cc looked in
     let him = some_is (user_id name held.board) (subst (λ (b : Board). IsSome (user_id name b)) one c.in_ok-look_for.ensures) in
     let bytes = c.as_slice.result.now in
-    let read : file_of (g.S.Shelf.files c.args.shelf.now) c.args.file.now rep_limit ≡ Ok bytes = sym (c.in_ok-bytes.ensures.file shelf_tells) ∙ ap Ok (sym c.as_slice.ensures.same) in
+    let read : file_within (g.S.Shelf.files c.args.shelf.now) c.args.file.now rep_limit ≡ Ok bytes = sym (c.in_ok-bytes.ensures.file shelf_tells) ∙ ap Ok (sym c.as_slice.ensures.same) in
     let old = g.H.Host.disk c.args.host.now in
     let mid = g.H.Host.disk c.find.new.host in
     let new = g.H.Host.disk c.upload-uploaded.new.host in
     let gives = c.upload-uploaded.ensures in
     ⊎_elim
     (λ starved. found_within (uploads name c.args.file.now c.args.now) old new (g.S.Shelf.files c.args.shelf.now) closed
-    (subst (λ host. WritesFound old (g.H.Host.disk host).wrote) (sym (gives.unchanged (subst LeavesAll (sym starved) tt)).1) (c.find.ensures.wrote tells)))
+    (subst (λ host. WritesFound old (g.H.Host.disk host).wrote) (sym (gives.unchanged (subst UploadLeavesAll (sym starved) tt)).1) (c.find.ensures.wrote tells)))
     (λ given. upload_within name c.args.file.now c.args.now old mid new (g.S.Shelf.files c.args.shelf.now) closed (c.find.ensures.wrote tells) (kept_board c.find.new.kept) (c.in_ok-find.ensures.state tells) held.board (ap kept_board here) him.0 him.1 bytes read given.0
     (subst (λ (o : Option ℕ). UploadsAs o bytes c.args.now held.board given.0) him.1 given.1) (gives.wrote tells given.0 given.1))
     gives.gives

@@ -2,7 +2,7 @@ use Rattle.std.proofs.Common.{[], ◌++◌, length, length-append, refl, sym, ap
 use Rattle.std.proofs.lemmas.Result.{err_from_is_err_and}
 use Rattle.fts_packet.specs.Packet.{PackedMessagesRead}
 use Rattle.fts_packet.specs.Fault.{FtsFault}
-use Rattle.fts_packet.specs.Answer.{FaultOrMemory}
+use Rattle.fts_packet.specs.Answer.{FtsFaultOrMemory}
 use Rattle.fts_packet.proofs.Messages.{own, own_more, rest_shorter, message_reads, messages_push, whole_more, fault_here}
 use Rattle.fts_packet.proofs.read.packet_in.Goals as goal
 
@@ -35,7 +35,7 @@ breaks-requires-clause-within c =
 pub returns-in-Err : goal.returns-in-Err
 returns-in-Err c =
     let h = c.loop-header.invariant in
-    subst (FaultOrMemory (FtsFault c.args.bytes.now)) (sym c.breaks.ensures)
+    subst (FtsFaultOrMemory (FtsFault c.args.bytes.now)) (sym c.breaks.ensures)
     (fault_here c.args.bytes.now c.in_ok-header.header.now h.before c.loop-header.rest.now c.loop-header.packet c.in-Err.rule h.whole c.in_ok-header.ensures.headed h.read
     (sym c.is_end.ensures ∙ c.loop-header-test.true) c.in-Err.ensures)
 

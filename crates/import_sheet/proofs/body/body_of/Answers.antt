@@ -3,7 +3,7 @@ use Rattle.std.proofs.lemmas.Bool.{false≢true}
 use Rattle.std.specs.Str.Lines.{lines}
 use Rattle.import_sheet.specs.Sheet.{stored_body, without_dot}
 use Rattle.import_sheet.specs.Fault.{with_return, too_long}
-use Rattle.import_sheet.specs.State.{Ahead, FaultOrMemory, BodyFaultAt}
+use Rattle.import_sheet.specs.State.{Ahead, SheetFaultOrMemory, BodyFaultAt}
 use Rattle.import_sheet.proofs.Lines.{more_taken, left_numbered}
 use Rattle.import_sheet.proofs.Bodies.{body_push, body_text_push, broken_body, over, no_room}
 use Rattle.import_sheet.proofs.body.body_of.Goals as goal
@@ -21,7 +21,7 @@ pub returns-then-not-has_no_return : goal.returns-then-not-has_no_return
 returns-then-not-has_no_return c =
     let h = c.loop-line.invariant in
     let here = c.loop-line.here in
-    subst (FaultOrMemory (BodyFaultAt (lines c.args.start.text.now) c.args.start.line)) (sym c.breaks.ensures)
+    subst (SheetFaultOrMemory (BodyFaultAt (lines c.args.start.text.now) c.args.start.line)) (sym c.breaks.ensures)
     (broken_body (lines c.args.start.text.now) (lines here.text.now) h.taken c.args.start.line here.line _ h.ahead h.bodied
     (with_return c.in-Some.line.now refl (lines c.in-Some.after.text.now, c.in-Some.ensures.whole) (λ clear. false≢true (sym c.if-not-has_no_return.true ∙ c.has_no_return.ensures.1 clear))))
 
@@ -31,7 +31,7 @@ returns-then-not-has_room c =
     let here = c.loop-line.here in
     let line = c.in-Some.line.now in
     let many : 16384 ≤ length (stored_body h.taken) + length (without_dot line) = omega (arith, no_room (length c.loop-line.body + length c.without_dot-text.result.now) c.has_room.result c.if-not-has_room.true c.has_room.ensures.1, ap length h.text, ap length c.without_dot-text.ensures) in
-    subst (FaultOrMemory (BodyFaultAt (lines c.args.start.text.now) c.args.start.line)) (sym c.breaks-then-not-has_room.ensures)
+    subst (SheetFaultOrMemory (BodyFaultAt (lines c.args.start.text.now) c.args.start.line)) (sym c.breaks-then-not-has_room.ensures)
     (broken_body (lines c.args.start.text.now) (lines here.text.now) h.taken c.args.start.line here.line _ h.ahead h.bodied
     (too_long line refl (lines c.in-Some.after.text.now, c.in-Some.ensures.whole) (λ e. false≢true (sym c.if-is_dot.false ∙ c.is_dot.ensures.1 e)) (c.has_no_return.ensures.0 c.if-not-has_no_return.false) (over h.taken line many)))
 

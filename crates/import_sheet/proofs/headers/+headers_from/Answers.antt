@@ -3,14 +3,14 @@ use Rattle.std.proofs.lemmas.Bool.Decides.{nat_tests}
 use Rattle.std.proofs.lemmas.Result.{err_from_is_err_and}
 use Rattle.std.specs.Str.Lines.{lines}
 use Rattle.import_sheet.specs.Fault.{LineBreaks}
-use Rattle.import_sheet.specs.State.{Ahead, FaultOrMemory, FaultAt}
+use Rattle.import_sheet.specs.State.{Ahead, SheetFaultOrMemory, FaultAt}
 use Rattle.import_sheet.proofs.Lines.{more_taken, no_length}
 use Rattle.import_sheet.proofs.Reading.{weaker_fault, end_fault, line_fault, ended_cases}
 use Rattle.import_sheet.proofs.headers.+headers_from.Goals as goal
 
 pub returns-in_default : goal.returns-in_default
 returns-in_default t c = λ all headers number s h holds ahead.
-    subst (FaultOrMemory (FaultAt all number)) (sym c.breaks.ensures) (end_fault all (lines c.args.here.text.now) headers number c.args.here.line s h ahead c.in_default.ensures)
+    subst (SheetFaultOrMemory (FaultAt all number)) (sym c.breaks.ensures) (end_fault all (lines c.args.here.text.now) headers number c.args.here.line s h ahead c.in_default.ensures)
 
 pub returns-then-is_empty : goal.returns-then-is_empty
 returns-then-is_empty t c = λ all headers number s h holds ahead.

@@ -3,7 +3,7 @@ use Rattle.std.proofs.lemmas.List.Elements.{All-nil}
 use Rattle.std.proofs.lemmas.Result.{err_from_is_err_and}
 use Rattle.std.specs.Str.Lines.{lines}
 use Rattle.import_sheet.specs.Sheet.{SheetsAre}
-use Rattle.import_sheet.specs.Fault.{LinesFault}
+use Rattle.import_sheet.specs.Fault.{SheetLinesFault}
 use Rattle.import_sheet.specs.State.{FaultAt}
 use Rattle.import_sheet.proofs.Lines.{none_taken, more_taken, left_numbered, lines_numbered}
 use Rattle.import_sheet.proofs.Reading.{weaker_fault, sheets_push, sheets_blanks, file_fault}
@@ -43,7 +43,7 @@ returns-in_err-sheet c =
     let start = c.in-Some.start in
     let e = c.in-Some.ensures in
     rw (p.1, p.2)
-    (weaker_fault (FaultAt (lines start.text.now) start.line) (LinesFault all)
+    (weaker_fault (FaultAt (lines start.text.now) start.line) (SheetLinesFault all)
     (λ n rule. file_fault all (lines here.text.now) (lines start.text.now) h.before e.0 c.loop-start.sheets here.line start.line n rule h.read h.ahead e.1 e.2)
     c.in_err-sheet.field-0.0 c.in_err-sheet.ensures)
 

@@ -1,7 +1,7 @@
 use Rattle.std.proofs.Common.{◌∙◌, sym, ap}
 use Rattle.jam_layout.specs.Bare.{bare_in, bare_of, IsBareOf}
 use Rattle.jam_layout.specs.Layout.{conference_of}
-use Rattle.jam_layout.specs.Valid.{FilesFit}
+use Rattle.jam_layout.specs.Valid.{BaseFilesFit}
 use Rattle.jam_layout.specs.declared.bare.BareConference.{BareConference}
 use Rattle.jam_layout.proofs.ConferenceLayout.{is_layout, layout_is}
 use Rattle.jam_layout.proofs.MappedReads.{damage_mapped, mapped, mapped_ok}
@@ -10,7 +10,7 @@ use Rattle.jam_layout.proofs.read.read_bare.Goals as goal
 
 pub returns-clause-ok : goal.returns-clause-ok
 returns-clause-ok c =
-    if_read c.bare_in.result (bare_in c.args.shape.now c.args.files.now) (λ (x : BareConference). IsBareOf c.args.shape.now c.args.files.now x) (λ x. FilesFit c.args.files.now) c.bare_in.ensures.gives c.bare_in.ensures.files (λ x e fits.
+    if_read c.bare_in.result (bare_in c.args.shape.now c.args.files.now) (λ (x : BareConference). IsBareOf c.args.shape.now c.args.files.now x) (λ x. BaseFilesFit c.args.files.now) c.bare_in.ensures.gives c.bare_in.ensures.files (λ x e fits.
     let a = mapped_ok bare_of (conference_of c.args.shape.now c.args.files.now) x e in
     let l = layout_is c.args.shape.now c.args.files.now a.0 fits a.1 in
     record { whole = a.0; bared = sym a.2; valid = l.1; stored = l.0 })

@@ -10,7 +10,7 @@ use Rattle.mail_board.specs.declared.change.ChangeError.{ChangeError}
 use Rattle.slot_changes.specs.Packed.{packed, packed_count, replaced}
 use Rattle.jam_pack.proofs.PackErrors.{undone, undone_sure}
 use Rattle.jam_pack.proofs.PackedBoards.{count_alike, fetched_alike, fetched_fit, fetched_next, packed_stays}
-use Rattle.jam_pack.specs.Packing.{of_change}
+use Rattle.jam_pack.specs.Packing.{pack_change_error}
 use Rattle.jam_pack.proofs.packing.pack.Goals as goal
 
 -- ---- no message is deleted
@@ -85,7 +85,7 @@ returns-in_err-replace-clause-now g c = λ tells certain b holds.
 pub returns-in_err-replace-clause-unchanged : goal.returns-in_err-replace-clause-unchanged
 returns-in_err-replace-clause-unchanged g c early =
     let e : ChangeError = c.in_err-replace.field-0.0 in
-    let is : c.from_residual-in_err-replace.result ≡ Err (of_change e) = search rules in
+    let is : c.from_residual-in_err-replace.result ≡ Err (pack_change_error e) = search rules in
     let host_is : c.replace.new.host ≡ c.slots_of.new.host = elim (undone e c.from_residual-in_err-replace.result is early) [
       | inl doubt ↦ (c.in_err-replace.ensures.unchanged (ap Err doubt)).1
       | inr starved ↦ (c.in_err-replace.ensures.starved (ap Err starved)).1

@@ -2,7 +2,7 @@ use Rattle.std.proofs.Common.{rules, ◌≡◌, List, ℕ, Err, refl, sym, ap, s
 use Rattle.std.specs.Prelude.{Result}
 use Rattle.board_commands.proofs.Exits.{unfound}
 use Rattle.board_commands.proofs.FindLaws.{same_host}
-use Rattle.board_commands.specs.Halts.{told, of_read, of_journal}
+use Rattle.board_commands.specs.Halts.{told, halt_of_read, of_journal}
 use Rattle.board_commands.specs.Kept.{kept_board, unread}
 use Rattle.board_commands.specs.State.{Stores}
 use Rattle.board_commands.specs.declared.halt.BoardHalt.{BoardHalt}
@@ -18,7 +18,7 @@ use Rattle.message_commands.proofs.killing.kill.Goals as goal
 
 pub returns-in_err-find-clause-works : goal.returns-in_err-find-clause-works
 returns-in_err-find-clause-works g c tells world shelf at =
-    let is : c.from_residual.result ≡ Err (of_read c.in_err-find.field-0.0) = search rules in
+    let is : c.from_residual.result ≡ Err (halt_of_read c.in_err-find.field-0.0) = search rules in
     subst (λ (r : Result (Unit {0}) BoardHalt). Works Stores (kills c.args.conference c.args.number) unread world (g.H.Host.disk c.args.host.now) (g.H.Host.disk c.find.new.host) shelf (told (λ done. killed_line c.args.conference c.args.number) r)) (sym is)
     (unfound (λ files board turn. turn ≡ kill_turn c.args.conference c.args.number board) at (λ (done : Unit {0}). killed_line c.args.conference c.args.number) c.find.new.kept c.in_err-find.field-0.0
     (c.in_err-find.ensures.finds tells world.state at.board.stores) (c.in_err-find.ensures.state tells world.state at.board.stores))

@@ -4,7 +4,7 @@ use Rattle.board_commands.proofs.CauseLaws.{no_fault}
 use Rattle.board_commands.proofs.Exits.{unfound}
 use Rattle.board_commands.proofs.FindLaws.{same_host}
 use Rattle.board_commands.proofs.WriteLaws.{found_within}
-use Rattle.board_commands.specs.Halts.{told, of_read, of_journal}
+use Rattle.board_commands.specs.Halts.{told, halt_of_read, of_journal}
 use Rattle.board_commands.specs.Kept.{kept_board, unread}
 use Rattle.board_commands.specs.State.{Stores}
 use Rattle.board_commands.specs.declared.halt.BoardHalt.{BoardHalt}
@@ -22,7 +22,7 @@ use Rattle.message_commands.proofs.sampling.sample.Goals as goal
 
 pub returns-in_err-find-clause-works : goal.returns-in_err-find-clause-works
 returns-in_err-find-clause-works g c tells world shelf at =
-    let is : c.from_residual.result ≡ Err (of_read c.in_err-find.field-0.0) = search rules in
+    let is : c.from_residual.result ≡ Err (halt_of_read c.in_err-find.field-0.0) = search rules in
     subst (λ (r : Result ℕ BoardHalt). Works Stores (samples c.args.seed c.args.count c.args.now) unread world (g.H.Host.disk c.args.host.now) (g.H.Host.disk c.find.new.host) shelf (told sampled_line r)) (sym is)
     (unfound (Turns c.args.seed c.args.count c.args.now) at sampled_line c.find.new.kept c.in_err-find.field-0.0 (c.in_err-find.ensures.finds tells world.state at.board.stores) (c.in_err-find.ensures.state tells world.state at.board.stores))
 

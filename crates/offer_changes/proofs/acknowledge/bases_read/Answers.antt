@@ -17,7 +17,7 @@ use Rattle.board_changes.proofs.StepLaws.{change_joins}
 use Rattle.offer_changes.proofs.ReadLaws.{high_within}
 use Rattle.offer_changes.proofs.UserLaws.{user_there}
 use Rattle.offer_changes.specs.Changed.{read_offer, read_up_to}
-use Rattle.board_changes.specs.Steps.{base_after, patches_of}
+use Rattle.board_changes.specs.Steps.{base_after, patches_or_none}
 use Rattle.offer_changes.proofs.acknowledge.bases_read.Goals as goal
 
 -- the base of a place
@@ -46,7 +46,7 @@ gather-requires c =
     let read : read_up_to c.args.id c.as_slice.result.now c.args.now c.high_of-high.result ≡ read_up_to c.args.id u.name c.args.now (get_or o.highs place 0) =
     λ i. read_up_to c.args.id (c.as_slice.ensures.same i) c.args.now (c.high_of-high.ensures i) in
     let is : base_after base change ≡ read_up_to c.args.id u.name c.args.now (get_or o.highs place 0) base = c.in_ok-change.ensures.base ∙ (λ i. read i base) in
-    let each = subst (λ (f : Contents → Contents). ChangesEach base f (patches_of change)) read c.in_ok-change.ensures.each in
+    let each = subst (λ (f : Contents → Contents). ChangesEach base f (patches_or_none change)) read c.in_ok-change.ensures.each in
     change_joins c.loop-place.intent change
     (read_joins b c.args.id c.args.now u o c.requires.user c.requires.offer c.bases-base-items.ensures.board (omega arith) place base c.loop-place.intent change here is c.in_ok-change.ensures.changes each c.loop-place.invariant.gathered)
 
@@ -64,7 +64,7 @@ loop-place-preserved c =
     let read : read_up_to c.args.id c.as_slice.result.now c.args.now c.high_of-high.result ≡ read_up_to c.args.id u.name c.args.now (get_or o.highs place 0) =
     λ i. read_up_to c.args.id (c.as_slice.ensures.same i) c.args.now (c.high_of-high.ensures i) in
     let is : base_after base change ≡ read_up_to c.args.id u.name c.args.now (get_or o.highs place 0) base = c.in_ok-change.ensures.base ∙ (λ i. read i base) in
-    let each = subst (λ (f : Contents → Contents). ChangesEach base f (patches_of change)) read c.in_ok-change.ensures.each in
+    let each = subst (λ (f : Contents → Contents). ChangesEach base f (patches_or_none change)) read c.in_ok-change.ensures.each in
     let there : slice_get (contents_of next) place ≡ Some (base_after base change) = base_read b c.args.id c.args.now u o (user_there b c.args.id u c.requires.user) ok place base here ∙ ap Some (sym is) in
     let v = c.loop-place.invariant in
     let bases : List (Option Contents) = c.loop-place.bases in

@@ -11,7 +11,7 @@ use Rattle.offer_changes.proofs.AcknowledgeLaws.{read_is}
 use Rattle.offer_changes.proofs.EachOffer.{read_begun, read_leads}
 use Rattle.offer_changes.proofs.PutLaws.{there_room}
 use Rattle.offer_changes.proofs.UserLaws.{id_above, user_there}
-use Rattle.offer_changes.specs.Changed.{read_offer, with_user, without_offer}
+use Rattle.offer_changes.specs.Changed.{read_offer, with_user_replaced, without_offer}
 use Rattle.offer_changes.proofs.acknowledge.offer_read.Goals as goal
 
 pub user_intent-requires-clause-above : goal.user_intent-requires-clause-above
@@ -22,7 +22,7 @@ user_intent-requires-clause-next c =
     let b : Board = c.args.board.now in
     let u : User = c.args.user.now in
     let next = read_is b c.args.id c.args.now u c.args.offer.now (user_there b c.args.id u c.requires.user) c.ledger-old.ensures.board c.requires.offer (omega arith) in
-    subst IsLedger (λ i. with_user c.args.id (sym c.in_ok-next.ensures i) (sym c.ledger-old.ensures.ledger i)) next.ledger
+    subst IsLedger (λ i. with_user_replaced c.args.id (sym c.in_ok-next.ensures i) (sym c.ledger-old.ensures.ledger i)) next.ledger
 
 pub user_intent-requires-clause-room : goal.user_intent-requires-clause-room
 user_intent-requires-clause-room c =
@@ -43,8 +43,8 @@ with_user-requires-clause-within c =
     omega (arith, within, ap (λ (l : Ledger). length l.users) c.ledger-old.ensures.ledger)
 
 -- the ledger that is made is that of the next board
-made : (b : Board) (id now : ℕ) (u next : User) (o : OpenOffer) (was ledger : Ledger) → ledger ≡ with_user id next was → was ≡ b.ledger → next ≡ without_offer o.number u → ledger ≡ (read_offer id now u o b).ledger
-made b id now u next o was ledger is same new = is ∙ (λ i. with_user id (new i) (same i))
+made : (b : Board) (id now : ℕ) (u next : User) (o : OpenOffer) (was ledger : Ledger) → ledger ≡ with_user_replaced id next was → was ≡ b.ledger → next ≡ without_offer o.number u → ledger ≡ (read_offer id now u o b).ledger
+made b id now u next o was ledger is same new = is ∙ (λ i. with_user_replaced id (new i) (same i))
 
 pub bases_read-requires-clause-gathered : goal.bases_read-requires-clause-gathered
 bases_read-requires-clause-gathered c =

@@ -13,7 +13,7 @@ use Rattle.offer_changes.proofs.EachOffer.{offered_each}
 use Rattle.offer_changes.proofs.OfferLaws.{contents_stay, offer_last, offer_there}
 use Rattle.offer_changes.proofs.PutLaws.{there_room}
 use Rattle.offer_changes.proofs.UserLaws.{id_above, user_there}
-use Rattle.offer_changes.specs.Changed.{offered_to, with_offer, with_user}
+use Rattle.offer_changes.specs.Changed.{offered_to, with_offer, with_user_replaced}
 use Rattle.offer_changes.proofs.offer.offered.Goals as goal
 
 pub with_offer-requires : goal.with_offer-requires
@@ -31,7 +31,7 @@ user_intent-requires-clause-next c =
     let b : Board = c.args.board.now in
     let u : User = c.user_of.result.now in
     let next = subst IsBoard (offer_there b c.args.user u c.args.highs.now c.user_of.ensures.user) c.requires.next in
-    subst IsLedger (λ i. with_user c.args.user (sym c.in_ok-next.ensures i) (sym c.ledger-old.ensures.ledger i)) next.ledger
+    subst IsLedger (λ i. with_user_replaced c.args.user (sym c.in_ok-next.ensures i) (sym c.ledger-old.ensures.ledger i)) next.ledger
 
 pub user_intent-requires-clause-room : goal.user_intent-requires-clause-room
 user_intent-requires-clause-room c =
@@ -52,8 +52,8 @@ with_user-requires-clause-within c =
     omega (arith, within, ap (λ (l : Ledger). length l.users) c.ledger-old.ensures.ledger)
 
 -- the ledger that is made is that of the next board
-made : (b : Board) (id : ℕ) (u next : User) (highs : List ℕ) (was ledger : Ledger) → ledger ≡ with_user id next was → was ≡ b.ledger → next ≡ with_offer highs u → ledger ≡ (offered_to id highs u b).ledger
-made b id u next highs was ledger is same new = is ∙ (λ i. with_user id (new i) (same i))
+made : (b : Board) (id : ℕ) (u next : User) (highs : List ℕ) (was ledger : Ledger) → ledger ≡ with_user_replaced id next was → was ≡ b.ledger → next ≡ with_offer highs u → ledger ≡ (offered_to id highs u b).ledger
+made b id u next highs was ledger is same new = is ∙ (λ i. with_user_replaced id (new i) (same i))
 
 pub returns-clause-becomes : goal.returns-clause-becomes
 returns-clause-becomes c =

@@ -6,7 +6,7 @@ use Rattle.board_commands.proofs.ChangeLaws.{stores_holds}
 use Rattle.board_commands.proofs.Exits.{unfound}
 use Rattle.board_commands.proofs.KeptLaws.{once_told}
 use Rattle.board_commands.proofs.LikeLaws.{real_stored, some_outlined}
-use Rattle.board_commands.specs.Halts.{told, of_read}
+use Rattle.board_commands.specs.Halts.{told, halt_of_read}
 use Rattle.board_commands.specs.Kept.{AreSure, IsKept, kept_board, unread}
 use Rattle.board_commands.specs.State.{Stores, migrated}
 use Rattle.board_commands.specs.declared.halt.BoardHalt.{BoardHalt}
@@ -28,7 +28,7 @@ use Rattle.pack_commands.proofs.packing.pack.Goals as goal
 
 pub returns-in_err-find-clause-works : goal.returns-in_err-find-clause-works
 returns-in_err-find-clause-works g c tells world shelf at =
-    let is : c.from_residual.result ≡ Err (of_read c.in_err-find.field-0.0) = search rules in
+    let is : c.from_residual.result ≡ Err (halt_of_read c.in_err-find.field-0.0) = search rules in
     subst (λ (r : Result ℕ BoardHalt). Works Stores (packs c.args.conference) unread world (g.H.Host.disk c.args.host.now) (g.H.Host.disk c.find.new.host) shelf (told (packed_line c.args.conference) r)) (sym is)
     (unfound (λ files board turn. turn ≡ pack_turn c.args.conference board) at (packed_line c.args.conference) c.find.new.kept c.in_err-find.field-0.0
     (c.in_err-find.ensures.finds tells world.state at.board.stores) (c.in_err-find.ensures.state tells world.state at.board.stores))

@@ -1,6 +1,6 @@
 use Rattle.std.proofs.Common.{Err, sym, ap}
 use Rattle.offline_reader.specs.Letter.{message_in}
-use Rattle.packet_commands.specs.Read.{shown}
+use Rattle.packet_commands.specs.Read.{shown_reply}
 use Rattle.packet_commands.proofs.PacketAnswers.{shown_text}
 use Rattle.packet_commands.proofs.reading.message_shown.Goals as goal
 
@@ -8,4 +8,4 @@ pub returns-in-Ok-clause-text : goal.returns-in-Ok-clause-text
 returns-in-Ok-clause-text c = shown_text (message_in c.args.messages.now c.args.place) c.in-Ok.text c.in-Ok.ensures.text
 
 pub returns-in-Err-NoMessage-clause-text : goal.returns-in-Err-NoMessage-clause-text
-returns-in-Err-NoMessage-clause-text c = ap shown (sym (c.in-Err-NoMessage.ensures.no_message.0 (ap Err c.in-Err-NoMessage.field-0-is)))
+returns-in-Err-NoMessage-clause-text c = ap shown_reply (sym (c.in-Err-NoMessage.ensures.no_message.0 (ap Err c.in-Err-NoMessage.field-0-is)))

@@ -4,7 +4,7 @@ use Rattle.offline_reader.specs.Letter.{message_in}
 use Rattle.shelf_files.proofs.Replies.{refused_on, serves_look}
 use Rattle.shelf_files.specs.Halts.{replied}
 use Rattle.packet_commands.specs.Packets.{FolderOf}
-use Rattle.packet_commands.specs.Read.{ShowAnswers, shown}
+use Rattle.packet_commands.specs.Read.{ShowAnswers, shown_reply}
 use Rattle.packet_commands.proofs.PacketAnswers.{comes_on}
 use Rattle.packet_commands.proofs.reading.show.Goals as goal
 
@@ -13,7 +13,7 @@ returns-clause-serves g c tells =
     let shelf = g.S.Shelf.files c.args.shelf.now in
     let packet = c.in_ok-packet.packet in
     serves_look (ShowAnswers c.args.folder.now c.args.place) (λ (text : List ℕ). text) shelf _ (c.in_ok-packet.ensures.unchanged tells) c.message_shown.result
-    (comes_on (λ read. replied (λ (text : List ℕ). text) read ≡ shown (message_in packet.messages c.args.place)) (λ read. ShowAnswers c.args.folder.now c.args.place shelf (replied (λ (text : List ℕ). text) read))
+    (comes_on (λ read. replied (λ (text : List ℕ). text) read ≡ shown_reply (message_in packet.messages c.args.place)) (λ read. ShowAnswers c.args.folder.now c.args.place shelf (replied (λ (text : List ℕ). text) read))
     (λ read is. (Ok packet, c.in_ok-packet.ensures.packet tells, is)) c.message_shown.result c.message_shown.ensures.text)
 
 pub returns-in_err-packet-clause-serves : goal.returns-in_err-packet-clause-serves

@@ -8,7 +8,7 @@ use Rattle.board_ledger.specs.declared.ledger.Ledger.{Ledger}
 use Rattle.board_ledger.specs.declared.upload.UploadRecord.{UploadRecord}
 use Rattle.byte_lists.specs.Byte.{IsByte}
 use Rattle.post_changes.proofs.FitLaws.{Fit, uploaded_bases, uploaded_fits, uploaded_free}
-use Rattle.post_changes.specs.Posted.{record_of}
+use Rattle.post_changes.specs.Posted.{upload_record}
 use Rattle.post_changes.specs.Recorded.{may_record}
 use Rattle.post_changes.proofs.fits.fits_upload.Goals as goal
 
@@ -19,8 +19,8 @@ tested b ledger upload r may is same made = is ∙ (λ i. may_record (same i) (m
 pub returns-then-not-may_record : goal.returns-then-not-may_record
 returns-then-not-may_record c =
     let b : Board = c.args.board.now in
-    let r : UploadRecord = record_of c.args.user c.args.digest.now c.args.refused c.args.posts.now in
-    let is = tested b c.ledger.result.now c.record_of-upload.result r c.may_record.result c.may_record.ensures c.ledger.ensures.ledger (c.record_of-upload.ensures ∙ ap (record_of c.args.user c.args.digest.now c.args.refused) c.as_slice.ensures) in (
+    let r : UploadRecord = upload_record c.args.user c.args.digest.now c.args.refused c.args.posts.now in
+    let is = tested b c.ledger.result.now c.record_of-upload.result r c.may_record.result c.may_record.ensures c.ledger.ensures.ledger (c.record_of-upload.ensures ∙ ap (upload_record c.args.user c.args.digest.now c.args.refused) c.as_slice.ensures) in (
       λ no. absurd (true≢false (sym no)),
       λ both. sym c.if-not-may_record.true ∙ (is ∙ uploaded_free b c.args.posts.now c.ledger.ensures.board c.args.user c.args.digest.now c.args.refused both.1),
     )
@@ -28,9 +28,9 @@ returns-then-not-may_record c =
 pub returns-then-fits_all : goal.returns-then-fits_all
 returns-then-fits_all c =
     let b : Board = c.args.board.now in
-    let r : UploadRecord = record_of c.args.user c.args.digest.now c.args.refused c.args.posts.now in
+    let r : UploadRecord = upload_record c.args.user c.args.digest.now c.args.refused c.args.posts.now in
     let ok = c.fits_all.ensures.board in
-    let is = tested b c.ledger.result.now c.record_of-upload.result r c.may_record.result c.may_record.ensures c.ledger.ensures.ledger (c.record_of-upload.ensures ∙ ap (record_of c.args.user c.args.digest.now c.args.refused) c.as_slice.ensures) in
+    let is = tested b c.ledger.result.now c.record_of-upload.result r c.may_record.result c.may_record.ensures c.ledger.ensures.ledger (c.record_of-upload.ensures ∙ ap (upload_record c.args.user c.args.digest.now c.args.refused) c.as_slice.ensures) in
     let fit : Fit b c.args.posts.now = subst (Fit b) c.as_slice-2.ensures (c.fits_all.ensures.fits.0 c.if-fits_all.true) in
     let bytes : All IsByte c.args.digest.now =
     λ k d within. subst (λ (n : ℕ). n < 256) (get_or_default c.args.digest.now k 0 d within) (c.fits-digest k) in

@@ -19,7 +19,7 @@ use Rattle.jam_records.specs.declared.message.Message.{Message}
 use Rattle.post_changes.proofs.EachUpload.{upload_begun, upload_leads}
 use Rattle.post_changes.proofs.PostSteps.{spent_begun}
 use Rattle.post_changes.proofs.RecordLaws.{record_counts, record_length, record_shapes}
-use Rattle.post_changes.specs.Posted.{posted_with, record_of, uploaded, with_record}
+use Rattle.post_changes.specs.Posted.{posted_with, upload_record, uploaded, with_record}
 use Rattle.post_changes.proofs.upload.uploaded.Goals as goal
 
 -- the ledger that is made is that of the next board
@@ -28,37 +28,37 @@ made l was next r upload is same old = is ∙ (λ i. with_record (same i) (old i
 
 pub record_of-upload-requires : goal.record_of-upload-requires
 record_of-upload-requires c =
-    let r : UploadRecord = record_of c.args.user c.args.digest.now c.args.refused c.args.posts.now in
+    let r : UploadRecord = upload_record c.args.user c.args.digest.now c.args.refused c.args.posts.now in
     omega (arith, record_counts c.args.board.now.ledger r c.requires.next.ledger, ap length c.as_slice-posts.ensures)
 
 pub upload_intent-requires-clause-longer : goal.upload_intent-requires-clause-longer
 upload_intent-requires-clause-longer c =
     let b : Board = c.args.board.now in
-    let r : UploadRecord = record_of c.args.user c.args.digest.now c.args.refused c.args.posts.now in
-    let upload : c.record_of-upload.result ≡ r = c.record_of-upload.ensures ∙ ap (record_of c.args.user c.args.digest.now c.args.refused) c.as_slice-posts.ensures in
+    let r : UploadRecord = upload_record c.args.user c.args.digest.now c.args.refused c.args.posts.now in
+    let upload : c.record_of-upload.result ≡ r = c.record_of-upload.ensures ∙ ap (upload_record c.args.user c.args.digest.now c.args.refused) c.as_slice-posts.ensures in
     subst IsLedger (λ i. with_record (sym upload i) (sym c.ledger-old.ensures.ledger i)) c.requires.next.ledger
 
 pub posted-requires-clause-shapes : goal.posted-requires-clause-shapes
 posted-requires-clause-shapes c =
     let b : Board = c.args.board.now in
-    let r : UploadRecord = record_of c.args.user c.args.digest.now c.args.refused c.args.posts.now in
+    let r : UploadRecord = upload_record c.args.user c.args.digest.now c.args.refused c.args.posts.now in
     let same : c.in_ok-ledger.ledger ≡ with_record r b.ledger =
-    made b.ledger c.ledger-old.result.now c.in_ok-ledger.ledger r c.record_of-upload.result c.in_ok-ledger.ensures (c.record_of-upload.ensures ∙ ap (record_of c.args.user c.args.digest.now c.args.refused) c.as_slice-posts.ensures) c.ledger-old.ensures.ledger in
+    made b.ledger c.ledger-old.result.now c.in_ok-ledger.ledger r c.record_of-upload.result c.in_ok-ledger.ensures (c.record_of-upload.ensures ∙ ap (upload_record c.args.user c.args.digest.now c.args.refused) c.as_slice-posts.ensures) c.ledger-old.ensures.ledger in
     ap shapes_of same ∙ record_shapes b.ledger r
 
 pub posted-requires-clause-next : goal.posted-requires-clause-next
 posted-requires-clause-next c =
     let b : Board = c.args.board.now in
-    let r : UploadRecord = record_of c.args.user c.args.digest.now c.args.refused c.args.posts.now in
+    let r : UploadRecord = upload_record c.args.user c.args.digest.now c.args.refused c.args.posts.now in
     let same : c.in_ok-ledger.ledger ≡ with_record r b.ledger =
-    made b.ledger c.ledger-old.result.now c.in_ok-ledger.ledger r c.record_of-upload.result c.in_ok-ledger.ensures (c.record_of-upload.ensures ∙ ap (record_of c.args.user c.args.digest.now c.args.refused) c.as_slice-posts.ensures) c.ledger-old.ensures.ledger in
+    made b.ledger c.ledger-old.result.now c.in_ok-ledger.ledger r c.record_of-upload.result c.in_ok-ledger.ensures (c.record_of-upload.ensures ∙ ap (upload_record c.args.user c.args.digest.now c.args.refused) c.as_slice-posts.ensures) c.ledger-old.ensures.ledger in
     subst IsBoard (λ i. posted_with (sym same i) (sym c.as_slice-posts.ensures i) b) c.requires.next
 
 pub posted-requires-clause-gathered : goal.posted-requires-clause-gathered
 posted-requires-clause-gathered c =
     let b : Board = c.args.board.now in
-    let r : UploadRecord = record_of c.args.user c.args.digest.now c.args.refused c.args.posts.now in
-    let upload : c.record_of-upload.result ≡ r = c.record_of-upload.ensures ∙ ap (record_of c.args.user c.args.digest.now c.args.refused) c.as_slice-posts.ensures in
+    let r : UploadRecord = upload_record c.args.user c.args.digest.now c.args.refused c.args.posts.now in
+    let upload : c.record_of-upload.result ≡ r = c.record_of-upload.ensures ∙ ap (upload_record c.args.user c.args.digest.now c.args.refused) c.as_slice-posts.ensures in
     let same : c.in_ok-ledger.ledger ≡ with_record r b.ledger =
     made b.ledger c.ledger-old.result.now c.in_ok-ledger.ledger r c.record_of-upload.result c.in_ok-ledger.ensures upload c.ledger-old.ensures.ledger in
     let puts : c.in_ok-intent.intent ≡ upload_puts b.ledger r = c.in_ok-intent.ensures ∙ (λ i. upload_puts (c.ledger-old.ensures.ledger i) (upload i)) in
@@ -69,8 +69,8 @@ posted-requires-clause-gathered c =
 pub posted-requires-clause-spent : goal.posted-requires-clause-spent
 posted-requires-clause-spent c =
     let b : Board = c.args.board.now in
-    let r : UploadRecord = record_of c.args.user c.args.digest.now c.args.refused c.args.posts.now in
-    let upload : c.record_of-upload.result ≡ r = c.record_of-upload.ensures ∙ ap (record_of c.args.user c.args.digest.now c.args.refused) c.as_slice-posts.ensures in
+    let r : UploadRecord = upload_record c.args.user c.args.digest.now c.args.refused c.args.posts.now in
+    let upload : c.record_of-upload.result ≡ r = c.record_of-upload.ensures ∙ ap (upload_record c.args.user c.args.digest.now c.args.refused) c.as_slice-posts.ensures in
     let same : c.in_ok-ledger.ledger ≡ with_record r b.ledger =
     made b.ledger c.ledger-old.result.now c.in_ok-ledger.ledger r c.record_of-upload.result c.in_ok-ledger.ensures upload c.ledger-old.ensures.ledger in
     let puts : c.in_ok-intent.intent ≡ upload_puts b.ledger r = c.in_ok-intent.ensures ∙ (λ i. upload_puts (c.ledger-old.ensures.ledger i) (upload i)) in
@@ -81,16 +81,16 @@ posted-requires-clause-spent c =
 pub returns-clause-becomes : goal.returns-clause-becomes
 returns-clause-becomes c =
     let b : Board = c.args.board.now in
-    let r : UploadRecord = record_of c.args.user c.args.digest.now c.args.refused c.args.posts.now in
+    let r : UploadRecord = upload_record c.args.user c.args.digest.now c.args.refused c.args.posts.now in
     let same : c.in_ok-ledger.ledger ≡ with_record r b.ledger =
-    made b.ledger c.ledger-old.result.now c.in_ok-ledger.ledger r c.record_of-upload.result c.in_ok-ledger.ensures (c.record_of-upload.ensures ∙ ap (record_of c.args.user c.args.digest.now c.args.refused) c.as_slice-posts.ensures) c.ledger-old.ensures.ledger in
+    made b.ledger c.ledger-old.result.now c.in_ok-ledger.ledger r c.record_of-upload.result c.in_ok-ledger.ensures (c.record_of-upload.ensures ∙ ap (upload_record c.args.user c.args.digest.now c.args.refused) c.as_slice-posts.ensures) c.ledger-old.ensures.ledger in
     subst (λ (next : Board). IfOk c.posted.result (Becomes b (board_outline next))) (λ i. posted_with (same i) (c.as_slice-posts.ensures i) b) c.posted.ensures.becomes
 
 pub returns-clause-costs : goal.returns-clause-costs
 returns-clause-costs c =
     let b : Board = c.args.board.now in
-    let r : UploadRecord = record_of c.args.user c.args.digest.now c.args.refused c.args.posts.now in
-    let upload : c.record_of-upload.result ≡ r = c.record_of-upload.ensures ∙ ap (record_of c.args.user c.args.digest.now c.args.refused) c.as_slice-posts.ensures in
+    let r : UploadRecord = upload_record c.args.user c.args.digest.now c.args.refused c.args.posts.now in
+    let upload : c.record_of-upload.result ≡ r = c.record_of-upload.ensures ∙ ap (upload_record c.args.user c.args.digest.now c.args.refused) c.as_slice-posts.ensures in
     let same : c.in_ok-ledger.ledger ≡ with_record r b.ledger =
     made b.ledger c.ledger-old.result.now c.in_ok-ledger.ledger r c.record_of-upload.result c.in_ok-ledger.ensures upload c.ledger-old.ensures.ledger in
     let costs : (l : Ledger) → List (ℕ × Message) → Type 0 = λ l posts. IfOk c.posted.result (λ change. Spends (length posts) b (posted_with l posts b) change.intent) in
@@ -100,8 +100,8 @@ pub returns-clause-each : goal.returns-clause-each
 returns-clause-each c =
     let b : Board = c.args.board.now in
     let posts : List (ℕ × Message) = c.args.posts.now in
-    let r : UploadRecord = record_of c.args.user c.args.digest.now c.args.refused posts in
-    let upload : c.record_of-upload.result ≡ r = c.record_of-upload.ensures ∙ ap (record_of c.args.user c.args.digest.now c.args.refused) c.as_slice-posts.ensures in
+    let r : UploadRecord = upload_record c.args.user c.args.digest.now c.args.refused posts in
+    let upload : c.record_of-upload.result ≡ r = c.record_of-upload.ensures ∙ ap (upload_record c.args.user c.args.digest.now c.args.refused) c.as_slice-posts.ensures in
     let same : c.in_ok-ledger.ledger ≡ with_record r b.ledger =
     made b.ledger c.ledger-old.result.now c.in_ok-ledger.ledger r c.record_of-upload.result c.in_ok-ledger.ensures upload c.ledger-old.ensures.ledger in
     let change_is : posted_with c.in_ok-ledger.ledger c.as_slice-posts.result.now ≡ posted_with (with_record r b.ledger) posts = λ i. posted_with (same i) (c.as_slice-posts.ensures i) in

@@ -1,13 +1,13 @@
 use Rattle.std.proofs.Common.{[], ◌∷◌}
 use Rattle.std.specs.Fmt.{decimal}
 use Rattle.std.proofs.lemmas.Result.{IfOk-equal}
-use Rattle.qwk_blocks.specs.Written.{header_text, padded, number_text, low_first}
+use Rattle.qwk_blocks.specs.Written.{header_block, padded, number_text, low_first}
 use Rattle.qwk_blocks.proofs.Written.{regroup}
 use Rattle.qwk_blocks.proofs.write.add_header.Goals as goal
 
 -- one field after another
 pub returns : goal.returns
-unfolding header_text
+unfolding header_block
 returns c = IfOk-equal c.add-5.result _ _ _ c.add-5.ensures.ok (
     rw (
       c.in_ok-add_word-2.ensures,

@@ -5,7 +5,7 @@ use Rattle.std.specs.Str.Lines.{lines}
 use Rattle.setup_file.specs.Words.{value_behind}
 use Rattle.setup_file.specs.Rules.{number_before, conference_key}
 use Rattle.setup_file.specs.Fault.{LinesFault}
-use Rattle.setup_file.specs.State.{Kept, FaultOrMemory, conference_of}
+use Rattle.setup_file.specs.State.{Kept, SetupFaultOrMemory, conference_of_value}
 use Rattle.setup_file.proofs.Lines.{left_numbered, starts_counted}
 use Rattle.setup_file.proofs.KeptLines.{kept_skip, kept_more, line_fault, end_fault}
 use Rattle.setup_file.proofs.ConferenceLines.{number_behind, no_number_before, rule_of_next, conferences_more, count_is, none_before, some_own}
@@ -34,7 +34,7 @@ returns-in-Err c = λ all kept seven k.
     let left = lines here.text.now in
     let counts = starts_counted left (lines after.text.now) line h.starts c.in-Some.ensures.whole in
     let count = count_is c.loop-line.conferences h.own h.are in
-    subst (FaultOrMemory (LinesFault all)) (sym c.breaks.ensures)
+    subst (SetupFaultOrMemory (LinesFault all)) (sym c.breaks.ensures)
     (line_fault all left (kept ++ h.own) (lines after.text.now) line here.line c.in-Err.rule (h.kept all kept seven k) c.in-Some.ensures.whole counts
     (rule_of_next kept h.own line c.len.result c.loop-line.last seven (c.len.ensures ∙ count) (h.last kept seven) ∙ c.in-Err.ensures))
 
@@ -53,7 +53,7 @@ loop-line-preserved c =
     let counts = starts_counted left (lines after.text.now) line h.starts ahead.whole in
     let count = count_is c.loop-line.conferences h.own h.are in
     let parts = c.in-Ok.ensures in
-    let same : c.in_ok-conference.field-0 ≡ conference_of value = c.in_ok-conference.ensures value parts.1 in
+    let same : c.in_ok-conference.field-0 ≡ conference_of_value value = c.in_ok-conference.ensures value parts.1 in
     record {
       numbered = left_numbered (lines after.text.now) (lines next.text.now) s.skipped after.line next.line (left_numbered left (lines after.text.now) (line ∷ []) here.line after.line h.numbered ahead) s.ahead;
       starts = s.starts;
@@ -76,7 +76,7 @@ returns-then-is_none c = λ all kept seven k.
     let here = c.loop-line.here in
     let none : is_none c.loop-line.last ≡ true = ap not (c.is_none.ensures ∙ ap not c.if-is_none.true) in
     let few : length h.own ≡ 0 = none_before kept h.own seven (subst (λ (o : Option ℕ). is_none o ≡ true) (h.last kept seven) none) in
-    subst (FaultOrMemory (LinesFault all)) (sym c.breaks-then-is_none.ensures)
+    subst (SetupFaultOrMemory (LinesFault all)) (sym c.breaks-then-is_none.ensures)
     (end_fault all (lines here.text.now) (kept ++ h.own) here.line (h.kept all kept seven k) c.in_default.ensures (omega (arith, few, seven, length-append kept h.own)))
 
 pub returns : goal.returns

@@ -1,7 +1,7 @@
 use Rattle.std.proofs.Common.{◌≡◌, ℕ, List, ◌++◌, length}
 use Rattle.std.specs.Str.Lines.{lines}
 use Rattle.setup_file.specs.Rules.{number_before}
-use Rattle.setup_file.specs.State.{IsNumbered, StartsCounted, Kept, conferences_of}
+use Rattle.setup_file.specs.State.{IsNumbered, StartsCounted, Kept, conferences_of_lines}
 use Rattle.setup_file.proofs.conference_line.conferences_of.Given as goal
 
 -- the conferences so far are those of the lines so far, which were kept
@@ -10,7 +10,7 @@ invariant-loop-line l = record {
   numbered : IsNumbered (lines l.here.text.now) l.here.line;
   starts : StartsCounted (lines l.here.text.now);
   own : List (List ℕ);
-  are : l.conferences ≡ conferences_of own;
+  are : l.conferences ≡ conferences_of_lines own;
   last : (kept : List (List ℕ)) → length kept ≡ 7 → l.last ≡ number_before (kept ++ own);
   kept : (all kept : List (List ℕ)) → length kept ≡ 7 → Kept all (lines l.start.text.now) l.start.line kept → Kept all (lines l.here.text.now) l.here.line (kept ++ own);
 }

@@ -3,7 +3,7 @@ use Rattle.std.proofs.lemmas.Result.{err_from_is_err_and}
 use Rattle.std.specs.Str.Lines.{lines}
 use Rattle.setup_file.specs.Rules.{zones_rules}
 use Rattle.setup_file.specs.Fault.{LinesFault}
-use Rattle.setup_file.specs.State.{FaultOrMemory, BreaksAt}
+use Rattle.setup_file.specs.State.{SetupFaultOrMemory, BreaksAt}
 use Rattle.setup_file.proofs.Lines.{starts_counted}
 use Rattle.setup_file.proofs.RuleLists.{rule_by_zones}
 use Rattle.setup_file.proofs.KeptLines.{kept_skip, kept_more, line_fault, end_fault, weaker_fault}
@@ -14,7 +14,7 @@ returns-in_default-clause-zones c = λ all kept place k.
     let start = c.args.start in
     let here = c.past_skipped-here.result in
     let left = lines here.text.now in
-    subst (FaultOrMemory (LinesFault all)) (sym c.breaks.ensures)
+    subst (SetupFaultOrMemory (LinesFault all)) (sym c.breaks.ensures)
     (end_fault all left kept here.line (kept_skip all (lines start.text.now) left kept start.line here.line k c.past_skipped-here.ensures) c.in_default.ensures (omega (arith, place)))
 
 pub returns-in_err-zones-clause-zones : goal.returns-in_err-zones-clause-zones

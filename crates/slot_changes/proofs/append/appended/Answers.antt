@@ -1,6 +1,6 @@
 use Rattle.std.proofs.Common.{◌≡◌, ℕ, ◌+◌, List, length, Option, Some, sym, ap, ◌∙◌, subst, arith}
 use Rattle.std.specs.Prelude.{All, IfOk, IsSomeAnd}
-use Rattle.board_changes.specs.Change.{Becomes, Changes}
+use Rattle.board_changes.specs.Change.{Becomes, ChangesBase}
 use Rattle.board_changes.specs.Changed.{base_at, with_base}
 use Rattle.board_changes.specs.Outlined.{KeepsEach, LeadsEach, MadeBy, with_changed}
 use Rattle.board_changes.specs.Spending.{Spends}
@@ -56,7 +56,7 @@ extended-requires-clause-few c =
 pub with_base-requires-clause-change : goal.with_base-requires-clause-change
 with_base-requires-clause-change c =
     let made : BaseChange = c.in_ok-extended.field-0 in
-    subst (λ (o : Option Contents). IsSomeAnd o (λ old. Changes old made)) (sym c.base_of-base.ensures.base)
+    subst (λ (o : Option Contents). IsSomeAnd o (λ old. ChangesBase old made)) (sym c.base_of-base.ensures.base)
     (changes c.base_of-base.result.now c.in_ok-messages.messages made c.in_ok-extended.ensures.base c.in_ok-extended.ensures.intent)
 
 pub with_base-requires-clause-next : goal.with_base-requires-clause-next

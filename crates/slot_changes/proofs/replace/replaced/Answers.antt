@@ -1,7 +1,7 @@
 use Rattle.std.proofs.Common.{◌≡◌, ℕ, List, length, Option, Some, sym, ap, ◌∙◌, subst}
 use Rattle.std.specs.Prelude.{IfOk, IsSomeAnd}
 use Rattle.board_changes.proofs.BaseOutlines.{outline_with}
-use Rattle.board_changes.specs.Change.{Becomes, Changes}
+use Rattle.board_changes.specs.Change.{Becomes, ChangesBase}
 use Rattle.board_changes.specs.Changed.{base_at, with_base}
 use Rattle.board_changes.specs.Outlined.{KeepsEach, LeadsEach, MadeBy, with_changed}
 use Rattle.board_changes.specs.declared.change.BoardChange.{BoardChange}
@@ -36,7 +36,7 @@ replaced-requires-clause-slots c = slots_fit c.args.board.now c.args.place c.arg
 pub with_base-requires-clause-change : goal.with_base-requires-clause-change
 with_base-requires-clause-change c =
     let made : BaseChange = c.in_ok-change.change in
-    subst (λ (o : Option Contents). IsSomeAnd o (λ old. Changes old made)) (sym c.base_of.ensures.base)
+    subst (λ (o : Option Contents). IsSomeAnd o (λ old. ChangesBase old made)) (sym c.base_of.ensures.base)
     (replaced_changes c.args.slots.now c.base_of.result.now made c.in_ok-change.ensures.base c.in_ok-change.ensures.intent)
 
 pub with_base-requires-clause-next : goal.with_base-requires-clause-next

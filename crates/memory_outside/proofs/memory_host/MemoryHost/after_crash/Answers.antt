@@ -3,7 +3,7 @@ use Rattle.std.specs.Prelude.{All, reverse}
 use Rattle.std.proofs.lemmas.Result.{IfOk-weaker}
 use Rattle.memory_outside.specs.Contents.{content}
 use Rattle.door_outside.specs.Disk.{NothingPending, Now, as_read}
-use Rattle.memory_outside.specs.Events.{IsShort, Left, read, spoken}
+use Rattle.memory_outside.specs.Events.{IsShortEvent, Left, read, spoken}
 use Rattle.memory_outside.specs.MemoryHost.{Hosted, OnlyReads, disk_of}
 use Rattle.memory_outside.specs.declared.event.Event.{Event}
 use Rattle.memory_outside.proofs.Choosing.{contents_short, from_both, on_image_now, on_reads_now, nothing_pending}
@@ -23,7 +23,7 @@ pub returns-in-Written-clause-pending : goal.returns-in-Written-clause-pending
 returns-in-Written-clause-pending c = IfOk-weaker c.on_image.result (λ host. OnlyReads host.events) (λ host. NothingPending (disk_of host)) nothing_pending c.on_image.ensures.pending
 
 pub image_of-requires : goal.image_of-requires
-image_of-requires c = subst (All IsShort) (sym c.as_slice.ensures.value) (all_short c.self.inside.events.items c.self.invariant.short)
+image_of-requires c = subst (All IsShortEvent) (sym c.as_slice.ensures.value) (all_short c.self.inside.events.items c.self.invariant.short)
 
 pub on_image-requires-2 : goal.on_image-requires-2
 on_image-requires-2 c = left_short (reverse c.self.inside.events.items) (record { files = content c.in_ok-image.image; said = spoken (reverse c.self.inside.events.items) }) c.self.invariant.short (subst (λ (es : List Event). Left (reverse es) (record { files = content c.in_ok-image.image; said = spoken (reverse es) })) c.as_slice.ensures.value (c.in_ok-image.ensures {u = tt {0}}).left)

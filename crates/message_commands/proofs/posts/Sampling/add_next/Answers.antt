@@ -5,7 +5,7 @@ use Rattle.packet_verdicts.proofs.Places.{small_place}
 use Rattle.post_changes.specs.Posted.{spread}
 use Rattle.message_commands.proofs.SamplingLaws.{count_there, drafts, few_there, sampling_more}
 use Rattle.message_commands.specs.Draws.{draws_of}
-use Rattle.message_commands.specs.Sample.{replyid_of, sampled_message}
+use Rattle.message_commands.specs.Sample.{drawn_replyid, sampled_message}
 use Rattle.message_commands.specs.declared.posts.Sampling.{Sampling}
 use Rattle.message_commands.proofs.posts.Sampling.add_next.Goals as goal
 
@@ -29,7 +29,7 @@ returns-clause-sampling c =
     let within : d.place < 64 = small_place b d.place c.draws-draws.ensures.board c.draws-draws.ensures.place in
     let drawn : d ≡ draws_of s.seed (length s.posts) b = c.draws-draws.ensures.draws s.seed (length s.posts) known.number in
     let count = count_there b s known d.place c.from-place.result c.index.result.now within c.from-place.ensures c.index.ensures in
-    let reply : c.in_ok-replyid.replyid ≡ replyid_of d (spread s.posts b) = c.in_ok-replyid.ensures s.posts (drafts b s known) count in
+    let reply : c.in_ok-replyid.replyid ≡ drawn_replyid d (spread s.posts b) = c.in_ok-replyid.ensures s.posts (drafts b s known) count in
     let made : c.in_ok-message.message ≡ sampled_message s.seed s.moment (length s.posts + 1) d (spread s.posts b) =
     c.in_ok-message.ensures.message s.posts reply ∙ ap (λ (n : ℕ). sampled_message s.seed s.moment (n + 1) d (spread s.posts b)) c.len.ensures in
     on_ok_weaker c.add.result
