@@ -13,3 +13,63 @@ mod slots;
 mod tosses;
 mod uploads;
 mod users;
+
+use example_runs::Miss;
+use numbered::{expect_each, expect_joined};
+use std::alloc::Global;
+
+/// Plays the transcripts of boards, whose users, mail and packets are at their limits.
+fn expect_boards(alloc: Global) -> Result<(), Miss> {
+    expect_each(
+        alloc,
+        &[
+            users::USERS,
+            boards::MANY,
+            slots::SAMPLED,
+            uploads::MOST,
+            uploads::RECORDS,
+            exports::MOST,
+            exports::NUMBERS,
+            fields::LONGEST,
+            fields::TOO_LONG,
+            fields::POSTED,
+            fields::ADDRESSED,
+        ],
+    )?;
+    expect_joined(alloc, &[boards::ROOM, boards::FULL])?;
+    expect_joined(alloc, &[filled::FILLED, adoptions::ADOPTED])?;
+    expect_joined(alloc, &[filled::FILLED, tosses::TOSSED])
+}
+
+#[test]
+fn boards_have_limits(rt: HostRuntime) -> Result<(), Miss> {
+    expect_boards(rt.alloc())
+}
+
+/// Plays the transcripts of batches, files and packets that are as long as they may be.
+fn expect_files(alloc: Global) -> Result<(), Miss> {
+    expect_each(
+        alloc,
+        &[
+            batches::MOST,
+            batches::CHECKED,
+            batches::FILES,
+            packets::MANY,
+            packets::HEADERS,
+            packets::LINE,
+            control::LONG,
+        ],
+    )?;
+    expect_joined(alloc, &control::MANY)?;
+    control::expect_many(alloc)
+}
+
+#[test]
+fn files_have_limits(rt: HostRuntime) -> Result<(), Miss> {
+    expect_files(rt.alloc())
+}
+
+#[test]
+fn the_longest_journal_is_recovered(rt: HostRuntime) -> Result<(), Miss> {
+    recovery::expect_full(rt.alloc())
+}

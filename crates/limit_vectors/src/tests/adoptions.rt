@@ -1,9 +1,8 @@
 //! A base that is adopted by a board that it fills to its last byte.
 
-/// A base of five messages, each of which takes 128 bytes and its text, where 2,906 bytes are free. The texts have 2,779,
-/// 1,000, 1,651, 1,650 and no bytes, and end where .JDT does.
-pub const ADOPTED: &str = r#"
-* put front JAM\0\x01\0\0\0\x1A\0\0\0
+/// A base of five messages, each of which takes 128 bytes and its text, on the board of `FILLED`, where 2,906 bytes are
+/// free. The texts have 2,779, 1,000, 1,651, 1,650 and no bytes, and end where .JDT does.
+pub const ADOPTED: &str = r#"* put front JAM\0\x01\0\0\0\x1A\0\0\0
 * add front 48 \0
 * put back \0\0\0\0\0\0\0\0\x02\0\0\0\x07\0\0\0Bob Ray\x03\0\0\0\x03\0\0\0All
 * put base.JHR JAM\0

@@ -1,9 +1,7 @@
 //! Batches, sheets, setups and texts as long as they may be, and one byte longer.
-use super::numbered::expect_each_numbered;
-use example_runs::Miss;
 
 /// A batch of as many commands as fit, where there is no board.
-const MOST: &str = r#"
+pub const MOST: &str = r#"
 * add lines 174762 check\n
 * add lines 1 # 2\n
 * length lines 1048576
@@ -16,7 +14,7 @@ refused toolarge lines
 "#;
 
 /// A batch as long as it may be that makes a board and works on it.
-const CHECKED: &str = r#"
+pub const CHECKED: &str = r#"
 * put setup board: One\ncity: Springfield\nphone: 555-0100\nsysop: Sam Sysop\nbbsid: ONE\nserial: 1\nzones:\nconference: 0 local - C0\n
 * put lines init setup\n
 * add lines 69904 kill 0 1\ncheck\n
@@ -35,7 +33,7 @@ board ONE
 "#;
 
 /// A setup, a sheet of as many messages as fit, and a text, each as long as a file may be, and then a byte longer.
-const FILES: &str = r#"
+pub const FILES: &str = r#"
 * folders
 * add setup 1 board: One\ncity: Springfield\nphone: 555-0100\nsysop: Sam Sysop\nbbsid: ONE\nserial: 1\nzones:\n
 * add setup 1 conference: 0 local - C0\n
@@ -66,8 +64,3 @@ refused toolarge sheet
 > reply out 1 text R.MSG
 refused toolarge text
 "#;
-
-#[test]
-fn batches_and_files_have_limits(rt: HostRuntime) -> Result<(), Miss> {
-    expect_each_numbered(rt.alloc(), &[MOST, CHECKED, FILES])
-}

@@ -1,9 +1,7 @@
 //! Boards of as many conferences, and of as many bytes, as there may be.
-use super::numbered::{expect_numbered, play_numbered, played_numbered};
-use example_runs::Miss;
 
 /// A board of 64 conferences, each with a letter to its one user; and a setup of 65, whose line 72 is one too many.
-const MANY: &str = r#"
+pub const MANY: &str = r#"
 * put setup board: Many\ncity: Springfield\nphone: 555-0100\nsysop: Sam Sysop\nbbsid: MANY\nserial: 1\nzones:\n[[1 64 conference: # local - C#\n]]
 * put more
 * join more 1 setup
@@ -40,11 +38,6 @@ killed 64 1
 refused noconference
 "#;
 
-#[test]
-fn sixty_four_conferences_have_mail(rt: HostRuntime) -> Result<(), Miss> {
-    expect_numbered(rt.alloc(), MANY)
-}
-
 /// A board of eight conferences, and sheets of 255 and 55 messages whose bodies are as long as they may be, with which
 /// 2,906 bytes are free. A message of the last sheets has 128 bytes and its body.
 pub const ROOM: &str = r#"
@@ -74,8 +67,7 @@ board FULL
 "#;
 
 /// On that board nothing is added any more, and deleting goes on. With one byte more it isn't a board.
-const FULL: &str = r#"
-* put lines enroll A - 0\nkill 7 311\nkill 7 311\nimport 7 over\ncheck\n
+pub const FULL: &str = r#"* put lines enroll A - 0\nkill 7 311\nkill 7 311\nimport 7 over\ncheck\n
 > batch lines
 refused size 34603184
 killed 7 311
@@ -89,10 +81,3 @@ board FULL
 > check
 damaged 0 0 size
 "#;
-
-#[test]
-fn a_board_is_filled_to_its_last_byte(rt: HostRuntime) -> Result<(), Miss> {
-    let alloc = rt.alloc();
-    let mut stage = played_numbered(alloc, ROOM)?;
-    play_numbered(alloc, &mut stage, FULL)
-}

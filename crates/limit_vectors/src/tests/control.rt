@@ -1,14 +1,18 @@
 //! CONTROL.DAT of as many conferences as it may have, and as long as it may be.
-use super::numbered::played_numbered;
-use byte_lists::Bytes;
-use example_runs::{Miss, expect_transcript, file_of};
-use memory_outside::MemoryShelf;
+use super::numbered::written_out;
+use example_runs::Miss;
 use qwk_control::{Control, read_control, write_control};
 use std::alloc::Global;
 
-/// A file of 65,536 conferences, and the same with one more.
-const MANY: &str = r#"
-* put big/CONTROL.DAT Test Board\r\nSpringfield\r\n555-0100\r\nSam Sysop\r\n12345,TESTBBS\r\n09-09-2001,01:46:40\r\nANN LEE\r\n\r\n0\r\n0\r\n65535\r\n[[0 65535 #\r\nNAME\r\n]]WELCOME\r\nNEWS\r\nGOODBYE\r\n
+/// A file of 65,536 conferences.
+const FILE: &str =
+    "Test Board\r\nSpringfield\r\n555-0100\r\nSam Sysop\r\n12345,TESTBBS\r\n09-09-2001,01:46:40\r\nANN LEE\r\n\r\n0\r\n0\r\n65535\r\n[[0 65535 #\r\nNAME\r\n]]WELCOME\r\nNEWS\r\nGOODBYE\r\n";
+
+/// The transcript of a packet with that file, of another whose file has a conference more, and of a message for the last
+/// conference.
+pub const MANY: [&str; 3] = ["\n* put big/CONTROL.DAT ", FILE, PACKETS];
+
+const PACKETS: &str = r#"
 * blocks big/MESSAGES.DAT
 Produced by qwkdoor, packet 1
 * put more/CONTROL.DAT Test Board\r\nSpringfield\r\n555-0100\r\nSam Sysop\r\n12345,TESTBBS\r\n09-09-2001,01:46:40\r\nANN LEE\r\n\r\n0\r\n0\r\n65536\r\n[[0 65535 #\r\nNAME\r\n]]0\r\nNAME\r\n
@@ -29,13 +33,13 @@ TESTBBS
 Hi\xE3
 "#;
 
-/// Looks whether a file is written as it was read.
-fn expect_written(alloc: Global, control: &Control, file: &Bytes) -> Result<(), Miss> {
+/// Looks whether what was read of a file is written as it.
+fn expect_written(alloc: Global, control: &Control, file: &[u8]) -> Result<(), Miss> {
     if !control.writable() {
         return Err(Miss::Broken("it can't be written"));
     }
     let text = write_control(alloc, control)?;
-    if text.as_slice() == file.as_slice() {
+    if text.as_slice() == file {
         Ok(())
     } else {
         Err(Miss::Broken("it is written otherwise"))
@@ -43,28 +47,21 @@ fn expect_written(alloc: Global, control: &Control, file: &Bytes) -> Result<(), 
 }
 
 /// Looks whether a file that is read is written so.
-fn expect_read(alloc: Global, file: &Bytes) -> Result<(), Miss> {
-    match read_control(alloc, file.as_slice()) {
+fn expect_read(alloc: Global, file: &[u8]) -> Result<(), Miss> {
+    match read_control(alloc, file) {
         Ok(control) => expect_written(alloc, &control, file),
         Err(_) => Err(Miss::Broken("it isn't read")),
     }
 }
 
-/// Looks whether the file of a shelf is.
-fn expect_same(alloc: Global, shelf: &MemoryShelf, name: &str) -> Result<(), Miss> {
-    let file = file_of(alloc, shelf, name)?;
-    expect_read(alloc, &file)
-}
-
-#[test]
-fn a_packet_names_65536_conferences(rt: HostRuntime) -> Result<(), Miss> {
-    let alloc = rt.alloc();
-    let stage = played_numbered(alloc, MANY)?;
-    expect_same(alloc, &stage.shelf, "big/CONTROL.DAT")
+/// Looks whether the file of 65,536 conferences is read, and written so.
+pub fn expect_many(alloc: Global) -> Result<(), Miss> {
+    let file = written_out(alloc, &[FILE])?;
+    expect_read(alloc, file.as_bytes())
 }
 
 /// A file with lines behind the last that is looked at, as long as it may be, and then a byte longer.
-const LONG: &str = r#"
+pub const LONG: &str = r#"
 * folders
 * add out/CONTROL.DAT 4194145 \n
 * length out/CONTROL.DAT 4194304
@@ -77,8 +74,3 @@ user ANN LEE
 > read out
 refused toolarge out/CONTROL.DAT
 "#;
-
-#[test]
-fn a_control_file_has_4194304_bytes(rt: HostRuntime) -> Result<(), Miss> {
-    expect_transcript(rt.alloc(), LONG)
-}

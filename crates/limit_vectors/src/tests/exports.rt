@@ -1,9 +1,7 @@
 //! Packets of as many messages as a packet has at most, and the last number of a packet.
-use super::numbered::expect_each_numbered;
-use example_runs::Miss;
 
 /// Two thousand messages are exported.
-const MOST: &str = r#"
+pub const MOST: &str = r#"
 * board B
 * add sheet 2001 From: Bob Ray\nTo: All\nSubject: Hello\n\nFirst line\n.\n
 > import 0 sheet
@@ -26,7 +24,7 @@ packet 2: 1 messages
 
 /// The last packet of Ann's becomes the one before the greatest number: the records before the users' have 119 bytes,
 /// and her name and her flags 10.
-const NUMBERS: &str = r#"
+pub const NUMBERS: &str = r#"
 * board B
 * damage 0 becomes 129 254
 * damage 0 becomes 130 255
@@ -49,8 +47,3 @@ refused packets
 > export "Bob Ray" 10 out
 packet 1: 0 messages
 "#;
-
-#[test]
-fn exports_have_limits(rt: HostRuntime) -> Result<(), Miss> {
-    expect_each_numbered(rt.alloc(), &[MOST, NUMBERS])
-}

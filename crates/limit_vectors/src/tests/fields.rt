@@ -1,10 +1,8 @@
 //! Bodies and fields as long as they may be, and one byte longer.
-use super::numbered::expect_each_numbered;
-use example_runs::Miss;
 
 /// A message whose fields are as long as they may be: its subfields and the length of its body, and what a caller reads
 /// of it. What it answers isn't there.
-const LONGEST: &str = r#"
+pub const LONGEST: &str = r#"
 * board B
 * put most From: ABCDEFGHIJKLMNOPQRSTUVWXYZabcdefghij\nTo: KLMNOPQRSTabcdefghijABCDEFGHIJUVWXYZ\nSubject: A subject that has as many bytes as a subject may have, and not one more\nMsgid: 01234567890123456789012345678901234567890123456789012345678901234567890123456789\nReply: abcdefghijabcdefghijabcdefghijabcdefghijabcdefghijabcdefghijabcdefghijabcdefghij\n\n
 * add most 16383 x
@@ -30,7 +28,7 @@ Reference: 0
 "#;
 
 /// Sheets of which one value is a byte too long, or the body, in one line or in lines without a byte.
-const TOO_LONG: &str = r#"
+pub const TOO_LONG: &str = r#"
 * board B
 * put from From: ABCDEFGHIJKLMNOPQRSTUVWXYZabcdefghijx\nTo: b\n\n.\n
 * put to From: a\nTo: KLMNOPQRSTabcdefghijABCDEFGHIJUVWXYZx\n\n.\n
@@ -66,7 +64,7 @@ imported 1 into 0
 "#;
 
 /// A user with a name of 25 bytes, whose message has a text of 16,384 bytes, and whose second one has a byte more.
-const POSTED: &str = r#"
+pub const POSTED: &str = r#"
 * board B
 > enroll "Abcdefgh ijklmnop qrstuvwx" - 0
 refused name
@@ -93,7 +91,7 @@ posted 1 refused 1
 
 /// Net mail to a name of 36 bytes at an address whose numbers are the greatest, to a name of 37, and to each number that
 /// is one greater.
-const ADDRESSED: &str = r#"
+pub const ADDRESSED: &str = r#"
 * put setup board: Net\ncity: Springfield\nphone: 555-0100\nsysop: Sam Sysop\nbbsid: NET\nserial: 1\nzones: 32767\nconference: 1 net - NET\n
 > init setup
 made 1 conferences
@@ -126,8 +124,3 @@ Bob Ray@32766:32767/32767.32767\xE3
 posted 1 refused 6
 * data 2 from 1100 \x01\0\0\0\x17\0\0\x0032767:32767/32767.32767\x02\0\0\0\x07\0\0\0Ann Lee\x03\0\0\0\x24\0\0\0Abcdefghijklmnopqrstuvwxyz Abcdefghi
 "#;
-
-#[test]
-fn bodies_and_fields_have_limits(rt: HostRuntime) -> Result<(), Miss> {
-    expect_each_numbered(rt.alloc(), &[LONGEST, TOO_LONG, POSTED, ADDRESSED])
-}

@@ -1,77 +1,72 @@
 //! Transcripts with parts that stand once for each of some numbers.
 //!
 //! `[[FIRST LAST TEXT]]` is the text once for each number from the first to the last, with the number for each `#` of it.
-use example_runs::{Miss, Stage, played};
+//! What begins so and reads otherwise loses its brackets, and then is another transcript.
+use example_runs::{Miss, expect_transcript};
 use std::alloc::{AllocError, Global};
 
-/// Adds a part, with a number for each `#`.
-fn add_with(text: &mut String, part: &str, number: &str) -> Result<(), AllocError> {
-    let mut pieces = part.split('#');
-    if let Some(first) = pieces.next() {
-        text.push_str(first)?;
-    }
-    for piece in pieces {
-        text.push_str(number)?;
-        text.push_str(piece)?;
-    }
-    Ok(())
+/// The first and the last number of a part that stands once for each, and its text.
+fn numbered(part: &str) -> Option<(u32, u32, &str)> {
+    let (first, rest) = part.split_once(' ')?;
+    let (last, text) = rest.split_once(' ')?;
+    Some((first.parse().ok()?, last.parse().ok()?, text))
 }
 
-/// The number that a text begins with, and what follows the space behind it.
-fn numbered(text: &str) -> Result<(u32, &str), Miss> {
-    let (digits, rest) = text.split_once(' ').ok_or("a number lacks a space")?;
-    let number: u32 = digits.parse().ok().ok_or("this is no number")?;
-    Ok((number, rest))
+/// Adds a text with a number for each `#`.
+fn add_copy(alloc: Global, made: &mut String, text: &str, number: u32) -> Result<(), AllocError> {
+    let digits = format!(in alloc; "{number}")?;
+    let copy = text.replace(alloc, '#', digits.as_str())?;
+    made.push_str(copy.as_str())
 }
 
 /// Adds what stands between brackets.
-fn add_copies(alloc: Global, text: &mut String, between: &str) -> Result<(), Miss> {
-    let (first, rest) = numbered(between)?;
-    let (last, part) = numbered(rest)?;
+fn add_copies(alloc: Global, made: &mut String, between: &str) -> Result<(), AllocError> {
+    let Some((first, last, text)) = numbered(between) else {
+        return made.push_str(between);
+    };
     for number in first..=last {
-        let digits = format!(in alloc; "{number}")?;
-        add_with(text, part, digits.as_str())?;
+        add_copy(alloc, made, text, number)?;
     }
     Ok(())
 }
 
-/// A text with what stands between brackets written out.
-fn written_out(alloc: Global, text: &str) -> Result<String, Miss> {
-    let mut made = String::new(alloc);
-    let mut pieces = text.split("[[");
-    if let Some(first) = pieces.next() {
-        made.push_str(first)?;
+/// Adds a piece of a transcript, which ends before the next brackets. All but the first begin with what stands between
+/// brackets.
+fn add_piece(alloc: Global, made: &mut String, piece: &str) -> Result<(), AllocError> {
+    let Some((between, rest)) = piece.split_once("]]") else {
+        return made.push_str(piece);
+    };
+    add_copies(alloc, made, between)?;
+    made.push_str(rest)
+}
+
+/// Adds a transcript, or a part of one, with what stands between brackets written out.
+fn add_written(alloc: Global, made: &mut String, part: &str) -> Result<(), AllocError> {
+    for piece in part.split("[[") {
+        add_piece(alloc, made, piece)?;
     }
-    for piece in pieces {
-        let (between, rest) = piece.split_once("]]").ok_or("a bracket is open")?;
-        add_copies(alloc, &mut made, between)?;
-        made.push_str(rest)?;
+    Ok(())
+}
+
+/// The parts of a transcript behind one another, with what stands between brackets written out.
+pub fn written_out(alloc: Global, parts: &[&str]) -> Result<String, AllocError> {
+    let mut made = String::new(alloc);
+    for part in parts {
+        add_written(alloc, &mut made, part)?;
     }
     Ok(made)
 }
 
-/// Carries out each step of a transcript with numbered parts.
-pub fn play_numbered(alloc: Global, stage: &mut Stage, transcript: &str) -> Result<(), Miss> {
-    let transcript = written_out(alloc, transcript)?;
-    stage.play(alloc, transcript.as_str())
+/// Plays a transcript of these parts on empty files. Each ends with a line end, and only the first begins with one.
+pub fn expect_joined(alloc: Global, parts: &[&str]) -> Result<(), Miss> {
+    let transcript = written_out(alloc, parts)?;
+    expect_transcript(alloc, transcript.as_str())
 }
 
-/// Plays a transcript with numbered parts on empty files.
-pub fn played_numbered(alloc: Global, transcript: &str) -> Result<Stage, Miss> {
-    let transcript = written_out(alloc, transcript)?;
-    played(alloc, transcript.as_str())
-}
-
-/// The same, where nothing more is to be looked at.
-pub fn expect_numbered(alloc: Global, transcript: &str) -> Result<(), Miss> {
-    played_numbered(alloc, transcript)?;
-    Ok(())
-}
-
-/// The same of each of some transcripts.
-pub fn expect_each_numbered(alloc: Global, transcripts: &[&str]) -> Result<(), Miss> {
+/// Plays each of some transcripts on empty files.
+pub fn expect_each(alloc: Global, transcripts: &[&str]) -> Result<(), Miss> {
     for transcript in transcripts {
-        expect_numbered(alloc, transcript)?;
+        expect_joined(alloc, &[*transcript])?;
     }
     Ok(())
 }

@@ -1,9 +1,7 @@
 //! MESSAGES.DAT as long as it may be, and one byte longer.
-use super::numbered::expect_each_numbered;
-use example_runs::Miss;
 
 /// A packet of 163,839 messages of two blocks, and one of a header alone.
-const MANY: &str = r#"
+pub const MANY: &str = r#"
 * blocks said
  1      09-09-0101:46ALL                      BOB RAY                  Hello                                0       2     \xE1\0\0\x01\0
 First line\xE3
@@ -21,7 +19,7 @@ Produced by qwkdoor, packet 1
 "#;
 
 /// The same length as 327,679 headers alone, which are counted and of which the last is shown.
-const HEADERS: &str = r#"
+pub const HEADERS: &str = r#"
 * folders
 * blocks bare
  1      09-09-0101:46ALL                      BOB RAY                  Hello                                0       1     \xE1\0\0\x01\0
@@ -56,7 +54,7 @@ refused toolarge big/MESSAGES.DAT
 "#;
 
 /// One message of 327,678 blocks of text, whose one line is as long as fits.
-const LINE: &str = r#"
+pub const LINE: &str = r#"
 * folders
 * put big/CONTROL.DAT
 * join big/CONTROL.DAT 1 out/CONTROL.DAT
@@ -76,8 +74,3 @@ user ANN LEE
 > scan big/MESSAGES.DAT
 1 messages
 "#;
-
-#[test]
-fn the_longest_packets_are_read(rt: HostRuntime) -> Result<(), Miss> {
-    expect_each_numbered(rt.alloc(), &[MANY, HEADERS, LINE])
-}

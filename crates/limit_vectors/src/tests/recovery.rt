@@ -1,103 +1,83 @@
 //! A journal as long as a board may be, and a recovery that is stopped in it.
 use super::boards::ROOM;
-use super::numbered::played_numbered;
+use super::numbered::written_out;
 use byte_lists::Bytes;
 use door_outside::FileId;
-use example_runs::{Miss, Status, Steps, empty_host, put_data, run_to_fault, stops_at};
+use example_runs::{Miss, Status, Steps, empty_host, played, put_data, run_to_fault, stops_at};
 use memory_outside::{ImageChoice, MemoryHost, MemoryShelf};
-use std::alloc::Global;
+use std::alloc::{AllocError, Global};
 
-/// The four bytes of the length of a list.
-fn length_of(bytes: &[u8]) -> Result<[u8; 4], Miss> {
-    match u32::try_from(bytes.len()) {
-        Ok(length) => Ok(length.to_le_bytes()),
-        Err(_) => Err(Miss::Broken("a list is too long")),
+/// What stands before the patches of an open journal that makes the 25 files of the board that aren't empty: each patch
+/// has 11 bytes and those of its file, which are 34,603,008 together.
+const FRONT: &[u8] = b"OQDJ1\x19\0\0\0\x13\x01\x10\x02";
+
+/// Adds the patch that makes a file these bytes, if there are any. The journal itself gets none.
+fn add_whole(journal: &mut Bytes, file: FileId, bytes: &[u8]) -> Result<(), AllocError> {
+    if file == FileId::journal() || bytes.is_empty() {
+        return Ok(());
     }
+    let length = u32::try_from(bytes.len()).unwrap_or(u32::MAX);
+    journal.add(b"\0")?;
+    journal.add(&file.number().to_le_bytes())?;
+    journal.add(b"\0\0\0\0")?;
+    journal.add(&length.to_le_bytes())?;
+    journal.add(bytes)
 }
 
-/// Adds the patch that makes a file these bytes.
-fn add_whole(patches: &mut Bytes, file: FileId, bytes: &[u8]) -> Result<(), Miss> {
-    patches.add(b"\0")?;
-    patches.add(&file.number().to_le_bytes())?;
-    patches.add(b"\0\0\0\0")?;
-    patches.add(&length_of(bytes)?)?;
-    patches.add(bytes)?;
-    Ok(())
-}
-
-/// Adds a patch for each data file of a host that isn't empty, and answers how many there are.
-fn add_patches(patches: &mut Bytes, host: &MemoryHost) -> Result<u32, Miss> {
-    let mut count: u32 = 0;
+/// Adds a patch for each data file of a host that isn't empty.
+fn add_patches(journal: &mut Bytes, host: &MemoryHost) -> Result<(), AllocError> {
     for number in 0..258 {
-        let file = FileId::new(number).ok_or("no number of a file")?;
-        let bytes = host.file(file);
-        if file != FileId::journal() && !bytes.is_empty() {
-            add_whole(patches, file, bytes)?;
-            count = count.saturating_add(1);
+        if let Some(file) = FileId::new(number) {
+            add_whole(journal, file, host.file(file))?;
         }
     }
-    Ok(count)
-}
-
-/// Adds what an open journal of so many patches is.
-fn add_open(journal: &mut Bytes, count: u32, patches: &[u8]) -> Result<(), Miss> {
-    journal.add(b"OQDJ1")?;
-    journal.add(&count.to_le_bytes())?;
-    journal.add(&length_of(patches)?)?;
-    journal.add(patches)?;
     Ok(())
 }
 
-/// An open journal that makes all data files those of a host.
-fn journal_of(alloc: Global, host: &MemoryHost) -> Result<Bytes, Miss> {
-    let mut patches = Bytes::new(alloc);
-    let count = add_patches(&mut patches, host)?;
-    let mut journal = Bytes::new(alloc);
-    add_open(&mut journal, count, patches.as_slice())?;
-    Ok(journal)
-}
-
-/// Puts the files of a full board into an open journal.
+/// Puts an open journal that makes all data files those of a full board.
 fn put_open(alloc: Global, host: &mut MemoryHost, full: &MemoryHost) -> Result<(), Miss> {
-    let journal = journal_of(alloc, full)?;
+    let mut journal = Bytes::from_slice(alloc, FRONT)?;
+    add_patches(&mut journal, full)?;
     put_data(host, FileId::journal(), journal.as_slice())
 }
 
-/// What a recovery leaves that is stopped once it has written some of the files.
-fn stopped(alloc: Global, host: &MemoryHost, shelf: &mut MemoryShelf) -> Result<MemoryHost, Miss> {
-    let plan = stops_at(alloc, Some(40));
-    let left = run_to_fault(alloc, host, plan, shelf, "check", Status::DiskFault)?;
-    if left.wrote() == 0 || left.wrote() > 33_000_000 {
-        return Err(Miss::Broken("the recovery isn't stopped in its middle"));
-    }
-    Ok(left)
-}
-
-/// What a crash in the recovery of a full board's files leaves, beside files that were empty.
-fn torn(alloc: Global, full: &MemoryHost, shelf: &mut MemoryShelf) -> Result<MemoryHost, Miss> {
-    let mut open = empty_host(alloc);
-    put_open(alloc, &mut open, full)?;
-    stopped(alloc, &open, shelf)
-}
-
-/// The next recovery leaves the whole board.
-fn recovers(
+/// A recovery was stopped once it had written some of the files, and after a crash the next one leaves the whole board.
+fn expect_whole(
     alloc: Global,
-    full: MemoryHost,
-    torn: &MemoryHost,
+    board: &mut Steps,
+    stopped: &MemoryHost,
     shelf: &mut MemoryShelf,
 ) -> Result<(), Miss> {
-    let mut steps = Steps::of(alloc, full, shelf, "")?;
-    match steps.after_crash(alloc, torn, ImageChoice::Mixed(1), shelf) {
-        Ok(_) => Ok(()),
-        Err(miss) => Err(miss),
+    if stopped.wrote() == 0 || stopped.wrote() > 33_000_000 {
+        return Err(Miss::Broken("the recovery isn't stopped in its middle"));
     }
+    board.after_crash(alloc, stopped, ImageChoice::Mixed(1), shelf)?;
+    Ok(())
 }
 
-#[test]
-fn the_longest_journal_is_recovered(rt: HostRuntime) -> Result<(), Miss> {
-    let alloc = rt.alloc();
-    let mut stage = played_numbered(alloc, ROOM)?;
-    let torn = torn(alloc, &stage.host, &mut stage.shelf)?;
-    recovers(alloc, stage.host, &torn, &mut stage.shelf)
+/// Stops a recovery of the board in its middle, beside files that were empty.
+fn expect_recovery(
+    alloc: Global,
+    board: &mut Steps,
+    host: &mut MemoryHost,
+    shelf: &mut MemoryShelf,
+) -> Result<(), Miss> {
+    put_open(alloc, host, board.start()?)?;
+    let plan = stops_at(alloc, Some(40));
+    let stopped = run_to_fault(alloc, host, plan, shelf, "check", Status::DiskFault)?;
+    expect_whole(alloc, board, &stopped, shelf)
+}
+
+/// Does so with the board of a host.
+fn expect_recovered(alloc: Global, full: MemoryHost, shelf: &mut MemoryShelf) -> Result<(), Miss> {
+    let mut board = Steps::of(alloc, full, shelf, "")?;
+    let mut host = empty_host(alloc);
+    expect_recovery(alloc, &mut board, &mut host, shelf)
+}
+
+/// Does so with a full board.
+pub fn expect_full(alloc: Global) -> Result<(), Miss> {
+    let transcript = written_out(alloc, &[ROOM])?;
+    let mut stage = played(alloc, transcript.as_str())?;
+    expect_recovered(alloc, stage.host, &mut stage.shelf)
 }

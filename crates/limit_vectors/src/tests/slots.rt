@@ -1,9 +1,8 @@
 //! A conference of as many slots as there may be.
-use example_runs::{Miss, expect_transcript};
 
 /// A conference that `sample` fills, what 5,000 messages of the seed 1 and 4,999 of the seed 2 are, and that is packed
 /// when it is full: its slots stay as many.
-const SAMPLED: &str = r#"
+pub const SAMPLED: &str = r#"
 * put setup board: One\ncity: Springfield\nphone: 555-0100\nsysop: Sam Sysop\nbbsid: ONE\nserial: 1\nzones:\nconference: 0 local - C0\n
 * put one From: Bob Ray\nTo: All\n\nHi\n.\n
 * put lines init setup\nenroll "Ann Lee" n all\nsample 1 5000\nsample 3 5000\nsample 2 4999\nsample 3 1\nimport 0 one\ncheck\n
@@ -33,8 +32,3 @@ refused nomessage
 > sample 3 1
 refused slots 10000
 "#;
-
-#[test]
-fn a_conference_is_filled_by_samples(rt: HostRuntime) -> Result<(), Miss> {
-    expect_transcript(rt.alloc(), SAMPLED)
-}

@@ -1,9 +1,8 @@
 //! A packet that is tossed into a board that it fills to its last byte.
 
-/// A packet of five messages, each of which takes 137 bytes and its body, where 2,906 bytes are free. The bodies have
-/// 2,770, 1,000, 1,633, 1,632 and no bytes.
-pub const TOSSED: &str = r#"
-* add five.pkt 18 \0
+/// A packet of five messages, each of which takes 137 bytes and its body, on the board of `FILLED`, where 2,906 bytes are
+/// free. The bodies have 2,770, 1,000, 1,633, 1,632 and no bytes.
+pub const TOSSED: &str = r#"* add five.pkt 18 \0
 * add five.pkt 1 \x02
 * add five.pkt 39 \0
 * put front \x02

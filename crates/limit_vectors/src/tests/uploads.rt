@@ -1,14 +1,8 @@
 //! Reply packets of as many messages as fit, and ledgers of as many upload records.
-use super::numbered::expect_numbered;
-use byte_lists::Bytes;
-use door_outside::FileId;
-use example_runs::{Miss, Stage, played, put_data};
-use memory_outside::MemoryHost;
-use std::alloc::{AllocError, Global};
 
 /// Packets that are as long as a packet may be: of 8,191 headers without a text, and of 4,095 messages of two blocks and
 /// one of a header.
-const MOST: &str = r#"
+pub const MOST: &str = r#"
 * board B
 * blocks bare
  0      09-09-0101:46BOB RAY                  ANN LEE                  Hello                                0       1     \xE1\0\0\x01\0
@@ -51,37 +45,9 @@ board TESTBBS
 4 users, 1 uploads, 625188 bytes
 "#;
 
-#[test]
-fn a_packet_has_as_many_messages_as_fit(rt: HostRuntime) -> Result<(), Miss> {
-    expect_numbered(rt.alloc(), MOST)
-}
-
-/// An upload record of the user 1, whose digest is a number and zeros, and whose counts are 0.
-fn add_record(records: &mut Bytes, number: u32) -> Result<(), AllocError> {
-    records.add(b"\x01\0")?;
-    records.add(&number.to_le_bytes())?;
-    records.add(&[0; 36])
-}
-
-/// Makes a ledger with so many upload records behind it, of one that has none yet.
-fn add_ledger(made: &mut Bytes, ledger: &[u8], count: u32) -> Result<(), Miss> {
-    made.add(ledger.get(..12).ok_or("too short")?)?;
-    made.add(&count.to_le_bytes())?;
-    made.add(ledger.get(16..).ok_or("too short")?)?;
-    for number in 0..count {
-        add_record(made, number)?;
-    }
-    Ok(())
-}
-
-/// Gives the board of a host so many upload records.
-fn put_records(alloc: Global, host: &mut MemoryHost, count: u32) -> Result<(), Miss> {
-    let mut ledger = Bytes::new(alloc);
-    add_ledger(&mut ledger, host.file(FileId::ledger()), count)?;
-    put_data(host, FileId::ledger(), ledger.as_slice())
-}
-
-const BOARD: &str = r#"
+/// The board B with all upload records but one, of Ann's, whose digests are a number and zeros and whose counts are 0; and
+/// what is said where one record more may be kept. Each has 42 bytes, and the message that is posted 149.
+pub const RECORDS: &str = r#"
 * board B
 * blocks rep
 TESTBBS
@@ -91,10 +57,7 @@ Hi\xE3
 TESTBBS                                                                                                                        x
 * put lines upload "Ann Lee" rep\nupload "Ann Lee" rep\nupload "Bob Ray" rep\nupload "Ann Lee" other\n
 * add lines 1 upload "Ann Lee" rep\nexport "Ann Lee" 10 out\nack "Ann Lee" 1\ncheck\n
-"#;
-
-/// What is said where one record more may be kept. Each has 42 bytes, and the message that is posted 149.
-const LAST: &str = r#"
+* ledger QMDL\x02\0\x03\0\x04\0\x02\0\x9F\x86\x01\0\0\xCA\x9A;90\0\0\x0A\0Test Board\x0B\0Springfield\x08\0555-0100\x09\0Sam Sysop\x07\0TESTBBS\x01\0\x02\0\0\0\0\x02\x07\0GENERAL\x01\0\x02\0\x07\0NETMAIL\x07\0\0\x01\x04\0NEWS\x07\0Ann Lee\x01\0\0\0\0\x07[[1 71 \0]]\x07\0Bob Ray\0\0\0\0\0\x01[[1 71 \0]]\x09\0Sam Sysop\x01\0\0\0\0\x07[[1 71 \0]]\x06\0Cy Day\0\0\0\0\0\x01[[1 71 \0]][[100001 199999 \x01\0#\0\0\0\0\0\0\0\0\0\0\0\0\0\0\0\0\0\0\0\0\0\0\0\0\0\0\0\0\0\0\0\0\0\0]]
 > batch lines
 1 posted 0 1
 posted 1 refused 0
@@ -117,16 +80,3 @@ refused uploads 100000
 > check
 damaged 0 0 count
 "#;
-
-/// Plays that on a board that has all records but one.
-fn expect_last(alloc: Global, stage: &mut Stage) -> Result<(), Miss> {
-    put_records(alloc, &mut stage.host, 99_999)?;
-    stage.play(alloc, LAST)
-}
-
-#[test]
-fn a_hundred_thousand_uploads_are_kept(rt: HostRuntime) -> Result<(), Miss> {
-    let alloc = rt.alloc();
-    let mut stage = played(alloc, BOARD)?;
-    expect_last(alloc, &mut stage)
-}

@@ -1,9 +1,7 @@
 //! A board of as many users as there may be.
-use super::numbered::expect_numbered;
-use example_runs::Miss;
 
 /// The last user gets mail. The users' records have 79 bytes and their names, and each user has three last-read records.
-const USERS: &str = r#"
+pub const USERS: &str = r#"
 * setups
 * put lines init setup.txt\n[[1 500 enroll "User #" n all\n]]enroll "User 501" n all\nenroll "user 500" n 5\nenroll "User 501" n 5\ncheck\n
 * put mail From: Bob\nTo: User 500\nPrivate: yes\n\nHi\n.\n
@@ -35,8 +33,3 @@ board TESTBBS
 7 NEWS: 0 slots, 0 live
 500 users, 0 uploads, 70716 bytes
 "#;
-
-#[test]
-fn five_hundred_users_are_enrolled(rt: HostRuntime) -> Result<(), Miss> {
-    expect_numbered(rt.alloc(), USERS)
-}
