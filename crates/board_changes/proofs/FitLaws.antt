@@ -12,6 +12,7 @@ use Rattle.board_layout.specs.Board.{Board}
 use Rattle.board_layout.specs.Layout.{board_size}
 use Rattle.board_layout.specs.Valid.{IsBoard, board_limit, highs_fit, offers_fit}
 use Rattle.open_offers.specs.Offers.{IsOffer}
+use Rattle.board_ledger.specs.Limits.{user_limit}
 use Rattle.board_ledger.specs.Records.{EachBehind}
 use Rattle.board_ledger.specs.Uploads.{IsUpload}
 use Rattle.board_ledger.specs.Users.{IsUser, is_taken, right_members}
@@ -62,15 +63,15 @@ one_all P x here = All-cons P x [] here (All-nil P)
 record MayHave (l : Ledger) (u : User) : Type 0 where
   name : is_user_name u.name ≡ true
   members : right_members (length l.setup.conferences) u.members ≡ true
-  few : length l.users < 500
+  few : length l.users < user_limit
   free : is_taken l.users u.name ≡ false
 
 parts : (l : Ledger) (u : User) → may_enroll l u.name u.members ≡ true → MayHave l u
 parts l u may =
     let halves = and_parts (is_user_name u.name && right_members (length l.setup.conferences) u.members) (is_free l u.name) may in
     let own = and_parts (is_user_name u.name) (right_members (length l.setup.conferences) u.members) halves.0 in
-    let others = and_parts (nat_lt (length l.users) 500) (not (is_taken l.users u.name)) halves.1 in
-    record { name = own.0; members = own.1; few = ltb-true (length l.users) 500 others.0; free = not-true (is_taken l.users u.name) others.1 }
+    let others = and_parts (nat_lt (length l.users) user_limit) (not (is_taken l.users u.name)) halves.1 in
+    record { name = own.0; members = own.1; few = ltb-true (length l.users) user_limit others.0; free = not-true (is_taken l.users u.name) others.1 }
 
 ledger_is : (l : Ledger) (u : User) → IsLedger l → IsUser (length l.setup.conferences) u → MayHave l u → IsLedger (with_user u l)
 ledger_is l u ok user may = record {
@@ -91,11 +92,11 @@ ledger_is l u ok user may = record {
 was_enrollable : (l : Ledger) (u : User) → IsLedger (with_user u l) → may_enroll l u.name u.members ≡ true
 was_enrollable l u next =
     let user : IsUser (length l.setup.conferences) u = last_of (IsUser (length l.setup.conferences)) l.users u next.users in
-    let few : length l.users < 500 = omega (arith, next.few_users, length-append l.users (u ∷ [])) in
+    let few : length l.users < user_limit = omega (arith, next.few_users, length-append l.users (u ∷ [])) in
     let free : is_taken l.users u.name ≡ false = each_last (λ before v. is_taken before v.name ≡ false) [] l.users u next.names in
     and_from (is_user_name u.name && right_members (length l.setup.conferences) u.members) (is_free l u.name)
     (and_from (is_user_name u.name) (right_members (length l.setup.conferences) u.members) user.name user.members)
-    (and_from (nat_lt (length l.users) 500) (not (is_taken l.users u.name)) (lt-ltb (length l.users) 500 few) (not_from_false (is_taken l.users u.name) free))
+    (and_from (nat_lt (length l.users) user_limit) (not (is_taken l.users u.name)) (lt-ltb (length l.users) user_limit few) (not_from_false (is_taken l.users u.name) free))
 
 -- ---- the whole board
 module _ (b : Board) (name : List ℕ) (net : Bool) (members : ℕ) where

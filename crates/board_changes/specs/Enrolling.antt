@@ -1,13 +1,14 @@
 -- What a board asks of a user more, and how many conferences the user joins.
 use Rattle.std.specs.Prelude.{ℕ, zero, suc, ◌+◌, List, length, Bool, not, ◌&&◌, ◌==◌, nat_lt, if◌then◌else◌}
 use Rattle.std.specs.Int.{bit_at}
+use Rattle.board_ledger.specs.Limits.{user_limit}
 use Rattle.board_ledger.specs.Users.{is_taken, right_members}
 use Rattle.board_ledger.specs.declared.ledger.Ledger.{Ledger}
 use Rattle.setup_file.specs.Texts.{is_user_name}
 
 -- there are fewer than 500 users, and none has the name, ignoring ASCII case
 abbrev pub is_free : Ledger → List ℕ → Bool
-is_free l name = nat_lt (length l.users) 500 && not (is_taken l.users name)
+is_free l name = nat_lt (length l.users) user_limit && not (is_taken l.users name)
 
 -- the ledger may have a user of this name behind the others, a member of these places
 abbrev pub may_enroll : Ledger → List ℕ → ℕ → Bool

@@ -6,6 +6,7 @@ use Rattle.board_layout.proofs.OneOutline.{alike_ledger, alike_size}
 use Rattle.board_layout.specs.Board.{Board}
 use Rattle.board_layout.specs.Outlines.{board_outline}
 use Rattle.board_layout.specs.Valid.{board_limit}
+use Rattle.board_ledger.specs.Limits.{user_limit}
 use Rattle.board_ledger.specs.declared.ledger.Ledger.{Ledger}
 use Rattle.command_words.specs.Choice.{ChoiceReads, has_unknown, chosen_from}
 use Rattle.command_words.specs.declared.choice.Choice.{Choice}
@@ -32,7 +33,7 @@ refusals_of name net choice l size =
     (not (is_user_name name), Name)
     ∷ (is_some (user_id name (record { ledger = l; conferences = [] })), DupUser)
     ∷ (has_unknown choice l.setup.conferences, NoConference)
-    ∷ (nat_le 500 (length l.users), Users)
+    ∷ (nat_le user_limit (length l.users), Users)
     ∷ (nat_lt board_limit size, Size size)
     ∷ []
 

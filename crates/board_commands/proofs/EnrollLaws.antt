@@ -15,6 +15,7 @@ use Rattle.board_changes.specs.Enrolling.{is_free, joined_count, may_enroll}
 use Rattle.board_layout.specs.Board.{Board}
 use Rattle.board_layout.specs.Layout.{board_size}
 use Rattle.board_layout.specs.Valid.{IsBoard, board_limit}
+use Rattle.board_ledger.specs.Limits.{user_limit}
 use Rattle.board_ledger.specs.Users.{is_taken, right_members}
 use Rattle.board_ledger.specs.declared.user.User.{User}
 use Rattle.command_words.proofs.ChoiceLaws.{few_places, some_places}
@@ -74,14 +75,14 @@ user_fits b name net choice word ok reads none =
     let named = unrefused (not (is_user_name name)) Name _ none in
     let free = unrefused (is_some (user_id name b)) DupUser _ named.1 in
     let known = unrefused (has_unknown choice cs) NoConference _ free.1 in
-    let few = unrefused (leb 500 (length b.ledger.users)) Users _ known.1 in
+    let few = unrefused (leb user_limit (length b.ledger.users)) Users _ known.1 in
     let short = unrefused (ltb board_limit size) (Size size) None few.1 in
     let some = some_places word choice cs reads known.0 ok.ledger.setup.conferences.some in
     let placed : right_members (length cs) members ≡ true = and_from (not (eqb members 0)) (ltb members (2 ^ length cs))
     (not_from_false (eqb members 0) (ne_eqb members 0 (λ e. omega (arith, e, some)))) (lt-ltb members (2 ^ length cs) (few_places choice cs)) in
     let taken : is_taken b.ledger.users name ≡ false = no_position (λ (u : User). str_eq_ignore_ascii_case u.name name) (λ place. place + 1) b.ledger.users free.0 in
-    let room : is_free b.ledger name ≡ true = and_from (ltb (length b.ledger.users) 500) (not (is_taken b.ledger.users name))
-    (lt-ltb (length b.ledger.users) 500 (leb-false 500 (length b.ledger.users) few.0)) (not_from_false (is_taken b.ledger.users name) taken) in
+    let room : is_free b.ledger name ≡ true = and_from (ltb (length b.ledger.users) user_limit) (not (is_taken b.ledger.users name))
+    (lt-ltb (length b.ledger.users) user_limit (leb-false user_limit (length b.ledger.users) few.0)) (not_from_false (is_taken b.ledger.users name) taken) in
     let may : may_enroll b.ledger name members ≡ true = and_from (is_user_name name && right_members (length cs) members) (is_free b.ledger name)
     (and_from (is_user_name name) (right_members (length cs) members) (not_false (is_user_name name) named.0) placed) room in
     board_fits b name net members ok may (ltb-false board_limit size short.0)

@@ -1,6 +1,7 @@
 -- The command `enroll`.
 use Rattle.std.specs.Prelude.{◌≡◌, ℕ, ◌+◌, List, [], ◌∷◌, ◌++◌, length, codes, decimal, Bool, not, nat_le, nat_lt, is_some, if◌then◌else◌, Option, Some, None}
 use Rattle.std.specs.Str.{bytes_eq}
+use Rattle.board_ledger.specs.Limits.{user_limit}
 use Rattle.entry_runs.specs.Door.{Act}
 use Rattle.board_changes.specs.Changed.{enrolled}
 use Rattle.board_layout.specs.Board.{Board}
@@ -36,7 +37,7 @@ enroll_refusals name net choice b =
     (not (is_user_name name), Name)
     ∷ (is_some (user_id name b), DupUser)
     ∷ (has_unknown choice b.ledger.setup.conferences, NoConference)
-    ∷ (nat_le 500 (length b.ledger.users), Users)
+    ∷ (nat_le user_limit (length b.ledger.users), Users)
     ∷ (nat_lt board_limit (board_size (board_with_user name net choice b)), Size (board_size (board_with_user name net choice b)))
     ∷ []
 

@@ -19,6 +19,7 @@ use crate::finding::find;
 use crate::halt::BoardHalt;
 use crate::making::make_change;
 use crate::sizes::size_refusal;
+use board_ledger::USER_LIMIT;
 use byte_lists::Bytes;
 use command_words::Choice;
 use door_outside::Host;
@@ -26,9 +27,6 @@ use mail_board::{Board, Change, Loaded};
 use setup_file::is_user_name;
 use shelf_files::Refusal;
 use std::alloc::{AllocError, Global};
-
-/// How many users a board may have.
-const USER_LIMIT: u32 = 500;
 
 /// A user who was enrolled.
 #[derive(Debug, Drop)]
@@ -85,7 +83,7 @@ fn refusal_of(
     if choice.has_unknown(board.setup().conferences.as_slice()) {
         return Some(Refusal::NoConference);
     }
-    if board.user_count() >= USER_LIMIT {
+    if board.user_count() as usize >= USER_LIMIT {
         return Some(Refusal::Users);
     }
     size_refusal(board, change)

@@ -8,6 +8,7 @@ use Rattle.board_layout.specs.Board.{Board, conferences_in, shapes_of}
 use Rattle.board_layout.specs.Valid.{IsBoard}
 use Rattle.board_layout.proofs.BasePlaces.{shapes_count}
 use Rattle.jam_base.specs.Contents.{Contents}
+use Rattle.jam_layout.specs.Limits.{slot_limit}
 use Rattle.jam_layout.specs.Valid.{IsConference}
 use Rattle.jam_layout.specs.declared.conference.Conference.{Conference}
 use Rattle.jam_layout.specs.declared.shape.Shape.{Shape}
@@ -52,14 +53,14 @@ conference_at b bases place e = ap (λ (xs : List Conference). slice_get xs plac
 abbrev pub slots_of : Option Conference → List Slot
 slots_of c = unwrap_or (option_map (λ (c : Conference). c.slots) c) []
 
-few_slots : (shapes : List Shape) (conferences : List Conference) (place : ℕ) → AllZip IsConference shapes conferences → length (slots_of (slice_get conferences place)) ≤ 9999
+few_slots : (shapes : List Shape) (conferences : List Conference) (place : ℕ) → AllZip IsConference shapes conferences → length (slots_of (slice_get conferences place)) ≤ slot_limit
 few_slots shapes [] place zip = omega arith
 few_slots [] (c ∷ conferences) place zip = absurd zip
 few_slots (s ∷ shapes) (c ∷ conferences) zero zip = zip.0.few
 few_slots (s ∷ shapes) (c ∷ conferences) (suc place) zip = few_slots shapes conferences place zip.1
 
 -- a conference of a valid board has at most 9,999 slots
-pub few_in_place : (b : Board) (place : ℕ) → IsBoard b → length (slots_in b place) ≤ 9999
+pub few_in_place : (b : Board) (place : ℕ) → IsBoard b → length (slots_in b place) ≤ slot_limit
 few_in_place b place ok = few_slots (shapes_of b.ledger) b.conferences place ok.conferences
 
 pub base_slots : (b : Board) (bases : List Contents) (place : ℕ) (base : Contents) → conferences_in bases ≡ b.conferences → slice_get bases place ≡ Some base → base.conference.slots ≡ slots_in b place

@@ -1,5 +1,6 @@
 // The highs of the users' open offers.
 ghost use Rattle.std.specs.Prelude.{◌≡◌, ◌≤◌, ◌+◌, length};
+ghost use Rattle.board_ledger.specs.Limits.{user_limit};
 ghost use Rattle.board_layout.specs.Board.{conferences_in};
 ghost use Rattle.board_layout.specs.Damage.{highs_of};
 ghost use Rattle.board_layout.specs.Valid.{highs_fit as are_within, offers_fit as all_within};
@@ -37,7 +38,7 @@ pub fn offers_fit(bases: &[Base], offers: &[OpenOffer]) -> bool
 /// Tests the highs of users, of whom the first has this record of the ledger.
 pub(crate) fn check_highs(bases: &[Base], first: u32, users: &[User]) -> Result<(), Damage>
     requires first { first ≤ 65 }
-    requires few { length users.now ≤ 500 }
+    requires few { length users.now ≤ user_limit }
     ensures { result ≡ highs_of (conferences_in bases.now) first users.now }
 {
     for (i, user) in users.iter().enumerate() {

@@ -1,6 +1,7 @@
 // What is looked up in a board.
 ghost use Rattle.std.specs.Prelude.{◌≡◌, ◌≤◌, ◌<◌, [], Some, length, slice_get, Contains, IfSome, IfNone, IsSome};
 ghost use Rattle.std.specs.Option.{option_copied};
+ghost use Rattle.jam_layout.specs.Limits.{slot_limit};
 ghost use Rattle.board_layout.specs.Lookups.{slots_in, user_of as user_with_id};
 ghost use Rattle.board_layout.specs.Outlines.{board_outline};
 ghost use Rattle.board_layout.specs.Renewed.{contents_of};
@@ -83,7 +84,7 @@ impl StoredBoard {
     /// How many slots the conference in a place has, none where no conference is there.
     pub fn slot_count(&self, place: u8) -> u32
         ensures count { result ≡ length (slots_in self.now place) }
-        ensures few { result ≤ 9999 }
+        ensures few { result ≤ slot_limit }
         ensures board { IsBoard self.now }
     {
         match self.base_at(place) {

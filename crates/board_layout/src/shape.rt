@@ -1,4 +1,5 @@
 ghost use Rattle.std.specs.Prelude.{◌≡◌, ◌≤◌, ◌<◌, length, IfOk};
+ghost use Rattle.board_ledger.specs.Limits.{user_limit};
 ghost use Rattle.board_layout.specs.Board.{readers_from, shape_of};
 
 use board_ledger::{Ledger, User};
@@ -9,7 +10,7 @@ use std::alloc::{AllocError, Global};
 /// The members of the conference in a place among users, of whom the first has the id 1.
 fn readers_of(alloc: Global, users: &[User], place: u8) -> Result<Readers, AllocError>
     requires place { place < 64 }
-    requires few { length users.now ≤ 500 }
+    requires few { length users.now ≤ user_limit }
     ensures { IfOk result (λ readers. readers ≡ readers_from place 1 users.now) }
 {
     let mut readers = Readers::new(alloc);
@@ -29,7 +30,7 @@ fn readers_of(alloc: Global, users: &[User], place: u8) -> Result<Readers, Alloc
 /// The error comes where there is no memory.
 pub fn shape_at(alloc: Global, ledger: &Ledger, place: u8, kind: Kind) -> Result<Shape, AllocError>
     requires place { place < 64 }
-    requires few { length ledger.now.users ≤ 500 }
+    requires few { length ledger.now.users ≤ user_limit }
     ensures { IfOk result (λ shape. shape ≡ shape_of ledger.now place kind) }
 {
     Ok(Shape {

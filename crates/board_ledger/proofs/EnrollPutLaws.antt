@@ -12,7 +12,7 @@ use Rattle.board_ledger.specs.EnrollPuts.{with_user, enroll_puts}
 use Rattle.board_ledger.specs.Ledger.{ledger_text}
 use Rattle.board_ledger.specs.OneFile.{TurnsFile}
 use Rattle.board_ledger.specs.Opening.{fixed_text, setup_text}
-use Rattle.board_ledger.specs.Uploads.{upload_text}
+use Rattle.board_ledger.specs.Uploads.{upload_text, upload_size}
 use Rattle.board_ledger.specs.UserPuts.{record_in, user_place}
 use Rattle.board_ledger.specs.Users.{users_text, IsUser}
 use Rattle.board_ledger.specs.Valid.{IsLedger}
@@ -92,10 +92,10 @@ module _ (l : Ledger) (u : User) where
       two_turn (ledger_text l) (ledger_text (with_user u l)) (u16_text (length l.users + 1)) (record_in l u ++ records) 8 (user_place (length l.users) l)
       (omega (arith, text_long l)) (omega (arith, ap length counted, place_is, length-append (first ++ middle l) records)) added
 
-  pub records_length : IsLedger l → length (record_in l u ++ records) ≡ length (record_in l u) + 42 * length l.uploads
-  records_length ok = omega (arith, length-append (record_in l u) records, flat_length upload_text 42 l.uploads (λ k d within. upload_length _ (ok.uploads k d within).digest))
+  pub records_length : IsLedger l → length (record_in l u ++ records) ≡ length (record_in l u) + upload_size * length l.uploads
+  records_length ok = omega (arith, length-append (record_in l u) records, flat_length upload_text upload_size l.uploads (λ k d within. upload_length _ (ok.uploads k d within).digest))
 
-  pub enroll_bytes : IsLedger l → byte_count (enroll_puts l u) ≡ 2 + length (record_in l u) + 42 * length l.uploads
+  pub enroll_bytes : IsLedger l → byte_count (enroll_puts l u) ≡ 2 + length (record_in l u) + upload_size * length l.uploads
   enroll_bytes ok = omega (
     arith,
     two_bytes (Put 0 8 (u16_text (length l.users + 1))) (Put 0 (user_place (length l.users) l) (record_in l u ++ records)),

@@ -18,6 +18,7 @@ use Rattle.setup_file.specs.Zones.{are_zones}
 use Rattle.setup_file.specs.Valid.{IsSetup}
 use Rattle.setup_file.specs.declared.setup.Setup.{Setup}
 use Rattle.open_offers.specs.Texts.{sized_text, text_at, text_end, u16s_at}
+use Rattle.board_ledger.specs.Limits.{upload_limit, user_limit}
 use Rattle.board_ledger.specs.Opening.{magic, fixed_text, setup_text, opening_text, places_of, setup_of, opening_of, wrong_counts, wrong_texts, fixed_rules, setup_rules, opening_at}
 use Rattle.board_ledger.specs.Ledger.{with_conferences}
 use Rattle.board_ledger.specs.Valid.{IsLedger, today}
@@ -108,8 +109,8 @@ pub record OpeningTaken (bytes : List ℕ) (o : Opening) : Type 0 where
   pub created : IsU32 o.created
   pub some : 1 ≤ o.conferences
   pub conferences : o.conferences ≤ 64
-  pub users : o.users ≤ 500
-  pub uploads : o.uploads ≤ 100000
+  pub users : o.users ≤ user_limit
+  pub uploads : o.uploads ≤ upload_limit
 
 opening_fits : (bytes : List ℕ) → All IsByte bytes → Kept (fixed_rules bytes) → Kept (setup_rules bytes (setup_of bytes)) → OpeningTaken bytes (opening_of bytes)
 unfolding fixed_rules setup_rules opening_of
@@ -247,9 +248,9 @@ same_fit s fit = record { board = fit.board; city = fit.city; phone = fit.phone;
 counts_right : (bytes : List ℕ) → CountsFit bytes → wrong_counts bytes ≡ false
 unfolding wrong_counts
 counts_right bytes fit =
-    both_false ((eqb (u16_at 6 bytes) 0 || ltb 64 (u16_at 6 bytes)) || ltb 500 (u16_at 8 bytes)) (ltb 16 (u16_at 10 bytes) || ltb 100000 (u32_at 12 bytes))
-    (both_false (eqb (u16_at 6 bytes) 0 || ltb 64 (u16_at 6 bytes)) (ltb 500 (u16_at 8 bytes)) (both_false (eqb (u16_at 6 bytes) 0) (ltb 64 (u16_at 6 bytes)) (not_zero (u16_at 6 bytes) fit.some) (le-ltb _ _ fit.conferences)) (le-ltb _ _ fit.users))
-    (both_false (ltb 16 (u16_at 10 bytes)) (ltb 100000 (u32_at 12 bytes)) (le-ltb _ _ fit.zones) (le-ltb _ _ fit.uploads))
+    both_false ((eqb (u16_at 6 bytes) 0 || ltb 64 (u16_at 6 bytes)) || ltb user_limit (u16_at 8 bytes)) (ltb 16 (u16_at 10 bytes) || ltb upload_limit (u32_at 12 bytes))
+    (both_false (eqb (u16_at 6 bytes) 0 || ltb 64 (u16_at 6 bytes)) (ltb user_limit (u16_at 8 bytes)) (both_false (eqb (u16_at 6 bytes) 0) (ltb 64 (u16_at 6 bytes)) (not_zero (u16_at 6 bytes) fit.some) (le-ltb _ _ fit.conferences)) (le-ltb _ _ fit.users))
+    (both_false (ltb 16 (u16_at 10 bytes)) (ltb upload_limit (u32_at 12 bytes)) (le-ltb _ _ fit.zones) (le-ltb _ _ fit.uploads))
 
 pub opening_again : (v : Version) (l : Ledger) (rest : List ℕ) → IsLedger (today l) → opening_at (opening_text v l ++ rest) ≡ Ok (opening_in v l)
 unfolding opening_at opening_of fixed_rules setup_rules fixed_text

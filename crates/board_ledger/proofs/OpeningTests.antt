@@ -10,6 +10,7 @@ use Rattle.damage_rules.specs.Rules.{first_broken, unless_broken, by_rules, ◌>
 use Rattle.damage_rules.proofs.KeptRules.{none_kept, part_fails, part_passes, rules_kept, step_fails}
 use Rattle.setup_file.specs.declared.setup.Setup.{Setup}
 use Rattle.open_offers.specs.Texts.{text_end}
+use Rattle.board_ledger.specs.Limits.{upload_limit, user_limit}
 use Rattle.board_ledger.specs.Opening.{places_of, setup_of, opening_of, opening_at, wrong_counts, fixed_rules, setup_rules}
 use Rattle.open_offers.specs.Versions.{version_of}
 use Rattle.board_ledger.specs.declared.opening.Opening.{Opening}
@@ -86,9 +87,9 @@ opening_read bytes version setup created conferences users uploads size passed h
 pub record CountsFit (bytes : List ℕ) : Type 0 where
   pub some : 0 < u16_at 6 bytes
   pub conferences : u16_at 6 bytes ≤ 64
-  pub users : u16_at 8 bytes ≤ 500
+  pub users : u16_at 8 bytes ≤ user_limit
   pub zones : u16_at 10 bytes ≤ 16
-  pub uploads : u32_at 12 bytes ≤ 100000
+  pub uploads : u32_at 12 bytes ≤ upload_limit
 
 above_zero : (n : ℕ) → eqb n 0 ≡ false → 0 < n
 above_zero n e = grind (arith, nat_tests)
@@ -96,10 +97,10 @@ above_zero n e = grind (arith, nat_tests)
 pub counts_fit : (bytes : List ℕ) → wrong_counts bytes ≡ false → CountsFit bytes
 unfolding wrong_counts
 counts_fit bytes e =
-    let two = or_false ((eqb (u16_at 6 bytes) 0 || ltb 64 (u16_at 6 bytes)) || ltb 500 (u16_at 8 bytes)) (ltb 16 (u16_at 10 bytes) || ltb 100000 (u32_at 12 bytes)) e in
-    let front = or_false (eqb (u16_at 6 bytes) 0 || ltb 64 (u16_at 6 bytes)) (ltb 500 (u16_at 8 bytes)) two.0 in
+    let two = or_false ((eqb (u16_at 6 bytes) 0 || ltb 64 (u16_at 6 bytes)) || ltb user_limit (u16_at 8 bytes)) (ltb 16 (u16_at 10 bytes) || ltb upload_limit (u32_at 12 bytes)) e in
+    let front = or_false (eqb (u16_at 6 bytes) 0 || ltb 64 (u16_at 6 bytes)) (ltb user_limit (u16_at 8 bytes)) two.0 in
     let first = or_false (eqb (u16_at 6 bytes) 0) (ltb 64 (u16_at 6 bytes)) front.0 in
-    let last = or_false (ltb 16 (u16_at 10 bytes)) (ltb 100000 (u32_at 12 bytes)) two.1 in
+    let last = or_false (ltb 16 (u16_at 10 bytes)) (ltb upload_limit (u32_at 12 bytes)) two.1 in
     record {
       some = above_zero _ first.0;
       conferences = ltb-false _ _ first.1;

@@ -13,7 +13,7 @@ use Rattle.open_offers.specs.Texts.{sized_text}
 use Rattle.board_ledger.specs.Opening.{fixed_text, setup_text}
 use Rattle.board_ledger.specs.Conferences.{conference_text}
 use Rattle.board_ledger.specs.Users.{user_text, users_text, behind_name, IsUser}
-use Rattle.board_ledger.specs.Uploads.{upload_text}
+use Rattle.board_ledger.specs.Uploads.{upload_text, upload_size}
 use Rattle.board_ledger.specs.Ledger.{text_in}
 use Rattle.board_ledger.specs.declared.ledger.Ledger.{Ledger}
 use Rattle.open_offers.specs.declared.offer.OpenOffer.{OpenOffer}
@@ -96,16 +96,16 @@ pub behind_most : (v : Version) (count : ℕ) → count ≤ 64 → behind_name v
 behind_most First count few = omega arith
 behind_most Second count few = omega arith
 
-pub upload_length : (r : UploadRecord) → length r.digest ≡ 32 → length (upload_text r) ≡ 42
+pub upload_length : (r : UploadRecord) → length r.digest ≡ 32 → length (upload_text r) ≡ upload_size
 unfolding upload_text
 upload_length r digest = omega (arith, digest, length-append r.digest (u32_text r.counts.posted ++ u32_text r.counts.refused))
 
 pub ledger_length : (v : Version) (l : Ledger) → All (λ r. length r.digest ≡ 32) l.uploads
     → length (text_in v l)
-    ≡ 24 + (length (setup_text l.setup) + length (flat_map conference_text l.setup.conferences)) + length (users_text v (length l.setup.conferences) l.users) + 42 * length l.uploads
+    ≡ 24 + (length (setup_text l.setup) + length (flat_map conference_text l.setup.conferences)) + length (users_text v (length l.setup.conferences) l.users) + upload_size * length l.uploads
 unfolding text_in
 ledger_length v l digests =
-    let uploads = flat_length upload_text 42 l.uploads (λ k d within. upload_length _ (digests k d within)) in
+    let uploads = flat_length upload_text upload_size l.uploads (λ k d within. upload_length _ (digests k d within)) in
     let c : List ℕ = flat_map conference_text l.setup.conferences in
     let u : List ℕ = users_text v (length l.setup.conferences) l.users in
     let r : List ℕ = flat_map upload_text l.uploads in

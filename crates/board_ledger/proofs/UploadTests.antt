@@ -13,7 +13,7 @@ use Rattle.record_numbers.proofs.NumberFronts.{u16_front}
 use Rattle.record_numbers.proofs.NumberLemmas.{number_of_bytes}
 use Rattle.jam_records.specs.declared.damage.DamageRule.TheVariants.{Short, User as NoUser, Twice, Counts as WrongCounts}
 use Rattle.damage_rules.specs.Rules.{by_rules}
-use Rattle.board_ledger.specs.Uploads.{upload_in_record, wrong_user, too_many, is_repeated, upload_rules, upload_at}
+use Rattle.board_ledger.specs.Uploads.{upload_in_record, wrong_user, too_many, is_repeated, upload_rules, upload_at, upload_size}
 use Rattle.board_ledger.specs.declared.upload.UploadRecord.{UploadRecord}
 use Rattle.damage_rules.proofs.BoolTests.{both_pass, same_tests}
 use Rattle.open_offers.proofs.TextLaws.{u16_small}
@@ -22,7 +22,7 @@ use Rattle.open_offers.proofs.TextLaws.{u16_small}
 abbrev pub pair_of : UploadRecord → List ℕ
 pair_of r = u16_text r.user ++ r.digest
 
-pub pair_front : (bytes : List ℕ) → All IsByte bytes → 42 ≤ length bytes → take 34 bytes ≡ pair_of (upload_in_record bytes)
+pub pair_front : (bytes : List ℕ) → All IsByte bytes → upload_size ≤ length bytes → take 34 bytes ≡ pair_of (upload_in_record bytes)
 unfolding upload_in_record
 pair_front bytes all long = ap (take 34) (u16_front 0 bytes all (omega arith))
 
@@ -53,8 +53,8 @@ pairs_met (e ∷ before) r fit few =
 
 -- the reading by what the tests answer
 pub by_tests : (first users : ℕ) (before : List UploadRecord) (bytes : List ℕ) (short user twice counts : Bool)
-    → short ≡ ltb (length bytes) 42 → user ≡ wrong_user users (upload_in_record bytes) → twice ≡ is_repeated before (upload_in_record bytes) → counts ≡ too_many (upload_in_record bytes).counts
-    → upload_at first users before bytes ≡ by_rules 0 (first + length before) ((Short, short) ∷ (NoUser, user) ∷ (Twice, twice) ∷ (WrongCounts, counts) ∷ []) (upload_in_record bytes, 42)
+    → short ≡ ltb (length bytes) upload_size → user ≡ wrong_user users (upload_in_record bytes) → twice ≡ is_repeated before (upload_in_record bytes) → counts ≡ too_many (upload_in_record bytes).counts
+    → upload_at first users before bytes ≡ by_rules 0 (first + length before) ((Short, short) ∷ (NoUser, user) ∷ (Twice, twice) ∷ (WrongCounts, counts) ∷ []) (upload_in_record bytes, upload_size)
 unfolding upload_at upload_rules
 by_tests first users before bytes short user twice counts a b c d =
-    λ i. by_rules 0 (first + length before) ((Short, sym a i) ∷ (NoUser, sym b i) ∷ (Twice, sym c i) ∷ (WrongCounts, sym d i) ∷ []) (upload_in_record bytes, 42)
+    λ i. by_rules 0 (first + length before) ((Short, sym a i) ∷ (NoUser, sym b i) ∷ (Twice, sym c i) ∷ (WrongCounts, sym d i) ∷ []) (upload_in_record bytes, upload_size)

@@ -12,6 +12,7 @@ use Rattle.setup_file.specs.Zones.{are_zones}
 use Rattle.setup_file.specs.declared.setup.Setup.{Setup}
 use Rattle.open_offers.specs.Texts.{sized_text, text_at, text_end, u16s_at}
 use Rattle.open_offers.specs.Versions.{version_number, version_of, wrong_version}
+use Rattle.board_ledger.specs.Limits.{upload_limit, user_limit}
 use Rattle.board_ledger.specs.declared.ledger.Ledger.{Ledger}
 use Rattle.board_ledger.specs.declared.opening.Opening.{Opening}
 use Rattle.board_ledger.specs.declared.opening.Places.{Places}
@@ -75,7 +76,7 @@ opening_of bytes = record {
 -- 1 to 64 conferences, 0 to 500 users, 0 to 16 zones, 0 to 100,000 upload records, or a count is wrong
 unfoldable pub wrong_counts : List ℕ → Bool
 wrong_counts bytes =
-    ((u16_at 6 bytes == 0 || nat_lt 64 (u16_at 6 bytes)) || nat_lt 500 (u16_at 8 bytes)) || (nat_lt 16 (u16_at 10 bytes) || nat_lt 100000 (u32_at 12 bytes))
+    ((u16_at 6 bytes == 0 || nat_lt 64 (u16_at 6 bytes)) || nat_lt user_limit (u16_at 8 bytes)) || (nat_lt 16 (u16_at 10 bytes) || nat_lt upload_limit (u32_at 12 bytes))
 
 -- board, city or phone is no board text, or the sysop no user name
 unfoldable pub wrong_texts : Setup → Bool

@@ -3,6 +3,7 @@
 use Rattle.std.specs.Prelude.{◌≡◌, ◌≤◌, ◌⊎◌, List, [], length, All, false}
 use Rattle.record_numbers.specs.Numbers.{IsU32}
 use Rattle.setup_file.specs.Valid.{IsSetup}
+use Rattle.board_ledger.specs.Limits.{upload_limit, user_limit}
 use Rattle.board_ledger.specs.Records.{EachBehind}
 use Rattle.board_ledger.specs.Users.{is_taken, IsUser, IsOldUser}
 use Rattle.board_ledger.specs.Uploads.{is_repeated, IsUpload}
@@ -23,10 +24,10 @@ pub record IsLedger (l : Ledger) : Type 0 where
   pub version : l.version ≡ 2
   pub setup : IsSetup l.setup
   pub created : IsU32 l.created
-  pub few_users : length l.users ≤ 500
+  pub few_users : length l.users ≤ user_limit
   pub users : All (IsUser (length l.setup.conferences)) l.users
   pub names : NamesDiffer l.users
-  pub few_uploads : length l.uploads ≤ 100000
+  pub few_uploads : length l.uploads ≤ upload_limit
   pub uploads : All (IsUpload (length l.users)) l.uploads
   pub pairs : PairsDiffer l.uploads
 

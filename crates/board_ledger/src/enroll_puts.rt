@@ -7,7 +7,7 @@ ghost use Rattle.door_outside.specs.File.{ledger_file};
 ghost use Rattle.board_ledger.specs.EnrollPuts.{with_user, enroll_puts as puts_of};
 ghost use Rattle.board_ledger.specs.Ledger.{ledger_text};
 ghost use Rattle.board_ledger.specs.OneFile.{TurnsFile};
-ghost use Rattle.board_ledger.specs.Uploads.{upload_text};
+ghost use Rattle.board_ledger.specs.Uploads.{upload_text, upload_size};
 ghost use Rattle.board_ledger.specs.UserPuts.{record_in, user_place as user_place_of};
 ghost use Rattle.board_ledger.specs.Valid.{IsLedger};
 
@@ -57,7 +57,7 @@ pub fn enroll_patches(alloc: Global, ledger: &Ledger, user: &User) -> Result<Pat
     requires longer { IsLedger (with_user user.now ledger.now) }
     ensures puts { IfOk result (λ patches. patches ≡ puts_of ledger.now user.now) }
     ensures files { IfOk result (λ patches. TurnsFile ledger_file (ledger_text ledger.now) (ledger_text (with_user user.now ledger.now)) patches) }
-    ensures costs { IfOk result (λ patches. (length patches ≡ 2) × (byte_count patches ≡ 2 + length (record_in ledger.now user.now) + 42 * length ledger.now.uploads)) }
+    ensures costs { IfOk result (λ patches. (length patches ≡ 2) × (byte_count patches ≡ 2 + length (record_in ledger.now user.now) + upload_size * length ledger.now.uploads)) }
 {
     let mut patches = Patches::new(alloc);
     patches.add(count_put(alloc, ledger)?)?;

@@ -14,6 +14,12 @@ use byte_lists::Bytes;
 use setup_file::Setup;
 use std::alloc::{AllocError, Global};
 
+/// How many users a board may have.
+pub const USER_LIMIT: usize = 500;
+
+/// How many upload records a board may keep.
+pub const UPLOAD_LIMIT: usize = 100_000;
+
 /// All of a board but its messages. A valid ledger has version 2, a valid setup, at most 500 users whose names differ
 /// ignoring ASCII case, and at most 100,000 upload records of these users, no two of one user and digest. One of version
 /// 1 is valid but for its version, and in it each user has at most one open offer, which is that of his last packet.

@@ -3,12 +3,14 @@ ghost use Rattle.damage_rules.specs.Rules.{first_broken, by_rules};
 ghost use Rattle.setup_file.specs.Texts.{is_bbsid as is_bbsid_text};
 ghost use Rattle.setup_file.specs.Zones.{are_zones as are_zone_numbers};
 ghost use Rattle.record_numbers.specs.Numbers.{u16_at as u16_in};
+ghost use Rattle.board_ledger.specs.Limits.{upload_limit, user_limit};
 ghost use Rattle.board_ledger.specs.Rules.{LedgerGives};
 ghost use Rattle.open_offers.specs.Versions.{wrong_version as version_wrong};
 ghost use Rattle.board_ledger.specs.Opening.{places_of as places_in, setup_of as setup_in, opening_of as opening_in, opening_at as opening_read, wrong_counts as counts_wrong, wrong_texts as texts_wrong, fixed_rules, setup_rules};
 
 use crate::damaged::damaged;
 use crate::error::LedgerError;
+use crate::ledger::{UPLOAD_LIMIT, USER_LIMIT};
 use byte_lists::Bytes;
 use jam_records::DamageRule;
 use open_offers::{Version, text_at, text_end, u16s_at};
@@ -104,8 +106,8 @@ fn wrong_counts(bytes: &[u8]) -> bool
     ensures { result ≡ counts_wrong bytes.now }
 {
     let conferences = u16_at(bytes, 6);
-    ((conferences == 0 || conferences > 64) || u16_at(bytes, 8) > 500)
-        || (u16_at(bytes, 10) > 16 || u32_at(bytes, 12) > 100_000)
+    ((conferences == 0 || conferences > 64) || u16_at(bytes, 8) as usize > USER_LIMIT)
+        || (u16_at(bytes, 10) > 16 || u32_at(bytes, 12) as usize > UPLOAD_LIMIT)
 }
 
 /// Whether board, city or phone breaks its rule, or the sysop is no user name.
@@ -181,7 +183,7 @@ fn setup_behind(alloc: Global, bytes: &[u8]) -> Result<(Setup, usize), LedgerErr
 pub(crate) fn opening_of(alloc: Global, bytes: &[u8]) -> Result<Opening, LedgerError>
     ensures gives { LedgerGives (λ x. x) result (opening_read bytes.now) }
     ensures size { IfOk result (λ opening. opening.size ≤ length bytes.now) }
-    ensures counts { IfOk result (λ opening. (opening.conferences ≤ 64) × (opening.users ≤ 500) × (opening.uploads ≤ 100000)) }
+    ensures counts { IfOk result (λ opening. (opening.conferences ≤ 64) × (opening.users ≤ user_limit) × (opening.uploads ≤ upload_limit)) }
 {
     if let Some(rule) = broken_fixed(bytes) {
         return Err(damaged(0, rule));

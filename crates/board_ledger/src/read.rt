@@ -1,4 +1,5 @@
 ghost use Rattle.std.specs.Prelude.{◌≡◌, ◌≤◌, length, Ok};
+ghost use Rattle.board_ledger.specs.Limits.{upload_limit, user_limit};
 ghost use Rattle.board_ledger.specs.Rules.{LedgerGives};
 ghost use Rattle.board_ledger.specs.Ledger.{with_conferences as setup_with, ledger_with, ledger_of as ledger_in};
 ghost use Rattle.board_ledger.specs.Opening.{opening_at as opening_read};
@@ -34,7 +35,7 @@ fn records_of(
 ) -> Result<(Conferences, Users, Uploads), LedgerError>
     requires opening { opening_read bytes.now ≡ Ok opening.now }
     requires size { opening.now.size ≤ length bytes.now }
-    requires counts { (opening.now.conferences ≤ 64) × (opening.now.users ≤ 500) × (opening.now.uploads ≤ 100000) }
+    requires counts { (opening.now.conferences ≤ 64) × (opening.now.users ≤ user_limit) × (opening.now.uploads ≤ upload_limit) }
     ensures { LedgerGives (λ x. ledger_with opening.now x.0 x.1 x.2) result (ledger_in bytes.now) }
 {
     let (conferences, rest) = conferences_of(alloc, opening.conferences, &bytes[opening.size..])?;

@@ -1,5 +1,6 @@
 ghost use Rattle.std.specs.Prelude.{◌≡◌, ◌≤◌, ◌+◌, ◌*◌, length, All};
 ghost use Rattle.std.specs.List.{flat_map};
+ghost use Rattle.board_ledger.specs.Limits.{user_limit};
 ghost use Rattle.board_ledger.specs.Opening.{opening_text, setup_text};
 ghost use Rattle.board_ledger.specs.Conferences.{conference_text};
 ghost use Rattle.board_ledger.specs.Users.{users_text, IsUser};
@@ -10,7 +11,7 @@ ghost use Rattle.open_offers.specs.declared.version.Version.TheVariants.{Second}
 ghost use Rattle.setup_file.specs.Valid.{IsSetup, IsSetupConference};
 
 use crate::ledger::Ledger;
-use crate::uploads::UPLOAD;
+use crate::upload::UPLOAD_SIZE;
 use crate::user::User;
 use byte_lists::Bytes;
 use open_offers::Version;
@@ -54,7 +55,7 @@ fn conferences_size(conferences: &[Conference]) -> usize
 fn users_size(conferences: u16, users: &[User]) -> usize
     requires each { All (IsUser conferences) users.now }
     requires conferences { conferences ≤ 64 }
-    requires many { length users.now ≤ 500 }
+    requires many { length users.now ≤ user_limit }
     ensures size { result ≡ length (users_text Second conferences users.now) }
     ensures small { result ≤ 1080 * length users.now }
 {
@@ -92,6 +93,6 @@ pub(crate) fn ledger_size(ledger: &Ledger) -> u64
     requires { IsLedger (today ledger.now) }
     ensures { result ≡ length (text_of ledger.now) }
 {
-    let uploads = UPLOAD * ledger.uploads.len();
+    let uploads = UPLOAD_SIZE * ledger.uploads.len();
     (user_place(ledger, ledger.users.len()) + uploads) as u64
 }

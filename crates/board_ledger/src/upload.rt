@@ -1,10 +1,16 @@
 ghost use Rattle.std.specs.Prelude.{◌≡◌, ◌≤◌, ◌<◌, ◌^◌, ◌++◌, length, IfOk, OnOk};
-ghost use Rattle.board_ledger.specs.Uploads.{upload_text, upload_in_record as upload_in, wrong_user as user_wrong, too_many as counts_wrong};
+ghost use Rattle.board_ledger.specs.Uploads.{upload_text, upload_in_record as upload_in, wrong_user as user_wrong, too_many as counts_wrong, upload_size};
 
 use byte_lists::{Bytes, Duplicate, List};
 use open_offers::{add_u16, add_u32};
 use record_numbers::{u16_at, u32_at};
 use std::alloc::{AllocError, Global};
+
+/// How many bytes an upload record has.
+pub const UPLOAD_SIZE: usize = 42;
+
+/// How many messages an upload record may count.
+pub const VERDICT_LIMIT: usize = 8191;
 
 /// What became of the messages of an upload. Together they are at most 8,191.
 #[derive(Debug, Clone, Copy, PartialEq, Eq)]
@@ -40,7 +46,7 @@ impl Counts {
     pub(crate) fn too_many(&self) -> bool
         ensures { result ≡ counts_wrong self.now }
     {
-        u64::from(self.posted) + u64::from(self.refused) > 8191
+        u64::from(self.posted) + u64::from(self.refused) > VERDICT_LIMIT as u64
     }
 }
 
@@ -55,7 +61,7 @@ impl UploadRecord {
     /// The record at the front.
     #[tactic(auto, unfolding(crate::specs::Uploads::upload_in_record))]
     pub(crate) fn read(bytes: &[u8]) -> UploadRecord
-        requires { 42 ≤ length bytes.now }
+        requires { upload_size ≤ length bytes.now }
         ensures { result ≡ upload_in bytes.now }
     {
         let mut digest = [0; 32];

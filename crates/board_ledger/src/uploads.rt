@@ -2,21 +2,19 @@ ghost use Rattle.std.specs.Prelude.{◌≡◌, ◌≤◌, ◌<◌, ◌+◌, ◌^
 ghost use Rattle.std.specs.List.{flat_map, list_any};
 ghost use Rattle.std.specs.Str.{bytes_eq};
 ghost use Rattle.record_numbers.specs.Numbers.{u16_text};
+ghost use Rattle.board_ledger.specs.Limits.{upload_limit};
 ghost use Rattle.board_ledger.specs.Rules.{LedgerGives};
 ghost use Rattle.board_ledger.specs.Met.{is_met};
 ghost use Rattle.board_ledger.specs.Records.{records_at};
-ghost use Rattle.board_ledger.specs.Uploads.{upload_text, upload_at};
+ghost use Rattle.board_ledger.specs.Uploads.{upload_text, upload_at, upload_size};
 
 use crate::damaged::damaged;
 use crate::error::LedgerError;
 use crate::met::Met;
-use crate::upload::{UploadRecord, Uploads};
+use crate::upload::{UPLOAD_SIZE, UploadRecord, Uploads};
 use byte_lists::Bytes;
 use jam_records::DamageRule;
 use std::alloc::{AllocError, Global};
-
-/// The length of an upload record in bytes.
-pub(crate) const UPLOAD: usize = 42;
 
 /// How many bytes of an upload record are its user and its digest.
 const PAIR: usize = 34;
@@ -33,16 +31,16 @@ fn upload_of(
     bytes: &[u8],
 ) -> Result<UploadRecord, LedgerError>
     requires first { first ≤ 1000 }
-    requires few { length before.now < 100000 }
+    requires few { length before.now < upload_limit }
     requires fit { All (λ e. e.user < 2 ^ 16) before.now }
     requires met { (key : List ℕ) → is_met pairs.old key ≡ list_any (λ e. bytes_eq (u16_text e.user ++ e.digest) key) before.now }
-    ensures gives { LedgerGives (λ x. (x, 42)) result (upload_at first users before.now bytes.now) }
-    ensures size { IfOk result (λ _. 42 ≤ length bytes.now) }
+    ensures gives { LedgerGives (λ x. (x, upload_size)) result (upload_at first users before.now bytes.now) }
+    ensures size { IfOk result (λ _. upload_size ≤ length bytes.now) }
     ensures fits { IfOk result (λ x. x.user < 2 ^ 16) }
     ensures added { IfOk result (λ x. (key : List ℕ) → is_met pairs.new key ≡ (bytes_eq (u16_text x.user ++ x.digest) key || is_met pairs.old key)) }
 {
     let item = first + before.len() as u32;
-    if bytes.len() < UPLOAD {
+    if bytes.len() < UPLOAD_SIZE {
         return Err(damaged(item, DamageRule::Short));
     }
     let upload = UploadRecord::read(bytes);
@@ -68,7 +66,7 @@ pub(crate) fn uploads_of(
     bytes: &[u8],
 ) -> Result<(Uploads, &[u8]), LedgerError>
     requires first { first ≤ 1000 }
-    requires count { count ≤ 100000 }
+    requires count { count ≤ upload_limit }
     ensures { LedgerGives (λ x. (x.0, x.1.now)) result (records_at (upload_at first users) count [] bytes.now) }
 {
     let mut uploads = Uploads::new(alloc);
@@ -77,7 +75,7 @@ pub(crate) fn uploads_of(
     for _ in 0..count {
         let upload = upload_of(alloc, first, users, uploads.as_slice(), &mut pairs, rest)?;
         uploads.add(upload)?;
-        rest = &rest[UPLOAD..];
+        rest = &rest[UPLOAD_SIZE..];
     }
     Ok((uploads, rest))
 }

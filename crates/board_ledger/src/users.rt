@@ -3,6 +3,7 @@ ghost use Rattle.std.specs.List.{list_any};
 ghost use Rattle.std.specs.Str.{bytes_eq};
 ghost use Rattle.damage_rules.specs.Rules.{first_broken};
 ghost use Rattle.setup_file.specs.Texts.{is_user_name as is_name};
+ghost use Rattle.board_ledger.specs.Limits.{user_limit};
 ghost use Rattle.board_ledger.specs.Rules.{LedgerGives};
 ghost use Rattle.board_ledger.specs.Met.{is_met};
 ghost use Rattle.board_ledger.specs.Records.{records_at};
@@ -84,7 +85,7 @@ fn user_of(
     bytes: &[u8],
 ) -> Result<(User, usize), LedgerError>
     requires conferences { conferences ≤ 64 }
-    requires few { length before.now < 500 }
+    requires few { length before.now < user_limit }
     requires met { (key : List ℕ) → is_met names.old key ≡ list_any (λ u. bytes_eq (lowered_name u.name) key) before.now }
     ensures gives { LedgerGives (λ x. x) result (user_at version conferences before.now bytes.now) }
     ensures size { IfOk result (λ x. x.1 ≤ length bytes.now) }
@@ -114,7 +115,7 @@ pub(crate) fn users_of(
     bytes: &[u8],
 ) -> Result<(Users, &[u8]), LedgerError>
     requires conferences { conferences ≤ 64 }
-    requires count { count ≤ 500 }
+    requires count { count ≤ user_limit }
     ensures { LedgerGives (λ x. (x.0, x.1.now)) result (records_at (user_at version conferences) count [] bytes.now) }
 {
     let mut users = Users::new(alloc);

@@ -2,6 +2,7 @@
 use Rattle.std.proofs.Common.{ℕ, ◌*◌, ◌≤◌, List, [], ◌∷◌, length, ap, arith, length-append}
 use Rattle.std.specs.Prelude.{All}
 use Rattle.std.proofs.lemmas.List.Elements.{All-weaker}
+use Rattle.board_ledger.specs.Limits.{verdict_limit}
 use Rattle.netmail_rules.specs.Fits.{HasShortTexts}
 use Rattle.qwk_blocks.proofs.Messages.{length_message}
 use Rattle.qwk_blocks.specs.Packet.{MessagesRead}
@@ -17,7 +18,7 @@ blocks_of_all bytes (m ∷ messages) (first, rest, whole, one, others) =
     let some = one.header.blocks.positive in
     omega (arith, ap length whole, length-append first rest, length_message first m one, some, blocks_of_all rest messages others)
 
-pub few_messages : (bytes : List ℕ) (packet : Rep) → length bytes ≤ 1048576 → RepReads bytes packet → length packet.messages ≤ 8191
+pub few_messages : (bytes : List ℕ) (packet : Rep) → length bytes ≤ 1048576 → RepReads bytes packet → length packet.messages ≤ verdict_limit
 few_messages bytes packet short reads =
     let size = reads.packet.size in
     omega (arith, short, ap length reads.packet.whole, length-append reads.packet.notice reads.packet.rest, size, blocks_of_all reads.packet.rest packet.messages reads.packet.each)

@@ -9,7 +9,8 @@ use Rattle.board_layout.specs.Board.{Board}
 use Rattle.board_layout.specs.Layout.{board_size}
 use Rattle.board_layout.specs.Lookups.{user_of}
 use Rattle.board_layout.specs.Valid.{board_limit}
-use Rattle.board_ledger.specs.Uploads.{is_repeated, too_many, wrong_user}
+use Rattle.board_ledger.specs.Limits.{upload_limit, verdict_limit}
+use Rattle.board_ledger.specs.Uploads.{is_repeated, too_many, wrong_user, upload_size}
 use Rattle.board_ledger.specs.declared.upload.UploadRecord.{UploadRecord}
 use Rattle.board_ledger.specs.declared.user.User.{User}
 use Rattle.door_upload.specs.Upload.{UploadRefusal, Uploads, Size, record_refusal, size_with_record}
@@ -25,11 +26,11 @@ unrefused true long why is = absurd (cc is)
 unrefused false true why is = absurd (cc is)
 unrefused false false why is = (refl, refl)
 
-pub few_records : (b : Board) → record_refusal b ≡ None → length b.ledger.uploads < 100000
-few_records b none = leb-false 100000 (length b.ledger.uploads) (unrefused (leb 100000 (length b.ledger.uploads)) (ltb board_limit (size_with_record b)) (Size (size_with_record b)) none).0
+pub few_records : (b : Board) → record_refusal b ≡ None → length b.ledger.uploads < upload_limit
+few_records b none = leb-false upload_limit (length b.ledger.uploads) (unrefused (leb upload_limit (length b.ledger.uploads)) (ltb board_limit (size_with_record b)) (Size (size_with_record b)) none).0
 
-pub room_for_record : (b : Board) → record_refusal b ≡ None → board_size b + 42 ≤ board_limit
-room_for_record b none = ltb-false board_limit (size_with_record b) (unrefused (leb 100000 (length b.ledger.uploads)) (ltb board_limit (size_with_record b)) (Size (size_with_record b)) none).1
+pub room_for_record : (b : Board) → record_refusal b ≡ None → board_size b + upload_size ≤ board_limit
+room_for_record b none = ltb-false board_limit (size_with_record b) (unrefused (leb upload_limit (length b.ledger.uploads)) (ltb board_limit (size_with_record b)) (Size (size_with_record b)) none).1
 
 -- ---- the record is a new one
 neither : {A B : Type 0} (t : Bool) (x : A) (value : A → B) (o : Option A) → option_map value (cond t (Some x) o) ≡ None → (t ≡ false) × (option_map value o ≡ None)
@@ -54,10 +55,10 @@ module _ (b : Board) (id refused : ℕ) (digest : List ℕ) (posts : List (ℕ �
       let within : id - 1 < length b.ledger.users = slice_get_within b.ledger.users (id - 1) u (user_there b id u here) in
       λ i. ne_eqb id 0 (λ e. omega (arith, e, above)) i || le-ltb (length b.ledger.users) id (omega (arith, above, within)) i
 
-  pub record_may : IsSome (user_of id b) → upload_of id digest b ≡ None → length b.ledger.uploads < 100000 → length posts + refused ≤ 8191 → may_record b.ledger (upload_record id digest refused posts) ≡ true
+  pub record_may : IsSome (user_of id b) → upload_of id digest b ≡ None → length b.ledger.uploads < upload_limit → length posts + refused ≤ verdict_limit → may_record b.ledger (upload_record id digest refused posts) ≡ true
   unfolding record_is
   record_may there new few counts =
       let free : is_repeated b.ledger.uploads record_is ≡ false = none_passes (λ (e : UploadRecord). eqb e.user id && bytes_eq e.digest digest) (λ (e : UploadRecord). e.counts) b.ledger.uploads new in
       and_from (not (wrong_user (length b.ledger.users) record_is) && not (too_many record_is.counts)) (is_new_upload b.ledger record_is)
-      (and_from (not (wrong_user (length b.ledger.users) record_is)) (not (too_many record_is.counts)) (not_from_false (wrong_user (length b.ledger.users) record_is) (known (user_of id b) refl there)) (not_from_false (too_many record_is.counts) (le-ltb 8191 (length posts + refused) counts)))
-      (and_from (nat_lt (length b.ledger.uploads) 100000) (not (is_repeated b.ledger.uploads record_is)) (lt-ltb (length b.ledger.uploads) 100000 few) (not_from_false (is_repeated b.ledger.uploads record_is) free))
+      (and_from (not (wrong_user (length b.ledger.users) record_is)) (not (too_many record_is.counts)) (not_from_false (wrong_user (length b.ledger.users) record_is) (known (user_of id b) refl there)) (not_from_false (too_many record_is.counts) (le-ltb verdict_limit (length posts + refused) counts)))
+      (and_from (nat_lt (length b.ledger.uploads) upload_limit) (not (is_repeated b.ledger.uploads record_is)) (lt-ltb (length b.ledger.uploads) upload_limit few) (not_from_false (is_repeated b.ledger.uploads record_is) free))

@@ -5,6 +5,8 @@ use Rattle.board_layout.proofs.OneOutline.{alike_ledger, alike_size}
 use Rattle.board_layout.specs.Board.{Board}
 use Rattle.board_layout.specs.Outlines.{board_outline}
 use Rattle.board_layout.specs.Valid.{board_limit}
+use Rattle.board_ledger.specs.Limits.{upload_limit}
+use Rattle.board_ledger.specs.Uploads.{upload_size}
 use Rattle.board_ledger.specs.declared.ledger.Ledger.{Ledger}
 use Rattle.board_ledger.specs.declared.upload.Counts.{Counts}
 use Rattle.door_upload.specs.Upload.{Again, Broken, Judged, NoBoardId, NoUser, OtherBoard, Size, Upload, UploadGives, UploadRefusal, Uploads, UploadsAs, UploadsFor, is_for, judged_upload, new_upload, record_refusal, upload_once, upload_read}
@@ -37,7 +39,7 @@ bare l = record { ledger = l; conferences = [] }
 
 -- why no record more is kept, by how many there are and how long the files are
 abbrev refusal_with : ℕ → ℕ → Option UploadRefusal
-refusal_with count size = if nat_le 100000 count then Some Uploads else (if nat_lt board_limit (size + 42) then Some (Size (size + 42)) else None)
+refusal_with count size = if nat_le upload_limit count then Some Uploads else (if nat_lt board_limit (size + upload_size) then Some (Size (size + upload_size)) else None)
 
 module _ (a b : Board) (alike : AreAlike a b) where
   pub id_alike : (name : List ℕ) → user_id name a ≡ user_id name b

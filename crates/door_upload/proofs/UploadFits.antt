@@ -5,6 +5,8 @@ use Rattle.board_layout.specs.Board.{Board}
 use Rattle.board_layout.specs.Layout.{board_size}
 use Rattle.board_layout.specs.Lookups.{user_of}
 use Rattle.board_layout.specs.Valid.{IsBoard, board_limit}
+use Rattle.board_ledger.specs.Limits.{verdict_limit}
+use Rattle.board_ledger.specs.Uploads.{upload_size}
 use Rattle.byte_lists.specs.Byte.{IsByte}
 use Rattle.door_upload.proofs.PacketSizes.{all_short}
 use Rattle.door_upload.proofs.Placing.{drafts_are_placed}
@@ -29,7 +31,7 @@ use Rattle.qwk_blocks.specs.Written.{Writable}
 use Rattle.qwk_blocks.specs.declared.message.QwkMessage.{QwkMessage}
 
 -- a packet of at most 8,191 messages of a user who is there and sent none of the digest
-module _ (b : Board) (id now : ℕ) (digest : List ℕ) (messages : List QwkMessage) (ok : IsBoard b) (there : IsSome (user_of id b)) (new : upload_of id digest b ≡ None) (free : record_refusal b ≡ None) (few : length messages ≤ 8191) (writable : All Writable messages) where
+module _ (b : Board) (id now : ℕ) (digest : List ℕ) (messages : List QwkMessage) (ok : IsBoard b) (there : IsSome (user_of id b)) (new : upload_of id digest b ≡ None) (free : record_refusal b ≡ None) (few : length messages ≤ verdict_limit) (writable : All Writable messages) where
   posts : List (ℕ × Message)
   posts = (judged b id now messages).1
 
@@ -39,8 +41,8 @@ module _ (b : Board) (id now : ℕ) (digest : List ℕ) (messages : List QwkMess
   pub upload_fits : length digest ≡ 32 → All IsByte digest → All IsTypedPost (judged b id now messages).1 → Fits (Upload id digest (refused_count (judged b id now messages).0) (judged b id now messages).1) b
   unfolding posts refused
   upload_fits whole bytes typed =
-      let room : board_size b + 42 ≤ board_limit = room_for_record b free in
-      let counts : length posts + refused ≤ 8191 = omega (arith, few, all_counted b id now messages) in
+      let room : board_size b + upload_size ≤ board_limit = room_for_record b free in
+      let counts : length posts + refused ≤ verdict_limit = omega (arith, few, all_counted b id now messages) in
       let bases = spread_bases b posts ok (board_stays b id now messages ok there room (all_short messages writable) typed) in (
         drafts_are_placed b id now messages ok,
         uploaded_fits b posts ok id digest refused whole bytes (record_may b id refused digest posts there new (few_records b free) counts) bases
@@ -48,7 +50,7 @@ module _ (b : Board) (id now : ℕ) (digest : List ℕ) (messages : List QwkMess
       )
 
 -- what was judged is such a change, of a board in no doubt
-pub upload_found : (h : HeldBoard) (id now : ℕ) (digest : List ℕ) (messages : List QwkMessage) → IsBoard h.board → h.doubtful ≡ false → IsSome (user_of id h.board) → upload_of id digest h.board ≡ None → record_refusal h.board ≡ None → length messages ≤ 8191
+pub upload_found : (h : HeldBoard) (id now : ℕ) (digest : List ℕ) (messages : List QwkMessage) → IsBoard h.board → h.doubtful ≡ false → IsSome (user_of id h.board) → upload_of id digest h.board ≡ None → record_refusal h.board ≡ None → length messages ≤ verdict_limit
     → All Writable messages → length digest ≡ 32 → All IsByte digest → (outcomes : List Outcome) (posts : List (ℕ × Message)) (refused : ℕ) → (outcomes, posts) ≡ judged h.board id now messages → refused ≡ refused_count outcomes → All IsTypedPost posts
     → IsUploadFound h (found.Judged (Upload id digest refused posts) outcomes) (judged_upload id digest now h.board messages)
 upload_found h id now digest messages ok certain there new free few writable whole bytes outcomes posts refused are count typed =

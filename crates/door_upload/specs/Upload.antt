@@ -4,6 +4,8 @@ use Rattle.std.specs.Str.{str_eq_ignore_ascii_case}
 use Rattle.board_layout.specs.Board.{Board}
 use Rattle.board_layout.specs.Layout.{board_size}
 use Rattle.board_layout.specs.Valid.{board_limit}
+use Rattle.board_ledger.specs.Limits.{upload_limit}
+use Rattle.board_ledger.specs.Uploads.{upload_size}
 use Rattle.board_ledger.specs.declared.upload.Counts.{Counts}
 use Rattle.mail_board.specs.Readers.{upload_of, user_id}
 use Rattle.packet_verdicts.specs.Judged.{judged, refused_count}
@@ -42,12 +44,12 @@ is_for b packet = str_eq_ignore_ascii_case packet.bbsid b.ledger.setup.bbsid
 
 -- how many bytes the data files have with one upload record more
 abbrev pub size_with_record : Board → ℕ
-size_with_record b = board_size b + 42
+size_with_record b = board_size b + upload_size
 
 -- why no record more is kept
 abbrev pub record_refusal : Board → Option UploadRefusal
 record_refusal b =
-    if nat_le 100000 (length b.ledger.uploads) then Some Uploads
+    if nat_le upload_limit (length b.ledger.uploads) then Some Uploads
     else (if nat_lt board_limit (size_with_record b) then Some (Size (size_with_record b)) else None)
 
 -- The messages are judged in order, each on the board with the ones accepted before it. These are posted, and the

@@ -1,6 +1,7 @@
 //! What the bytes of a packet come to, before the board is changed.
 ghost use Rattle.std.specs.Prelude.{◌≡◌, ◌≤◌, Err, None, length, All, IfOk, IsFalse, IsSome, option_map};
 ghost use Rattle.board_layout.specs.Lookups.{user_of};
+ghost use Rattle.board_ledger.specs.Limits.{verdict_limit};
 ghost use Rattle.mail_board.specs.Readers.{upload_of, user_id};
 ghost use Rattle.qwk_blocks.specs.Written.{Writable};
 ghost use Rattle.rep_packet.specs.Written.{IsRep};
@@ -9,19 +10,13 @@ ghost use Rattle.door_upload.specs.Uploading.{upload_error, FindsFor, FindsIn, I
 
 use crate::answer::UploadError;
 use board_layout::BOARD_LIMIT;
-use board_ledger::Counts;
+use board_ledger::{Counts, UPLOAD_LIMIT, UPLOAD_SIZE};
 use mail_board::{Board, Change};
 use packet_verdicts::{Judged, Outcomes, judge_all};
 use qwk_blocks::QwkMessages;
 use rep_packet::{Rep, read_rep};
 use sha2::{Digest, Sha256};
 use std::alloc::{AllocError, Global};
-
-/// How many upload records are kept at most.
-const RECORD_LIMIT: u32 = 100_000;
-
-/// How many bytes a record has.
-const RECORD_SIZE: u64 = 42;
 
 /// What a packet comes to that isn't refused.
 #[derive(Debug, Drop)]
@@ -36,10 +31,10 @@ pub(crate) enum Uploading {
 fn refusal_of(board: &Board) -> Option<UploadError>
     ensures { result ≡ option_map upload_error (record_refusal board.now.board) }
 {
-    if board.upload_count() >= RECORD_LIMIT {
+    if board.upload_count() as usize >= UPLOAD_LIMIT {
         return Some(UploadError::Uploads);
     }
-    let size = board.stored().size() + RECORD_SIZE;
+    let size = board.stored().size() + UPLOAD_SIZE as u64;
     if size > BOARD_LIMIT {
         return Some(UploadError::Size(size));
     }
@@ -60,7 +55,7 @@ fn judged(
     requires user { IsSome (user_of user board.now.board) }
     requires new { upload_of user digest.now board.now.board ≡ None }
     requires record { record_refusal board.now.board ≡ None }
-    requires few { length messages.now ≤ 8191 }
+    requires few { length messages.now ≤ verdict_limit }
     requires writable { All Writable messages.now }
     ensures found { IfOk result (λ found. IsUploadFound board.now found (judged_upload user digest.now now board.now.board messages.now)) }
     ensures judged { IfOk result (IsJudged user digest.now now board.now.board messages.now) }
@@ -91,7 +86,7 @@ fn prepared_for(
     now: u32,
 ) -> Result<Uploading, UploadError>
     requires user { IsSome (user_of user board.now.board) }
-    requires few { length packet.now.messages ≤ 8191 }
+    requires few { length packet.now.messages ≤ verdict_limit }
     requires packet { IsRep packet.now }
     ensures finds { FindsFor board.now (upload_read user digest.now now board.now.board packet.now) result }
     ensures judged { IfOk result (IsJudged user digest.now now board.now.board packet.now.messages) }

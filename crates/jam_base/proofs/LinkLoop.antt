@@ -2,6 +2,7 @@
 use Rattle.std.proofs.Common.{◌≡◌, ℕ, ◌+◌, ◌<◌, ◌≤◌, ◌^◌, List, [], ◌∷◌, ◌++◌, length, take, drop, get_or, refl, sym, ap, ◌∙◌, subst, arith, append_assoc, append-nil}
 use Rattle.std.proofs.lemmas.List.{drop_all, drop_more, take_all, take_more, length-take}
 use Rattle.intent_journal.specs.declared.patch.Patch.{Patch}
+use Rattle.jam_layout.specs.Limits.{slot_limit}
 use Rattle.jam_records.specs.declared.message.Message.{Message}
 use Rattle.jam_records.specs.declared.message.Slot.{Slot}
 use Rattle.jam_records.specs.declared.message.Slot.TheVariants.{Held}
@@ -36,7 +37,7 @@ same_count one other threads are too =
     let second = too.chains.count in
     omega (arith, first, second)
 
-pub few_slots : (place : ℕ) (slots : List Slot) (messages : List Message) (index : ℕ) (threads : Threads) (patches : List Patch) → LinksSoFar place slots messages index threads patches → index < length messages → length slots + length messages ≤ 9999
+pub few_slots : (place : ℕ) (slots : List Slot) (messages : List Message) (index : ℕ) (threads : Threads) (patches : List Patch) → LinksSoFar place slots messages index threads patches → index < length messages → length slots + length messages ≤ slot_limit
     → (now : List Slot) → AreThreads now threads → length now + 2 < 2 ^ 32
 few_slots place slots messages index threads patches so_far within few now are =
     omega (arith, same_count now (slots_with_all slots (take index messages)) threads are so_far.are, length_all slots (take index messages), length-take index messages, few, within)

@@ -10,6 +10,7 @@ use Rattle.jam_records.specs.declared.message.Kind.{Kind}
 use Rattle.jam_records.specs.declared.message.Message.{Message}
 use Rattle.jam_records.specs.declared.message.Slot.{Slot}
 use Rattle.jam_records.specs.declared.message.Slot.TheVariants.{Gone, Held}
+use Rattle.jam_layout.specs.Limits.{slot_limit}
 use Rattle.jam_layout.specs.Messages.{AreBytes, IsMessage, IsSlot}
 use Rattle.jam_layout.specs.Valid.{IsConference}
 use Rattle.jam_base.specs.Contents.{Contents, with_slots}
@@ -18,7 +19,7 @@ use Rattle.jam_base.specs.Slots.{numbered, has_live, slots_with_all, slot_delete
 use Rattle.jam_base.specs.declared.receipt.Receipt.{Receipt}
 
 -- ---- other slots
-pub slots_are : (base : Contents) (slots : List Slot) → IsConference base.shape base.conference → length base.conference.slots ≤ length slots → length slots ≤ 9999 → All (IsSlot base.shape.kind) slots
+pub slots_are : (base : Contents) (slots : List Slot) → IsConference base.shape base.conference → length base.conference.slots ≤ length slots → length slots ≤ slot_limit → All (IsSlot base.shape.kind) slots
     → IsConference base.shape (with_slots slots base).conference
 slots_are base slots ok more few all = record {
   counter = omega arith;
@@ -41,7 +42,7 @@ all_slots kind slots (m ∷ messages) all more =
     all_slots kind (slots ++ Held m ∷ []) messages (All-push (IsSlot kind) slots (Held m) all (All-head (IsMessage kind) m messages more)) (All-tail (IsMessage kind) m messages more)
 
 pub appended_is : (base : Contents) (slots : List Slot) (messages : List Message) → slots ≡ slots_with_all base.conference.slots messages → IsConference base.shape base.conference → All (IsMessage base.shape.kind) messages
-    → length base.conference.slots + length messages ≤ 9999 → IsConference base.shape (with_slots slots base).conference
+    → length base.conference.slots + length messages ≤ slot_limit → IsConference base.shape (with_slots slots base).conference
 appended_is base slots messages is ok all few =
     let made : List Slot = slots_with_all base.conference.slots messages in
     let len = length_all base.conference.slots messages in

@@ -12,6 +12,7 @@ ghost use Rattle.jam_base.specs.MarkPuts.{delete_puts, receive_puts};
 ghost use Rattle.intent_journal.specs.Patches.{byte_count};
 ghost use Rattle.jam_threads.specs.Threading.{AreThreads};
 ghost use Rattle.jam_threads.specs.declared.threads.Threads.{Threads as ThreadsOf};
+ghost use Rattle.jam_layout.specs.Limits.{slot_limit};
 ghost use Rattle.jam_layout.specs.Messages.{IsMessage};
 ghost use Rattle.jam_layout.specs.Bare.{filled};
 ghost use Rattle.jam_layout.specs.Outlines.{slot_bare};
@@ -32,7 +33,7 @@ use crate::span::Span;
 use byte_lists::{Bytes, Duplicate, List};
 use door_outside::FileId;
 use intent_journal::{Patch, Patches};
-use jam_layout::{BareConference, Conference, Reader, Shape};
+use jam_layout::{BareConference, Conference, Reader, SLOT_LIMIT, Shape};
 use jam_records::{Message, Messages, Slot, Slots};
 use jam_threads::Threads;
 use jam_writing::{
@@ -231,7 +232,7 @@ impl Base {
         alloc: Global,
         messages: &[Message],
     ) -> Result<(Shared<Threads>, Patches), AllocError>
-        requires { length self.now.conference.slots + length messages.now ≤ 9999 }
+        requires { length self.now.conference.slots + length messages.now ≤ slot_limit }
         ensures threads { IfOk result (λ made. AreThreads (slots_with_all self.now.conference.slots messages.now) made.0) }
         ensures patches { IfOk result (λ made. made.1 ≡ link_puts self.now.shape.place self.now.conference.slots self.now.conference.slots messages.now) }
     {
@@ -399,10 +400,10 @@ impl Base {
         ensures bodies { IfOk result (λ change. Lengthens self.now.shape.place (layout self.now.shape self.now.conference) (layout (with_messages_of messages.now self.now).shape (with_messages_of messages.now self.now).conference) change.patches) }
         ensures each { IfOk result (λ change. TurnsEach self.now (with_messages_of messages.now) change.patches) }
         ensures intent { IfOk result (λ change. SuitsIntent self.now.shape.place (layout change.base.shape change.base.conference) change.patches) }
-        ensures slots { (s : ℕ) → (result ≡ Err (AppendRefusal.Slots s)) ↔ ((s ≡ length self.now.conference.slots + length messages.now) × (9999 < s)) }
+        ensures slots { (s : ℕ) → (result ≡ Err (AppendRefusal.Slots s)) ↔ ((s ≡ length self.now.conference.slots + length messages.now) × (slot_limit < s)) }
     {
         let count = self.slots().len() as u64 + messages.as_slice().len() as u64;
-        if count > 9999 {
+        if count > SLOT_LIMIT as u64 {
             return Err(AppendRefusal::Slots(count));
         }
         Ok(self.extended(alloc, messages.copy(alloc)?)?)
@@ -414,7 +415,7 @@ impl Base {
     /// The error comes where there is no memory.
     pub fn extended(&self, alloc: Global, messages: Messages) -> Result<BaseChange, AllocError>
         requires messages { All (IsMessage self.now.shape.kind) messages }
-        requires few { length self.now.conference.slots + length messages ≤ 9999 }
+        requires few { length self.now.conference.slots + length messages ≤ slot_limit }
         ensures base { IfOk result (λ change. change.base ≡ outlined (with_messages_of messages self.now)) }
         ensures costs { IfOk result (λ change. Costs (length messages) (layout self.now.shape self.now.conference) (layout change.base.shape change.base.conference) change.patches) }
         ensures bodies { IfOk result (λ change. Lengthens self.now.shape.place (layout self.now.shape self.now.conference) (layout (with_messages_of messages self.now).shape (with_messages_of messages self.now).conference) change.patches) }

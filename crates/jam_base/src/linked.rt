@@ -2,6 +2,7 @@
 ghost use Rattle.std.specs.Prelude.{◌≡◌, ◌+◌, ◌≤◌, ◌<◌, List, [], ◌∷◌, ◌++◌, ◌^◌, length, Some, IfOk, OnOk};
 ghost use Rattle.intent_journal.specs.declared.patch.Patch.{Patch};
 ghost use Rattle.door_outside.specs.File.{jhr_file};
+ghost use Rattle.jam_layout.specs.Limits.{slot_limit};
 ghost use Rattle.record_numbers.specs.Numbers.{u32_text};
 ghost use Rattle.jam_records.specs.declared.message.Slot.{Slot as SlotOf};
 ghost use Rattle.jam_records.specs.declared.message.Slot.TheVariants.{Held};
@@ -102,7 +103,7 @@ pub fn add_messages(
 ) -> Result<Patches, AllocError>
     requires place { place < 64 }
     requires threads { AreThreads slots.now threads.old }
-    requires few { length slots.now + length messages.now ≤ 9999 }
+    requires few { length slots.now + length messages.now ≤ slot_limit }
     ensures patches { IfOk result (λ patches. patches ≡ link_puts place slots.now slots.now messages.now) }
     ensures threads { OnOk result (AreThreads (slots_with_all slots.now messages.now) threads.new) }
 {

@@ -1,4 +1,5 @@
 ghost use Rattle.std.specs.Prelude.{◌≡◌, ◌+◌, ◌<◌, ◌≤◌, min, length, slice_index_or, slice_set, unwrap_or, IfOk};
+ghost use Rattle.jam_layout.specs.Limits.{slot_limit};
 ghost use Rattle.jam_base.specs.Slots.{is_due as is_due_of, has_due as has_due_of, any_due as any_due_of, slot_received, slots_received as received_of};
 
 use byte_lists::Duplicate;
@@ -55,7 +56,7 @@ fn has_due(name: &[u8], receipt: Receipt, number: u32, slot: &Slot) -> bool
 /// Whether the slot in a place from 0 holds such a message.
 fn has_due_in(name: &[u8], receipt: Receipt, place: usize, slots: &SharedSlots) -> bool
     requires place { place < length slots.now }
-    requires few { length slots.now ≤ 9999 }
+    requires few { length slots.now ≤ slot_limit }
     ensures { result ≡ has_due_of name.now receipt (place + 1) (slice_index_or slots.now place Slot.Gone) }
 {
     has_due(name, receipt, place as u32 + 1, slots.at(place))
@@ -107,7 +108,7 @@ fn received_at(
     slots: SharedSlots,
 ) -> Result<SharedSlots, AllocError>
     requires place { place < length slots }
-    requires few { length slots ≤ 9999 }
+    requires few { length slots ≤ slot_limit }
     ensures { IfOk result (λ new. new ≡ slice_set slots place (slot_received name.now receipt (place + 1) (slice_index_or slots place Slot.Gone))) }
 {
     match received(alloc, name, receipt, place as u32 + 1, slots.at(place))? {

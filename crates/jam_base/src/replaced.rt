@@ -5,6 +5,7 @@ ghost use Rattle.jam_base.specs.Contents.{with_slots};
 ghost use Rattle.jam_base.specs.Outlined.{outlined, TurnsEach};
 ghost use Rattle.jam_layout.specs.Bodies.{body_size};
 ghost use Rattle.jam_layout.specs.Layout.{layout};
+ghost use Rattle.jam_layout.specs.Limits.{slot_limit};
 ghost use Rattle.jam_layout.specs.Messages.{IsSlot};
 ghost use Rattle.jam_layout.specs.Outlines.{slot_outline};
 ghost use Rattle.jam_layout.specs.Sizes.{slot_header};
@@ -22,7 +23,7 @@ use std::alloc::{AllocError, Global};
 
 /// What is kept of these slots, of which one at a time is copied.
 fn kept_of(alloc: Global, slots: &[Slot]) -> Result<SharedSlots, AllocError>
-    requires few { length slots.now ≤ 9999 }
+    requires few { length slots.now ≤ slot_limit }
     requires headers { 1024 + sum_by slot_header slots.now < 2 ^ 31 }
     requires bodies { sum_by body_size slots.now < 2 ^ 31 }
     ensures { IfOk result (λ kept. kept ≡ map slot_outline slots.now) }

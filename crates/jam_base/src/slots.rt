@@ -1,6 +1,7 @@
 // The slots of a conference after a change of them.
 ghost use Rattle.std.specs.Prelude.{◌≡◌, ◌+◌, ◌≤◌, ◌<◌, ◌==◌, ◌^◌, length, map, sum_by, IfOk};
 ghost use Rattle.jam_layout.specs.Conference.{is_live as is_live_of};
+ghost use Rattle.jam_layout.specs.Limits.{slot_limit};
 ghost use Rattle.jam_layout.specs.Sizes.{slot_header};
 ghost use Rattle.jam_layout.specs.Bodies.{body_size};
 ghost use Rattle.jam_layout.specs.Outlines.{message_outline};
@@ -17,7 +18,7 @@ pub fn with_messages(
     slots: &SharedSlots,
     messages: Messages,
 ) -> Result<SharedSlots, AllocError>
-    requires few { length (slots_with_all slots.now (map message_outline messages)) ≤ 9999 }
+    requires few { length (slots_with_all slots.now (map message_outline messages)) ≤ slot_limit }
     requires headers { 1024 + sum_by slot_header (slots_with_all slots.now (map message_outline messages)) < 2 ^ 31 }
     requires bodies { sum_by body_size (slots_with_all slots.now (map message_outline messages)) < 2 ^ 31 }
     ensures { IfOk result (λ new. new ≡ slots_with_all slots.now (map message_outline messages)) }

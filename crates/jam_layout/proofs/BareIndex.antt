@@ -13,6 +13,7 @@ use Rattle.jam_layout.specs.Bodies.{message_with}
 use Rattle.jam_layout.specs.Fields.{subfields_of}
 use Rattle.jam_layout.specs.Headers.{header_size}
 use Rattle.jam_layout.specs.Index.{Pending, Expected, none_here, one_here, pair_of, expected_of, expected, index_rules, slot_at, slots_at}
+use Rattle.jam_layout.specs.Limits.{slot_limit}
 use Rattle.jam_layout.specs.Outlines.{slot_bare}
 use Rattle.jam_layout.specs.declared.entry.Entry.{Entry}
 use Rattle.jam_layout.proofs.BodyLaws.{bare}
@@ -97,4 +98,4 @@ whole_bare place at es bytes (Err d) = refl
 
 pub index_bare : (place at : ℕ) (es : List Entry) (bytes : List ℕ) → slots_at place at (map bare es) bytes ≡ mapped (map slot_bare) (slots_at place at es bytes)
 unfolding slots_at
-index_bare place at es bytes = whole_bare place at es bytes (by_rules (jdx_file place) 0 ((Count, ltb 9999 (length bytes / 8)) ∷ []) (tt {0}))
+index_bare place at es bytes = whole_bare place at es bytes (by_rules (jdx_file place) 0 ((Count, ltb slot_limit (length bytes / 8)) ∷ []) (tt {0}))

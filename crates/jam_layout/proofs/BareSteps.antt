@@ -17,6 +17,7 @@ use Rattle.jam_layout.specs.Bodies.{bodies_at, lengths_at}
 use Rattle.jam_layout.specs.Headers.{start}
 use Rattle.jam_layout.specs.Index.{slots_at}
 use Rattle.jam_layout.specs.Layout.{conference_of, entries_of}
+use Rattle.jam_layout.specs.Limits.{slot_limit}
 use Rattle.jam_layout.specs.Outlines.{slot_bare}
 use Rattle.jam_layout.specs.Readers.{pointers_at}
 use Rattle.jam_layout.specs.Rules.{damage_of_base, BaseFails}
@@ -56,7 +57,7 @@ pub record IndexRead (shape : Shape) (files : BaseFiles) (es : List Entry) (foun
   pub slots : List Slot
   pub read : slots_at shape.place 1024 es files.jdx ≡ Ok slots
   pub bared : map slot_bare slots ≡ bares
-  pub few : length bares ≤ 9999
+  pub few : length bares ≤ slot_limit
   pub known : body_lengths slots ≡ found
 
 lengths_in : (links : ℕ → Link) (n : ℕ) (slots : List Slot) → body_lengths slots ≡ lengths (entries_of links n slots)

@@ -19,6 +19,7 @@ use Rattle.damage_rules.specs.Rules.{by_rules, ◌>>=◌, damage_of}
 use Rattle.door_outside.specs.File.{jhr_file, jdx_file}
 use Rattle.damage_rules.specs.Walk.{walk}
 use Rattle.jam_layout.specs.Headers.{header_at, entries_at, headers_text, start}
+use Rattle.jam_layout.specs.Limits.{slot_limit}
 use Rattle.jam_layout.specs.SecondPass.{slots_of, active_in, links_at, second_pass}
 use Rattle.jam_layout.specs.Bodies.{bodies_at, bodies_text}
 use Rattle.jam_layout.specs.Outlines.{slot_bare}
@@ -78,33 +79,33 @@ second_again place active hs is fits =
     ap (λ x. x >>= λ count. links_at place (slots_of 1 hs) 1 hs) (kept_rules (jhr_file place) 0 rules (tt {0}) (count, tt)) ∙ links_again place (slots_of 1 hs) 1 hs fits
 
 -- ---- .JDX
-pub jdx_take : (links : ℕ → Link) (place at : ℕ) (es : List Entry) (bytes : List ℕ) (slots : List Slot) → All IsByte bytes → Linked links es → slots_at place at es bytes ≡ Ok slots → (bytes ≡ index_records at slots) × (entries_of links 1 slots ≡ es) × (length slots ≤ 9999)
+pub jdx_take : (links : ℕ → Link) (place at : ℕ) (es : List Entry) (bytes : List ℕ) (slots : List Slot) → All IsByte bytes → Linked links es → slots_at place at es bytes ≡ Ok slots → (bytes ≡ index_records at slots) × (entries_of links 1 slots ≡ es) × (length slots ≤ slot_limit)
 unfolding slots_at
 jdx_take links place at es bytes slots fits linked e =
     let s : Pending = record { item = 0; at = at; entries = es } in
-    let a = bind_ok (by_rules (jdx_file place) 0 ((Count, ltb 9999 (length bytes / 8)) ∷ []) (tt {0})) (λ few. walk (slot_at place) s bytes >>= λ found. by_rules (jdx_file place) found.1.item ((Missing, not (eqb (length found.1.entries) 0)) ∷ []) found.0) slots e in
+    let a = bind_ok (by_rules (jdx_file place) 0 ((Count, ltb slot_limit (length bytes / 8)) ∷ []) (tt {0})) (λ few. walk (slot_at place) s bytes >>= λ found. by_rules (jdx_file place) found.1.item ((Missing, not (eqb (length found.1.entries) 0)) ∷ []) found.0) slots e in
     let b = bind_ok (walk (slot_at place) s bytes) (λ found. by_rules (jdx_file place) found.1.item ((Missing, not (eqb (length found.1.entries) 0)) ∷ []) found.0) slots a.2 in
-    let k = rules_kept (jdx_file place) 0 ((Count, ltb 9999 (length bytes / 8)) ∷ []) (tt {0}) a.0 a.1 in
+    let k = rules_kept (jdx_file place) 0 ((Count, ltb slot_limit (length bytes / 8)) ∷ []) (tt {0}) a.0 a.1 in
     let m = rules_kept (jdx_file place) b.0.1.item ((Missing, not (eqb (length b.0.1.entries) 0)) ∷ []) b.0.0 slots b.2 in
     let none : length b.0.1.entries ≡ 0 = grind (arith, nat_tests, m.0.0) in
     let r = slots_take links place 0 s bytes b.0.0 b.0.1 fits linked (nil_from_length b.0.1.entries none) b.1 in
-    let few : length bytes / 8 ≤ 9999 = ltb-false 9999 (length bytes / 8) k.0.0 in
+    let few : length bytes / 8 ≤ slot_limit = ltb-false slot_limit (length bytes / 8) k.0.0 in
     let text : bytes ≡ index_records at b.0.0 = r.0 in
     let len : length bytes ≡ 8 * length b.0.0 = ap length text ∙ index_length at b.0.0 in
-    let count : length b.0.0 ≤ 9999 = omega (arith, few, len) in
-    subst (λ (xs : List Slot). (bytes ≡ index_records at xs) × (entries_of links 1 xs ≡ es) × (length xs ≤ 9999)) m.1 (text, r.1, count)
+    let count : length b.0.0 ≤ slot_limit = omega (arith, few, len) in
+    subst (λ (xs : List Slot). (bytes ≡ index_records at xs) × (entries_of links 1 xs ≡ es) × (length xs ≤ slot_limit)) m.1 (text, r.1, count)
 
-jdx_again : (links : ℕ → Link) (place at : ℕ) (slots : List Slot) → length slots ≤ 9999 → RoomFor at slots → slots_at place at (entries_of links 1 slots) (index_records at slots) ≡ Ok slots
+jdx_again : (links : ℕ → Link) (place at : ℕ) (slots : List Slot) → length slots ≤ slot_limit → RoomFor at slots → slots_at place at (entries_of links 1 slots) (index_records at slots) ≡ Ok slots
 unfolding slots_at
 jdx_again links place at slots few room =
     let bytes : List ℕ = index_records at slots in
     let s : Pending = record { item = 0; at = at; entries = entries_of links 1 slots } in
     let r = slots_again links place 0 at slots room in
     let len = index_length at slots in
-    let small : length bytes / 8 ≤ 9999 = omega (arith, len, few) in
-    let count : ltb 9999 (length bytes / 8) ≡ false = le-ltb _ _ small in
+    let small : length bytes / 8 ≤ slot_limit = omega (arith, len, few) in
+    let count : ltb slot_limit (length bytes / 8) ≡ false = le-ltb _ _ small in
     let none : not (eqb (length r.0.entries) 0) ≡ false = ap (λ (es : List Entry). not (eqb (length es) 0)) r.2 in
-    ap (λ x. x >>= λ few. walk (slot_at place) s bytes >>= λ found. by_rules (jdx_file place) found.1.item ((Missing, not (eqb (length found.1.entries) 0)) ∷ []) found.0) (kept_rules (jdx_file place) 0 ((Count, ltb 9999 (length bytes / 8)) ∷ []) (tt {0}) (count, tt))
+    ap (λ x. x >>= λ few. walk (slot_at place) s bytes >>= λ found. by_rules (jdx_file place) found.1.item ((Missing, not (eqb (length found.1.entries) 0)) ∷ []) found.0) (kept_rules (jdx_file place) 0 ((Count, ltb slot_limit (length bytes / 8)) ∷ []) (tt {0}) (count, tt))
     ∙ ap (λ x. x >>= λ found. by_rules (jdx_file place) found.1.item ((Missing, not (eqb (length found.1.entries) 0)) ∷ []) found.0) r.1
     ∙ kept_rules (jdx_file place) r.0.item ((Missing, not (eqb (length r.0.entries) 0)) ∷ []) slots (none, tt)
 
@@ -185,7 +186,7 @@ layout_is shape files c fits e =
     } in
     subst (λ (y : Conference). (files ≡ layout shape y) × IsConference shape y) (ok_is d c x5.2) (same, ok)
 
-bound_most : (k : ℕ) (link : Link) → k ≤ 9999 → LinkBound k link → LinkBound 9999 link
+bound_most : (k : ℕ) (link : Link) → k ≤ slot_limit → LinkBound k link → LinkBound slot_limit link
 bound_most k link few b = let to = b.to in let first = b.first in let next = b.next in record { to = omega arith; first = omega arith; next = omega arith }
 
 pub is_layout : (shape : Shape) (c : Conference) → ShapeFits shape → IsConference shape c → conference_of shape (layout shape c) ≡ Ok c
@@ -207,7 +208,7 @@ is_layout shape c fits ok =
     let len = length-append (base_text (header_of shape c.counter live)) rest in
     let long = base_length (header_of shape c.counter live) in
     let room : 1024 + length rest < 2 ^ 31 = omega (arith, len, long, whole) in
-    let bound : (k : ℕ) → LinkBound 9999 (links k) = λ k. bound_most (length c.slots) (links k) few (link_bound c.slots k) in
+    let bound : (k : ℕ) → LinkBound slot_limit (links k) = λ k. bound_most (length c.slots) (links k) few (link_bound c.slots k) in
     let all : Fits kind start 1024 c.slots es = conference_fits links kind 1 start 1024 0 c.slots (omega arith) (omega arith) bound ok.slots room in
     let agree : (n : ℕ) → n < length (slots_of 1 hs) → links (suc n) ≡ link_of (slots_of 1 hs) (suc n) = λ n within. sym (links_agree links c.slots hs es refl refl n within) in
     let moved : LinksFit (link_of (slots_of 1 hs)) hs = links_move links (link_of (slots_of 1 hs)) (length (slots_of 1 hs)) hs agree (below_all hs (rising_of kind start hs all.headers)) (links_of links 1 c.slots) in

@@ -16,6 +16,7 @@ use Rattle.damage_rules.specs.Rules.{◌>>=◌}
 use Rattle.door_outside.specs.File.{jhr_file}
 use Rattle.damage_rules.specs.Walk.{WalkStep, walk_from, walk}
 use Rattle.jam_layout.specs.Fields.{subfields_of, values_at}
+use Rattle.jam_layout.specs.Limits.{slot_limit}
 use Rattle.jam_layout.specs.Marks.{attribute_of, is_net}
 use Rattle.jam_layout.specs.Headers.{values_of, header_rules, message_of, entry_of, behind, step_of, header_at, marks_in, message_header, entry_text, headers_text, header_size}
 use Rattle.jam_layout.specs.declared.entry.Entry.{Entry}
@@ -32,7 +33,7 @@ use Rattle.jam_layout.proofs.MarkLaws.{marks_again, right_attribute, attribute_r
 -- what a header may hold behind others
 pub record HeaderFits (kind : Kind) (f : Front) (e : Entry) : Type 0 where
   pub rising : f.last < e.number
-  pub few : e.number ≤ 9999
+  pub few : e.number ≤ slot_limit
   pub text : e.text_len ≤ 16384
   pub bodiless : e.message.body ≡ []
   pub texts : RightTexts e.message
@@ -270,7 +271,7 @@ size_some : (m : Message) → 0 < header_size m
 unfolding header_size
 size_some m = omega arith
 
-pub headers_again : (place : ℕ) (kind : Kind) (f : Front) (es : List Entry) → f.offset ≤ 16384 * f.last → f.last ≤ 9999 → HeadersFit kind f es → (last : Front) × (walk (header_at place kind) f (headers_text kind f.offset es) ≡ Ok (es, last))
+pub headers_again : (place : ℕ) (kind : Kind) (f : Front) (es : List Entry) → f.offset ≤ 16384 * f.last → f.last ≤ slot_limit → HeadersFit kind f es → (last : Front) × (walk (header_at place kind) f (headers_text kind f.offset es) ≡ Ok (es, last))
 headers_again place kind f [] small few fits = (f, walk_done (header_at place kind) f [] refl)
 headers_again place kind f (e ∷ es) small few fits =
     let rest : List ℕ = headers_text kind (f.offset + e.text_len) es in

@@ -10,6 +10,7 @@ use Rattle.jam_records.specs.MessageHeaders.{message_header_at}
 use Rattle.jam_records.specs.declared.message.Kind.{Kind}
 use Rattle.jam_records.specs.declared.message_header.MessageHeader.{MessageHeader}
 use Rattle.jam_layout.specs.Fields.{right_values}
+use Rattle.jam_layout.specs.Limits.{slot_limit}
 use Rattle.jam_layout.specs.Marks.{wrong_attribute}
 use Rattle.jam_layout.specs.Headers.{wrong_fields, wrong_number, wrong_text, wrong_crc, values_of, front_rules, field_rules, length_rules, value_rules, header_rules}
 use Rattle.jam_layout.specs.declared.entry.Front.{Front}
@@ -28,7 +29,7 @@ pub record HeaderKept (kind : Kind) (f : Front) (h : MessageHeader) (v : Values)
   pub password : h.password_crc ≡ 0xFFFF_FFFF
   pub cost : h.cost ≡ 0
   pub rising : f.last < h.number
-  pub few : h.number ≤ 9999
+  pub few : h.number ≤ slot_limit
   pub attribute : wrong_attribute kind h.attribute ≡ false
   pub offset : h.offset ≡ f.offset
   pub text : h.text_len ≤ 16384
@@ -74,7 +75,7 @@ keep kind f bytes kept =
       reply = equal _ _ crc.1;
     }
 
-right_number : (n last : ℕ) → last < n → n ≤ 9999 → ((eqb n 0 || ltb 9999 n) || leb n last) ≡ false
+right_number : (n last : ℕ) → last < n → n ≤ slot_limit → ((eqb n 0 || ltb slot_limit n) || leb n last) ≡ false
 right_number n last rising few = grind (arith, nat_tests)
 
 pub keeps : (kind : Kind) (f : Front) (bytes : List ℕ) (h : MessageHeader) (v : Values) → h ≡ message_header_at bytes → v ≡ values_of h bytes → HeaderKept kind f h v bytes → Kept (header_rules kind f bytes)

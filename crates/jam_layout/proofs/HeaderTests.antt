@@ -7,6 +7,7 @@ use Rattle.jam_records.specs.declared.damage.DamageRule.{DamageRule}
 use Rattle.jam_records.specs.declared.damage.DamageRule.TheVariants.{Subfields}
 use Rattle.jam_records.specs.declared.message_header.MessageHeader.{MessageHeader}
 use Rattle.damage_rules.specs.Rules.{Rules, first_broken, unless_broken, by_rules, ◌>>=◌}
+use Rattle.jam_layout.specs.Limits.{slot_limit}
 use Rattle.jam_layout.specs.Rules.{damage_of_base, BaseFails}
 use Rattle.door_outside.specs.File.{jhr_file}
 use Rattle.jam_layout.specs.declared.error.BaseError.{BaseError}
@@ -108,7 +109,7 @@ header_read place kind f bytes h v is values =
 
 pub record Bounds (f : Front) (e : Entry) : Type 0 where
   pub rising : f.last < e.number
-  pub few : e.number ≤ 9999
+  pub few : e.number ≤ slot_limit
   pub text : e.text_len ≤ 16384
 
 -- what a header that keeps the rules is bounded by
@@ -121,6 +122,6 @@ header_bounds place kind f bytes h v is values =
     let same : message_header_at bytes ≡ h = fixed_is place kind f bytes h is in
     record {
       rising = subst (λ (x : MessageHeader). f.last < x.number) same facts.rising;
-      few = subst (λ (x : MessageHeader). x.number ≤ 9999) same facts.few;
+      few = subst (λ (x : MessageHeader). x.number ≤ slot_limit) same facts.few;
       text = subst (λ (x : MessageHeader). x.text_len ≤ 16384) same facts.text;
     }

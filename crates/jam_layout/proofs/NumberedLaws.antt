@@ -4,15 +4,16 @@ use Rattle.std.specs.Prelude.{All}
 use Rattle.std.proofs.lemmas.List.Elements.{All-cons, All-nil}
 use Rattle.jam_records.specs.declared.message.Slot.{Slot}
 use Rattle.jam_records.specs.declared.message.Slot.TheVariants.{Held}
+use Rattle.jam_layout.specs.Limits.{slot_limit}
 use Rattle.jam_layout.specs.SecondPass.{slots_of, Numbered}
 use Rattle.jam_layout.specs.declared.entry.Entry.{Entry}
 use Rattle.jam_layout.proofs.LinkLaws.{Rising, Below, below_all, length_gone}
 
-pub entries_few : (last : ℕ) (es : List Entry) → last ≤ 9999 → Numbered last es → length es + last ≤ 9999
+pub entries_few : (last : ℕ) (es : List Entry) → last ≤ slot_limit → Numbered last es → length es + last ≤ slot_limit
 entries_few last [] le n = omega arith
 entries_few last (e ∷ es) le n = let lt = n.0 in omega (arith, lt, entries_few e.number es n.1 n.2)
 
-pub slots_few : (last : ℕ) (es : List Entry) → last ≤ 9999 → Numbered last es → length (slots_of (last + 1) es) + last ≤ 9999
+pub slots_few : (last : ℕ) (es : List Entry) → last ≤ slot_limit → Numbered last es → length (slots_of (last + 1) es) + last ≤ slot_limit
 slots_few last [] le n = omega arith
 slots_few last (e ∷ es) le n =
     let lt = n.0 in

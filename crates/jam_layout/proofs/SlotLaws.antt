@@ -18,6 +18,7 @@ use Rattle.jam_layout.specs.Headers.{message_header, entry_text, headers_text, h
 use Rattle.jam_records.specs.IndexRecords.{index_text}
 use Rattle.jam_records.specs.declared.index_record.IndexRecord.{IndexRecord}
 use Rattle.jam_layout.specs.Index.{index_records, no_pair, pair_of}
+use Rattle.jam_layout.specs.Limits.{slot_limit}
 use Rattle.jam_layout.specs.Messages.{AreBytes, IsMessage, IsSlot}
 use Rattle.jam_layout.specs.declared.entry.Entry.{Entry}
 use Rattle.jam_layout.specs.declared.entry.Front.{Front}
@@ -91,7 +92,7 @@ unfolding header_size
 size_is m = refl
 
 -- ---- a conference fits its files
-one_fits : (kind : Kind) (f : Front) (n : ℕ) (link : Link) (m : Message) → f.last < n → n ≤ 9999 → LinkBound 9999 link → IsMessage kind m → length (subfields_text (subfields_of m)) < 2 ^ 31 → HeaderFits kind f (bare (made n link m))
+one_fits : (kind : Kind) (f : Front) (n : ℕ) (link : Link) (m : Message) → f.last < n → n ≤ slot_limit → LinkBound slot_limit link → IsMessage kind m → length (subfields_text (subfields_of m)) < 2 ^ 31 → HeaderFits kind f (bare (made n link m))
 one_fits kind f n link m rising few bound ok small =
     let to = bound.to in
     let first = bound.first in
@@ -120,7 +121,7 @@ pub record Fits (kind : Kind) (f : Front) (at : ℕ) (slots : List Slot) (es : L
   pub bodies : BodiesFit es
   pub room : RoomFor at slots
 
-pub conference_fits : (links : ℕ → Link) (kind : Kind) (n : ℕ) (f : Front) (at offset : ℕ) (slots : List Slot) → f.last < n → n + length slots ≤ 10000 → ((k : ℕ) → LinkBound 9999 (links k)) → All (IsSlot kind) slots
+pub conference_fits : (links : ℕ → Link) (kind : Kind) (n : ℕ) (f : Front) (at offset : ℕ) (slots : List Slot) → f.last < n → n + length slots ≤ slot_limit + 1 → ((k : ℕ) → LinkBound slot_limit (links k)) → All (IsSlot kind) slots
     → at + length (headers_text kind offset (entries_of links n slots)) < 2 ^ 31 → Fits kind f at slots (entries_of links n slots)
 conference_fits links kind n f at offset [] lt few bound all small = record { headers = tt; bodies = tt; room = tt }
 conference_fits links kind n f at offset (Gone ∷ slots) lt few bound all small =

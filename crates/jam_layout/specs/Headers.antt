@@ -15,6 +15,7 @@ use Rattle.damage_rules.specs.Rules.{Rules, by_rules, ◌>>=◌}
 use Rattle.door_outside.specs.File.{jhr_file}
 use Rattle.damage_rules.specs.Walk.{WalkStep, walk}
 use Rattle.jam_layout.specs.Fields.{values_at, right_values, subfields_of}
+use Rattle.jam_layout.specs.Limits.{slot_limit}
 use Rattle.jam_layout.specs.Marks.{attribute_of, marks_of, wrong_attribute}
 use Rattle.jam_layout.specs.declared.entry.Entry.{Entry}
 use Rattle.jam_layout.specs.declared.entry.Front.{Front}
@@ -27,7 +28,7 @@ wrong_fields h = (not (h.times_read == 0) || not (h.attribute2 == 0)) || (not (h
 
 -- the number is 0, above 9,999, or not above the one before
 unfoldable pub wrong_number : Front → MessageHeader → Bool
-wrong_number f h = (h.number == 0 || nat_lt 9999 h.number) || nat_le h.number f.last
+wrong_number f h = (h.number == 0 || nat_lt slot_limit h.number) || nat_le h.number f.last
 
 -- Offset isn't the sum of the lengths before, or TxtLen is above 16,384
 unfoldable pub wrong_text : Front → MessageHeader → Bool

@@ -13,6 +13,7 @@ use Rattle.damage_rules.specs.Rules.{Rules, by_rules, ◌>>=◌}
 use Rattle.door_outside.specs.File.{jdx_file}
 use Rattle.damage_rules.specs.Walk.{WalkStep, walk}
 use Rattle.jam_layout.specs.Headers.{header_size}
+use Rattle.jam_layout.specs.Limits.{slot_limit}
 use Rattle.jam_layout.specs.declared.entry.Entry.{Entry}
 
 -- no message has the number
@@ -78,6 +79,6 @@ slot_at place s bytes =
 -- the slots that hold these messages, the first of which has its header at a place
 unfoldable pub slots_at : ℕ → ℕ → List Entry → List ℕ → Result (List Slot) Damage
 slots_at place at entries bytes = do
-  few ← by_rules (jdx_file place) 0 ((Count, nat_lt 9999 (length bytes / 8)) ∷ []) (tt {0})
+  few ← by_rules (jdx_file place) 0 ((Count, nat_lt slot_limit (length bytes / 8)) ∷ []) (tt {0})
   found ← walk (slot_at place) (record { item = 0; at = at; entries = entries }) bytes
   by_rules (jdx_file place) found.1.item ((Missing, not (length found.1.entries == 0)) ∷ []) found.0

@@ -7,6 +7,7 @@ pub mod Headers
 pub mod InOrder
 pub mod Index
 pub mod Layout
+pub mod Limits
 pub mod Marks
 pub mod Messages
 pub mod Outlines

@@ -8,6 +8,7 @@ use Rattle.jam_threads.specs.Links.{link_of}
 use Rattle.jam_threads.specs.declared.link.Link.{Link}
 use Rattle.damage_rules.specs.Rules.{by_rules, ◌>>=◌}
 use Rattle.door_outside.specs.File.{jhr_file}
+use Rattle.jam_layout.specs.Limits.{slot_limit}
 use Rattle.jam_layout.specs.declared.entry.Entry.{Entry}
 
 -- the slots of messages in rising number, of which the first slot has number n, up to the last message
@@ -18,7 +19,7 @@ slots_of n (e ∷ entries) = replicate (e.number - n) Gone ++ Held e.message ∷
 -- the numbers rise above one, up to 9,999
 abbrev pub Numbered : ℕ → List Entry → Type 0
 Numbered last [] = Unit {0}
-Numbered last (e ∷ entries) = (last < e.number) × (e.number ≤ 9999) × Numbered e.number entries
+Numbered last (e ∷ entries) = (last < e.number) × (e.number ≤ slot_limit) × Numbered e.number entries
 
 abbrev pub active_in : List Entry → ℕ
 active_in entries = count_by (λ e. not e.message.deleted) entries

@@ -2,6 +2,7 @@
 use Rattle.std.specs.Prelude.{◌≡◌, ℕ, ◌≤◌, ◌<◌, ◌^◌, List, [], ◌∷◌, length, All}
 use Rattle.byte_lists.specs.Byte.{IsByte}
 use Rattle.record_numbers.specs.Numbers.{IsU32}
+use Rattle.jam_layout.specs.Limits.{slot_limit}
 use Rattle.jam_layout.specs.declared.conference.Conference.{Conference}
 use Rattle.jam_layout.specs.Messages.{IsSlot}
 use Rattle.jam_layout.specs.Reader.{IsReader}
@@ -40,6 +41,6 @@ pub record PointersFit (count : ℕ) (readers : List Reader) (pointers : List �
 -- a conference of this shape
 pub record IsConference (shape : Shape) (c : Conference) : Type 0 where
   pub counter : IsU32 c.counter
-  pub few : length c.slots ≤ 9999
+  pub few : length c.slots ≤ slot_limit
   pub slots : All (IsSlot shape.kind) c.slots
   pub pointers : PointersFit (length c.slots) shape.readers c.pointers

@@ -5,6 +5,9 @@ use byte_lists::{Duplicate, List};
 use jam_records::{Slot, Slots};
 use std::alloc::{AllocError, Global};
 
+/// How many slots a conference may have.
+pub const SLOT_LIMIT: usize = 9999;
+
 /// What a conference holds.
 #[derive(Debug, Drop)]
 pub struct Conference {

@@ -2,10 +2,12 @@ ghost use Rattle.std.specs.Prelude.{◌≡◌, ◌+◌, ◌≤◌, ◌<◌, ◌^
 ghost use Rattle.name_crc.specs.JamCrc.{jam_crc};
 ghost use Rattle.jam_records.specs.MessageHeaders.{message_header_at};
 ghost use Rattle.damage_rules.specs.Rules.{first_broken, by_rules};
+ghost use Rattle.jam_layout.specs.Limits.{slot_limit};
 ghost use Rattle.jam_layout.specs.Rules.{BaseGives};
 ghost use Rattle.door_outside.specs.File.{jhr_file};
 ghost use Rattle.jam_layout.specs.Headers.{wrong_fields as fields_wrong, wrong_number as number_wrong, wrong_text as text_wrong, wrong_crc as crc_wrong, values_of, front_rules, field_rules, length_rules, value_rules, message_of as message_in, entry_of as entry_in, behind, header_at, entries_at};
 
+use crate::conference::SLOT_LIMIT;
 use crate::entry::{Entry, Front};
 use crate::error::BaseError;
 use crate::fields::{Values, read_values, right_values};
@@ -39,7 +41,7 @@ fn wrong_fields(header: &MessageHeader) -> bool
 fn wrong_number(front: &Front, header: &MessageHeader) -> bool
     ensures { result ≡ number_wrong front.now header.now }
 {
-    header.number == 0 || header.number > 9999 || header.number <= front.last
+    header.number == 0 || header.number as usize > SLOT_LIMIT || header.number <= front.last
 }
 
 /// Whether Offset isn't the sum of the lengths before, or TxtLen is above 16,384.
@@ -230,7 +232,7 @@ fn header_of(
     requires { place < 64 }
     ensures gives { BaseGives (λ x. record { value = x.0; size = x.1; next = behind front x.0 }) result (header_at place kind front bytes.now) }
     ensures size { IfOk result (λ x. (76 ≤ x.1) × (x.1 ≤ length bytes.now)) }
-    ensures bounds { IfOk result (λ x. (front.last < x.0.number) × (x.0.number ≤ 9999) × (x.0.text_len ≤ 16384)) }
+    ensures bounds { IfOk result (λ x. (front.last < x.0.number) × (x.0.number ≤ slot_limit) × (x.0.text_len ≤ 16384)) }
 {
     let header = fixed_of(place, kind, front, bytes)?;
     let values = values_behind(alloc, place, front.item, &header, bytes)?;

@@ -6,6 +6,7 @@ ghost use Rattle.jam_layout.specs.Headers.{header_size as size_of_header};
 ghost use Rattle.jam_layout.specs.Index.{index_rules, is_next, slot_at, slots_at};
 ghost use Rattle.jam_layout.specs.declared.entry.Entry.{Entry};
 
+use crate::conference::SLOT_LIMIT;
 use crate::entry::Entry;
 use crate::error::BaseError;
 use crate::places::damaged;
@@ -115,7 +116,7 @@ fn slots_from(
     requires small { 1024 + sum_by (λ e. size_of_header e.message) pending.old.items < 2 ^ 31 }
     ensures { BaseGives (λ x. x) result (slots_at place 1024 pending.old.items bytes.now) }
 {
-    if bytes.len() / 8 > 9999 {
+    if bytes.len() / 8 > SLOT_LIMIT {
         return Err(damaged(FileId::jdx(place), 0, DamageRule::Count));
     }
     let mut slots = Slots::new(alloc);

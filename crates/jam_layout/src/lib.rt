@@ -23,7 +23,7 @@ mod sizes;
 mod types;
 
 pub use bare::BareConference;
-pub use conference::Conference;
+pub use conference::{Conference, SLOT_LIMIT};
 pub use error::BaseError;
 pub use files::BaseFiles;
 pub use marks::Marks;

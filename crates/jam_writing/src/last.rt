@@ -5,6 +5,7 @@ ghost use Rattle.jam_threads.specs.Threading.{AreThreads};
 ghost use Rattle.jam_layout.specs.Headers.{headers_text};
 ghost use Rattle.jam_layout.specs.Index.{index_records};
 ghost use Rattle.jam_layout.specs.Layout.{entries_of};
+ghost use Rattle.jam_layout.specs.Limits.{slot_limit};
 ghost use Rattle.jam_layout.specs.Sizes.{slot_header};
 ghost use Rattle.jam_writing.specs.Pieces.{body_size};
 
@@ -29,7 +30,7 @@ pub fn write_last_headers(
     offset: u32,
 ) -> Result<Bytes, AllocError>
     requires threads { AreThreads slots.now threads.now }
-    requires few { length slots.now ≤ 9999 }
+    requires few { length slots.now ≤ slot_limit }
     requires within { from ≤ length slots.now }
     requires headers { sum_by slot_header slots.now < 2 ^ 31 }
     requires bodies { sum_by body_size slots.now < 2 ^ 31 }

@@ -8,6 +8,7 @@ ghost use Rattle.door_outside.specs.File.{jdt_file};
 ghost use Rattle.jam_base.specs.Contents.{Contents};
 ghost use Rattle.jam_base.specs.Slots.{numbered};
 ghost use Rattle.jam_layout.specs.Bodies.{message_with};
+ghost use Rattle.jam_layout.specs.Limits.{slot_limit};
 ghost use Rattle.jam_layout.specs.Messages.{IsBody};
 ghost use Rattle.jam_layout.specs.Outlines.{message_outline, slot_bare};
 ghost use Rattle.jam_layout.specs.Valid.{IsConference};
@@ -56,7 +57,7 @@ fn held_count(base: &Base, number: u32) -> u32
 fn record_number(base: &Base, number: u32) -> u32
     requires above { 0 < number }
     requires within { number ≤ length base.now.conference.slots }
-    requires few { length base.now.conference.slots ≤ 9999 }
+    requires few { length base.now.conference.slots ≤ slot_limit }
     ensures { result ≡ record_of number base.now.conference.slots }
 {
     let mut count = 1;
@@ -81,7 +82,7 @@ fn read_body<H: Host>(
     requires place { place < 64 }
     requires above { 0 < number }
     requires within { number ≤ length base.now.conference.slots }
-    requires few { length base.now.conference.slots ≤ 9999 }
+    requires few { length base.now.conference.slots ≤ slot_limit }
     requires short { span.len < 2 ^ 31 }
     ensures body { IsTrue H.tells → span.at + span.len ≤ length ((H.disk host.old).files (jdt_file place)) → IfOk result (λ body. body ≡ span_text span.at span.len ((H.disk host.old).files (jdt_file place))) }
     ensures long { IfOk result (λ body. length body ≡ span.len) }

@@ -6,6 +6,7 @@ use Rattle.board_layout.specs.Board.{Board}
 use Rattle.board_layout.specs.Outlines.{board_outline}
 use Rattle.board_layout.specs.Valid.{board_limit}
 use Rattle.board_ledger.specs.declared.ledger.Ledger.{Ledger}
+use Rattle.jam_layout.specs.Limits.{slot_limit}
 use Rattle.jam_records.specs.declared.message.Message.{Message}
 use Rattle.mail_intake.specs.Room.{is_full}
 use Rattle.offered_packets.proofs.OutlineLaws.{outline_count}
@@ -26,4 +27,4 @@ module _ (a b : Board) (alike : board_outline a ≡ board_outline b) where
   pub full_alike : (posts : List (ℕ × Message)) (post : ℕ × Message) → is_full a posts post ≡ is_full b posts post
   full_alike posts post =
       let more : List (ℕ × Message) = posts ++ post ∷ [] in
-      λ i. nat_le 9999 (count_alike posts post.0 i) || nat_lt board_limit (alike_size (spread more a) (spread more b) (posts_alike more) i)
+      λ i. nat_le slot_limit (count_alike posts post.0 i) || nat_lt board_limit (alike_size (spread more a) (spread more b) (posts_alike more) i)

@@ -13,6 +13,7 @@ use Rattle.board_layout.specs.Renewed.{contents_of}
 use Rattle.board_layout.specs.Valid.{IsBoard, board_limit}
 use Rattle.board_ledger.specs.declared.ledger.Ledger.{Ledger}
 use Rattle.jam_base.specs.Contents.{Contents}
+use Rattle.jam_layout.specs.Limits.{slot_limit}
 use Rattle.jam_layout.specs.declared.conference.Conference.{Conference}
 use Rattle.jam_records.specs.declared.message.Message.{Message}
 use Rattle.mail_intake.specs.Room.{is_full}
@@ -108,11 +109,11 @@ module _ (b : Board) (t : Tally) (place : ℕ) (m : Message) (ok : IsBoard b) (k
   within : place < length b.conferences
   within = omega (arith, conferences_count b ok, inside)
 
-  pub few_slots : length (slots_in (spread t.posts b) place) < 9999
-  few_slots = leb-false 9999 (length (slots_in (spread t.posts b) place)) (or_parts (nat_le 9999 (length (slots_in (spread t.posts b) place))) (nat_lt board_limit (board_size (spread more b))) room).0
+  pub few_slots : length (slots_in (spread t.posts b) place) < slot_limit
+  few_slots = leb-false slot_limit (length (slots_in (spread t.posts b) place)) (or_parts (nat_le slot_limit (length (slots_in (spread t.posts b) place))) (nat_lt board_limit (board_size (spread more b))) room).0
 
   small : board_size (spread more b) ≤ board_limit
-  small = ltb-false board_limit (board_size (spread more b)) (or_parts (nat_le 9999 (length (slots_in (spread t.posts b) place))) (nat_lt board_limit (board_size (spread more b))) room).1
+  small = ltb-false board_limit (board_size (spread more b)) (or_parts (nat_le slot_limit (length (slots_in (spread t.posts b) place))) (nat_lt board_limit (board_size (spread more b))) room).1
 
   -- ---- its slot
   here_more : length (slots_in (spread more b) place) ≡ length (slots_in (spread t.posts b) place) + 1
@@ -138,7 +139,7 @@ module _ (b : Board) (t : Tally) (place : ℕ) (m : Message) (ok : IsBoard b) (k
         | inr other ↦ get_or-set_other t.slots.items k j (n + 1) 0 (λ e. other (sym same ∙ sym e)) ∙ (known.slots j there ∙ sym (elsewhere j (omega (arith, conferences_count b ok, there)) other))
       ]
 
-  few_more : (k : ℕ) → k < length b.ledger.setup.conferences → length (slots_in (spread more b) k) ≤ 9999
+  few_more : (k : ℕ) → k < length b.ledger.setup.conferences → length (slots_in (spread more b) k) ≤ slot_limit
   few_more k there = elim (cases_eq place k) [
     | inl alike ↦ omega (arith, here_more, few_slots, ap (λ (i : ℕ). length (slots_in (spread more b) i)) alike)
     | inr other ↦ omega (arith, elsewhere k there other, few_in_place (spread t.posts b) k known.board)

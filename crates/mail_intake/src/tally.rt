@@ -9,13 +9,11 @@ ghost use Rattle.post_changes.specs.Posted.{spread};
 
 use board_layout::{BOARD_LIMIT, StoredBoard};
 use byte_lists::List;
+use jam_layout::SLOT_LIMIT;
 use jam_records::Message;
 use post_changes::Posts;
 use slot_changes::{generated_len, message_size};
 use std::alloc::{AllocError, Global};
-
-/// How many slots a conference may have.
-const SLOT_LIMIT: u32 = 9_999;
 
 /// Posts so far, each of which a board has room for behind those before it, and what they take of it.
 #[derive(Debug, Drop)]
@@ -67,7 +65,7 @@ impl Tally {
         requires place { place < length board.now.conferences }
         ensures { result ≡ is_full_with board.now self.now.posts (place, message.now) }
     {
-        self.slots[usize::from(place)] >= SLOT_LIMIT
+        self.slots[usize::from(place)] as usize >= SLOT_LIMIT
             || self.size_with(board, place, message) > BOARD_LIMIT
     }
 

@@ -13,6 +13,7 @@ use Rattle.board_layout.specs.Renewed.{contents}
 use Rattle.board_layout.specs.Valid.{IsBoard, board_limit}
 use Rattle.jam_base.specs.Contents.{Contents, with_messages}
 use Rattle.jam_layout.proofs.SlotSizes.{size_is, slots_small}
+use Rattle.jam_layout.specs.Limits.{slot_limit}
 use Rattle.jam_layout.specs.Messages.{IsMessage}
 use Rattle.jam_layout.specs.Valid.{IsConference}
 use Rattle.jam_layout.specs.declared.conference.Conference.{Conference}
@@ -47,7 +48,7 @@ base_in (shape ∷ shapes) (c ∷ conferences) (suc place) all within = base_in 
 
 -- ---- one place
 module _ (b : Board) (place : ℕ) (messages : List Message) (base : Contents) (c : SetupConference) (ok : IsBoard b) (here : base_at place b ≡ Some base) (is : slice_get b.ledger.setup.conferences place ≡ Some c)
-    (may : All (MayHold c.kind) messages) (few : length base.conference.slots + length messages ≤ 9999) where
+    (may : All (MayHold c.kind) messages) (few : length base.conference.slots + length messages ≤ slot_limit) where
   ids : (number : ℕ) → number < 10 ^ 5 → IsMsgid (msgid_in place b number)
   ids number below =
       let small = (all_at IsSetupConference b.ledger.setup.conferences place c is ok.ledger.setup.conferences.each).number in
@@ -102,7 +103,7 @@ has_place place b ok within =
       kind = ap (λ (o : Option SetupConference). option_map_or (λ (c : SetupConference). c.kind) o Local) other.1;
     }
 
-module _ (b : Board) (place : ℕ) (messages : List Message) (ok : IsBoard b) (within : place < length b.conferences) (may : All (MayHold (kind_of_place place b)) messages) (few : slot_count place b + length messages ≤ 9999) where
+module _ (b : Board) (place : ℕ) (messages : List Message) (ok : IsBoard b) (within : place < length b.conferences) (may : All (MayHold (kind_of_place place b)) messages) (few : slot_count place b + length messages ≤ slot_limit) where
   pub append_fits : board_size (appended place messages b) ≤ board_limit → IsBoard (appended place messages b)
   append_fits small =
       let at = has_place place b ok within in

@@ -8,6 +8,7 @@ use Rattle.board_layout.proofs.OneOutline.{alike_size}
 use Rattle.board_layout.specs.Board.{Board}
 use Rattle.board_layout.specs.Valid.{board_limit}
 use Rattle.import_sheet.specs.declared.sheet.Sheet.{Sheet}
+use Rattle.jam_layout.specs.Limits.{slot_limit}
 use Rattle.jam_records.specs.declared.message.Kind.{Kind}
 use Rattle.jam_records.specs.declared.message.Message.{Message}
 use Rattle.mail_board.proofs.EachNext.{changed_alike}
@@ -25,7 +26,7 @@ use Rattle.message_commands.specs.Import.{append_turn, appending, import_refusal
 -- ---- messages appended in a place
 -- the refusals, by how many slots there are and the size of the next board
 abbrev refusals_by : ℕ → ℕ → ℕ → List (Bool × Refusal)
-refusals_by count more size = (nat_lt 9999 (count + more), Slots (count + more)) ∷ (nat_lt board_limit size, Size size) ∷ []
+refusals_by count more size = (nat_lt slot_limit (count + more), Slots (count + more)) ∷ (nat_lt board_limit size, Size size) ∷ []
 
 module _ (conference place : ℕ) (messages : List Message) where
   line : List ℕ

@@ -15,6 +15,7 @@ use Rattle.shelf_files.specs.Sheets.{AreSheets}
 use Rattle.shelf_files.specs.declared.refusal.Refusal.{Refusal}
 use Rattle.shelf_files.specs.declared.refusal.Refusal.TheVariants.{Slots, Size}
 use Rattle.slot_changes.specs.Changed.{appended}
+use Rattle.jam_layout.specs.Limits.{slot_limit}
 use Rattle.jam_layout.specs.Messages.{IsTyped}
 use Rattle.slot_changes.specs.Values.{MayHold}
 use Rattle.message_commands.proofs.EntryLaws.{entries_hold}
@@ -38,13 +39,13 @@ unrefused false why none = refl
 -- ---- what was looked at
 -- the slots of the conference with the messages, and the size of the files then, were found so
 abbrev pub SlotsTold : ℕ → Board → List Message → Option Refusal → Type 0
-SlotsTold place b messages found = first_refusal ((ltb 9999 (slot_count place b + length messages), Slots (slot_count place b + length messages)) ∷ []) ≡ found
+SlotsTold place b messages found = first_refusal ((ltb slot_limit (slot_count place b + length messages), Slots (slot_count place b + length messages)) ∷ []) ≡ found
 
 abbrev pub SizeTold : ℕ → Board → List Message → Option Refusal → Type 0
 SizeTold place b messages found = first_refusal ((ltb board_limit (board_size (appended place messages b)), Size (board_size (appended place messages b))) ∷ []) ≡ found
 
-few_slots : (place : ℕ) (b : Board) (messages : List Message) → SlotsTold place b messages None → slot_count place b + length messages ≤ 9999
-few_slots place b messages none = ltb-false 9999 (slot_count place b + length messages) (unrefused (ltb 9999 (slot_count place b + length messages)) (Slots (slot_count place b + length messages)) none)
+few_slots : (place : ℕ) (b : Board) (messages : List Message) → SlotsTold place b messages None → slot_count place b + length messages ≤ slot_limit
+few_slots place b messages none = ltb-false slot_limit (slot_count place b + length messages) (unrefused (ltb slot_limit (slot_count place b + length messages)) (Slots (slot_count place b + length messages)) none)
 
 short_files : (place : ℕ) (b : Board) (messages : List Message) → SizeTold place b messages None → board_size (appended place messages b) ≤ board_limit
 short_files place b messages none =

@@ -9,6 +9,7 @@ use Rattle.board_layout.specs.Board.{Board}
 use Rattle.board_layout.specs.Layout.{board_size}
 use Rattle.board_layout.specs.Valid.{IsBoard, board_limit}
 use Rattle.jam_layout.proofs.LayoutBounds.{size_at_most}
+use Rattle.jam_layout.specs.Limits.{slot_limit}
 use Rattle.jam_layout.specs.Messages.{IsMessage}
 use Rattle.jam_records.specs.declared.message.Kind.{Kind}
 use Rattle.jam_records.specs.declared.message.Kind.TheVariants.{Local}
@@ -99,7 +100,7 @@ module _ (seed now : ℕ) (b : Board) (ok : IsBoard b) (small : seed < 2 ^ 32) w
         let least = ok.small in
         omega (arith, size, grows n few typed_all, ap board_size (spread_none b ok), least, few)
 
-    pub sample_fits : ((place : ℕ) → place < length b.ledger.setup.conferences → length (slots_in (spread posts b) place) ≤ 9999) → board_size (spread posts b) ≤ board_limit → Fits (Spread posts) b
+    pub sample_fits : ((place : ℕ) → place < length b.ledger.setup.conferences → length (slots_in (spread posts b) place) ≤ slot_limit) → board_size (spread posts b) ≤ board_limit → Fits (Spread posts) b
     sample_fits slots size =
         let fit : AreFit b posts = record {
           held = λ place c is. subst (λ (ps : List (ℕ × Message)). All (MayHold c.kind) (posts_in place ps)) (sym made) (held n few typed_all place c is);

@@ -10,6 +10,7 @@ use Rattle.board_layout.specs.Board.{Board, conferences_in, shapes_of}
 use Rattle.board_layout.specs.Renewed.{contents_of}
 use Rattle.board_layout.specs.Valid.{IsBoard}
 use Rattle.jam_base.specs.Contents.{Contents}
+use Rattle.jam_layout.specs.Limits.{slot_limit}
 use Rattle.jam_layout.specs.declared.conference.Conference.{Conference}
 use Rattle.jam_records.specs.declared.message.Message.{Message}
 use Rattle.board_layout.proofs.BoardLookups.{base_slots}
@@ -49,11 +50,11 @@ module _ (b : Board) (posts : List (ℕ × Message)) (ok : IsBoard b) where
       omega (arith, kept_is, posted_is, count_is place within, ap length slots)
 
 -- ---- refusals
-past : (slots : ℕ) (others : List ℕ) → 9999 < slots → first_refusal (map slots_case (slots ∷ others)) ≡ Some (Slots slots)
-past slots others high = cond-true (ltb 9999 slots) (Some (Slots slots)) (first_refusal (map slots_case others)) (lt-ltb 9999 slots high)
+past : (slots : ℕ) (others : List ℕ) → slot_limit < slots → first_refusal (map slots_case (slots ∷ others)) ≡ Some (Slots slots)
+past slots others high = cond-true (ltb slot_limit slots) (Some (Slots slots)) (first_refusal (map slots_case others)) (lt-ltb slot_limit slots high)
 
-within_limit : (slots : ℕ) (others : List ℕ) → slots ≤ 9999 → first_refusal (map slots_case (slots ∷ others)) ≡ first_refusal (map slots_case others)
-within_limit slots others low = cond-false (ltb 9999 slots) (Some (Slots slots)) (first_refusal (map slots_case others)) (le-ltb 9999 slots low)
+within_limit : (slots : ℕ) (others : List ℕ) → slots ≤ slot_limit → first_refusal (map slots_case (slots ∷ others)) ≡ first_refusal (map slots_case others)
+within_limit slots others low = cond-false (ltb slot_limit slots) (Some (Slots slots)) (first_refusal (map slots_case others)) (le-ltb slot_limit slots low)
 
 -- the counts from a place on refuse what all do
 pub Refuse : List ℕ → ℕ → Type 0
@@ -63,13 +64,13 @@ pub all_refuse : (counts : List ℕ) → Refuse counts 0
 unfolding Refuse
 all_refuse counts = refl
 
-pub first_past : (counts : List ℕ) (place slots : ℕ) → Refuse counts place → place < length counts → slots ≡ get_or counts place 0 → 9999 < slots → Some (Slots slots) ≡ first_refusal (map slots_case counts)
+pub first_past : (counts : List ℕ) (place slots : ℕ) → Refuse counts place → place < length counts → slots ≡ get_or counts place 0 → slot_limit < slots → Some (Slots slots) ≡ first_refusal (map slots_case counts)
 unfolding Refuse
 first_past counts place slots so_far within is high =
     let here : drop place counts ≡ slots ∷ drop (place + 1) counts = drop_more counts place 0 within ∙ ap (λ (n : ℕ). n ∷ drop (place + 1) counts) (sym is) in
     sym (past slots (drop (place + 1) counts) high) ∙ (ap (λ (ns : List ℕ). first_refusal (map slots_case ns)) (sym here) ∙ so_far)
 
-pub refuse_more : (counts : List ℕ) (place slots : ℕ) → Refuse counts place → place < length counts → slots ≡ get_or counts place 0 → slots ≤ 9999 → Refuse counts (place + 1)
+pub refuse_more : (counts : List ℕ) (place slots : ℕ) → Refuse counts place → place < length counts → slots ≡ get_or counts place 0 → slots ≤ slot_limit → Refuse counts (place + 1)
 unfolding Refuse
 refuse_more counts place slots so_far within is low =
     let here : drop place counts ≡ slots ∷ drop (place + 1) counts = drop_more counts place 0 within ∙ ap (λ (n : ℕ). n ∷ drop (place + 1) counts) (sym is) in
@@ -80,16 +81,16 @@ unfolding Refuse
 none_past counts place so_far end = ap (λ (ns : List ℕ). first_refusal (map slots_case ns)) (sym (drop_all place counts end)) ∙ so_far
 
 -- ---- what no refusal says
-pub counts_small : (counts : List ℕ) → first_refusal (map slots_case counts) ≡ None → (place : ℕ) → place < length counts → get_or counts place 0 ≤ 9999
+pub counts_small : (counts : List ℕ) → first_refusal (map slots_case counts) ≡ None → (place : ℕ) → place < length counts → get_or counts place 0 ≤ slot_limit
 counts_small [] none place inside = absurd (omega (arith, inside))
-counts_small (slots ∷ counts) none place inside = by (ltb 9999 slots) refl none place inside (counts_small counts)
+counts_small (slots ∷ counts) none place inside = by (ltb slot_limit slots) refl none place inside (counts_small counts)
   where
-    by : (high : Bool) → ltb 9999 slots ≡ high → cond high (Some (Slots slots)) (first_refusal (map slots_case counts)) ≡ None → (place : ℕ) → place < length (slots ∷ counts)
-        → (first_refusal (map slots_case counts) ≡ None → (k : ℕ) → k < length counts → get_or counts k 0 ≤ 9999) → get_or (slots ∷ counts) place 0 ≤ 9999
+    by : (high : Bool) → ltb slot_limit slots ≡ high → cond high (Some (Slots slots)) (first_refusal (map slots_case counts)) ≡ None → (place : ℕ) → place < length (slots ∷ counts)
+        → (first_refusal (map slots_case counts) ≡ None → (k : ℕ) → k < length counts → get_or counts k 0 ≤ slot_limit) → get_or (slots ∷ counts) place 0 ≤ slot_limit
     by true is e place inside others = absurd (cc e)
-    by false is e zero inside others = ltb-false 9999 slots is
+    by false is e zero inside others = ltb-false slot_limit slots is
     by false is e (suc place) inside others = others e place (omega (arith, inside))
 
-pub slots_small : (b : Board) (posts : List (ℕ × Message)) → IsBoard b → first_refusal (map slots_case (slot_counts (spread posts b))) ≡ None → (place : ℕ) → place < length b.ledger.setup.conferences → length (slots_in (spread posts b) place) ≤ 9999
+pub slots_small : (b : Board) (posts : List (ℕ × Message)) → IsBoard b → first_refusal (map slots_case (slot_counts (spread posts b))) ≡ None → (place : ℕ) → place < length b.ledger.setup.conferences → length (slots_in (spread posts b) place) ≤ slot_limit
 slots_small b posts ok none place within =
     omega (arith, counts_small (slot_counts (spread posts b)) none place (omega (arith, within, counts_length b posts ok, as_many b ok)), count_is b posts ok place within, spread_count b posts place ok within)

@@ -10,6 +10,7 @@ use Rattle.board_layout.specs.Valid.{board_limit}
 use Rattle.door_outside.specs.Shelf.{Files}
 use Rattle.entry_runs.specs.Door.{Act}
 use Rattle.import_sheet.specs.declared.sheet.Sheet.{Sheet}
+use Rattle.jam_layout.specs.Limits.{slot_limit}
 use Rattle.jam_layout.specs.Marks.{is_net}
 use Rattle.jam_records.specs.declared.message.Kind.{Kind}
 use Rattle.jam_records.specs.declared.message.Kind.TheVariants.{Local}
@@ -57,7 +58,7 @@ imported_messages now place b entries = map (imported_message (kind_of_place pla
 -- why messages aren't appended in a place, in order
 abbrev pub import_refusals : ℕ → List Message → Board → List (Bool × Refusal)
 import_refusals place messages b =
-    (nat_lt 9999 (slot_count place b + length messages), Slots (slot_count place b + length messages))
+    (nat_lt slot_limit (slot_count place b + length messages), Slots (slot_count place b + length messages))
     ∷ (nat_lt board_limit (board_size (appended place messages b)), Size (board_size (appended place messages b)))
     ∷ []
 

@@ -9,6 +9,7 @@ use Rattle.board_layout.specs.Layout.{board_size}
 use Rattle.board_layout.specs.Lookups.{user_of, slots_in}
 use Rattle.board_layout.specs.Valid.{board_limit}
 use Rattle.entry_runs.specs.Door.{Act}
+use Rattle.jam_layout.specs.Limits.{slot_limit}
 use Rattle.jam_layout.specs.Marks.{is_net}
 use Rattle.jam_records.specs.declared.message.Message.{Message}
 use Rattle.message_commands.specs.Import.{kind_of_place}
@@ -86,7 +87,7 @@ slot_counts b = map (λ c. length c.slots) b.conferences
 
 -- a conference has too many slots
 abbrev pub slots_case : ℕ → Bool × Refusal
-slots_case slots = (nat_lt 9999 slots, Slots slots)
+slots_case slots = (nat_lt slot_limit slots, Slots slots)
 
 -- why there is no sample, in order; of the conferences the first by place
 abbrev pub sample_refusals : ℕ → ℕ → ℕ → Board → List (Bool × Refusal)

@@ -11,6 +11,7 @@ ghost use Rattle.entry_runs.specs.Door.{World};
 ghost use Rattle.entry_runs.specs.Entry.{IsAt, Works};
 ghost use Rattle.entry_runs.specs.Promise.{ended};
 ghost use Rattle.intent_journal.specs.Journal.{IsClosed};
+ghost use Rattle.jam_layout.specs.Limits.{slot_limit};
 ghost use Rattle.shelf_files.specs.Sheets.{AreSheets};
 ghost use Rattle.shelf_files.specs.declared.refusal.Refusal.TheVariants.{Slots};
 ghost use Rattle.message_commands.specs.Import.{imported_line, imports, slot_count};
@@ -21,21 +22,19 @@ use crate::placing::{kind_in, place_in};
 use board_commands::{BoardHalt, board_in, find, make_change, size_refusal};
 use door_outside::{Host, Shelf, ShelfName};
 use import_sheet::Sheets;
+use jam_layout::SLOT_LIMIT;
 use jam_records::Messages;
 use mail_board::{Board, Change, Loaded};
 use shelf_files::{Refusal, sheet_in};
 use std::alloc::Global;
 
-/// How many slots a conference may have.
-const SLOT_LIMIT: u64 = 9_999;
-
 /// Why the conference in a place would have too many slots with more messages, where it would.
 fn slots_refusal(board: &Board, place: u8, messages: &Messages) -> Option<Refusal>
     requires { place < length board.now.board.conferences }
-    ensures { result ≡ first_refusal ((nat_lt 9999 (slot_count place board.now.board + length messages.now), Slots (slot_count place board.now.board + length messages.now)) ∷ []) }
+    ensures { result ≡ first_refusal ((nat_lt slot_limit (slot_count place board.now.board + length messages.now), Slots (slot_count place board.now.board + length messages.now)) ∷ []) }
 {
     let slots = u64::from(board.slot_count(place)) + messages.as_slice().len() as u64;
-    if slots > SLOT_LIMIT {
+    if slots > SLOT_LIMIT as u64 {
         return Some(Refusal::Slots(slots));
     }
     None

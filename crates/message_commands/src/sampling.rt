@@ -20,15 +20,13 @@ use crate::posts::{Sampling, sampling_of};
 use board_commands::{BoardHalt, board_in, find, make_change, size_refusal};
 use board_layout::StoredBoard;
 use door_outside::Host;
+use jam_layout::SLOT_LIMIT;
 use mail_board::{Board, Change, Loaded};
 use shelf_files::Refusal;
 use std::alloc::Global;
 
 /// How many messages a sample may have.
 const COUNT_LIMIT: u32 = 5_000;
-
-/// How many slots a conference may have.
-const SLOT_LIMIT: u32 = 9_999;
 
 /// Why a conference, the first by place, would have too many slots with the messages of a sample, where one would.
 fn slots_refusal(board: &StoredBoard, sampling: &Sampling) -> Option<Refusal>
@@ -38,7 +36,7 @@ fn slots_refusal(board: &StoredBoard, sampling: &Sampling) -> Option<Refusal>
 {
     for (place, base) in board.bases().iter().enumerate() {
         let slots = base.slot_count() + sampling.posted[place];
-        if slots > SLOT_LIMIT {
+        if slots as usize > SLOT_LIMIT {
             return Some(Refusal::Slots(u64::from(slots)));
         }
     }

@@ -11,6 +11,7 @@ use Rattle.jam_layout.proofs.AddressLaws.{is_test}
 use Rattle.damage_rules.proofs.BoolTests.{or_false, not_not}
 use Rattle.jam_layout.specs.Address.{is_address}
 use Rattle.jam_layout.specs.Fields.{is_text}
+use Rattle.jam_layout.specs.Limits.{slot_limit}
 use Rattle.jam_layout.specs.Messages.{EmptyOr, IsBody, IsMessage, IsTyped}
 use Rattle.netmail_rules.specs.AddressLine.{is_plain, net_line}
 use Rattle.netmail_rules.specs.Draft.{is_net_view, is_netmail, netmail_line, first_line, recipient_of, destination_of, kept_line, kept_lines, kept_body, draft_of}
@@ -49,7 +50,7 @@ record Passed (v : View) (c : ConferenceView) (q : QwkMessage) (d : Message) : T
   subject : not (is_plain q.header.subject) ≡ false
   body : ltb 16384 (length d.body) ≡ false
   address : (is_netmail v && is_none (netmail_line v q)) ≡ false
-  full : (leb 9999 c.slots || ltb v.room (new_bytes d c.msgid_len)) ≡ false
+  full : (leb slot_limit c.slots || ltb v.room (new_bytes d c.msgid_len)) ≡ false
 
 passed_in : (v : View) (c : ConferenceView) (q : QwkMessage) (d : Message) → first_refusing (rules_before v q ++ rules_in v (Some c) q d) ≡ None → Passed v c q d
 unfolding NoneRefuses
@@ -179,9 +180,9 @@ posted_is_message v c m now draft msgid conference view short posted id types =
     subst (λ (x : Message). IsMessage c.kind (with_msgid msgid x)) w.made (draft_fits v c q now msgid conference view (read_short m short) w.passed id own)
 
 pub posted_has_room : (v : View) (c : ConferenceView) (m : QwkMessage) (now : ℕ) (draft : Message) → v.conference ≡ Some c → verdict v m now ≡ Post draft
-    → (c.slots < 9999) × (new_bytes draft c.msgid_len ≤ v.room)
+    → (c.slots < slot_limit) × (new_bytes draft c.msgid_len ≤ v.room)
 posted_has_room v c m now draft conference posted =
     let q : QwkMessage = plain m in
     let w = posted_by v c q now draft conference posted in
-    let full = or_false (leb 9999 c.slots) (ltb v.room (new_bytes (draft_of v q now) c.msgid_len)) w.passed.full in
-    (leb-false 9999 c.slots full.0, subst (λ (x : Message). new_bytes x c.msgid_len ≤ v.room) w.made (ltb-false v.room (new_bytes (draft_of v q now) c.msgid_len) full.1))
+    let full = or_false (leb slot_limit c.slots) (ltb v.room (new_bytes (draft_of v q now) c.msgid_len)) w.passed.full in
+    (leb-false slot_limit c.slots full.0, subst (λ (x : Message). new_bytes x c.msgid_len ≤ v.room) w.made (ltb-false v.room (new_bytes (draft_of v q now) c.msgid_len) full.1))

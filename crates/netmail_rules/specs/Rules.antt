@@ -5,6 +5,7 @@ use Rattle.std.specs.Str.{str_eq_ignore_ascii_case}
 use Rattle.qwk_blocks.specs.declared.message.QwkMessage.{QwkMessage}
 use Rattle.jam_records.specs.declared.message.Message.{Message}
 use Rattle.jam_records.specs.declared.message.Slot.TheVariants.{Held}
+use Rattle.jam_layout.specs.Limits.{slot_limit}
 use Rattle.jam_layout.specs.Sizes.{slot_size}
 use Rattle.netmail_rules.specs.AddressLine.{is_plain}
 use Rattle.netmail_rules.specs.Draft.{is_netmail, netmail_line}
@@ -41,7 +42,7 @@ names_nobody to = length to == 0 || not (is_plain to)
 
 -- no slot is left, or no room for the draft
 abbrev pub has_no_room : View → ConferenceView → Message → Bool
-has_no_room v c draft = nat_le 9999 c.slots || nat_lt v.room (new_bytes draft c.msgid_len)
+has_no_room v c draft = nat_le slot_limit c.slots || nat_lt v.room (new_bytes draft c.msgid_len)
 
 -- the rules before those that speak of the conference
 abbrev pub rules_before : View → QwkMessage → List (Rule × Bool)

@@ -3,6 +3,7 @@ ghost use Rattle.std.specs.Prelude.{◌≡◌, ◌<◌, ◌≤◌, ℕ, List, So
 ghost use Rattle.qwk_blocks.specs.declared.message.QwkMessage.{QwkMessage};
 ghost use Rattle.jam_records.specs.declared.message.Message.{Message};
 ghost use Rattle.jam_layout.specs.Fields.{is_text};
+ghost use Rattle.jam_layout.specs.Limits.{slot_limit};
 ghost use Rattle.jam_layout.specs.Messages.{IsMessage, IsTyped};
 ghost use Rattle.netmail_rules.specs.Fits.{IsView, HasShortTexts, with_msgid};
 ghost use Rattle.netmail_rules.specs.Verdict.{verdict};
@@ -18,5 +19,5 @@ pub fn posted_fits()
         → v.conference ≡ Some c → IsView v → HasShortTexts m.header → verdict v m now ≡ Post draft
         → IsTrue (is_text 80 msgid) → IsTyped (with_msgid msgid draft) → IsMessage c.kind (with_msgid msgid draft) }
     ensures room { (v : View) (c : ConferenceView) (m : QwkMessage) (now : ℕ) (draft : Message)
-        → v.conference ≡ Some c → verdict v m now ≡ Post draft → (c.slots < 9999) × (new_bytes draft c.msgid_len ≤ v.room) }
+        → v.conference ≡ Some c → verdict v m now ≡ Post draft → (c.slots < slot_limit) × (new_bytes draft c.msgid_len ≤ v.room) }
 {}

@@ -10,6 +10,7 @@ use crate::rule::Rule;
 use crate::size::new_bytes;
 use crate::status::{is_comment, is_password, is_private};
 use crate::view::{ConferenceView, View};
+use jam_layout::SLOT_LIMIT;
 use jam_records::Message;
 use qwk_blocks::{Header, QwkMessage};
 use setup_file::Zones;
@@ -70,7 +71,8 @@ pub(crate) fn rules_before(view: &View, message: &QwkMessage) -> [(Rule, bool); 
 fn is_full(view: &View, conference: &ConferenceView, draft: &Message) -> bool
     ensures { result ≡ is_full_of view.now conference.now draft.now }
 {
-    conference.slots >= 9999 || new_bytes(draft, conference.msgid_len) > u128::from(view.room)
+    conference.slots as usize >= SLOT_LIMIT
+        || new_bytes(draft, conference.msgid_len) > u128::from(view.room)
 }
 
 /// Whether From is the user's name, ignoring ASCII case.

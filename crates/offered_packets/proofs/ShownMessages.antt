@@ -13,6 +13,7 @@ use Rattle.board_layout.specs.Valid.{IsBoard}
 use Rattle.board_layout.proofs.OutlineLaws.{outline_valid}
 use Rattle.jam_base.specs.Slots.{numbered}
 use Rattle.jam_layout.specs.Fields.{is_text}
+use Rattle.jam_layout.specs.Limits.{slot_limit}
 use Rattle.jam_layout.specs.Messages.{EmptyOr, IsMessage, IsSlot}
 use Rattle.jam_layout.specs.Outlines.{message_outline}
 use Rattle.jam_layout.specs.Valid.{IsConference}
@@ -126,7 +127,7 @@ pub record IsThere (b : Board) (place number : ℕ) (m : Message) : Type 0 where
   pub kind : Kind
   pub message : IsMessage kind m
   pub within : number ≤ length (slots_in b place)
-  pub few : length (slots_in b place) ≤ 9999
+  pub few : length (slots_in b place) ≤ slot_limit
 
 pub is_there : (b : Board) (place number : ℕ) (m : Message) → IsBoard b → message_at b place number ≡ Some m → IsThere b place number m
 is_there b place number m ok e =
@@ -169,7 +170,7 @@ number_small conferences place each = elim (cases_lt place (length conferences))
 
 header_fits : (b : Board) (place number logical : ℕ) (m : Message) → IsBoard b → logical < 2 ^ 16 → IsThere b place number m → HeaderFitsWithLong (whole_message b place number logical m).header
 header_fits b place number logical m ok small there =
-    let few : number ≤ 9999 = omega (arith, there.within, there.few) in
+    let few : number ≤ slot_limit = omega (arith, there.within, there.few) in
     let answered : original (slots_in b place) number ≤ 99999999 = omega (arith, there.few, original_small (slots_in b place) number there.within) in
     let shown_number : number ≤ 9999999 = omega arith in
     record {

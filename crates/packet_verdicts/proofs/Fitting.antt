@@ -9,11 +9,13 @@ use Rattle.board_layout.specs.Board.{Board}
 use Rattle.board_layout.specs.Layout.{board_size}
 use Rattle.board_layout.specs.Lookups.{user_of, slots_in}
 use Rattle.board_layout.specs.Valid.{IsBoard, board_limit}
+use Rattle.board_ledger.specs.Uploads.{upload_size}
 use Rattle.board_ledger.specs.Users.{IsUser}
 use Rattle.board_ledger.specs.declared.user.User.{User}
 use Rattle.setup_file.specs.Texts.{is_user_name}
 use Rattle.setup_file.specs.declared.conference.Conference.{Conference as SetupConference}
 use Rattle.jam_layout.specs.Fields.{is_text}
+use Rattle.jam_layout.specs.Limits.{slot_limit}
 use Rattle.jam_layout.specs.Messages.{EmptyOr, IsMessage, IsTyped}
 use Rattle.jam_records.specs.declared.message.Message.{Message}
 use Rattle.netmail_rules.proofs.PostedDrafts.{posted_is_message, posted_has_room}
@@ -105,7 +107,7 @@ posts_before P (Some place) (Post d) posts all = all_in_front P posts ((place, d
 module _ (b : Board) (id now : ℕ) (ok : IsBoard b) where
   -- an upload record has room behind the posts
   HasRoom : List (ℕ × Message) → Type 0
-  HasRoom posts = board_size (spread posts b) + 42 ≤ board_limit
+  HasRoom posts = board_size (spread posts b) + upload_size ≤ board_limit
 
   module _ (posts : List (ℕ × Message)) (m : QwkMessage) where
     -- the conference that the rules see
@@ -116,7 +118,7 @@ module _ (b : Board) (id now : ℕ) (ok : IsBoard b) where
 
     -- what a posted draft leaves
     left : (place : ℕ) (c : SetupConference) (d : Message) → slice_get b.ledger.setup.conferences place ≡ Some c → addressed_place m.header.number b ≡ Some place → verdict_on (spread posts b) id m now ≡ Post d
-        → (length (slots_in (spread posts b) place) < 9999) × (new_bytes d (length (msgid_in place b (next_number (spread posts b) place))) ≤ room_of (spread posts b))
+        → (length (slots_in (spread posts b) place) < slot_limit) × (new_bytes d (length (msgid_in place b (next_number (spread posts b) place))) ≤ room_of (spread posts b))
     left place c d is here posted = posted_has_room (view_of (spread posts b) id m) (conference_view (spread posts b) (user_with id b) place c) m now d (seen place c is here) posted
 
     room_stays : (o : Option ℕ) (w : Verdict) → addressed_place m.header.number b ≡ o → verdict_on (spread posts b) id m now ≡ w → HasRoom posts → HasRoom (posts_after o w posts)
@@ -154,10 +156,10 @@ module _ (b : Board) (id now : ℕ) (ok : IsBoard b) where
         | inr other ↦ subst (All (MayHold s.kind)) (sym (posts_miss k place posts d (ne_eqb place k other))) (fit.held k s here)
       ]
 
-      more_few : (place : ℕ) (d : Message) → length (slots_in (spread posts b) place) < 9999 → (k : ℕ) → k < length b.ledger.setup.conferences → length (slots_in b k) + length (posts_in k (posts ++ (place, d) ∷ [])) ≤ 9999
+      more_few : (place : ℕ) (d : Message) → length (slots_in (spread posts b) place) < slot_limit → (k : ℕ) → k < length b.ledger.setup.conferences → length (slots_in b k) + length (posts_in k (posts ++ (place, d) ∷ [])) ≤ slot_limit
       more_few place d low k within = elim (cases_eq place k) [
         | inl same ↦
-            let slots : length (slots_in b k) + length (posts_in k posts) < 9999 = omega (arith, spread_count b posts k ok within, low, ap (λ (j : ℕ). length (slots_in (spread posts b) j)) same) in
+            let slots : length (slots_in b k) + length (posts_in k posts) < slot_limit = omega (arith, spread_count b posts k ok within, low, ap (λ (j : ℕ). length (slots_in (spread posts b) j)) same) in
             let count = ap length (posts_hit k posts d) in
             let alike = ap (λ (j : ℕ). length (posts_in k (posts ++ (j, d) ∷ []))) same in
             omega (arith, slots, count, alike, length-append (posts_in k posts) (d ∷ []))
@@ -209,19 +211,19 @@ module _ (b : Board) (id now : ℕ) (ok : IsBoard b) where
   none_fit : AreFit b []
   none_fit = record {
     held = λ place c is. All-nil (MayHold c.kind);
-    few = λ place within. let least : length (slots_in b place) ≤ 9999 = few_in_place b place ok in omega (arith, least);
+    few = λ place within. let least : length (slots_in b place) ≤ slot_limit = few_in_place b place ok in omega (arith, least);
   }
 
-  no_post_room : board_size b + 42 ≤ board_limit → HasRoom []
+  no_post_room : board_size b + upload_size ≤ board_limit → HasRoom []
   unfolding HasRoom
   no_post_room room = omega (arith, room, ap board_size (spread_none b ok))
 
 -- ---- the laws
-pub room_is_left : (b : Board) (user now : ℕ) (messages : List QwkMessage) → IsBoard b → board_size b + 42 ≤ board_limit → board_size (spread (judged b user now messages).1 b) + 42 ≤ board_limit
+pub room_is_left : (b : Board) (user now : ℕ) (messages : List QwkMessage) → IsBoard b → board_size b + upload_size ≤ board_limit → board_size (spread (judged b user now messages).1 b) + upload_size ≤ board_limit
 unfolding judged after HasRoom
 room_is_left b user now messages ok room = room_after_all b user now ok ([], []) messages (no_post_room b user now ok room)
 
-pub board_stays : (b : Board) (user now : ℕ) (messages : List QwkMessage) → IsBoard b → IsSome (user_of user b) → board_size b + 42 ≤ board_limit → All (λ m. HasShortTexts m.header) messages → All IsTypedPost (judged b user now messages).1
+pub board_stays : (b : Board) (user now : ℕ) (messages : List QwkMessage) → IsBoard b → IsSome (user_of user b) → board_size b + upload_size ≤ board_limit → All (λ m. HasShortTexts m.header) messages → All IsTypedPost (judged b user now messages).1
     → IsBoard (spread (judged b user now messages).1 b)
 unfolding judged after HasRoom
 board_stays b user now messages ok there room short types =

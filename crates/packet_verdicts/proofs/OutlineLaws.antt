@@ -5,6 +5,7 @@ use Rattle.board_layout.proofs.OutlineLaws.{outline_again, outline_size}
 use Rattle.board_layout.specs.Board.{Board}
 use Rattle.board_layout.specs.Outlines.{board_outline}
 use Rattle.board_layout.specs.Valid.{board_limit}
+use Rattle.board_ledger.specs.Uploads.{upload_size}
 use Rattle.board_ledger.specs.declared.user.User.{User}
 use Rattle.jam_layout.specs.Outlines.{message_outline}
 use Rattle.jam_records.specs.declared.message.Message.{Message}
@@ -51,7 +52,7 @@ reply_outline b id (Some place) None = refl
 reply_outline b id (Some place) (Some number) = one_reply b id place number
 
 room_outline : (b : Board) → room_of (board_outline b) ≡ room_of b
-room_outline b = ap (λ size. board_limit - (size + 42)) (outline_size b)
+room_outline b = ap (λ size. board_limit - (size + upload_size)) (outline_size b)
 
 place_outline : (b : Board) (number : Option ℕ) → addressed_place number (board_outline b) ≡ addressed_place number b
 place_outline b None = refl

@@ -10,6 +10,7 @@ use Rattle.board_layout.specs.Board.{Board, shapes_of}
 use Rattle.board_layout.specs.Renewed.{contents_of}
 use Rattle.board_layout.specs.Valid.{IsBoard}
 use Rattle.jam_base.specs.Contents.{Contents}
+use Rattle.jam_layout.specs.Limits.{slot_limit}
 use Rattle.jam_records.specs.declared.message.Message.{Message}
 use Rattle.post_changes.specs.Posted.{spread}
 use Rattle.packet_verdicts.specs.Views.{addressed_place}
@@ -29,7 +30,7 @@ pub place_same : (number : Option ℕ) (b : Board) (posts : List (ℕ × Message
 place_same None b posts = refl
 place_same (Some number) b posts = refl
 
-pub few_slots : (b : Board) (place : ℕ) (base : Contents) → IsBoard b → slice_get (contents_of b) place ≡ Some base → length base.conference.slots ≤ 9999
+pub few_slots : (b : Board) (place : ℕ) (base : Contents) → IsBoard b → slice_get (contents_of b) place ≡ Some base → length base.conference.slots ≤ slot_limit
 few_slots b place base ok here = (all_at IsBase (contents_of b) place base here (are_bases (shapes_of b.ledger) b.conferences ok.conferences)).few
 
 pub small_place : (b : Board) (place : ℕ) → IsBoard b → place < length b.ledger.setup.conferences → place < 64

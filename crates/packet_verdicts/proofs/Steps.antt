@@ -8,6 +8,7 @@ use Rattle.board_layout.specs.Layout.{board_size}
 use Rattle.board_layout.specs.Lookups.{user_of}
 use Rattle.board_layout.specs.Renewed.{contents_of}
 use Rattle.board_layout.specs.Valid.{IsBoard, board_limit}
+use Rattle.board_ledger.specs.Uploads.{upload_size}
 use Rattle.board_ledger.specs.declared.user.User.{User}
 use Rattle.jam_base.specs.Contents.{Contents}
 use Rattle.jam_records.specs.declared.message.Message.{Message}
@@ -43,11 +44,11 @@ pub shows : (b : Board) (user : ℕ) (conference : Option ConferenceView) (reply
     → j.view ≡ view_with b.ledger (user_with j.user b) j.view.conference j.view.reply (room_of (spread j.accepted.posts b))
 shows b user conference reply posts j is same all = is ∙ sym (λ i. view_with b.ledger (user_with (same i) b) (is i).conference (is i).reply (room_of (spread (all i) b)))
 
-pub first_view : (b : Board) (id : ℕ) (u : User) (view : View) (room size : ℕ) (posts : List (ℕ × Message)) → IsBoard b → user_of id b ≡ Some u → view ≡ view_with b.ledger u None [] room → room ≡ board_limit - (size + 42) → size ≡ board_size b → posts ≡ []
+pub first_view : (b : Board) (id : ℕ) (u : User) (view : View) (room size : ℕ) (posts : List (ℕ × Message)) → IsBoard b → user_of id b ≡ Some u → view ≡ view_with b.ledger u None [] room → room ≡ board_limit - (size + upload_size) → size ≡ board_size b → posts ≡ []
     → view ≡ view_with b.ledger (user_with id b) view.conference view.reply (room_of (spread posts b))
 first_view b id u view room size posts ok user is left all none =
     let own : u ≡ user_with id b = sym (ap (λ (o : Option User). unwrap_or o nobody) user) in
-    let free : room ≡ room_of (spread posts b) = left ∙ (ap (λ (n : ℕ). board_limit - (n + 42)) all ∙ (ap room_of (sym (spread_none b ok)) ∙ ap (λ (ps : List (ℕ × Message)). room_of (spread ps b)) (sym none))) in
+    let free : room ≡ room_of (spread posts b) = left ∙ (ap (λ (n : ℕ). board_limit - (n + upload_size)) all ∙ (ap room_of (sym (spread_none b ok)) ∙ ap (λ (ps : List (ℕ × Message)). room_of (spread ps b)) (sym none))) in
     is ∙ (λ i. view_with b.ledger (own i) (sym is i).conference (sym is i).reply (free i))
 
 -- ---- a draft more

@@ -13,6 +13,7 @@ use Rattle.board_layout.specs.Renewed.{contents_of}
 use Rattle.board_layout.specs.Valid.{IsBoard, board_limit}
 use Rattle.jam_base.specs.Contents.{Contents}
 use Rattle.jam_layout.specs.Fields.{is_text}
+use Rattle.jam_layout.specs.Limits.{slot_limit}
 use Rattle.jam_layout.specs.Messages.{IsMessage}
 use Rattle.jam_records.specs.declared.message.Kind.{Kind}
 use Rattle.jam_records.specs.declared.message.Kind.TheVariants.{Local}
@@ -35,7 +36,7 @@ use Rattle.slot_changes.specs.Values.{MayHold}
 -- each place may hold its posts, and has slots for them
 pub record AreFit (b : Board) (posts : List (ℕ × Message)) : Type 0 where
   pub held : (place : ℕ) (c : SetupConference) → slice_get b.ledger.setup.conferences place ≡ Some c → All (MayHold c.kind) (posts_in place posts)
-  pub few : (place : ℕ) → place < length b.ledger.setup.conferences → length (slots_in b place) + length (posts_in place posts) ≤ 9999
+  pub few : (place : ℕ) → place < length b.ledger.setup.conferences → length (slots_in b place) + length (posts_in place posts) ≤ slot_limit
 
 -- the msgids of a place are such as messages may have
 pub ids : (b : Board) (place : ℕ) (c : SetupConference) (number : ℕ) → IsBoard b → slice_get b.ledger.setup.conferences place ≡ Some c → number < 10 ^ 5 → IsMsgid (msgid_in place b number)
@@ -59,7 +60,7 @@ short_id b place number ok within few =
 -- the base may have the posts of a place at its end
 record Takes (b : Board) (posts : List (ℕ × Message)) (place : ℕ) (base : Contents) : Type 0 where
   all : All (IsMessage base.shape.kind) (all_identified (msgid_in place b) (length base.conference.slots + 1) (posts_in place posts))
-  few : length base.conference.slots + length (posts_in place posts) ≤ 9999
+  few : length base.conference.slots + length (posts_in place posts) ≤ slot_limit
 
 all_take : (b : Board) (posts : List (ℕ × Message)) (first : ℕ) (bases : List Contents) → All IsBase bases → ((j : ℕ) (base : Contents) → slice_get bases j ≡ Some base → Takes b posts (first + j) base) → All IsBase (all_posted b posts first bases)
 all_take b posts first [] all takes = All-nil IsBase
@@ -86,7 +87,7 @@ module _ (b : Board) (posts : List (ℕ × Message)) (ok : IsBoard b) (fit : Are
       let c : SetupConference = get_or b.ledger.setup.conferences place no_conference in
       let is : slice_get b.ledger.setup.conferences place ≡ Some c = slice_get-get_or b.ledger.setup.conferences place no_conference inside in
       let count : length (slots_in b place) ≡ length base.conference.slots = slots_here place base here in
-      let few : length base.conference.slots + length (posts_in place posts) ≤ 9999 = omega (arith, fit.few place inside, count) in
+      let few : length base.conference.slots + length (posts_in place posts) ≤ slot_limit = omega (arith, fit.few place inside, count) in
       let all : All (IsMessage c.kind) (all_identified (msgid_in place b) (length base.conference.slots + 1) (posts_in place posts)) =
       all_hold c.kind (msgid_in place b) (length base.conference.slots + 1) (posts_in place posts) (λ n less. ids b place c n ok is (omega (arith, less, few))) (fit.held place c is) in
       record {

@@ -4,6 +4,7 @@ use Rattle.board_layout.specs.Board.{Board}
 use Rattle.board_layout.specs.Layout.{board_size}
 use Rattle.board_layout.specs.Lookups.{user_of, slots_in}
 use Rattle.board_layout.specs.Valid.{board_limit}
+use Rattle.board_ledger.specs.Uploads.{upload_size}
 use Rattle.board_ledger.specs.Users.{is_member}
 use Rattle.board_ledger.specs.declared.ledger.Ledger.{Ledger}
 use Rattle.board_ledger.specs.declared.user.User.{User}
@@ -70,7 +71,7 @@ reply_seen b id (Some place) (Some number) = reply_at b id place number
 -- ---- the whole
 -- how many bytes are free in the data files behind an upload record, which has 42
 abbrev pub room_of : Board → ℕ
-room_of b = board_limit - (board_size b + 42)
+room_of b = board_limit - (board_size b + upload_size)
 
 -- what a user is shown of a ledger, with a conference, a reply and a room
 abbrev pub view_with : Ledger → User → Option ConferenceView → List ℕ → ℕ → View

@@ -1,6 +1,7 @@
 ghost use Rattle.std.specs.Prelude.{◌≡◌, ◌≤◌, ◌<◌, ◌++◌, [], ◌∷◌, length, All, is_none, IfOk, OnOk, IfSome, IsSome};
 ghost use Rattle.board_layout.specs.Lookups.{user_of as user_with_id};
 ghost use Rattle.board_layout.specs.Valid.{IsBoard};
+ghost use Rattle.board_ledger.specs.Limits.{verdict_limit};
 ghost use Rattle.packet_verdicts.specs.Accepted.{IsIndexed};
 ghost use Rattle.packet_verdicts.specs.Judged.{judged, judged_next, refused_count, outcome_of, posts_after, room_left};
 ghost use Rattle.packet_verdicts.specs.Judging.{IsJudging};
@@ -14,15 +15,13 @@ use crate::outcome::{Outcome, Outcomes};
 use crate::replies::reply_seen;
 use crate::views::{conference_seen, user_view};
 use board_layout::{BOARD_LIMIT, StoredBoard};
+use board_ledger::UPLOAD_SIZE;
 use jam_layout::typed;
 use jam_records::Message;
 use netmail_rules::{Rule, Verdict, View, judge, new_bytes};
 use post_changes::Posts;
 use qwk_blocks::{QwkMessage, QwkMessages};
 use std::alloc::{AllocError, Global};
-
-/// How many bytes an upload record has.
-const UPLOAD_RECORD: u64 = 42;
 
 /// What a board makes of the messages of a packet.
 #[derive(Debug, Drop)]
@@ -60,7 +59,7 @@ impl Judging {
         ensures posts { IfOk result (λ judging. judging.accepted.posts ≡ []) }
     {
         let uploader = board.user_of(user);
-        let room = BOARD_LIMIT.saturating_sub(board.size() + UPLOAD_RECORD);
+        let room = BOARD_LIMIT.saturating_sub(board.size() + UPLOAD_SIZE as u64);
         Ok(Judging {
             user,
             view: user_view(alloc, board, uploader, room)?,
@@ -181,7 +180,7 @@ pub fn judge_all(
     now: u32,
 ) -> Result<Judged, AllocError>
     requires user { IsSome (user_with_id user board.now) }
-    requires few { length messages.now ≤ 8191 }
+    requires few { length messages.now ≤ verdict_limit }
     ensures judged { IfOk result (λ all. (all.outcomes, all.posts) ≡ judged board.now user now messages.now) }
     ensures refused { IfOk result (λ all. all.refused ≡ refused_count all.outcomes) }
     ensures typed { IfOk result (λ all. All IsTypedPost all.posts) }

@@ -5,6 +5,7 @@ ghost use Rattle.board_layout.specs.Layout.{board_size};
 ghost use Rattle.board_layout.specs.Lookups.{user_of};
 ghost use Rattle.board_layout.specs.Outlines.{board_outline};
 ghost use Rattle.board_layout.specs.Valid.{IsBoard, board_limit};
+ghost use Rattle.board_ledger.specs.Uploads.{upload_size};
 ghost use Rattle.jam_records.specs.declared.message.Message.{Message};
 ghost use Rattle.netmail_rules.specs.Fits.{HasShortTexts};
 ghost use Rattle.packet_verdicts.specs.Judged.{judged, refused_count};
@@ -17,8 +18,8 @@ ghost use Rattle.qwk_blocks.specs.declared.message.QwkMessage.{QwkMessage};
 /// too, and the board with the drafts is valid, whose bytes and moments are of their types. To and Subject of the
 /// messages aren't longer than a message may have them.
 pub fn drafts_fit()
-    ensures room { (b : Board) (user now : ℕ) (messages : List QwkMessage) → IsBoard b → board_size b + 42 ≤ board_limit → board_size (spread (judged b user now messages).1 b) + 42 ≤ board_limit }
-    ensures board { (b : Board) (user now : ℕ) (messages : List QwkMessage) → IsBoard b → IsSome (user_of user b) → board_size b + 42 ≤ board_limit → All (λ m. HasShortTexts m.header) messages → All IsTypedPost (judged b user now messages).1 → IsBoard (spread (judged b user now messages).1 b) }
+    ensures room { (b : Board) (user now : ℕ) (messages : List QwkMessage) → IsBoard b → board_size b + upload_size ≤ board_limit → board_size (spread (judged b user now messages).1 b) + upload_size ≤ board_limit }
+    ensures board { (b : Board) (user now : ℕ) (messages : List QwkMessage) → IsBoard b → IsSome (user_of user b) → board_size b + upload_size ≤ board_limit → All (λ m. HasShortTexts m.header) messages → All IsTypedPost (judged b user now messages).1 → IsBoard (spread (judged b user now messages).1 b) }
 {}
 
 /// Each message of a packet has an outcome, and is posted or refused.

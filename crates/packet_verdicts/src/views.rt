@@ -2,6 +2,7 @@
 ghost use Rattle.std.specs.Prelude.{◌≡◌, ◌<◌, ◌≤◌, [], length, Some, None, is_none, IfOk, IfSome};
 ghost use Rattle.board_layout.specs.Valid.{IsBoard};
 ghost use Rattle.board_layout.specs.Lookups.{slots_in};
+ghost use Rattle.board_ledger.specs.Limits.{verdict_limit};
 ghost use Rattle.packet_verdicts.specs.Accepted.{IsIndexed};
 ghost use Rattle.post_changes.specs.Posted.{spread};
 ghost use Rattle.packet_verdicts.specs.Views.{view_with, conference_seen as seen_of};
@@ -42,7 +43,7 @@ pub(crate) fn user_view(
 fn slot_count(board: &StoredBoard, accepted: &Accepted, place: u8) -> u32
     requires indexed { IsIndexed accepted.now }
     requires place { place < length board.now.ledger.setup.conferences }
-    requires few { length accepted.now.posts ≤ 8191 }
+    requires few { length accepted.now.posts ≤ verdict_limit }
     ensures count { result ≡ length (slots_in (spread accepted.now.posts board.now) place) }
     ensures few { result ≤ 18190 }
     ensures board { IsBoard board.now }
@@ -71,7 +72,7 @@ fn conference_view(
 ) -> Result<ConferenceView, AllocError>
     requires indexed { IsIndexed accepted.now }
     requires place { place < length board.now.ledger.setup.conferences }
-    requires few { length accepted.now.posts ≤ 8191 }
+    requires few { length accepted.now.posts ≤ verdict_limit }
     ensures view { IfOk result (λ view. Some view ≡ seen_of (spread accepted.now.posts board.now) user.now (Some place)) }
     ensures slots { IfOk result (λ view. view.slots ≤ 18190) }
 {
@@ -98,7 +99,7 @@ pub(crate) fn conference_seen(
 ) -> Result<Option<ConferenceView>, AllocError>
     requires indexed { IsIndexed accepted.now }
     requires place { IfSome place (λ place. place < length board.now.ledger.setup.conferences) }
-    requires few { length accepted.now.posts ≤ 8191 }
+    requires few { length accepted.now.posts ≤ verdict_limit }
     ensures seen { IfOk result (λ seen. seen ≡ seen_of (spread accepted.now.posts board.now) user.now place) }
     ensures there { IfOk result (λ seen. is_none place ≡ is_none seen) }
     ensures slots { IfOk result (λ seen. IfSome seen (λ view. view.slots ≤ 18190)) }

@@ -13,6 +13,7 @@ use Rattle.board_layout.specs.Valid.{IsBoard, board_limit}
 use Rattle.board_ledger.specs.declared.upload.UploadRecord.{UploadRecord}
 use Rattle.byte_lists.specs.Byte.{IsByte}
 use Rattle.jam_base.specs.Contents.{Contents}
+use Rattle.jam_layout.specs.Limits.{slot_limit}
 use Rattle.jam_layout.specs.Messages.{IsMessage}
 use Rattle.jam_records.specs.declared.message.Kind.{Kind}
 use Rattle.jam_records.specs.declared.message.Message.{Message}
@@ -71,7 +72,7 @@ module _ (b : Board) (posts : List (ℕ × Message)) (place : ℕ) (base : Conte
       let small = (all_at IsSetupConference b.ledger.setup.conferences place c is ok.ledger.setup.conferences.each).number in
       generated_is _ b.ledger.setup.bbsid number (omega (arith, small, named b place c is)) ok.ledger.setup.bbsid few
 
-  pub place_fits : All (MayHold c.kind) (posts_in place posts) → length base.conference.slots + length (posts_in place posts) ≤ 9999 → IsBase (posted_in b posts place base)
+  pub place_fits : All (MayHold c.kind) (posts_in place posts) → length base.conference.slots + length (posts_in place posts) ≤ slot_limit → IsBase (posted_in b posts place base)
   place_fits may few =
       let all : All (IsMessage c.kind) (all_identified (msgid_in place b) (length base.conference.slots + 1) (posts_in place posts)) =
       all_hold c.kind (msgid_in place b) (length base.conference.slots + 1) (posts_in place posts) (λ n less. ids n (omega (arith, less, few))) may in

@@ -12,6 +12,7 @@ use Rattle.board_layout.specs.Layout.{base_size}
 use Rattle.board_layout.specs.Renewed.{contents, contents_of}
 use Rattle.jam_base.specs.Contents.{Contents, with_messages}
 use Rattle.jam_base.specs.Outlined.{outlined}
+use Rattle.jam_layout.specs.Limits.{slot_limit}
 use Rattle.jam_layout.specs.Messages.{IsMessage}
 use Rattle.jam_layout.specs.declared.conference.Conference.{Conference}
 use Rattle.jam_layout.specs.declared.shape.Shape.{Shape}
@@ -99,14 +100,14 @@ module _ (b : Board) (posts : List (ℕ × Message)) (place : ℕ) (base : Conte
   unfolding given
   posted_slots = omega (arith, more_slots base given, given_count)
 
-  pub posted_few : IsBase (posted_in b posts place base) → length base.conference.slots + length (posts_in place posts) ≤ 9999
+  pub posted_few : IsBase (posted_in b posts place base) → length base.conference.slots + length (posts_in place posts) ≤ slot_limit
   posted_few next = omega (arith, next.few, posted_slots)
 
   pub posted_messages : IsBase (posted_in b posts place base) → All (IsMessage base.shape.kind) (all_identified (msgid_in place b) (length base.conference.slots + 1) (posts_in place posts))
   unfolding given
   posted_messages next = messages_are base given next
 
-  pub posted_base : IsBase base → All (IsMessage base.shape.kind) (all_identified (msgid_in place b) (length base.conference.slots + 1) (posts_in place posts)) → length base.conference.slots + length (posts_in place posts) ≤ 9999
+  pub posted_base : IsBase base → All (IsMessage base.shape.kind) (all_identified (msgid_in place b) (length base.conference.slots + 1) (posts_in place posts)) → length base.conference.slots + length (posts_in place posts) ≤ slot_limit
       → IsBase (posted_in b posts place base)
   unfolding given
   posted_base was all few = base_is base given was all (omega (arith, given_count, few))

@@ -7,7 +7,8 @@ use Rattle.board_changes.proofs.FitLaws.{each_last, each_more, last_of, one_all}
 use Rattle.board_layout.specs.Board.{shape_of, shapes_from, shapes_of}
 use Rattle.board_ledger.proofs.SizeLaws.{ledger_length}
 use Rattle.board_ledger.specs.Ledger.{ledger_text}
-use Rattle.board_ledger.specs.Uploads.{IsUpload, is_repeated, too_many, wrong_user}
+use Rattle.board_ledger.specs.Limits.{upload_limit, verdict_limit}
+use Rattle.board_ledger.specs.Uploads.{IsUpload, is_repeated, too_many, wrong_user, upload_size}
 use Rattle.board_ledger.specs.Valid.{IsLedger}
 use Rattle.board_ledger.specs.declared.ledger.Ledger.{Ledger}
 use Rattle.board_ledger.specs.declared.upload.UploadRecord.{UploadRecord}
@@ -30,7 +31,7 @@ module _ (l : Ledger) (r : UploadRecord) where
   all_uploads : IsLedger (with_record r l) → IsUpload (length l.users) r
   all_uploads next = last_of (IsUpload (length l.users)) l.uploads r next.uploads
 
-  pub record_counts : IsLedger (with_record r l) → r.counts.posted + r.counts.refused ≤ 8191
+  pub record_counts : IsLedger (with_record r l) → r.counts.posted + r.counts.refused ≤ verdict_limit
   record_counts next = (all_uploads next).counts
 
   upload_is : length r.digest ≡ 32 → All IsByte r.digest → wrong_user (length l.users) r ≡ false → too_many r.counts ≡ false → IsUpload (length l.users) r
@@ -42,15 +43,15 @@ module _ (l : Ledger) (r : UploadRecord) where
         user = ltb-false (length l.users) r.user parts.1;
         digest = digest;
         bytes = bytes;
-        counts = ltb-false 8191 (r.counts.posted + r.counts.refused) counts;
+        counts = ltb-false verdict_limit (r.counts.posted + r.counts.refused) counts;
       }
 
   pub ledger_is : IsLedger l → length r.digest ≡ 32 → All IsByte r.digest → may_record l r ≡ true → IsLedger (with_record r l)
   ledger_is ok digest bytes may =
       let halves = and_parts (not (wrong_user (length l.users) r) && not (too_many r.counts)) (is_new_upload l r) may in
       let own = and_parts (not (wrong_user (length l.users) r)) (not (too_many r.counts)) halves.0 in
-      let others = and_parts (nat_lt (length l.uploads) 100000) (not (is_repeated l.uploads r)) halves.1 in
-      let few : length l.uploads < 100000 = ltb-true (length l.uploads) 100000 others.0 in
+      let others = and_parts (nat_lt (length l.uploads) upload_limit) (not (is_repeated l.uploads r)) halves.1 in
+      let few : length l.uploads < upload_limit = ltb-true (length l.uploads) upload_limit others.0 in
       let is : IsUpload (length l.users) r = upload_is digest bytes (not-true (wrong_user (length l.users) r) own.0) (not-true (too_many r.counts) own.1) in
       record {
         version = ok.version;
@@ -67,15 +68,15 @@ module _ (l : Ledger) (r : UploadRecord) where
   pub was_free : IsLedger (with_record r l) → may_record l r ≡ true
   was_free next =
       let is = all_uploads next in
-      let few : length l.uploads < 100000 = omega (arith, next.few_uploads, length-append l.uploads (r ∷ [])) in
+      let few : length l.uploads < upload_limit = omega (arith, next.few_uploads, length-append l.uploads (r ∷ [])) in
       let free : is_repeated l.uploads r ≡ false = each_last (λ before e. is_repeated before e ≡ false) [] l.uploads r next.pairs in
       let user : wrong_user (length l.users) r ≡ false = λ i. ne_eqb r.user 0 (λ e. omega (arith, e, is.some)) i || le-ltb (length l.users) r.user is.user i in
       and_from (not (wrong_user (length l.users) r) && not (too_many r.counts)) (is_new_upload l r)
-      (and_from (not (wrong_user (length l.users) r)) (not (too_many r.counts)) (not_from_false (wrong_user (length l.users) r) user) (not_from_false (too_many r.counts) (le-ltb 8191 (r.counts.posted + r.counts.refused) is.counts)))
-      (and_from (nat_lt (length l.uploads) 100000) (not (is_repeated l.uploads r)) (lt-ltb (length l.uploads) 100000 few) (not_from_false (is_repeated l.uploads r) free))
+      (and_from (not (wrong_user (length l.users) r)) (not (too_many r.counts)) (not_from_false (wrong_user (length l.users) r) user) (not_from_false (too_many r.counts) (le-ltb verdict_limit (r.counts.posted + r.counts.refused) is.counts)))
+      (and_from (nat_lt (length l.uploads) upload_limit) (not (is_repeated l.uploads r)) (lt-ltb (length l.uploads) upload_limit few) (not_from_false (is_repeated l.uploads r) free))
 
   -- ---- how many bytes it has
-  pub record_length : IsLedger l → length r.digest ≡ 32 → length (ledger_text (with_record r l)) ≡ length (ledger_text l) + 42
+  pub record_length : IsLedger l → length r.digest ≡ 32 → length (ledger_text (with_record r l)) ≡ length (ledger_text l) + upload_size
   record_length ok digest =
       let old = ledger_length Second l (λ k d within. (ok.uploads k d within).digest) in
       let each : All (λ (e : UploadRecord). length e.digest ≡ 32) (l.uploads ++ r ∷ []) =

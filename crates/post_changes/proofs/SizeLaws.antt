@@ -8,6 +8,7 @@ use Rattle.board_layout.specs.Renewed.{contents_of}
 use Rattle.board_layout.specs.Valid.{IsBoard}
 use Rattle.board_layout.proofs.SizeLaws.{size_in}
 use Rattle.board_ledger.specs.Ledger.{ledger_text}
+use Rattle.board_ledger.specs.Uploads.{upload_size}
 use Rattle.board_ledger.specs.declared.upload.UploadRecord.{UploadRecord}
 use Rattle.jam_base.specs.Contents.{Contents}
 use Rattle.jam_records.specs.declared.message.Message.{Message}
@@ -60,7 +61,7 @@ module _ (b : Board) (posts : List (ℕ × Message)) (ok : IsBoard b) where
   pub spread_bytes : board_size (spread posts b) ≡ board_size b + all_bytes b posts 0 (contents_of b)
   spread_bytes = omega (arith, was_size, posted_size b posts b.ledger ok refl, all_grow b posts 0 (contents_of b))
 
-  pub uploaded_bytes : (user : ℕ) (digest : List ℕ) (refused : ℕ) → length digest ≡ 32 → board_size (uploaded user digest refused posts b) ≡ board_size (spread posts b) + 42
+  pub uploaded_bytes : (user : ℕ) (digest : List ℕ) (refused : ℕ) → length digest ≡ 32 → board_size (uploaded user digest refused posts b) ≡ board_size (spread posts b) + upload_size
   uploaded_bytes user digest refused same =
       let r : UploadRecord = upload_record user digest refused posts in
       omega (arith, posted_size b posts b.ledger ok refl, posted_size b posts (with_record r b.ledger) ok (record_shapes b.ledger r), record_length b.ledger r ok.ledger same)

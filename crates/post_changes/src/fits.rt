@@ -10,15 +10,11 @@ use crate::post::{Post, Posts};
 use crate::record::{may_record, record_of};
 use crate::size::{size_with_posts, size_with_upload};
 use board_layout::{BOARD_LIMIT, StoredBoard};
+use board_ledger::VERDICT_LIMIT;
 use jam_base::Base;
+use jam_layout::SLOT_LIMIT;
 use jam_records::Kind;
 use slot_changes::may_hold;
-
-/// How many slots a conference may have.
-const SLOT_LIMIT: usize = 9999;
-
-/// How many posts a record may count.
-const POST_LIMIT: usize = 8191;
 
 /// How many posts are in a place.
 fn count_in(place: u8, posts: &[Post]) -> usize
@@ -112,7 +108,7 @@ pub fn fits_upload(
 ) -> bool
     ensures { IsTrue result ↔ (ArePlaced posts.now board.now × IsBoard (uploaded_of user digest.now refused posts.now board.now)) }
 {
-    if posts.len() > POST_LIMIT {
+    if posts.len() > VERDICT_LIMIT {
         return false;
     }
     let upload = record_of(user, digest, refused, posts.as_slice());

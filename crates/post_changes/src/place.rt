@@ -5,6 +5,7 @@ ghost use Rattle.board_changes.specs.Changed.{base_at};
 ghost use Rattle.board_changes.specs.Outlined.{ChangesEach};
 ghost use Rattle.board_changes.specs.Spending.{SpendsHere};
 ghost use Rattle.jam_base.specs.Outlined.{outlined};
+ghost use Rattle.jam_layout.specs.Limits.{slot_limit};
 ghost use Rattle.jam_layout.specs.Valid.{IsConference};
 ghost use Rattle.board_changes.specs.Steps.{base_after, patches_or_none};
 ghost use Rattle.board_layout.specs.Layout.{files_in};
@@ -28,7 +29,7 @@ fn copies_in(
     place: u8,
     posts: &[Post],
 ) -> Result<Messages, AllocError>
-    requires { first + length (posts_in place posts.now) ≤ 10000 }
+    requires { first + length (posts_in place posts.now) ≤ slot_limit + 1 }
     ensures { IfOk result (λ copies. copies ≡ all_identified (generated conference bbsid.now) first (posts_in place posts.now)) }
 {
     let mut copies = Messages::new(alloc);

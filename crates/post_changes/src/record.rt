@@ -5,14 +5,8 @@ ghost use Rattle.post_changes.specs.Posted.{upload_record as record_of_posts, wi
 ghost use Rattle.post_changes.specs.Recorded.{is_new_upload as new_in, may_record as may_record_of};
 
 use crate::post::Post;
-use board_ledger::{Counts, Ledger, UploadRecord, Uploads};
+use board_ledger::{Counts, Ledger, UPLOAD_LIMIT, UploadRecord, Uploads, VERDICT_LIMIT};
 use std::alloc::{AllocError, Global};
-
-/// How many upload records are kept at most.
-const RECORD_LIMIT: usize = 100_000;
-
-/// How many messages may be counted in a record.
-const COUNT_LIMIT: u64 = 8191;
 
 /// The record of a packet of a user and a SHA-256, of which these posts were posted, and so many messages were
 /// refused.
@@ -68,7 +62,7 @@ fn is_new(ledger: &Ledger, upload: &UploadRecord) -> bool
     ensures { result ≡ new_in ledger.now upload.now }
 {
     let uploads = ledger.uploads.as_slice();
-    uploads.len() < RECORD_LIMIT && !is_repeated(uploads, upload)
+    uploads.len() < UPLOAD_LIMIT && !is_repeated(uploads, upload)
 }
 
 /// Whether a ledger may have a record more: it is new, its user is there, and it counts at most 8,191 messages.
@@ -77,5 +71,5 @@ pub(crate) fn may_record(ledger: &Ledger, upload: &UploadRecord) -> bool
 {
     let no_user = upload.user == 0 || upload.user as usize > ledger.users.len();
     let count = u64::from(upload.counts.posted) + u64::from(upload.counts.refused);
-    !no_user && count <= COUNT_LIMIT && is_new(ledger, upload)
+    !no_user && count <= VERDICT_LIMIT as u64 && is_new(ledger, upload)
 }

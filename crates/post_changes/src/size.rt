@@ -9,11 +9,9 @@ ghost use Rattle.slot_changes.specs.Msgids.{all_identified, generated, msgid_in}
 
 use crate::post::{Post, Posts};
 use board_layout::StoredBoard;
+use board_ledger::UPLOAD_SIZE;
 use jam_base::Base;
 use slot_changes::{generated_len, message_size};
-
-/// How many bytes an upload record has.
-const RECORD_SIZE: u64 = 42;
 
 /// How many bytes of a conference's files the messages of the posts in a place take, or 18,446,744,073,709,551,615
 /// where they are more. The first gets this number, and each has the msgid that is generated for its number, where it
@@ -75,5 +73,5 @@ pub fn size_with_upload(board: &StoredBoard, posts: &Posts) -> u64
     requires { ArePlaced posts.now board.now }
     ensures { (user : ℕ) (digest : List ℕ) (refused : ℕ) → length digest ≡ 32 → result ≡ min (board_size (uploaded_of user digest refused posts.now board.now)) (2 ^ 64 - 1) }
 {
-    spread_size(board, posts.as_slice()).saturating_add(RECORD_SIZE)
+    spread_size(board, posts.as_slice()).saturating_add(UPLOAD_SIZE as u64)
 }

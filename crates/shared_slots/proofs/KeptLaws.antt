@@ -8,6 +8,7 @@ use Rattle.std.proofs.lemmas.List.Sums.{sum_by-set, sum_by-append, sum_by-cons, 
 use Rattle.jam_records.specs.declared.message.Slot.{Slot}
 use Rattle.jam_records.specs.declared.message.Slot.TheVariants.{Gone, Held}
 use Rattle.jam_layout.specs.Conference.{live_count}
+use Rattle.jam_layout.specs.Limits.{slot_limit}
 use Rattle.jam_layout.specs.Sizes.{slot_header}
 use Rattle.jam_layout.specs.Headers.{header_size}
 use Rattle.jam_layout.specs.Fields.{subfields_of}
@@ -151,7 +152,7 @@ module _ (done : List Slot) (lengths : List ℕ) (items : List Slot) (s : Slot) 
 -- ---- one slot more
 pub kept_more : (old old_bare : List Slot) (old_headers old_bodies : List ℕ) (old_live : ℕ) (s : Slot) (bare : List Slot) (headers bodies : List ℕ) (header body live : ℕ)
     → bare ≡ old_bare ++ slot_bare s ∷ [] → headers ≡ old_headers ++ header ∷ [] → bodies ≡ old_bodies ++ body ∷ [] → header ≡ 1024 + (sum_by slot_header old + slot_header s) → body ≡ sum_by body_size old + body_size s → live ≡ old_live + one_live s
-    → length old < 9999 → header < 2 ^ 31 → body < 2 ^ 31 → AreKept old old_bare old_headers old_bodies old_live → AreKept (old ++ slot_outline s ∷ []) bare headers bodies live
+    → length old < slot_limit → header < 2 ^ 31 → body < 2 ^ 31 → AreKept old old_bare old_headers old_bodies old_live → AreKept (old ++ slot_outline s ∷ []) bare headers bodies live
 kept_more old old_bare old_headers old_bodies old_live s bare headers bodies header body live bare_are headers_are bodies_are header_is body_is live_is few header_small body_small kept =
     let o : Slot = slot_outline s in
     let header_at : header ≡ 1024 + (sum_by slot_header old + slot_header o) = omega (arith, header_is, header_outline s) in

@@ -3,6 +3,7 @@ use Rattle.std.specs.Prelude.{◌≡◌, ℕ, ◌+◌, ◌-◌, ◌≤◌, ◌<�
 use Rattle.jam_records.specs.declared.message.Slot.{Slot}
 use Rattle.jam_records.specs.declared.message.Slot.TheVariants.{Gone, Held}
 use Rattle.jam_layout.specs.Conference.{is_live, live_count}
+use Rattle.jam_layout.specs.Limits.{slot_limit}
 use Rattle.jam_layout.specs.Sizes.{slot_header}
 use Rattle.jam_layout.specs.Bodies.{body_piece, body_size, message_with}
 use Rattle.jam_layout.specs.Outlines.{slot_bare, slot_outline, slot_with}
@@ -31,6 +32,6 @@ pub record AreKept (slots bare : List Slot) (headers bodies : List ℕ) (live : 
   pub header_places : headers ≡ places_from slot_header 1024 slots
   pub body_places : bodies ≡ places_from body_size 0 slots
   pub alive : live ≡ live_count slots
-  pub few : length slots ≤ 9999
+  pub few : length slots ≤ slot_limit
   pub headers_small : 1024 + sum_by slot_header slots < 2 ^ 31
   pub bodies_small : sum_by body_size slots < 2 ^ 31

@@ -1,6 +1,7 @@
 ghost use Rattle.std.specs.Prelude.{◌≡◌, ◌+◌, ◌≤◌, ◌<◌, ◌^◌, [], ◌∷◌, ◌++◌, length, map, take, sum_by, slice_get, slice_index_or, slice_set, IfOk};
 ghost use Rattle.std.specs.Option.{option_copied};
 ghost use Rattle.jam_layout.specs.Conference.{live_count};
+ghost use Rattle.jam_layout.specs.Limits.{slot_limit};
 ghost use Rattle.jam_layout.specs.Sizes.{slot_header};
 ghost use Rattle.jam_layout.specs.Bodies.{body_size};
 ghost use Rattle.jam_layout.specs.Bare.{filled_slots};
@@ -73,7 +74,7 @@ impl SharedSlots {
         slots: Slots,
         lengths: &[u32],
     ) -> Result<SharedSlots, AllocError>
-        requires few { length slots ≤ 9999 }
+        requires few { length slots ≤ slot_limit }
         requires headers { 1024 + sum_by slot_header slots < 2 ^ 31 }
         requires bodies { sum_by body_size (filled_slots lengths.now slots) < 2 ^ 31 }
         ensures { IfOk result (λ shared. shared ≡ filled_slots lengths.now slots) }
@@ -91,7 +92,7 @@ impl SharedSlots {
     /// How many slots there are.
     pub fn len(&self) -> usize
         ensures count { result ≡ length self.now }
-        ensures few { length self.now ≤ 9999 }
+        ensures few { length self.now ≤ slot_limit }
         ensures outline { map slot_outline self.now ≡ self.now }
     {
         self.slots.len()
@@ -157,7 +158,7 @@ impl SharedSlots {
     ///
     /// The error comes where there is no memory.
     pub fn with_slot(self, alloc: Global, slot: Slot) -> Result<SharedSlots, AllocError>
-        requires few { length self < 9999 }
+        requires few { length self < slot_limit }
         requires headers { 1024 + (sum_by slot_header self + slot_header slot) < 2 ^ 31 }
         requires bodies { sum_by body_size self + body_size slot < 2 ^ 31 }
         ensures { IfOk result (λ more. more ≡ self ++ slot_outline slot ∷ []) }
@@ -168,7 +169,7 @@ impl SharedSlots {
 
     /// The slots with one more at the end, whose body, which is dropped, counts as one of this length.
     fn with_bare(self, alloc: Global, slot: Slot, size: u32) -> Result<SharedSlots, AllocError>
-        requires few { length self < 9999 }
+        requires few { length self < slot_limit }
         requires size { body_size (slot_with size slot) ≡ size }
         requires headers { 1024 + (sum_by slot_header self + slot_header slot) < 2 ^ 31 }
         requires bodies { sum_by body_size self + size < 2 ^ 31 }

@@ -23,6 +23,7 @@ use Rattle.jam_base.specs.Outlined.{outlined}
 use Rattle.jam_base.specs.Puts.{Costs}
 use Rattle.jam_base.specs.Slots.{slots_with_all}
 use Rattle.jam_base.specs.declared.change.BaseChange.{BaseChange}
+use Rattle.jam_layout.specs.Limits.{slot_limit}
 use Rattle.jam_layout.specs.Messages.{IsMessage, IsSlot}
 use Rattle.jam_layout.specs.Valid.{IsConference}
 use Rattle.jam_records.specs.declared.message.Kind.{Kind}
@@ -44,7 +45,7 @@ pub more_slots : (base : Contents) (messages : List Message) → length (with_me
 more_slots base [] = omega arith
 more_slots base (m ∷ messages) = length_all base.conference.slots (m ∷ messages)
 
-pub base_is : (base : Contents) (messages : List Message) → IsConference base.shape base.conference → All (IsMessage base.shape.kind) messages → length base.conference.slots + length messages ≤ 9999
+pub base_is : (base : Contents) (messages : List Message) → IsConference base.shape base.conference → All (IsMessage base.shape.kind) messages → length base.conference.slots + length messages ≤ slot_limit
     → IsConference (with_messages messages base).shape (with_messages messages base).conference
 base_is base [] ok all few = ok
 base_is base (m ∷ messages) ok all few = appended_is base (slots_with_all base.conference.slots (m ∷ messages)) (m ∷ messages) refl ok all few
@@ -104,7 +105,7 @@ module _ (b : Board) (place : ℕ) (messages : List Message) (base : Contents) (
     base_grows base given,
   )
 
-  pub appended_board : All (IsMessage base.shape.kind) (all_identified (msgid_in place b) (length base.conference.slots + 1) messages) → length base.conference.slots + length messages ≤ 9999 → board_size (appended place messages b) ≤ board_limit → IsBoard (appended place messages b)
+  pub appended_board : All (IsMessage base.shape.kind) (all_identified (msgid_in place b) (length base.conference.slots + 1) messages) → length base.conference.slots + length messages ≤ slot_limit → board_size (appended place messages b) ≤ board_limit → IsBoard (appended place messages b)
   unfolding given
   appended_board all few small =
       let count = identified_count (msgid_in place b) (length base.conference.slots + 1) messages in
@@ -123,6 +124,6 @@ module _ (b : Board) (place : ℕ) (messages : List Message) (base : Contents) (
   unfolding given
   appended_messages next = messages_are base given (base_then next)
 
-  pub appended_few : IsBoard (appended place messages b) → length base.conference.slots + length messages ≤ 9999
+  pub appended_few : IsBoard (appended place messages b) → length base.conference.slots + length messages ≤ slot_limit
   unfolding given
   appended_few next = omega (arith, (base_then next).few, more_slots base given, identified_count (msgid_in place b) (length base.conference.slots + 1) messages)

@@ -7,6 +7,7 @@ use Rattle.board_layout.specs.Board.{Board}
 use Rattle.board_layout.specs.Layout.{board_size}
 use Rattle.board_layout.specs.Valid.{IsBoard, board_limit}
 use Rattle.jam_base.specs.Contents.{Contents}
+use Rattle.jam_layout.specs.Limits.{slot_limit}
 use Rattle.jam_layout.specs.Messages.{IsMessage}
 use Rattle.jam_records.specs.declared.message.Kind.{Kind}
 use Rattle.jam_records.specs.declared.message.Message.{Message}
@@ -29,7 +30,7 @@ module _ (b : Board) (place : ℕ) (messages : List Message) (base : Contents) (
       let small = (all_at IsSetupConference b.ledger.setup.conferences place c is ok.ledger.setup.conferences.each).number in
       generated_is _ b.ledger.setup.bbsid number (omega (arith, small, named b place c is)) ok.ledger.setup.bbsid few
 
-  pub fits_then : All (MayHold c.kind) messages → length base.conference.slots + length messages ≤ 9999 → board_size (appended place messages b) ≤ board_limit → IsBoard (appended place messages b)
+  pub fits_then : All (MayHold c.kind) messages → length base.conference.slots + length messages ≤ slot_limit → board_size (appended place messages b) ≤ board_limit → IsBoard (appended place messages b)
   fits_then may few small =
       let all : All (IsMessage c.kind) (all_identified (msgid_in place b) (length base.conference.slots + 1) messages) =
       all_hold c.kind (msgid_in place b) (length base.conference.slots + 1) messages (λ n less. ids n (omega (arith, less, few))) may in

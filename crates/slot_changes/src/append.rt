@@ -4,6 +4,7 @@ ghost use Rattle.board_changes.specs.Outlined.{LeadsEach};
 ghost use Rattle.board_changes.specs.Spending.{Spends};
 ghost use Rattle.board_layout.specs.Outlines.{board_outline};
 ghost use Rattle.board_layout.specs.Valid.{IsBoard};
+ghost use Rattle.jam_layout.specs.Limits.{slot_limit};
 ghost use Rattle.slot_changes.specs.Changed.{appended as appended_of};
 ghost use Rattle.slot_changes.specs.Msgids.{generated as generated_of, identified as identified_of, all_identified as all_identified_of};
 
@@ -43,7 +44,7 @@ fn all_identified(
     first: u32,
     messages: &[Message],
 ) -> Result<Messages, AllocError>
-    requires { first + length messages.now ≤ 10000 }
+    requires { first + length messages.now ≤ slot_limit + 1 }
     ensures { IfOk result (λ copies. copies ≡ all_identified_of (generated_of conference bbsid.now) first messages.now) }
 {
     let mut copies = Messages::new(alloc);

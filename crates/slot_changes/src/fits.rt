@@ -2,20 +2,19 @@ ghost use Rattle.std.specs.Prelude.{◌≡◌, ◌↔◌, ◌<◌, ◌≤◌, �
 ghost use Rattle.board_layout.specs.Valid.{IsBoard};
 ghost use Rattle.jam_base.specs.Slots.{has_live};
 ghost use Rattle.jam_layout.specs.Conference.{is_live as is_live_of};
+ghost use Rattle.jam_layout.specs.Limits.{slot_limit};
 ghost use Rattle.slot_changes.specs.Changed.{appended as appended_of, deleted as deleted_of, HasMessage};
 
 use crate::size::size_with_messages;
 use crate::value::may_hold_all;
 use board_layout::{BOARD_LIMIT, StoredBoard};
 use jam_base::Base;
+use jam_layout::SLOT_LIMIT;
 use jam_records::{Messages, Slot};
-
-/// How many slots a conference may have.
-const SLOT_LIMIT: usize = 9999;
 
 /// Whether so many slots more may stand in a base.
 fn has_slots(base: &Base, count: usize) -> bool
-    ensures { IsTrue result ↔ (length base.now.conference.slots + count ≤ 9999) }
+    ensures { IsTrue result ↔ (length base.now.conference.slots + count ≤ slot_limit) }
 {
     (base.slot_count() as usize).saturating_add(count) <= SLOT_LIMIT
 }

@@ -6,7 +6,7 @@ use Rattle.damage_rules.specs.Rules.{Stops}
 use Rattle.std.specs.List.{list_any}
 use Rattle.std.specs.Str.{bytes_eq}
 use Rattle.std.proofs.lemmas.List.Elements.{All-push}
-use Rattle.board_ledger.specs.Uploads.{upload_at}
+use Rattle.board_ledger.specs.Uploads.{upload_at, upload_size}
 use Rattle.board_ledger.specs.declared.upload.UploadRecord.{UploadRecord}
 use Rattle.board_ledger.proofs.MetLoops.{met_more}
 use Rattle.board_ledger.proofs.UploadTests.{pair_of}
@@ -23,7 +23,7 @@ pub loop-preserved : goal.loop-preserved
 loop-preserved c =
     let read = ap (λ (xs : List UploadRecord). upload_at c.args.first c.args.users xs c.loop.rest.now) (sym c.as_slice.ensures) ∙ c.in_ok-upload.ensures.gives in
     record {
-      read = records_more (upload_at c.args.first c.args.users) (c.args.count - c.loop.counter) (c.args.count - (c.loop.counter + 1)) c.loop.uploads c.add.new.self c.loop.rest.now _ (c.in_ok-upload.upload, 42) _ (omega arith) read c.in_ok-add.ensures.ok (take_rest c.loop.rest.now 42) c.loop.invariant.read;
+      read = records_more (upload_at c.args.first c.args.users) (c.args.count - c.loop.counter) (c.args.count - (c.loop.counter + 1)) c.loop.uploads c.add.new.self c.loop.rest.now _ (c.in_ok-upload.upload, upload_size) _ (omega arith) read c.in_ok-add.ensures.ok (take_rest c.loop.rest.now upload_size) c.loop.invariant.read;
       many = ap length c.in_ok-add.ensures.ok ∙ (length_push c.loop.uploads c.in_ok-upload.upload ∙ ap (λ n. n + 1) c.loop.invariant.many);
       fit = rw c.in_ok-add.ensures.ok (All-push (λ (e : UploadRecord). e.user < 2 ^ 16) _ _ c.loop.invariant.fit c.in_ok-upload.ensures.fits);
       met = λ key.

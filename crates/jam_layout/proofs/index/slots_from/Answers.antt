@@ -7,13 +7,13 @@ use Rattle.damage_rules.proofs.RecordWalks.{goes_on}
 use Rattle.jam_layout.proofs.IndexLoop.{too_many, slots_fail, slots_done, slots_missing, is_nothing}
 use Rattle.jam_layout.proofs.index.slots_from.Goals as goal
 
-pub returns-then-bytes-gt9999 : goal.returns-then-bytes-gt9999
-returns-then-bytes-gt9999 c = rw (c.damaged.ensures, c.jdx.ensures) (too_many c.args.place 1024 c.args.pending.now.items c.args.bytes.now c.if-bytes-gt9999.true)
+pub returns-then-bytes-gt-SLOT_LIMIT : goal.returns-then-bytes-gt-SLOT_LIMIT
+returns-then-bytes-gt-SLOT_LIMIT c = rw (c.damaged.ensures, c.jdx.ensures) (too_many c.args.place 1024 c.args.pending.now.items c.args.bytes.now c.if-bytes-gt-SLOT_LIMIT.true)
 
 pub returns-in_err-slot : goal.returns-in_err-slot
 returns-in_err-slot c =
     let p = err_from_is_err_and c.from_residual.result c.from_residual.ensures.1 in
-    rw (p.1, p.2) (slots_fail c.args.place 1024 c.args.pending.now.items c.args.bytes.now c.loop-rest.slots (record { item = c.loop-rest.item; at = c.loop-rest.at; entries = c.loop-rest.pending.items }) c.loop-rest.rest.now c.in_err-slot.field-0.0 c.if-bytes-gt9999.false
+    rw (p.1, p.2) (slots_fail c.args.place 1024 c.args.pending.now.items c.args.bytes.now c.loop-rest.slots (record { item = c.loop-rest.item; at = c.loop-rest.at; entries = c.loop-rest.pending.items }) c.loop-rest.rest.now c.in_err-slot.field-0.0 c.if-bytes-gt-SLOT_LIMIT.false
     (not_empty c.loop-rest.rest.now c.is_empty.result c.is_empty.ensures c.loop-rest-test.true) c.in_err-slot.ensures.gives c.loop-rest.invariant.read)
 
 pub loop-rest-preserved : goal.loop-rest-preserved
@@ -27,9 +27,9 @@ loop-rest-preserved c =
     }
 
 pub returns-then-not-is_done : goal.returns-then-not-is_done
-returns-then-not-is_done c = rw (c.damaged-then-not-is_done.ensures, c.jdx-then-not-is_done.ensures) (slots_missing c.args.place 1024 c.args.pending.now.items c.args.bytes.now c.loop-rest.slots (record { item = c.loop-rest.item; at = c.loop-rest.at; entries = c.loop-rest.pending.items }) c.loop-rest.rest.now c.if-bytes-gt9999.false
+returns-then-not-is_done c = rw (c.damaged-then-not-is_done.ensures, c.jdx-then-not-is_done.ensures) (slots_missing c.args.place 1024 c.args.pending.now.items c.args.bytes.now c.loop-rest.slots (record { item = c.loop-rest.item; at = c.loop-rest.at; entries = c.loop-rest.pending.items }) c.loop-rest.rest.now c.if-bytes-gt-SLOT_LIMIT.false
     (is_nothing c.loop-rest.rest.now c.is_empty.result c.is_empty.ensures c.loop-rest-test.false) (sym c.if-not-is_done.ensures) c.loop-rest.invariant.read)
 
 pub returns : goal.returns
-returns c = slots_done c.args.place 1024 c.args.pending.now.items c.args.bytes.now c.loop-rest.slots (record { item = c.loop-rest.item; at = c.loop-rest.at; entries = c.loop-rest.pending.items }) c.loop-rest.rest.now c.if-bytes-gt9999.false
+returns c = slots_done c.args.place 1024 c.args.pending.now.items c.args.bytes.now c.loop-rest.slots (record { item = c.loop-rest.item; at = c.loop-rest.at; entries = c.loop-rest.pending.items }) c.loop-rest.rest.now c.if-bytes-gt-SLOT_LIMIT.false
     (is_nothing c.loop-rest.rest.now c.is_empty.result c.is_empty.ensures c.loop-rest-test.false) (sym c.if-not-is_done.ensures) c.loop-rest.invariant.read

@@ -2,6 +2,7 @@ use Rattle.std.proofs.Common.{ℕ, List, arith}
 use Rattle.std.proofs.lemmas.Bool.{leb-true, le-leb}
 use Rattle.board_layout.specs.Board.{Board}
 use Rattle.jam_base.specs.Contents.{Contents}
+use Rattle.jam_layout.specs.Limits.{slot_limit}
 use Rattle.jam_records.specs.declared.message.Message.{Message}
 use Rattle.post_changes.proofs.FitLaws.{held_in, in_held, place_fits, place_may}
 use Rattle.post_changes.proofs.PlacePosts.{count_posts, place_there, posted_few}
@@ -25,8 +26,8 @@ returns-then-slots-le-SLOT_LIMIT c =
 pub returns-else-slots-le-SLOT_LIMIT : goal.returns-else-slots-le-SLOT_LIMIT
 returns-else-slots-le-SLOT_LIMIT c =
     let posts : List (ℕ × Message) = c.args.posts.now in (
-      λ yes. absurd (omega (arith, leb-true c.saturating_add-slots.result 9999 yes, c.if-slots-le-SLOT_LIMIT.false)),
+      λ yes. absurd (omega (arith, leb-true c.saturating_add-slots.result slot_limit yes, c.if-slots-le-SLOT_LIMIT.false)),
       λ next.
           let few = posted_few c.args.board.now posts c.args.place c.args.base.now next in
-          le-leb c.saturating_add-slots.result 9999 (omega (arith, c.saturating_add-slots.ensures, c.slot_count.ensures, c.count_in.ensures, count_posts c.args.place posts, few)),
+          le-leb c.saturating_add-slots.result slot_limit (omega (arith, c.saturating_add-slots.ensures, c.slot_count.ensures, c.count_in.ensures, count_posts c.args.place posts, few)),
     )
