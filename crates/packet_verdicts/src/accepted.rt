@@ -1,5 +1,6 @@
-ghost use Rattle.std.specs.Prelude.{◌≡◌, ◌<◌, ◌≤◌, ◌++◌, [], ◌∷◌, length, slice_get, IfOk, OnOk};
+ghost use Rattle.std.specs.Prelude.{◌≡◌, ◌<◌, ◌++◌, [], ◌∷◌, length, slice_get, IfOk, OnOk};
 ghost use Rattle.std.specs.Option.{option_copied};
+ghost use Rattle.board_ledger.specs.Limits.{verdict_limit};
 ghost use Rattle.jam_layout.specs.Messages.{IsTyped};
 ghost use Rattle.packet_verdicts.specs.Accepted.{IsIndexed};
 ghost use Rattle.post_changes.specs.Posted.{posts_in};
@@ -63,7 +64,7 @@ impl Accepted {
     /// Adds a draft for a place. Its msgid is empty. Where there is no memory, the drafts are no longer of use.
     pub(crate) fn add(&mut self, place: u8, draft: Message) -> Result<(), AllocError>
         requires indexed { IsIndexed self.old }
-        requires few { length self.old.posts ≤ 8190 }
+        requires few { length self.old.posts < verdict_limit }
         requires place { place < 64 }
         requires draft { draft.msgid ≡ [] }
         requires typed { IsTyped draft }

@@ -1,7 +1,8 @@
-ghost use Rattle.std.specs.Prelude.{◌≡◌, ◌≤◌, ◌<◌, ◌++◌, [], ◌∷◌, length, All, is_none, IfOk, OnOk, IfSome, IsSome};
+ghost use Rattle.std.specs.Prelude.{◌≡◌, ◌≤◌, ◌<◌, ◌+◌, ◌++◌, [], ◌∷◌, length, All, is_none, IfOk, OnOk, IfSome, IsSome};
 ghost use Rattle.board_layout.specs.Lookups.{user_of as user_with_id};
 ghost use Rattle.board_layout.specs.Valid.{IsBoard};
 ghost use Rattle.board_ledger.specs.Limits.{verdict_limit};
+ghost use Rattle.jam_layout.specs.Limits.{slot_limit};
 ghost use Rattle.packet_verdicts.specs.Accepted.{IsIndexed};
 ghost use Rattle.packet_verdicts.specs.Judged.{judged, judged_next, refused_count, outcome_of, posts_after, room_left};
 ghost use Rattle.packet_verdicts.specs.Judging.{IsJudging};
@@ -79,13 +80,13 @@ impl Judging {
     ) -> Result<Option<u8>, AllocError>
         requires user { IsSome (user_with_id self.old.user board.now) }
         requires judging { IsJudging board.now self.old }
-        requires few { length self.old.outcomes ≤ 8190 }
+        requires few { length self.old.outcomes < verdict_limit }
         ensures place { IfOk result (λ place. place ≡ place_in message.now.header.number board.now) }
         ensures within { IfOk result (λ place. IfSome place (λ place. place < length board.now.ledger.setup.conferences)) }
         ensures board { IsBoard board.now }
         ensures view { OnOk result (self.new.view ≡ view_of (spread self.old.accepted.posts board.now) self.old.user message.now) }
         ensures seen { IfOk result (λ place. is_none place ≡ is_none self.new.view.conference) }
-        ensures slots { OnOk result (IfSome self.new.view.conference (λ conference. conference.slots ≤ 18190)) }
+        ensures slots { OnOk result (IfSome self.new.view.conference (λ conference. conference.slots ≤ slot_limit + verdict_limit)) }
         ensures rest { OnOk result (self.new ≡ record self.old { view = self.new.view }) }
     {
         let header = &message.header;
@@ -101,7 +102,7 @@ impl Judging {
 
     /// Adds a refusal.
     fn refuse(&mut self, rule: Rule) -> Result<(), AllocError>
-        requires few { length self.old.outcomes ≤ 8190 }
+        requires few { length self.old.outcomes < verdict_limit }
         requires refused { self.old.refused ≡ refused_count self.old.outcomes }
         ensures outcomes { OnOk result (self.new.outcomes ≡ self.old.outcomes ++ Outcome.Refused rule ∷ []) }
         ensures refused { OnOk result (self.new.refused ≡ refused_count self.new.outcomes) }
@@ -116,11 +117,11 @@ impl Judging {
     fn accept(&mut self, place: Option<u8>, draft: Message) -> Result<(), AllocError>
         requires indexed { IsIndexed self.old.accepted }
         requires few_posts { length self.old.accepted.posts ≤ length self.old.outcomes }
-        requires few { length self.old.outcomes ≤ 8190 }
+        requires few { length self.old.outcomes < verdict_limit }
         requires refused { self.old.refused ≡ refused_count self.old.outcomes }
         requires place { IfSome place (λ place. place < 64) }
         requires seen { is_none place ≡ is_none self.old.view.conference }
-        requires slots { IfSome self.old.view.conference (λ conference. conference.slots ≤ 18190) }
+        requires slots { IfSome self.old.view.conference (λ conference. conference.slots ≤ slot_limit + verdict_limit) }
         requires draft { draft.msgid ≡ [] }
         ensures outcomes { OnOk result (self.new.outcomes ≡ self.old.outcomes ++ outcome_of self.old.view.conference (Verdict.Post draft) ∷ []) }
         ensures posts { OnOk result (self.new.accepted.posts ≡ posts_after place (Verdict.Post draft) self.old.accepted.posts) }
@@ -152,7 +153,7 @@ impl Judging {
     ) -> Result<(), AllocError>
         requires user { IsSome (user_with_id self.old.user board.now) }
         requires judging { IsJudging board.now self.old }
-        requires few { length self.old.outcomes ≤ 8190 }
+        requires few { length self.old.outcomes < verdict_limit }
         ensures user { OnOk result (self.new.user ≡ self.old.user) }
         ensures judging { OnOk result (IsJudging board.now self.new) }
         ensures step { OnOk result ((self.new.outcomes, self.new.accepted.posts) ≡ judged_next board.now self.old.user now (self.old.outcomes, self.old.accepted.posts) message.now) }

@@ -1,8 +1,9 @@
 // What the rules see of a board with the drafts that were accepted so far.
-ghost use Rattle.std.specs.Prelude.{◌≡◌, ◌<◌, ◌≤◌, [], length, Some, None, is_none, IfOk, IfSome};
+ghost use Rattle.std.specs.Prelude.{◌≡◌, ◌<◌, ◌≤◌, ◌+◌, [], length, Some, None, is_none, IfOk, IfSome};
 ghost use Rattle.board_layout.specs.Valid.{IsBoard};
 ghost use Rattle.board_layout.specs.Lookups.{slots_in};
 ghost use Rattle.board_ledger.specs.Limits.{verdict_limit};
+ghost use Rattle.jam_layout.specs.Limits.{slot_limit};
 ghost use Rattle.packet_verdicts.specs.Accepted.{IsIndexed};
 ghost use Rattle.post_changes.specs.Posted.{spread};
 ghost use Rattle.packet_verdicts.specs.Views.{view_with, conference_seen as seen_of};
@@ -45,7 +46,7 @@ fn slot_count(board: &StoredBoard, accepted: &Accepted, place: u8) -> u32
     requires place { place < length board.now.ledger.setup.conferences }
     requires few { length accepted.now.posts ≤ verdict_limit }
     ensures count { result ≡ length (slots_in (spread accepted.now.posts board.now) place) }
-    ensures few { result ≤ 18190 }
+    ensures few { result ≤ slot_limit + verdict_limit }
     ensures board { IsBoard board.now }
 {
     board.slot_count(place) + accepted.count(place) as u32
@@ -74,7 +75,7 @@ fn conference_view(
     requires place { place < length board.now.ledger.setup.conferences }
     requires few { length accepted.now.posts ≤ verdict_limit }
     ensures view { IfOk result (λ view. Some view ≡ seen_of (spread accepted.now.posts board.now) user.now (Some place)) }
-    ensures slots { IfOk result (λ view. view.slots ≤ 18190) }
+    ensures slots { IfOk result (λ view. view.slots ≤ slot_limit + verdict_limit) }
 {
     let slots = slot_count(board, accepted, place);
     let conference = board.conference_of(place);
@@ -102,7 +103,7 @@ pub(crate) fn conference_seen(
     requires few { length accepted.now.posts ≤ verdict_limit }
     ensures seen { IfOk result (λ seen. seen ≡ seen_of (spread accepted.now.posts board.now) user.now place) }
     ensures there { IfOk result (λ seen. is_none place ≡ is_none seen) }
-    ensures slots { IfOk result (λ seen. IfSome seen (λ view. view.slots ≤ 18190)) }
+    ensures slots { IfOk result (λ seen. IfSome seen (λ view. view.slots ≤ slot_limit + verdict_limit)) }
 {
     match place {
         Some(place) => Ok(Some(conference_view(alloc, board, user, accepted, place)?)),
