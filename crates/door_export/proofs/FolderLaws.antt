@@ -3,10 +3,9 @@ use Rattle.std.proofs.Common.{◌≡◌, ℕ, zero, suc, List, [], ◌∷◌, Ok
 use Rattle.std.specs.Prelude.{Result, MatchResult}
 use Rattle.std.specs.FinMap as map
 use Rattle.std.specs.List.{Contains}
-use Rattle.door_outside.specs.Shelf.{Files}
+use Rattle.door_outside.specs.Shelf.{Files, SameBut}
 use Rattle.door_outside.specs.declared.fault.ShelfFault.{ShelfFault}
-use Rattle.entry_runs.specs.Door.{SameBut}
-use Rattle.shelf_files.proofs.Shelves.{other_stays, same_on}
+use Rattle.door_outside.proofs.Shelves.{other_stays, same_on}
 use Rattle.door_export.specs.Folder.{control_name, messages_name, folder_names, with_packet}
 
 -- one of the names

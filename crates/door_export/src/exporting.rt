@@ -7,7 +7,7 @@ ghost use Rattle.board_layout.specs.Lookups.{user_of};
 ghost use Rattle.board_layout.specs.Rules.{HasReadCause};
 ghost use Rattle.door_outside.specs.Disk.{AllNow, Between, Unchanged};
 ghost use Rattle.door_outside.specs.Name.{HasParts};
-ghost use Rattle.entry_runs.specs.Door.{SameBut};
+ghost use Rattle.door_outside.specs.Shelf.{SameBut};
 ghost use Rattle.intent_journal.specs.Hosts.{IsSettled};
 ghost use Rattle.jam_records.specs.declared.damage.Damage.{Damage};
 ghost use Rattle.mail_board.specs.Causes.{HasFault};

@@ -2,12 +2,10 @@
 ghost use Rattle.std.specs.Prelude.{◌≡◌, IfOk, IsTrue, MatchResult};
 ghost use Rattle.door_outside.specs.Cause.{HasCause};
 ghost use Rattle.door_outside.specs.Name.{HasParts};
-ghost use Rattle.entry_runs.specs.Door.{SameBut};
+ghost use Rattle.door_outside.specs.Shelf.{SameBut};
 ghost use Rattle.door_export.specs.Folder.{control_name as control_name_of, messages_name as messages_name_of, folder_names, with_packet};
 
-use door_outside::{Shelf, ShelfFault, ShelfName};
-use packet_commands::{control_name, messages_name};
-use shelf_files::write_file;
+use door_outside::{Shelf, ShelfFault, ShelfName, control_name, messages_name, write_file};
 use std::alloc::{AllocError, Global};
 
 /// The names of the two files.

@@ -1,3 +1,4 @@
 pub mod Fetching
 pub mod Moments
 pub mod Names
+pub mod Shelves

@@ -3,6 +3,7 @@ use Rattle.std.specs.Prelude.{◌≡◌, ◌⊎◌, ℕ, ◌≤◌, nat_le, if�
 use Rattle.std.specs.Cmp.Lexicographic.{slice_cmp}
 use Rattle.std.specs.Ordering.{nat_cmp}
 use Rattle.std.specs.FinMap as map
+use Rattle.std.specs.List.{Contains}
 use Rattle.door_outside.specs.Disk.{read_count, read_into}
 use Rattle.door_outside.specs.declared.shelf.Piece.{Piece}
 use Rattle.door_outside.specs.declared.shelf.Piece.TheVariants.{Missing, Count}
@@ -37,6 +38,10 @@ Appends name bytes old new result =
     MatchResult result
     (λ _. new ≡ map.insert old name (unwrap_or (held old name) [] ++ bytes))
     (λ _. (new ≡ old) ⊎ ((count : ℕ) × (new ≡ map.insert old name (unwrap_or (held old name) [] ++ take count bytes))))
+
+-- the files are as they were, but for these names
+abbrev pub SameBut : List (List ℕ) → Files → Files → Type 0
+SameBut names old new = (name : List ℕ) → ¬ Contains names name → held new name ≡ held old name
 
 -- the whole of a file of at most so many bytes
 abbrev pub fetched : ℕ → Option (List ℕ) → Fetched

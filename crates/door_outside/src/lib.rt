@@ -8,7 +8,9 @@ mod file;
 mod host;
 mod name;
 mod order;
+mod packet_names;
 mod shelf;
+mod writing;
 
 pub use byte_lists::{Bytes, Duplicate, Lines, List};
 pub use fault::{DiskFault, ShelfFault, VoiceFault};
@@ -16,4 +18,6 @@ pub use fetch::{FetchError, Fetched, fetch_whole};
 pub use file::{FILE_COUNT, FileId};
 pub use host::Host;
 pub use name::ShelfName;
+pub use packet_names::{control_name, messages_name};
 pub use shelf::{Piece, Shelf};
+pub use writing::write_file;

@@ -3,9 +3,9 @@ use Rattle.std.proofs.Common.{◌≡◌, ◌≢◌, ◌⊎◌, inl, inr, ⊎_eli
 use Rattle.std.proofs.lemmas.Bool.{true≢false}
 use Rattle.std.specs.Prelude.{Result, Ok, Err, IsErrOf, IsTrue}
 use Rattle.door_outside.specs.Disk.{Disk}
-use Rattle.door_outside.specs.Shelf.{Files, held}
+use Rattle.door_outside.specs.Shelf.{Files, held, SameBut}
 use Rattle.intent_journal.specs.Patches as Data
-use Rattle.entry_runs.specs.Door.{World, here, Act, SameBut, migrated_world}
+use Rattle.entry_runs.specs.Door.{World, here, Act, migrated_world}
 use Rattle.entry_runs.specs.Entry.{Known, Reply, Keeps, IsAt, Finds, Changes, ShelfAct, Serves, on_shelf, BeforeOrAfter, Works}
 use Rattle.door_outside.specs.Cause.{HasCause}
 use Rattle.entry_runs.specs.Promise.{Before, After, Stopped, Counts, counts, ended, HasCauses}

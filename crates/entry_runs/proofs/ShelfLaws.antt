@@ -1,7 +1,7 @@
 -- Laws of commands that reach the shelf alone.
 use Rattle.std.proofs.Common.{◌≡◌, ◌≢◌, ℕ, List, [], ◌∷◌, ◌++◌, refl, sym, ◌∙◌, ap}
-use Rattle.door_outside.specs.Shelf.{Files, held}
-use Rattle.entry_runs.specs.Door.{World, IsLawful, SameBut}
+use Rattle.door_outside.specs.Shelf.{Files, held, SameBut}
+use Rattle.entry_runs.specs.Door.{World, IsLawful}
 use Rattle.entry_runs.specs.Entry.{Reply, ShelfAct, on_shelf, looks}
 use Rattle.entry_runs.specs.Runs.{Stepped}
 use Rattle.entry_runs.specs.declared.class.Class.TheVariants.{Refused, Damaged}

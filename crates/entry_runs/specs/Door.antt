@@ -1,7 +1,8 @@
 -- What the entries of a run mean: what a crate with entries of its own gives to the promise of a run.
 use Rattle.std.specs.Prelude.{◌≡◌, ◌≢◌, ◌↔◌, ℕ, Bool, true, false, List, [], IsTrue}
-use Rattle.std.specs.List.{Contains, list_any}
+use Rattle.std.specs.List.{list_any}
 use Rattle.door_outside.specs.Shelf as Shelf
+use Rattle.door_outside.specs.Shelf.{SameBut}
 use Rattle.intent_journal.specs.Patches.{Files}
 use Rattle.entry_runs.specs.Runs.{Stepped}
 use Rattle.entry_runs.specs.declared.class.Class.TheVariants.{Refused, Damaged}
@@ -46,10 +47,6 @@ pub record Act (State : Type 0) : Type 1 where
 -- the world in which an entry does what it does: the board was migrated
 abbrev pub migrated_world : {State : Type 0} → Act State → World State → World State
 migrated_world act world = here (act.migrated world.state) world.shelf
-
--- the files of the shelf are as they were, but for these names
-abbrev pub SameBut : List (List ℕ) → Shelf.Files → Shelf.Files → Type 0
-SameBut names old new = (name : List ℕ) → ¬ Contains names name → Shelf.held new name ≡ Shelf.held old name
 
 -- What holds of every act. A crate proves it of each of its entries.
 pub record IsLawful {State : Type 0} (act : Act State) : Type 0 where

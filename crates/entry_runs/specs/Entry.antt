@@ -2,11 +2,11 @@
 -- becomes once the reply is said.
 use Rattle.std.specs.Prelude.{◌≡◌, ◌≢◌, ◌⊎◌, ℕ, Bool, false, List, [], ◌++◌, Result, Ok, Err, MatchResult, OnOk, IsErrOf, IsTrue}
 use Rattle.door_outside.specs.Disk.{Disk, Image, AllNow, Between, as_read}
-use Rattle.door_outside.specs.Shelf.{Files}
+use Rattle.door_outside.specs.Shelf.{Files, SameBut}
 use Rattle.intent_journal.specs.Hosts.{IsCalm, IsFirm, IsSettled}
 use Rattle.intent_journal.specs.Patches as Data
 use Rattle.intent_journal.specs.Recovered.{recovered}
-use Rattle.entry_runs.specs.Door.{World, Act, SameBut, shelf_only}
+use Rattle.entry_runs.specs.Door.{World, Act, shelf_only}
 use Rattle.entry_runs.specs.Promise.{AsThen, Before, After, Replies, Stopped}
 use Rattle.entry_runs.specs.Runs.{Stepped}
 use Rattle.entry_runs.specs.declared.class.Class.{Class}

@@ -2,11 +2,11 @@
 use Rattle.std.specs.Prelude.{◌≡◌, ◌≢◌, ◌⊎◌, ℕ, false, List, [], ◌∷◌, ◌++◌, ◌≤◌, Result, Ok, Err, IsTrue}
 use Rattle.door_outside.specs.Cause.{Rose}
 use Rattle.door_outside.specs.Disk.{Disk, Image, Now, AllNow}
-use Rattle.door_outside.specs.Shelf.{Files}
+use Rattle.door_outside.specs.Shelf.{Files, SameBut}
 use Rattle.intent_journal.specs.Hosts.{IsFirm, IsSettled}
 use Rattle.intent_journal.specs.Patches as Data
 use Rattle.intent_journal.specs.Recovered.{recovered}
-use Rattle.entry_runs.specs.Door.{World, Act, Door, SameBut, Step, touches, any_touches}
+use Rattle.entry_runs.specs.Door.{World, Act, Door, Step, touches, any_touches}
 use Rattle.entry_runs.specs.Runs.{Stepped, Outcome, Runs, GoesOn, IsReached, AreTaken, status_of, stopped_status}
 use Rattle.entry_runs.specs.declared.status.Status.{Status}
 use Rattle.entry_runs.specs.declared.status.Status.TheVariants as status

@@ -9,8 +9,8 @@ use Rattle.door_export.specs.Ack.{AckRefusal, ack_of}
 use Rattle.door_export.specs.Export.{ExportRefusal, Handout, export_of}
 use Rattle.door_export.specs.Folder.{folder_names}
 use Rattle.door_export.specs.declared.exporting.Exported.{Exported}
-use Rattle.door_outside.specs.Shelf.{Files}
-use Rattle.entry_runs.specs.Door.{IsLawful, SameBut}
+use Rattle.door_outside.specs.Shelf.{Files, SameBut}
+use Rattle.entry_runs.specs.Door.{IsLawful}
 use Rattle.entry_runs.specs.declared.class.Class.TheVariants as class
 use Rattle.shelf_files.proofs.Replies.{some_refusal}
 use Rattle.shelf_files.specs.declared.refusal.Refusal.{Refusal}

@@ -18,9 +18,9 @@ use Rattle.door_export.specs.declared.exporting.ExportError.{ExportError}
 use Rattle.door_export.specs.declared.exporting.ExportError.TheVariants.{NoUser, Limit, Packets, DiskFault, Doubt, Damaged, ShelfFault, OutOfMemory}
 use Rattle.door_export.specs.declared.exporting.Exported.{Exported}
 use Rattle.door_outside.specs.Disk.{Disk, AllNow, Between, Unchanged}
-use Rattle.door_outside.specs.Shelf.{Files}
+use Rattle.door_outside.specs.Shelf.{Files, SameBut}
 use Rattle.entry_runs.proofs.Boards.{found_still}
-use Rattle.entry_runs.specs.Door.{World, SameBut}
+use Rattle.entry_runs.specs.Door.{World}
 use Rattle.entry_runs.specs.Entry.{Changes, Finds, IsAt, Works}
 use Rattle.entry_runs.specs.declared.stop.Stop.TheVariants as stop
 use Rattle.intent_journal.specs.Hosts.{IsSettled}

@@ -8,8 +8,8 @@ use Rattle.board_commands.specs.Damages.{damaged}
 use Rattle.board_commands.specs.State.{State, NotMade, Made, Old, Spoiled, IsSpoiled, migrated, state_of}
 use Rattle.board_commands.specs.Turns.{SaysDamage}
 use Rattle.board_layout.specs.Board.{Board}
-use Rattle.door_outside.specs.Shelf.{Files, held}
-use Rattle.entry_runs.specs.Door.{World, IsLawful, SameBut}
+use Rattle.door_outside.specs.Shelf.{Files, held, SameBut}
+use Rattle.entry_runs.specs.Door.{World, IsLawful}
 use Rattle.entry_runs.specs.Entry.{Reply}
 use Rattle.entry_runs.specs.Runs.{Stepped}
 use Rattle.entry_runs.specs.declared.class.Class.TheVariants as class

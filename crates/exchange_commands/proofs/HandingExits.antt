@@ -10,10 +10,10 @@ use Rattle.board_layout.specs.Damage.{board_damage}
 use Rattle.board_layout.specs.declared.error.ReadError.{ReadError}
 use Rattle.board_layout.specs.declared.error.ReadError.TheVariants.{Damaged, DiskFault, OutOfMemory}
 use Rattle.door_outside.specs.Disk.{Disk, Unchanged}
-use Rattle.door_outside.specs.Shelf.{Files}
+use Rattle.door_outside.specs.Shelf.{Files, SameBut}
 use Rattle.entry_runs.proofs.Boards.{found_still}
 use Rattle.entry_runs.proofs.Commands.{answers, change_fails, changes_board, export_fails, halts, not_found}
-use Rattle.entry_runs.specs.Door.{World, SameBut, here, migrated_world}
+use Rattle.entry_runs.specs.Door.{World, here, migrated_world}
 use Rattle.entry_runs.specs.Entry.{Changes, Finds, IsAt, Reply, Works}
 use Rattle.entry_runs.specs.Runs.{Stepped}
 use Rattle.entry_runs.specs.declared.stop.Stop.TheVariants as stop

@@ -6,11 +6,11 @@ ghost use Rattle.packet_commands.specs.Packets.{ControlOf, PacketOf, FolderOf, I
 
 use crate::control_file::control_in;
 use crate::packet_file::packet_in;
-use door_outside::{Shelf, ShelfName};
+use door_outside::{Shelf, ShelfName, control_name, messages_name};
 use qwk_blocks::QwkMessages;
 use qwk_control::Control;
 use shelf_files::Halt;
-use std::alloc::{AllocError, Global};
+use std::alloc::Global;
 
 /// What the two files of a packet's folder say.
 #[derive(Drop)]
@@ -19,22 +19,6 @@ pub struct Packet {
     pub control: Control,
     /// The messages of MESSAGES.DAT.
     pub messages: QwkMessages,
-}
-
-/// The name of CONTROL.DAT in a folder.
-pub fn control_name(alloc: Global, folder: &ShelfName) -> Result<ShelfName, AllocError>
-    requires { HasParts 3 folder.now }
-    ensures { IfOk result (λ name. name ≡ folder.now ++ codes "/CONTROL.DAT") }
-{
-    folder.file(alloc, b"CONTROL.DAT")
-}
-
-/// The name of MESSAGES.DAT in a folder.
-pub fn messages_name(alloc: Global, folder: &ShelfName) -> Result<ShelfName, AllocError>
-    requires { HasParts 3 folder.now }
-    ensures { IfOk result (λ name. name ≡ folder.now ++ codes "/MESSAGES.DAT") }
-{
-    folder.file(alloc, b"MESSAGES.DAT")
 }
 
 /// What CONTROL.DAT of a packet's folder says, refused where it isn't there, is too long or has a fault.

@@ -10,7 +10,7 @@ mod saying;
 mod scanning;
 
 pub use control_file::control_in;
-pub use folder::{Packet, control_name, folder_in, messages_name};
+pub use folder::{Packet, folder_in};
 pub use listing::list;
 pub use reading::{read, show};
 pub use saying::CountLine;

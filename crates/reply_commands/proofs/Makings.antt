@@ -1,7 +1,6 @@
 -- What a command that writes a reply packet did, by what it made.
 use Rattle.std.proofs.Common.{◌≡◌, ℕ, List, [], ◌∷◌, Result, Ok, Err, refl, ◌∙◌, ap, subst}
-use Rattle.door_outside.specs.Shelf.{Files}
-use Rattle.entry_runs.specs.Door.{SameBut}
+use Rattle.door_outside.specs.Shelf.{Files, SameBut}
 use Rattle.entry_runs.specs.Entry.{Serves}
 use Rattle.shelf_files.specs.Halts.{Comes, done, served}
 use Rattle.shelf_files.specs.declared.halt.Halt.{Halt}
@@ -10,7 +9,7 @@ use Rattle.shelf_files.specs.declared.refusal.Refusal.{Refusal}
 use Rattle.reply_commands.specs.Writing.{writes, with_rep, Puts}
 use Rattle.reply_commands.specs.declared.enlarging.Enlarged.{Enlarged}
 use Rattle.reply_commands.specs.declared.putting.Added.{Added}
-use Rattle.shelf_files.proofs.Shelves.{same_at}
+use Rattle.door_outside.proofs.Shelves.{same_at}
 
 -- the reply packet was made, and then it was put
 pub serves_put : (name : List ℕ) (Makes : Files → Result Enlarged Refusal → Type 0) (text : Added → List ℕ) (old mid new : Files) (made : Enlarged) (result : Result Added Halt)

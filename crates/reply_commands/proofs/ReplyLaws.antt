@@ -1,11 +1,10 @@
 -- The commands that write a reply packet are lawful: each says something, and one thing, and writes one name at most.
 use Rattle.std.proofs.Common.{◌≡◌, ◌≢◌, inl, inr, ℕ, List, [], ◌∷◌, ◌++◌, Result, Ok, Err, sym, ◌∙◌, ap, subst}
 use Rattle.std.specs.Prelude.{codes}
-use Rattle.door_outside.specs.Shelf.{Files}
+use Rattle.door_outside.specs.Shelf.{Files, SameBut}
 use Rattle.door_outside.specs.declared.fetch.Fetched.{Fetched}
 use Rattle.door_outside.specs.declared.fetch.Fetched.TheVariants.{Missing, TooLarge, Whole}
 use Rattle.entry_runs.proofs.ShelfLaws.{IsLawfulOnShelf}
-use Rattle.entry_runs.specs.Door.{SameBut}
 use Rattle.entry_runs.specs.Entry.{Reply}
 use Rattle.entry_runs.specs.declared.class.Class.TheVariants as class
 use Rattle.import_sheet.specs.declared.sheet.Sheet.{Sheet}
@@ -26,7 +25,7 @@ use Rattle.shelf_files.specs.Halts.{replied}
 use Rattle.shelf_files.specs.Sheets.{SheetOf}
 use Rattle.shelf_files.specs.declared.refusal.Refusal.{Refusal}
 use Rattle.shelf_files.specs.declared.refusal.Refusal.TheVariants.{Text}
-use Rattle.shelf_files.proofs.Shelves.{other_stays, same_at}
+use Rattle.door_outside.proofs.Shelves.{other_stays, same_at}
 use Rattle.reply_commands.specs.Compose.{ConferenceIn, ComposeMakes, composes, composed_line}
 use Rattle.reply_commands.specs.RepFile.{RepFrom, RepOf, DraftsFit, EnlargedBy, EnlargesRep, Enlarges, IsForBoard, rep_refusal}
 use Rattle.reply_commands.specs.Reply.{MessageIn, TextOf, ReplyMakes, replies, reply_line}

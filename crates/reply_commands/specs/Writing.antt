@@ -1,8 +1,7 @@
 -- Commands that write a reply packet.
 use Rattle.std.specs.Prelude.{◌≡◌, ℕ, List, [], ◌∷◌, ◌++◌, length, codes, decimal, Result, Ok, Err}
 use Rattle.std.specs.FinMap as map
-use Rattle.door_outside.specs.Shelf.{Files}
-use Rattle.entry_runs.specs.Door.{SameBut}
+use Rattle.door_outside.specs.Shelf.{Files, SameBut}
 use Rattle.entry_runs.specs.Entry.{ShelfAct}
 use Rattle.rep_packet.specs.Written.{rep_text}
 use Rattle.shelf_files.specs.Halts.{replied}

@@ -5,9 +5,9 @@ ghost use Rattle.reply_commands.specs.RepFile.{MayBeWritten};
 ghost use Rattle.reply_commands.specs.Writing.{Puts};
 
 use crate::enlarging::Enlarged;
-use door_outside::{Shelf, ShelfName};
+use door_outside::{Shelf, ShelfName, write_file};
 use rep_packet::write_rep;
-use shelf_files::{Halt, write_file};
+use shelf_files::Halt;
 use std::alloc::Global;
 
 /// How many messages a command added to a reply packet, and how many it has then.

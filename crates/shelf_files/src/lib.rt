@@ -7,11 +7,9 @@ mod said;
 mod sheet_file;
 mod shelf_file;
 mod telling;
-mod writing;
 
 pub use halt::Halt;
 pub use refusal::Refusal;
 pub use sheet_file::sheet_in;
 pub use shelf_file::{FILE_LIMIT, FOREIGN_LIMIT, PACKET_LIMIT, REP_LIMIT, file_in};
 pub use telling::say_served;
-pub use writing::write_file;

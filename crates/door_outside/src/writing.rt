@@ -2,9 +2,11 @@
 ghost use Rattle.std.specs.Prelude.{◌≡◌, [], ◌∷◌, IsTrue, MatchResult};
 ghost use Rattle.std.specs.FinMap as map;
 ghost use Rattle.door_outside.specs.Cause.{HasCause};
-ghost use Rattle.entry_runs.specs.Door.{SameBut};
+ghost use Rattle.door_outside.specs.Shelf.{SameBut};
 
-use door_outside::{Shelf, ShelfFault, ShelfName};
+use crate::fault::ShelfFault;
+use crate::name::ShelfName;
+use crate::shelf::Shelf;
 
 /// Writes a file, new or old. Where that fails, it may hold anything, and no other file has changed.
 pub fn write_file<S: Shelf>(shelf: &mut S, name: &ShelfName, bytes: &[u8]) -> Result<(), ShelfFault>

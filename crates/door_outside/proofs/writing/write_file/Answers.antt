@@ -1,6 +1,6 @@
 use Rattle.std.proofs.lemmas.Result.{err_from_is_err_and}
-use Rattle.shelf_files.proofs.Shelves.{begun_or_not, begun_then}
-use Rattle.shelf_files.proofs.writing.write_file.Goals as goal
+use Rattle.door_outside.proofs.Shelves.{begun_or_not, begun_then}
+use Rattle.door_outside.proofs.writing.write_file.Goals as goal
 
 pub returns-in_err-begin-clause-done : goal.returns-in_err-begin-clause-done
 returns-in_err-begin-clause-done g c tells =

@@ -9,9 +9,8 @@ use Rattle.std.specs.List.{Contains}
 use Rattle.std.specs.Ordering.{nat_cmp, eq_by_cmp, is_eq}
 use Rattle.std.specs.declared.cmp.Ordering.{Ordering}
 use Rattle.std.specs.declared.cmp.Ordering.TheVariants.{Less, Equal, Greater}
-use Rattle.door_outside.specs.Shelf.{Files, held, Appends}
+use Rattle.door_outside.specs.Shelf.{Files, held, Appends, SameBut}
 use Rattle.door_outside.specs.declared.fault.ShelfFault.{ShelfFault}
-use Rattle.entry_runs.specs.Door.{SameBut}
 
 -- the file of this name
 same_name : (name : List ℕ) → eq_by_cmp (slice_cmp nat_cmp) name name ≡ true
