@@ -3,10 +3,10 @@ use Rattle.std.proofs.Common.{◌≡◌, ◌≢◌, ℕ, ◌-◌, List, [], ◌�
 use Rattle.board_commands.proofs.BoardActs.{AreTurns}
 use Rattle.board_commands.proofs.TurnLaws.{IsTurn, are_turns, done_is, refuses_is}
 use Rattle.board_layout.specs.Board.{Board}
+use Rattle.board_layout.specs.Lookups.{place_of}
 use Rattle.door_outside.specs.Shelf.{Files}
 use Rattle.jam_adopt.specs.declared.found.Found.{Found}
 use Rattle.jam_records.specs.declared.message.Message.{Message}
-use Rattle.mail_board.specs.Readers.{place_of}
 use Rattle.mail_intake.specs.Lines.{counts_line, intake_text}
 use Rattle.post_changes.specs.Posted.{spread}
 use Rattle.shelf_files.specs.declared.refusal.Refusal.{Refusal}

@@ -3,10 +3,10 @@ use Rattle.std.specs.Prelude.{◌≡◌, ℕ, List, length, Option, Some, None, 
 use Rattle.board_commands.specs.State.{State}
 use Rattle.board_commands.specs.Turns.{Turn, refuses, on_board}
 use Rattle.board_layout.specs.Board.{Board}
+use Rattle.board_layout.specs.Lookups.{place_of}
 use Rattle.door_outside.specs.Shelf.{Files}
 use Rattle.entry_runs.specs.Door.{Act}
 use Rattle.jam_adopt.specs.declared.found.Found.{Found}
-use Rattle.mail_board.specs.Readers.{place_of}
 use Rattle.mail_intake.specs.Lines.{intake_text}
 use Rattle.post_changes.specs.Posted.{spread}
 use Rattle.shelf_files.specs.Halts.{done}

@@ -5,7 +5,7 @@ use Rattle.std.proofs.lemmas.Bool.{and_from, and_parts}
 use Rattle.std.proofs.lemmas.Option.{none-some}
 use Rattle.board_commands.specs.State.{State, Made}
 use Rattle.board_layout.specs.Board.{Board}
-use Rattle.board_layout.specs.Lookups.{pointer_at, user_of, slots_in}
+use Rattle.board_layout.specs.Lookups.{pointer_at, user_of, slots_in, message_at}
 use Rattle.board_laws.proofs.Changing.{AcksBy}
 use Rattle.board_laws.proofs.Fresh.{board_whole, fresh_whole}
 use Rattle.board_laws.proofs.Grown.{IsWhole}
@@ -22,7 +22,7 @@ use Rattle.board_laws.specs.Kept.{IsAck, IsLive, NoAckBetween, StaysMade, StaysO
 use Rattle.jam_base.specs.Slots.{has_live}
 use Rattle.mail_board.specs.declared.change.Change.{Change}
 use Rattle.mail_board.specs.declared.change.Change.TheVariants.{Enroll, Append, Spread, Kill, Offer, Acknowledge, Upload}
-use Rattle.offered_packets.specs.Sees.{is_allowed, message_at, sees}
+use Rattle.offered_packets.specs.Sees.{is_allowed, sees}
 use Rattle.offered_packets.specs.declared.offered_message.OfferedMessage.{OfferedMessage}
 
 -- the number is above a pointer of the user, and he may see the message while it is live

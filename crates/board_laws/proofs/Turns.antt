@@ -10,7 +10,7 @@ use Rattle.board_commands.specs.Init.{made_of}
 use Rattle.board_commands.specs.State.{State, NotMade, Made, state_of}
 use Rattle.board_commands.specs.Turns.{Turn, refuses}
 use Rattle.board_layout.specs.Board.{Board}
-use Rattle.board_layout.specs.Lookups.{user_of}
+use Rattle.board_layout.specs.Lookups.{user_of, place_of}
 use Rattle.board_laws.proofs.Moves.{Makes, Move, Packs, moved}
 use Rattle.board_laws.proofs.Uploads.{UploadTurns, upload_turns}
 use Rattle.board_laws.specs.BoardCommand.{BoardCommand, board_does}
@@ -34,7 +34,7 @@ use Rattle.fts_packet.specs.declared.packet.FtsMessage.{FtsMessage}
 use Rattle.import_sheet.specs.declared.sheet.Sheet.{Sheet}
 use Rattle.jam_adopt.specs.declared.found.Found.{Found}
 use Rattle.jam_records.specs.declared.message.Message.{Message}
-use Rattle.mail_board.specs.Readers.{is_offered, offer_of, place_of, user_id}
+use Rattle.mail_board.specs.Readers.{is_offered, offer_of, user_id}
 use Rattle.mail_board.specs.declared.change.Change.{Change}
 use Rattle.mail_board.specs.declared.change.Change.TheVariants.{Enroll, Append, Spread, Kill, Offer, Acknowledge}
 use Rattle.mail_board.specs.declared.change.Change.TheVariants as change

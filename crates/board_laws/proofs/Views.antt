@@ -7,7 +7,7 @@ use Rattle.std.specs.Str.{str_eq_ignore_ascii_case}
 use Rattle.std.proofs.lemmas.Bool.{and_from, and_parts, cases_eq, eq-eqb, ne_eqb, false≢true}
 use Rattle.std.proofs.lemmas.Option.{none-some, same_Some}
 use Rattle.board_layout.specs.Board.{Board, conferences_in}
-use Rattle.board_layout.specs.Lookups.{held_in, user_of, slots_in}
+use Rattle.board_layout.specs.Lookups.{held_in, user_of, slots_in, message_at}
 use Rattle.board_layout.specs.Renewed.{contents_of}
 use Rattle.board_laws.proofs.Bases.{BaseGrows}
 use Rattle.board_laws.proofs.Grown.{IsWhole, conferences_are}
@@ -22,7 +22,7 @@ use Rattle.jam_layout.specs.declared.conference.Conference.{Conference}
 use Rattle.jam_records.specs.declared.message.Message.{Message}
 use Rattle.jam_records.specs.declared.message.Slot.{Slot}
 use Rattle.jam_records.specs.declared.message.Slot.TheVariants.{Gone, Held}
-use Rattle.offered_packets.specs.Sees.{is_allowed, may_see, message_at, sees}
+use Rattle.offered_packets.specs.Sees.{is_allowed, may_see, sees}
 
 -- ---- the slots of a place
 abbrev slots_at : List Conference → ℕ → List Slot

@@ -47,7 +47,7 @@ pub as_many_bases : (b : Board) (bases : List Contents) → conferences_in bases
 as_many_bases b bases e = sym (length-map bases (λ (base : Contents). base.conference)) ∙ ap length e
 
 -- the conference in a place, by its base
-conference_at : (b : Board) (bases : List Contents) (place : ℕ) → conferences_in bases ≡ b.conferences → slice_get b.conferences place ≡ option_map (λ (base : Contents). base.conference) (slice_get bases place)
+pub conference_at : (b : Board) (bases : List Contents) (place : ℕ) → conferences_in bases ≡ b.conferences → slice_get b.conferences place ≡ option_map (λ (base : Contents). base.conference) (slice_get bases place)
 conference_at b bases place e = ap (λ (xs : List Conference). slice_get xs place) (sym e) ∙ slice_get-map (λ (base : Contents). base.conference) bases place
 
 abbrev pub slots_of : Option Conference → List Slot

@@ -1,5 +1,4 @@
-ghost use Rattle.std.specs.Prelude.{◌≡◌, ◌≤◌, ◌<◌, ◌^◌, map, sum_by, slice_get, unwrap_or, MatchOption};
-ghost use Rattle.std.specs.Option.{option_copied, option_map};
+ghost use Rattle.std.specs.Prelude.{◌≡◌, ◌<◌, ◌^◌, sum_by, unwrap_or};
 ghost use Rattle.board_layout.specs.Board.{board_with, conferences_in, shapes_in, shapes_of};
 ghost use Rattle.board_layout.specs.Layout.{base_size, board_size};
 ghost use Rattle.board_layout.specs.Outlines.{board_outline};
@@ -107,14 +106,6 @@ impl StoredBoard {
         ensures outline { board_outline self.now ≡ self.now }
     {
         self.bases.as_slice()
-    }
-
-    /// The conference in a place, from 0, or None past the last.
-    pub fn base(&self, place: u8) -> Option<&Base>
-        ensures conference { option_map (λ base. base.conference) (option_copied result) ≡ slice_get self.now.conferences place }
-        ensures shape { option_map (λ base. base.shape) (option_copied result) ≡ slice_get (shapes_of self.now.ledger) place }
-    {
-        self.bases.get(usize::from(place))
     }
 
     /// Puts a ledger in place of its own, where there is one, and each new conference in place of the old one. It

@@ -6,30 +6,27 @@ use Rattle.std.proofs.lemmas.List.{append-nil}
 use Rattle.std.proofs.lemmas.List.Elements.{All-append, All-cons, All-nil}
 use Rattle.board_layout.specs.Board.{Board}
 use Rattle.board_layout.specs.Outlines.{board_outline}
-use Rattle.board_layout.specs.Valid.{IsBoard}
+use Rattle.board_layout.specs.Lookups.{message_at}
 use Rattle.jam_layout.specs.Outlines.{message_outline}
 use Rattle.jam_records.specs.declared.message.Message.{Message}
-use Rattle.mail_board.proofs.FetchedHosts.{message_is}
 use Rattle.mail_board.specs.Held.{AreAlike}
-use Rattle.mail_board.specs.Readers as read
 use Rattle.offered_packets.proofs.OutlineLaws.{outline_message, outline_shown}
-use Rattle.offered_packets.specs.Sees.{message_at}
 use Rattle.offered_packets.specs.Shown.{IsShort, shown, shown_all, shown_message}
 use Rattle.offered_packets.specs.declared.offered_message.OfferedMessage.{OfferedMessage}
 use Rattle.qwk_blocks.specs.declared.message.QwkMessage.{QwkMessage}
 
 -- ---- a message that is there
-module _ (b : Board) (place number : ℕ) (ok : IsBoard b) where
-  pub outline_there : (m : Message) → option_map message_outline (Some m) ≡ option_map message_outline (read.held_message place number b) → message_at (board_outline b) place number ≡ Some (message_outline m)
-  outline_there m found = outline_message b place number ∙ sym (found ∙ ap (option_map message_outline) (message_is b place number ok))
+module _ (b : Board) (place number : ℕ) where
+  pub outline_there : (m : Message) → option_map message_outline (Some m) ≡ option_map message_outline (message_at b place number) → message_at (board_outline b) place number ≡ Some (message_outline m)
+  outline_there m found = outline_message b place number ∙ sym found
 
-  pub shown_there : (logical : ℕ) (m : Message) (q : QwkMessage) → Some m ≡ read.held_message place number b → q ≡ shown_message b place number logical m → Some q ≡ shown b place number logical
+  pub shown_there : (logical : ℕ) (m : Message) (q : QwkMessage) → Some m ≡ message_at b place number → q ≡ shown_message b place number logical m → Some q ≡ shown b place number logical
   unfolding shown
-  shown_there logical m q found is = ap Some is ∙ ap (option_map (shown_message b place number logical)) (found ∙ message_is b place number ok)
+  shown_there logical m q found is = ap Some is ∙ ap (option_map (shown_message b place number logical)) found
 
-  pub shown_nowhere : (logical : ℕ) → None ≡ read.held_message place number b → None ≡ shown b place number logical
+  pub shown_nowhere : (logical : ℕ) → None ≡ message_at b place number → None ≡ shown b place number logical
   unfolding shown
-  shown_nowhere logical found = ap (option_map (shown_message b place number logical)) (found ∙ message_is b place number ok)
+  shown_nowhere logical found = ap (option_map (shown_message b place number logical)) found
 
 -- boards with one outline show a message at hand alike
 pub shown_alike : (a b : Board) → AreAlike a b → (place number logical : ℕ) (m : Message) → shown_message a place number logical m ≡ shown_message b place number logical m

@@ -7,7 +7,7 @@ use Rattle.std.proofs.lemmas.List.Elements.{All-head, All-tail, All-take, filter
 use Rattle.std.proofs.lemmas.List.FromFn.{length-map-range_with_len}
 use Rattle.std.proofs.lemmas.Option.{none-some}
 use Rattle.board_layout.specs.Board.{Board}
-use Rattle.board_layout.specs.Lookups.{pointer_at, user_of, slots_in}
+use Rattle.board_layout.specs.Lookups.{pointer_at, user_of, slots_in, message_at}
 use Rattle.board_layout.specs.Valid.{IsBoard, highs_fit}
 use Rattle.board_ledger.specs.Users.{is_member}
 use Rattle.board_ledger.specs.declared.ledger.Ledger.{Ledger}
@@ -19,7 +19,7 @@ use Rattle.offer_changes.specs.Highs.{may_have}
 use Rattle.open_offers.specs.Offers.{are_of_member}
 use Rattle.offered_packets.proofs.ShownMessages.{is_there}
 use Rattle.offered_packets.specs.Offered.{all_numbers, high_of, highs, is_above, is_new, offered}
-use Rattle.offered_packets.specs.Sees.{is_allowed, is_sysop, message_at, names_user, sees}
+use Rattle.offered_packets.specs.Sees.{is_allowed, is_sysop, names_user, sees}
 use Rattle.offered_packets.specs.declared.offered_message.OfferedMessage.{OfferedMessage}
 
 -- ---- one message that is new to a user

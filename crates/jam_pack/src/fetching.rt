@@ -3,7 +3,6 @@ ghost use Rattle.std.specs.Prelude.{◌≡◌, ◌<◌, Err, length, map, All, I
 ghost use Rattle.board_layout.specs.Board as Boards;
 ghost use Rattle.board_layout.specs.Outlines.{HasBody};
 ghost use Rattle.board_layout.specs.Rules.{HasReadCause};
-ghost use Rattle.board_layout.specs.Valid.{IsBoard};
 ghost use Rattle.door_outside.specs.Disk.{Unchanged};
 ghost use Rattle.jam_base.specs.Slots.{numbered};
 ghost use Rattle.jam_layout.specs.Outlines.{slot_outline};
@@ -29,7 +28,6 @@ fn fetched<H: Host>(
     place: u8,
     number: u32,
 ) -> Result<Slot, ReadError>
-    requires valid { IsBoard board.now.board }
     requires base { base.now.conference.slots ≡ slots_in board.now.board place }
     requires sure { IsFalse board.now.doubtful }
     requires rests { IsTrue H.tells → RestsOn board.now.board (H.disk host.old) }

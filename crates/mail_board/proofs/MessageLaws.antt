@@ -1,16 +1,16 @@
 -- The message of a number on the board that the host holds, by the base of the board that is kept.
-use Rattle.std.proofs.Common.{◌≡◌, ℕ, zero, suc, ◌<◌, ◌≤◌, List, [], ◌∷◌, length, Option, Some, None, refl, sym, ap, ◌∙◌, arith}
-use Rattle.std.specs.Prelude.{get_or, option_and_then, option_map, slice_get}
+use Rattle.std.proofs.Common.{◌≡◌, ℕ, zero, suc, ◌<◌, ◌≤◌, Bool, true, false, cond, List, [], ◌∷◌, length, Option, Some, None, refl, sym, ap, ◌∙◌, arith}
+use Rattle.std.specs.Prelude.{get_or, option_and_then, option_map, slice_get, ◌==◌}
 use Rattle.std.proofs.lemmas.Option.{slice_get-get_or}
 use Rattle.board_changes.proofs.MemberLaws.{files_at}
-use Rattle.board_changes.proofs.OneBase.{all_at, are_bases}
-use Rattle.board_layout.proofs.BoardLookups.{conferences_count}
+use Rattle.board_changes.proofs.OneBase.{all_at, are_bases, conferences_back}
+use Rattle.board_layout.proofs.BoardLookups.{base_slots, conferences_count, no_slots}
 use Rattle.board_changes.specs.Changed.{base_at}
 use Rattle.board_layout.proofs.BasePlaces.{IsBase}
 use Rattle.board_layout.proofs.OneOutline.{alike_base}
 use Rattle.board_layout.specs.Board.{Board, shapes_of}
 use Rattle.board_layout.specs.Layout.{IsLayout}
-use Rattle.board_layout.specs.Lookups.{held_in}
+use Rattle.board_layout.specs.Lookups.{held_in, message_at}
 use Rattle.board_layout.specs.Renewed.{contents_of}
 use Rattle.board_layout.specs.Valid.{IsBoard}
 use Rattle.door_outside.specs.File.{jdt_file}
@@ -20,12 +20,13 @@ use Rattle.jam_base.specs.Outlined.{outlined}
 use Rattle.jam_base.specs.Slots.{numbered}
 use Rattle.jam_layout.specs.declared.files.BaseFiles.{BaseFiles}
 use Rattle.jam_records.specs.declared.message.Message.{Message}
+use Rattle.jam_records.specs.declared.message.Slot.{Slot}
+use Rattle.jam_records.specs.declared.message.Slot.TheVariants.{Gone}
 use Rattle.post_changes.proofs.PlacePosts.{place_there}
 use Rattle.mail_board.proofs.BodyLaws.{none_alike}
 use Rattle.mail_board.proofs.EachBases.{places_alike}
 use Rattle.mail_board.specs.Bodies.{HasBodies}
 use Rattle.mail_board.specs.Held.{AreAlike}
-use Rattle.mail_board.specs.Readers.{held_message}
 
 -- ---- the base of a place
 pub base_there : (b : Board) (bases : List Contents) (place index : ℕ) (base : Contents) → bases ≡ contents_of b → index ≡ place → index < length bases → base ≡ get_or bases index base → base_at place b ≡ Some base
@@ -53,27 +54,40 @@ base_valid b place base ok here = all_at IsBase (contents_of b) place base here 
 abbrev pub message_of : ℕ → Option Contents → Option Message
 message_of number o = option_and_then (λ (base : Contents). held_in (numbered base.conference.slots number)) o
 
-pub message_here : (b : Board) (place number : ℕ) (o : Option Contents) → base_at place b ≡ o → held_message place number b ≡ message_of number o
-message_here b place number o here = ap (message_of number) here
+-- no slot holds none
+none_held : (number : ℕ) → None ≡ held_in (numbered [] number)
+none_held number = by (number == 0)
+  where
+    by : (none : Bool) → None ≡ held_in (cond none Gone Gone)
+    by true = refl
+    by false = refl
+
+module _ (b : Board) (place number : ℕ) where
+  abbrev in_slots : List Slot → Option Message
+  in_slots slots = held_in (numbered slots number)
+
+  pub message_here : (o : Option Contents) → IsBoard b → base_at place b ≡ o → message_at b place number ≡ message_of number o
+  message_here None ok here = ap in_slots (no_slots b (contents_of b) place (conferences_back (shapes_of b.ledger) b.conferences ok.conferences) here) ∙ sym (none_held number)
+  message_here (Some base) ok here = ap in_slots (sym (base_slots b (contents_of b) place base (conferences_back (shapes_of b.ledger) b.conferences ok.conferences) here))
 
 -- ---- on another board with the outline
 module _ (held b : Board) (alike : AreAlike b held) (place number : ℕ) where
-  none_there : (o : Option Contents) → base_at place b ≡ o → option_map outlined o ≡ None → None ≡ held_message place number b
-  none_there None here none = sym (message_here b place number None here)
-  none_there (Some other) here none = absurd (cc none)
+  none_there : (o : Option Contents) → IsBoard b → base_at place b ≡ o → option_map outlined o ≡ None → None ≡ message_at b place number
+  none_there None ok here none = sym (message_here b place number None ok here)
+  none_there (Some other) ok here none = absurd (cc none)
 
-  pub no_base : base_at place held ≡ None → None ≡ held_message place number b
-  no_base none = none_there (base_at place b) refl (places_alike b held alike place ∙ ap (option_map outlined) none)
+  pub no_base : IsBoard b → base_at place held ≡ None → None ≡ message_at b place number
+  no_base ok none = none_there (base_at place b) ok refl (places_alike b held alike place ∙ ap (option_map outlined) none)
 
   module _ (base : Contents) (here : base_at place held ≡ Some base) where
     pub other : (x : Contents) × (base_at place b ≡ Some x) × (outlined x ≡ outlined base)
     other = alike_base b held alike place base here
 
-    pub no_message : None ≡ held_in (numbered base.conference.slots number) → None ≡ held_message place number b
-    no_message none = none_alike base other.0 other.2 number none ∙ sym (message_here b place number (Some other.0) other.1)
+    pub no_message : IsBoard b → None ≡ held_in (numbered base.conference.slots number) → None ≡ message_at b place number
+    no_message ok none = none_alike base other.0 other.2 number none ∙ sym (message_here b place number (Some other.0) ok other.1)
 
-    pub message_there : (found : Message) → Some found ≡ held_in (numbered other.0.conference.slots number) → Some found ≡ held_message place number b
-    message_there found is = is ∙ sym (message_here b place number (Some other.0) other.1)
+    pub message_there : (found : Message) → IsBoard b → Some found ≡ held_in (numbered other.0.conference.slots number) → Some found ≡ message_at b place number
+    message_there found ok is = is ∙ sym (message_here b place number (Some other.0) ok other.1)
 
     pub other_bodies : (files : Files) → IsBoard b → IsLayout b files → HasBodies base other.0 (files (jdt_file place))
     other_bodies files ok laid = record {

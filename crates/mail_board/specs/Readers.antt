@@ -7,19 +7,8 @@ use Rattle.open_offers.specs.declared.offer.OpenOffer.{OpenOffer}
 use Rattle.board_ledger.specs.declared.upload.Counts.{Counts}
 use Rattle.board_ledger.specs.declared.user.User.{User}
 use Rattle.board_layout.specs.Board.{Board}
-use Rattle.board_layout.specs.Lookups.{user_of, held_in}
-use Rattle.board_layout.specs.Renewed.{contents_of}
-use Rattle.jam_base.specs.Slots.{numbered}
-use Rattle.jam_records.specs.declared.message.Message.{Message}
+use Rattle.board_layout.specs.Lookups.{user_of}
 use Rattle.jam_threads.specs.Children.{has_msgid}
-
--- the place of the conference of a number
-abbrev pub place_of : ℕ → Board → Option ℕ
-place_of number b = position (λ c. c.number == number) b.ledger.setup.conferences
-
--- the message of a number in a place
-abbrev pub held_message : ℕ → ℕ → Board → Option Message
-held_message place number b = option_and_then (λ base. held_in (numbered base.conference.slots number)) (slice_get (contents_of b) place)
 
 -- a slot of a place holds a message with this msgid
 abbrev pub has_msgid_in : ℕ → List ℕ → Board → Bool

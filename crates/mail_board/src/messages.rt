@@ -1,6 +1,7 @@
 // The messages of a board, and the msgids that it generates.
 ghost use Rattle.std.specs.Prelude.{◌≡◌, ◌<◌, Err, length, option_map, IfOk, IfSome, IsFalse, IsTrue};
 ghost use Rattle.board_layout.specs.Board as Boards;
+ghost use Rattle.board_layout.specs.Lookups.{message_at};
 ghost use Rattle.board_layout.specs.Outlines.{HasBody};
 ghost use Rattle.board_layout.specs.Rules.{HasReadCause};
 ghost use Rattle.door_outside.specs.Disk.{Unchanged};
@@ -8,16 +9,14 @@ ghost use Rattle.jam_layout.specs.Outlines.{message_outline};
 ghost use Rattle.jam_records.specs.declared.damage.Damage.{Damage};
 ghost use Rattle.jam_records.specs.declared.message.Slot.TheVariants.{Held};
 ghost use Rattle.mail_board.specs.Held.{Holds, RestsOn};
-ghost use Rattle.mail_board.specs.Readers.{held_message};
 ghost use Rattle.slot_changes.specs.Msgids.{msgid_in};
 
 use crate::board::Board;
 use crate::bodies::fetched;
-use board_layout::ReadError;
+use board_layout::{ReadError, message_of};
 use byte_lists::Bytes;
 use door_outside::Host;
 use jam_records::Message;
-use offered_packets::message_of;
 use slot_changes::msgid_of;
 use std::alloc::{AllocError, Global};
 
@@ -49,9 +48,9 @@ impl Board {
     ) -> Result<Option<Message>, ReadError>
         requires sure { IsFalse self.now.doubtful }
         requires rests { IsTrue H.tells → RestsOn self.now.board (H.disk host.old) }
-        ensures message { IsTrue H.tells → (b : Boards.Board) → Holds b (H.disk host.old) → IfOk result (λ found. found ≡ held_message place number b) }
+        ensures message { IsTrue H.tells → (b : Boards.Board) → Holds b (H.disk host.old) → IfOk result (λ found. found ≡ message_at b place number) }
         // Whatever the host tells, it is this board's but for the bytes of the body.
-        ensures outline { IfOk result (λ found. option_map message_outline found ≡ option_map message_outline (held_message place number self.now.board)) }
+        ensures outline { IfOk result (λ found. option_map message_outline found ≡ option_map message_outline (message_at self.now.board place number)) }
         // The bytes are a body's.
         ensures lines { IfOk result (λ found. IfSome found (λ message. HasBody (Held message))) }
         ensures unchanged { IsTrue H.tells → Unchanged (H.disk host.old) (H.disk host.new) }

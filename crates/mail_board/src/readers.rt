@@ -9,23 +9,15 @@ ghost use Rattle.jam_base.specs.Slots.{numbered};
 ghost use Rattle.jam_layout.specs.Conference.{live_count as live_in};
 ghost use Rattle.jam_threads.specs.Children.{has_msgid, original};
 ghost use Rattle.offered_packets.specs.Sees.{sees as is_seen};
-ghost use Rattle.board_layout.specs.Lookups.{user_of, pointer_at};
-ghost use Rattle.mail_board.specs.Readers.{place_of, user_id as id_of, offer_of, is_offered, upload_of as counts_of, has_msgid_in};
+ghost use Rattle.board_layout.specs.Lookups.{user_of, pointer_at, place_of};
+ghost use Rattle.mail_board.specs.Readers.{user_id as id_of, offer_of, is_offered, upload_of as counts_of, has_msgid_in};
 
 use crate::board::Board;
 use board_layout::StoredBoard;
-use board_ledger::{Conference, Counts, OpenOffer, Setup, User};
+use board_ledger::{Counts, OpenOffer, Setup, User};
 use jam_base::Base;
 use jam_records::Slot;
 use offered_packets::sees;
-
-/// The place of the conference of a number, or None where none has it.
-fn place_in(conferences: &[Conference], number: u16) -> Option<usize>
-    ensures place { result ≡ position (λ c. c.number == number) conferences.now }
-    ensures within { IfSome result (λ place. place < length conferences.now) }
-{
-    conferences.iter().position(|c| c.number == number)
-}
 
 /// The place of the user of a name, ignoring ASCII case, or None where none has it.
 fn place_named(users: &[User], name: &[u8]) -> Option<usize>
@@ -85,11 +77,7 @@ impl Board {
     pub fn place_of(&self, conference: u16) -> Option<u8>
         ensures { result ≡ place_of conference self.now.board }
     {
-        let conferences = self.stored.ledger().setup.conferences.as_slice();
-        match place_in(conferences, conference) {
-            Some(place) => Some(place as u8),
-            None => None,
-        }
+        self.stored.place_of(u32::from(conference))
     }
 
     /// The base of a place that has one.
@@ -97,7 +85,7 @@ impl Board {
         requires { place < length self.now.board.conferences }
         ensures { Some result.now.conference ≡ slice_get self.now.board.conferences place }
     {
-        match self.stored.base(place) {
+        match self.stored.base_at(place) {
             Some(base) => base,
             None => unreachable!(),
         }
@@ -185,10 +173,7 @@ impl Board {
     pub fn user(&self, id: u32) -> Option<&User>
         ensures { option_copied result ≡ user_of id self.now.board }
     {
-        if id == 0 {
-            return None;
-        }
-        self.stored.ledger().users.get(id as usize - 1)
+        self.stored.user_at(id)
     }
 
     /// The greatest number of a packet that is open for a user, or None where there is none or no user has the id. It

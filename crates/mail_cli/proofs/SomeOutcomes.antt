@@ -17,6 +17,7 @@ use Rattle.board_layout.specs.Board.{Board}
 use Rattle.board_layout.specs.Damage.{board_damage}
 use Rattle.board_layout.specs.Layout.{AreFileBytes}
 use Rattle.board_layout.specs.OldLayout.{IsStoredIn}
+use Rattle.board_layout.specs.Lookups.{place_of}
 use Rattle.byte_lists.specs.Byte.{IsByte}
 use Rattle.door_commands.specs.Answers.{usage}
 use Rattle.door_commands.specs.Entries.{EntryCanRun}
@@ -47,7 +48,7 @@ use Rattle.import_sheet.specs.declared.sheet.Sheet.{Sheet}
 use Rattle.intent_journal.specs.Patches.{Files, data_files}
 use Rattle.jam_records.specs.declared.damage.Damage.{Damage}
 use Rattle.mail_board.proofs.DataLaws.{data_twice, layout_moves, old_layout_moves}
-use Rattle.mail_board.specs.Readers.{place_of, user_id}
+use Rattle.mail_board.specs.Readers.{user_id}
 use Rattle.mail_cli.specs.Step.{act}
 use Rattle.message_commands.specs.Import.{Imports, ImportsAt}
 use Rattle.message_commands.specs.Kill.{kill_turn}

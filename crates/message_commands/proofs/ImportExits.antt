@@ -10,6 +10,7 @@ use Rattle.board_commands.specs.declared.halt.BoardHalt.{BoardHalt}
 use Rattle.board_commands.specs.declared.halt.BoardHalt.TheVariants as board_halt
 use Rattle.board_layout.specs.Board.{Board}
 use Rattle.board_layout.specs.Valid.{IsBoard}
+use Rattle.board_layout.specs.Lookups.{place_of}
 use Rattle.door_outside.specs.Disk.{Disk, Unchanged}
 use Rattle.door_outside.specs.Shelf as Shelf
 use Rattle.entry_runs.proofs.Commands.{works_same}
@@ -21,7 +22,6 @@ use Rattle.intent_journal.specs.declared.recovery.JournalError.{JournalError}
 use Rattle.intent_journal.specs.declared.recovery.JournalError.TheVariants.{OutOfMemory as Starved}
 use Rattle.mail_board.specs.Changes.{changed}
 use Rattle.mail_board.specs.Held.{AreAlike}
-use Rattle.mail_board.specs.Readers.{place_of}
 use Rattle.shelf_files.specs.Halts.{Comes, done}
 use Rattle.shelf_files.specs.Sheets.{SheetOf}
 use Rattle.shelf_files.specs.declared.halt.Halt.{Halt}

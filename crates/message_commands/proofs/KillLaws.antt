@@ -8,13 +8,13 @@ use Rattle.board_commands.specs.Turns.{refuses}
 use Rattle.board_layout.proofs.OutlineLaws.{outline_has_live}
 use Rattle.board_layout.specs.Board.{Board}
 use Rattle.board_layout.specs.Valid.{IsBoard}
+use Rattle.board_layout.specs.Lookups.{place_of}
 use Rattle.jam_base.specs.Contents.{Contents}
 use Rattle.jam_base.specs.Outlined.{outlined}
 use Rattle.jam_base.specs.Slots.{has_live}
 use Rattle.mail_board.proofs.EachBases.{places_alike}
 use Rattle.mail_board.specs.Changes.{Fits}
 use Rattle.mail_board.specs.Held.{AreAlike}
-use Rattle.mail_board.specs.Readers.{place_of}
 use Rattle.mail_board.specs.declared.change.Change.{Change}
 use Rattle.mail_board.specs.declared.change.Change.TheVariants.{Kill}
 use Rattle.shelf_files.specs.declared.refusal.Refusal.TheVariants.{NoConference, NoMessage}

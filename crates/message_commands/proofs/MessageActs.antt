@@ -5,10 +5,10 @@ use Rattle.board_commands.proofs.TurnLaws.{IsTurn, are_turns, done_is, refuses_i
 use Rattle.board_commands.specs.Enroll.{first_refusal}
 use Rattle.board_commands.specs.Turns.{Turn, refuses}
 use Rattle.board_layout.specs.Board.{Board}
+use Rattle.board_layout.specs.Lookups.{place_of}
 use Rattle.door_outside.specs.Shelf.{Files}
 use Rattle.import_sheet.specs.declared.sheet.Sheet.{Sheet}
 use Rattle.jam_records.specs.declared.message.Message.{Message}
-use Rattle.mail_board.specs.Readers.{place_of}
 use Rattle.shelf_files.proofs.SheetLaws.{sheet_unique}
 use Rattle.shelf_files.specs.Halts.{done}
 use Rattle.shelf_files.specs.declared.refusal.Refusal.{Refusal}

@@ -19,8 +19,7 @@ use Rattle.jam_layout.specs.Messages.{EmptyOr, IsTyped}
 use Rattle.jam_records.specs.declared.message.Message.{Message}
 use Rattle.message_commands.specs.Import.{kind_of_place}
 use Rattle.offered_packets.proofs.ShownMessages.{is_there}
-use Rattle.offered_packets.specs.Sees.{message_at}
-use Rattle.board_layout.specs.Lookups.{slots_in}
+use Rattle.board_layout.specs.Lookups.{slots_in, message_at}
 use Rattle.board_layout.proofs.BoardLookups.{few_in_place}
 use Rattle.packet_verdicts.proofs.PostLists.{few_in}
 use Rattle.packet_verdicts.proofs.Validity.{ids, no_conference}

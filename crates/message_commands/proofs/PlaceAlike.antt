@@ -7,11 +7,11 @@ use Rattle.std.proofs.lemmas.Option.{slice_get-map}
 use Rattle.board_layout.proofs.OneOutline.{alike_ledger}
 use Rattle.board_layout.specs.Board.{Board}
 use Rattle.board_layout.specs.Outlines.{board_outline}
+use Rattle.board_layout.specs.Lookups.{place_of}
 use Rattle.board_ledger.specs.declared.ledger.Ledger.{Ledger}
 use Rattle.jam_layout.specs.Outlines.{outline, slot_outline}
 use Rattle.jam_layout.specs.declared.conference.Conference.{Conference}
 use Rattle.mail_board.specs.Held.{AreAlike}
-use Rattle.mail_board.specs.Readers.{place_of}
 use Rattle.message_commands.specs.Import.{kind_of_place, slot_count}
 
 -- the board of a ledger alone

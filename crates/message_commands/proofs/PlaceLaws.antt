@@ -7,7 +7,7 @@ use Rattle.std.specs.List.{position, position_or_len}
 use Rattle.board_layout.proofs.BoardLookups.{conferences_count}
 use Rattle.board_layout.specs.Board.{Board}
 use Rattle.board_layout.specs.Valid.{IsBoard}
-use Rattle.mail_board.specs.Readers.{place_of}
+use Rattle.board_layout.specs.Lookups.{place_of}
 use Rattle.setup_file.specs.declared.conference.Conference.{Conference as SetupConference}
 
 position_within : {X : Type 0} (p : X → Bool) (xs : List X) (i : ℕ) → position p xs ≡ Some i → i < length xs

@@ -6,6 +6,7 @@ use Rattle.board_commands.specs.State.{State, Stores, migrated}
 use Rattle.board_commands.specs.WriteBound.{KeepsWriteBound}
 use Rattle.board_layout.specs.Board.{Board}
 use Rattle.board_layout.specs.Valid.{IsBoard}
+use Rattle.board_layout.specs.Lookups.{place_of}
 use Rattle.door_outside.specs.Disk.{Disk}
 use Rattle.door_outside.specs.Shelf as Shelf
 use Rattle.import_sheet.specs.declared.sheet.Sheet.{Sheet}
@@ -14,7 +15,6 @@ use Rattle.intent_journal.specs.Recovered.{recovered}
 use Rattle.mail_board.proofs.EachNext.{changed_alike}
 use Rattle.mail_board.proofs.PostedSlots.{posting_keeps}
 use Rattle.mail_board.specs.Changes.{changed}
-use Rattle.mail_board.specs.Readers.{place_of}
 use Rattle.mail_board.specs.Written.{WritesFew}
 use Rattle.mail_board.specs.declared.change.Change.{Change}
 use Rattle.message_commands.proofs.Exits.{carried}

@@ -20,8 +20,7 @@ use Rattle.mail_board.specs.Held.{AreAlike}
 use Rattle.mail_board.specs.declared.change.Change.{Change}
 use Rattle.mail_board.specs.declared.change.Change.TheVariants.{Spread}
 use Rattle.offered_packets.proofs.OutlineLaws.{outline_count, outline_message}
-use Rattle.offered_packets.specs.Sees.{message_at}
-use Rattle.board_layout.specs.Lookups.{slots_in}
+use Rattle.board_layout.specs.Lookups.{slots_in, message_at}
 use Rattle.packet_verdicts.specs.Views.{msgid_at}
 use Rattle.post_changes.specs.Posted.{spread}
 use Rattle.shelf_files.specs.declared.refusal.Refusal.{Refusal}

@@ -7,6 +7,7 @@ use Rattle.board_commands.specs.Turns.{Turn, refuses, on_board}
 use Rattle.board_layout.specs.Board.{Board}
 use Rattle.board_layout.specs.Layout.{board_size}
 use Rattle.board_layout.specs.Valid.{board_limit}
+use Rattle.board_layout.specs.Lookups.{place_of}
 use Rattle.door_outside.specs.Shelf.{Files}
 use Rattle.entry_runs.specs.Door.{Act}
 use Rattle.import_sheet.specs.declared.sheet.Sheet.{Sheet}
@@ -15,7 +16,6 @@ use Rattle.jam_layout.specs.Marks.{is_net}
 use Rattle.jam_records.specs.declared.message.Kind.{Kind}
 use Rattle.jam_records.specs.declared.message.Kind.TheVariants.{Local}
 use Rattle.jam_records.specs.declared.message.Message.{Message}
-use Rattle.mail_board.specs.Readers.{place_of}
 use Rattle.shelf_files.specs.Halts.{done}
 use Rattle.shelf_files.specs.Sheets.{SheetOf}
 use Rattle.shelf_files.specs.declared.refusal.Refusal.{Refusal}

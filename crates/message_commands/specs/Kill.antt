@@ -5,9 +5,9 @@ use Rattle.board_changes.specs.Changed.{base_at}
 use Rattle.board_commands.specs.State.{State}
 use Rattle.board_commands.specs.Turns.{Turn, refuses, on_board}
 use Rattle.board_layout.specs.Board.{Board}
+use Rattle.board_layout.specs.Lookups.{place_of}
 use Rattle.entry_runs.specs.Door.{Act}
 use Rattle.jam_base.specs.Slots.{has_live}
-use Rattle.mail_board.specs.Readers.{place_of}
 use Rattle.shelf_files.specs.Halts.{done}
 use Rattle.shelf_files.specs.declared.refusal.Refusal.TheVariants.{NotMade, NoConference, NoMessage}
 use Rattle.slot_changes.specs.Changed.{deleted}

@@ -5,9 +5,8 @@ ghost use Rattle.packet_verdicts.specs.Views.{msgid_at};
 ghost use Rattle.post_changes.specs.Posted.{posts_in, spread};
 ghost use Rattle.message_commands.specs.Sample.{last_msgid as last_msgid_of};
 
-use board_layout::StoredBoard;
+use board_layout::{StoredBoard, message_of};
 use byte_lists::Bytes;
-use offered_packets::message_of;
 use slot_changes::msgid_of;
 use std::alloc::{AllocError, Global};
 

@@ -2,7 +2,7 @@
 ghost use Rattle.std.specs.Prelude.{◌≡◌, ◌<◌, Some, None, length, IfOk, IfSome, MatchResult};
 ghost use Rattle.board_commands.specs.declared.halt.BoardHalt.TheVariants.{Refused};
 ghost use Rattle.board_layout.specs.Valid.{IsBoard};
-ghost use Rattle.mail_board.specs.Readers.{place_of};
+ghost use Rattle.board_layout.specs.Lookups.{place_of};
 ghost use Rattle.message_commands.specs.Import.{kind_of_place};
 ghost use Rattle.shelf_files.specs.declared.refusal.Refusal.TheVariants as refusal;
 
@@ -40,8 +40,5 @@ pub(crate) fn kind_in(board: &Board, place: u8) -> Kind
     requires { place < length board.now.board.conferences }
     ensures { result ≡ kind_of_place place board.now.board }
 {
-    match board.setup().conferences.get(usize::from(place)) {
-        Some(conference) => conference.kind,
-        None => unreachable!(),
-    }
+    board.stored().conference_of(place).kind
 }

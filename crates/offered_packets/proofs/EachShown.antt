@@ -11,9 +11,9 @@ use Rattle.board_ledger.specs.declared.user.User.{User}
 use Rattle.jam_base.specs.Slots.{has_live}
 use Rattle.jam_records.specs.declared.message.Message.{Message}
 use Rattle.qwk_blocks.specs.declared.message.QwkMessage.{QwkMessage}
-use Rattle.board_layout.specs.Lookups.{pointer_at, user_of, slots_in}
+use Rattle.board_layout.specs.Lookups.{pointer_at, user_of, slots_in, message_at}
 use Rattle.offered_packets.specs.Offered.{is_above, is_new, all_numbers, offered}
-use Rattle.offered_packets.specs.Sees.{message_at, is_allowed, sees}
+use Rattle.offered_packets.specs.Sees.{is_allowed, sees}
 use Rattle.offered_packets.specs.Shown.{shown_message, shown, shown_all, packet}
 use Rattle.offered_packets.specs.declared.offered_message.OfferedMessage.{OfferedMessage}
 use Rattle.offered_packets.proofs.Packets.{shown_at}

@@ -5,7 +5,7 @@ use Rattle.std.specs.List.{range_with_len}
 use Rattle.std.proofs.lemmas.List.{length-map}
 use Rattle.std.proofs.lemmas.Option.{slice_get-map}
 use Rattle.board_layout.specs.Board.{Board}
-use Rattle.board_layout.specs.Lookups.{held_in, user_of, slots_in}
+use Rattle.board_layout.specs.Lookups.{held_in, user_of, slots_in, message_at}
 use Rattle.board_layout.specs.Outlines.{board_outline}
 use Rattle.board_layout.proofs.OutlineLaws.{base_again, held_outline, outline_has_live, outline_numbered, outline_pointer}
 use Rattle.board_ledger.specs.declared.ledger.Ledger.{Ledger}
@@ -23,7 +23,7 @@ use Rattle.jam_threads.specs.Children.{original}
 use Rattle.jam_threads.specs.Links.{link_of}
 use Rattle.jam_threads.specs.declared.link.Link.{Link}
 use Rattle.offered_packets.specs.Offered.{numbers_in, all_numbers, is_above, is_new, offered, high_of, highs}
-use Rattle.offered_packets.specs.Sees.{message_at, is_allowed, sees}
+use Rattle.offered_packets.specs.Sees.{is_allowed, sees}
 use Rattle.offered_packets.specs.Shown.{conference_number, shown_lines, shown_message, whole_header}
 use Rattle.offered_packets.specs.declared.offered_message.OfferedMessage.{OfferedMessage}
 use Rattle.long_names.specs.Plain.{in_capitals, with_long}

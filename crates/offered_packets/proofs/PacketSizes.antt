@@ -6,13 +6,13 @@ use Rattle.std.proofs.lemmas.Fmt.{length-decimal-le}
 use Rattle.std.proofs.lemmas.List.Elements.{All-nil, All-cons, All-head, All-tail, All-weaker}
 use Rattle.board_layout.specs.Board.{Board}
 use Rattle.board_layout.specs.Valid.{IsBoard}
+use Rattle.board_layout.specs.Lookups.{message_at}
 use Rattle.jam_layout.specs.Outlines.{message_outline}
 use Rattle.jam_records.specs.declared.message.Message.{Message}
 use Rattle.qwk_blocks.specs.Text.{joined_lines}
 use Rattle.qwk_blocks.specs.Written.{message_text, header_block, padded, blocks_of, spelling, Writable}
 use Rattle.qwk_blocks.specs.declared.message.QwkMessage.{QwkMessage}
 use Rattle.qwk_blocks.proofs.Written.{header_back, length_padded}
-use Rattle.offered_packets.specs.Sees.{message_at}
 use Rattle.offered_packets.specs.Shown.{shown_message, shown, shown_all, notice, IsShort}
 use Rattle.offered_packets.specs.declared.offered_message.OfferedMessage.{OfferedMessage}
 use Rattle.offered_packets.proofs.OutlineLaws.{outline_message}

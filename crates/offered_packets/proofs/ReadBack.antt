@@ -3,11 +3,11 @@ use Rattle.std.proofs.Common.{◌≡◌, ℕ, ◌+◌, List, [], ◌∷◌, map,
 use Rattle.std.specs.Prelude.{Option, Some, None, option_map, filter_map}
 use Rattle.std.specs.List.{cons_option, enumerate_from}
 use Rattle.board_layout.specs.Board.{Board}
+use Rattle.board_layout.specs.Lookups.{message_at}
 use Rattle.jam_records.specs.declared.message.Message.{Message}
 use Rattle.long_names.specs.Plain.{plain}
 use Rattle.long_names.proofs.Back.{back_capitals}
 use Rattle.qwk_blocks.specs.declared.message.QwkMessage.{QwkMessage}
-use Rattle.offered_packets.specs.Sees.{message_at}
 use Rattle.offered_packets.specs.Shown.{whole_message, shown_message, shown, shown_all, read_message, read_at, read_all}
 use Rattle.offered_packets.specs.declared.offered_message.OfferedMessage.{OfferedMessage}
 use Rattle.offered_packets.proofs.Packets.{shown_at}

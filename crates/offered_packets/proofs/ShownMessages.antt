@@ -41,8 +41,7 @@ use Rattle.long_names.proofs.WithLong.{long_fits, long_text_size, capitals_writa
 use Rattle.setup_file.specs.Valid.{IsSetupConference, numbers_of}
 use Rattle.setup_file.specs.declared.conference.Conference.{Conference as SetupConference}
 use Rattle.text_fields.proofs.Trimming.{nothing_ends}
-use Rattle.board_layout.specs.Lookups.{held_in, slots_in}
-use Rattle.offered_packets.specs.Sees.{message_at}
+use Rattle.board_layout.specs.Lookups.{held_in, slots_in, message_at}
 use Rattle.offered_packets.specs.Shown.{shown_text, shown_lines, whole_message, shown_message, IsShort}
 use Rattle.offered_packets.proofs.FieldLaws.{are_lines, lines_length}
 use Rattle.board_layout.proofs.BoardLookups.{slots_of, conference_fits}

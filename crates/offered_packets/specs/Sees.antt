@@ -5,16 +5,10 @@ use Rattle.board_ledger.specs.Users.{is_member}
 use Rattle.board_ledger.specs.declared.ledger.Ledger.{Ledger}
 use Rattle.board_ledger.specs.declared.user.User.{User}
 use Rattle.board_layout.specs.Board.{Board}
-use Rattle.board_layout.specs.Lookups.{user_of, held_in, slots_in}
-use Rattle.jam_base.specs.Slots.{numbered, has_live}
+use Rattle.board_layout.specs.Lookups.{user_of, slots_in, message_at}
+use Rattle.jam_base.specs.Slots.{has_live}
 use Rattle.jam_records.specs.declared.message.Message.{Message}
 
--- ---- what a board has
--- the message of a number in a place
-abbrev pub message_at : Board → ℕ → ℕ → Option Message
-message_at b place number = held_in (numbered (slots_in b place) number)
-
--- ---- who may see what
 -- the user's name is the sysop's, ignoring ASCII case
 abbrev pub is_sysop : Ledger → User → Bool
 is_sysop l u = str_eq_ignore_ascii_case u.name l.setup.sysop

@@ -3,6 +3,7 @@ ghost use Rattle.std.specs.Prelude.{◌≡◌, ℕ, ◌≤◌, ◌<◌, ◌^◌,
 ghost use Rattle.board_layout.specs.Board.{Board};
 ghost use Rattle.board_layout.specs.Outlines.{board_outline};
 ghost use Rattle.board_layout.specs.Valid.{IsBoard};
+ghost use Rattle.board_layout.specs.Lookups.{message_at};
 ghost use Rattle.board_ledger.specs.declared.user.User.{User};
 ghost use Rattle.jam_layout.specs.Outlines.{message_outline};
 ghost use Rattle.jam_records.specs.declared.message.Message.{Message};
@@ -11,7 +12,7 @@ ghost use Rattle.qwk_blocks.specs.Written.{spelling, Writable as IsWritable};
 ghost use Rattle.qwk_control.specs.Written.{WritableControl as IsWritableControl};
 ghost use Rattle.offered_packets.specs.Control.{control};
 ghost use Rattle.offered_packets.specs.Offered.{highs, offered};
-ghost use Rattle.offered_packets.specs.Sees.{message_at, sees};
+ghost use Rattle.offered_packets.specs.Sees.{sees};
 ghost use Rattle.offered_packets.specs.Shown.{shown, shown_all, shown_message, packet, packet_read, notice};
 ghost use Rattle.offered_packets.specs.declared.offered_message.OfferedMessage.{OfferedMessage};
 

@@ -15,7 +15,6 @@ mod text;
 
 pub use control::control_of;
 pub use highs::highs_of;
-pub use lookups::message_of;
 pub use offered_message::{Offered, OfferedMessage};
 pub use offering::offered;
 pub use rights::{is_sysop, may_see, sees};

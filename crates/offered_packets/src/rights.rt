@@ -2,8 +2,7 @@
 ghost use Rattle.std.specs.Prelude.{◌≡◌, ◌<◌};
 ghost use Rattle.offered_packets.specs.Sees.{is_sysop as is_sysop_of, names_user as is_named_in, may_see as is_seen_by, sees as is_seen};
 
-use crate::lookups::message_of;
-use board_layout::StoredBoard;
+use board_layout::{StoredBoard, message_of};
 use board_ledger::{Ledger, User};
 use jam_records::Message;
 

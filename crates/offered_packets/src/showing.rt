@@ -4,8 +4,7 @@ ghost use Rattle.board_layout.specs.Outlines.{board_outline};
 ghost use Rattle.jam_layout.specs.Outlines.{message_outline};
 ghost use Rattle.jam_threads.specs.Children.{original};
 ghost use Rattle.long_names.specs.Plain.{with_long as with_long_of, in_capitals as in_capitals_of};
-ghost use Rattle.offered_packets.specs.Sees.{message_at};
-ghost use Rattle.board_layout.specs.Lookups.{slots_in};
+ghost use Rattle.board_layout.specs.Lookups.{slots_in, message_at};
 ghost use Rattle.offered_packets.specs.Shown.{conference_number as number_in, whole_header as header_of, shown_message, IsShort};
 
 use crate::fields::{shown_lines, shown_status, shown_text};

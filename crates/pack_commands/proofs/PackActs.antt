@@ -3,7 +3,7 @@ use Rattle.std.proofs.Common.{◌≡◌, ◌≢◌, ℕ, [], Option, Some, None}
 use Rattle.board_commands.proofs.BoardActs.{AreTurns}
 use Rattle.board_commands.proofs.TurnLaws.{IsTurn, done_is, refuses_is, turns_of}
 use Rattle.board_layout.specs.Board.{Board}
-use Rattle.mail_board.specs.Readers.{place_of}
+use Rattle.board_layout.specs.Lookups.{place_of}
 use Rattle.shelf_files.specs.declared.refusal.Refusal.TheVariants.{NotMade, NoConference}
 use Rattle.slot_changes.specs.Packed.{packed, packed_count}
 use Rattle.pack_commands.specs.Pack.{pack_at, pack_turn, packed_line}

@@ -3,8 +3,8 @@ use Rattle.std.specs.Prelude.{◌≡◌, ℕ, List, ◌++◌, codes, decimal, Op
 use Rattle.board_commands.specs.State.{State}
 use Rattle.board_commands.specs.Turns.{Turn, refuses, on_board}
 use Rattle.board_layout.specs.Board.{Board}
+use Rattle.board_layout.specs.Lookups.{place_of}
 use Rattle.entry_runs.specs.Door.{Act}
-use Rattle.mail_board.specs.Readers.{place_of}
 use Rattle.shelf_files.specs.Halts.{done}
 use Rattle.shelf_files.specs.declared.refusal.Refusal.TheVariants.{NotMade, NoConference}
 use Rattle.slot_changes.specs.Packed.{packed, packed_count}

@@ -7,7 +7,7 @@ use Rattle.std.proofs.lemmas.Option.{slice_get-get_or, same_Some}
 use Rattle.board_changes.proofs.OneBase.{all_at}
 use Rattle.board_layout.specs.Board.{Board}
 use Rattle.board_layout.specs.Layout.{board_size}
-use Rattle.board_layout.specs.Lookups.{user_of, slots_in}
+use Rattle.board_layout.specs.Lookups.{user_of, slots_in, message_at}
 use Rattle.board_layout.specs.Valid.{IsBoard, board_limit}
 use Rattle.board_ledger.specs.Uploads.{upload_size}
 use Rattle.board_ledger.specs.Users.{IsUser}
@@ -24,7 +24,7 @@ use Rattle.netmail_rules.specs.Rules.{new_bytes}
 use Rattle.netmail_rules.specs.declared.verdict.Verdict.{Verdict}
 use Rattle.netmail_rules.specs.declared.verdict.Verdict.TheVariants.{Post, Refused}
 use Rattle.offered_packets.proofs.ShownMessages.{is_there}
-use Rattle.offered_packets.specs.Sees.{message_at, sees}
+use Rattle.offered_packets.specs.Sees.{sees}
 use Rattle.qwk_blocks.specs.declared.message.QwkMessage.{QwkMessage}
 use Rattle.packet_verdicts.specs.Judged.{judged, judged_next, posts_after}
 use Rattle.post_changes.specs.Posted.{posts_in, spread}

@@ -5,6 +5,7 @@ use Rattle.board_layout.proofs.OutlineLaws.{outline_again, outline_size}
 use Rattle.board_layout.specs.Board.{Board}
 use Rattle.board_layout.specs.Outlines.{board_outline}
 use Rattle.board_layout.specs.Valid.{board_limit}
+use Rattle.board_layout.specs.Lookups.{message_at}
 use Rattle.board_ledger.specs.Uploads.{upload_size}
 use Rattle.board_ledger.specs.declared.user.User.{User}
 use Rattle.jam_layout.specs.Outlines.{message_outline}
@@ -13,7 +14,6 @@ use Rattle.netmail_rules.specs.Verdict.{verdict}
 use Rattle.netmail_rules.specs.declared.view.ConferenceView.{ConferenceView}
 use Rattle.netmail_rules.specs.declared.view.View.{View}
 use Rattle.offered_packets.proofs.OutlineLaws.{outline_count, outline_message, outline_sees}
-use Rattle.offered_packets.specs.Sees.{message_at}
 use Rattle.post_changes.proofs.EachPost.{posted_outline}
 use Rattle.post_changes.specs.Posted.{spread}
 use Rattle.qwk_blocks.specs.declared.message.QwkMessage.{QwkMessage}

@@ -1,8 +1,8 @@
 -- What of a board the rules of uploaded messages see, for one message of one user.
-use Rattle.std.specs.Prelude.{ℕ, ◌+◌, ◌-◌, List, [], length, position, slice_get, Option, Some, None, option_map, unwrap_or, false, ◌==◌, if◌then◌else◌}
+use Rattle.std.specs.Prelude.{ℕ, ◌+◌, ◌-◌, List, [], length, slice_get, Option, Some, None, option_map, unwrap_or, false, if◌then◌else◌}
 use Rattle.board_layout.specs.Board.{Board}
 use Rattle.board_layout.specs.Layout.{board_size}
-use Rattle.board_layout.specs.Lookups.{user_of, slots_in}
+use Rattle.board_layout.specs.Lookups.{user_of, place_of, slots_in, message_at}
 use Rattle.board_layout.specs.Valid.{board_limit}
 use Rattle.board_ledger.specs.Uploads.{upload_size}
 use Rattle.board_ledger.specs.Users.{is_member}
@@ -12,7 +12,7 @@ use Rattle.netmail_rules.specs.Verdict.{verdict}
 use Rattle.netmail_rules.specs.declared.verdict.Verdict.{Verdict}
 use Rattle.netmail_rules.specs.declared.view.ConferenceView.{ConferenceView}
 use Rattle.netmail_rules.specs.declared.view.View.{View}
-use Rattle.offered_packets.specs.Sees.{message_at, is_sysop, sees}
+use Rattle.offered_packets.specs.Sees.{is_sysop, sees}
 use Rattle.qwk_blocks.specs.declared.message.QwkMessage.{QwkMessage}
 use Rattle.setup_file.specs.declared.conference.Conference.{Conference as SetupConference}
 use Rattle.slot_changes.specs.Msgids.{msgid_in}
@@ -27,10 +27,10 @@ abbrev pub user_with : ℕ → Board → User
 user_with id b = unwrap_or (user_of id b) nobody
 
 -- ---- the conference
--- the place of the conference of a number
+-- the place of the conference of a number, where there is one
 abbrev pub addressed_place : Option ℕ → Board → Option ℕ
 addressed_place None b = None
-addressed_place (Some number) b = position (λ c. c.number == number) b.ledger.setup.conferences
+addressed_place (Some number) b = place_of number b
 
 -- the message number that comes next in a place
 abbrev pub next_number : Board → ℕ → ℕ

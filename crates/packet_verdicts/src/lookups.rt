@@ -1,36 +1,20 @@
 // What is looked up in a board for a message.
-ghost use Rattle.std.specs.Prelude.{◌≡◌, ◌<◌, ◌==◌, Some, length, position, IfSome};
+ghost use Rattle.std.specs.Prelude.{◌≡◌, ◌<◌, length, IfSome};
 ghost use Rattle.std.specs.Option.{option_copied};
 ghost use Rattle.board_layout.specs.Lookups.{held_in, slots_in};
 ghost use Rattle.jam_base.specs.Slots.{numbered};
 ghost use Rattle.jam_layout.specs.Outlines.{slot_bare};
 ghost use Rattle.packet_verdicts.specs.Views.{addressed_place as place_in};
 
-use board_layout::StoredBoard;
-use board_ledger::Conference;
+use board_layout::{StoredBoard, message_of};
 use jam_records::Message;
-use offered_packets::message_of;
-
-/// The index of the conference of a number, or None where none has it.
-fn index_of(conferences: &[Conference], number: u32) -> Option<usize>
-    ensures index { result ≡ position (λ c. c.number == number) conferences.now }
-    ensures within { IfSome result (λ index. index < length conferences.now) }
-{
-    conferences
-        .iter()
-        .position(|c| u32::from(c.number) == number)
-}
 
 /// The place of the conference of a number, or None where there is no number or no conference has it.
 pub(crate) fn place_of(board: &StoredBoard, number: Option<u32>) -> Option<u8>
     ensures place { result ≡ place_in number board.now }
     ensures within { IfSome result (λ place. place < length board.now.ledger.setup.conferences) }
 {
-    let conferences = board.ledger().setup.conferences.as_slice();
-    match index_of(conferences, number?) {
-        Some(index) => Some(index as u8),
-        None => None,
-    }
+    board.place_of(number?)
 }
 
 /// The message of a number in a place of the board, with an empty body, or None where no slot of it holds one.

@@ -13,10 +13,9 @@ ghost use Rattle.slot_changes.specs.Msgids.{identified, msgid_in};
 ghost use Rattle.packet_verdicts.specs.Views.{next_number};
 ghost use Rattle.toss_commands.specs.Tossing.{AreSeen, HasSet, IsLoaded};
 
-use board_layout::StoredBoard;
+use board_layout::{StoredBoard, message_of};
 use jam_base::Base;
 use mail_intake::MsgidSet;
-use offered_packets::message_of;
 use std::alloc::{AllocError, Global};
 
 /// For each place the msgids that its conference holds, once a message came for it.

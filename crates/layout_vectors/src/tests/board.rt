@@ -62,7 +62,7 @@ fn put_files(host: &mut MemoryHost, words: &[Bytes]) -> Result<(), Miss> {
 
 /// How many slots the conference of a place has.
 fn slot_count(board: &StoredBoard, place: u8) -> Option<u32> {
-    Some(board.base(place)?.slot_count())
+    Some(board.base_at(place)?.slot_count())
 }
 
 /// Whether the files are of version 1, how many bytes they have in version 2, of each place how many slots there are, the

@@ -8,7 +8,6 @@ use Rattle.jam_layout.specs.Outlines.{message_outline, slot_outline}
 use Rattle.jam_records.specs.declared.message.Message.{Message}
 use Rattle.jam_records.specs.declared.message.Slot.{Slot}
 use Rattle.jam_records.specs.declared.message.Slot.TheVariants.{Held}
-use Rattle.mail_board.proofs.FetchedHosts.{message_is}
 use Rattle.mail_board.proofs.OneHost.{alike_held}
 use Rattle.slot_changes.specs.Packed.{is_deleted}
 use Rattle.jam_pack.proofs.FetchedSlots.{gone_packed, held_packed, mark_alike, none_like, none_packed, outline_packed}
@@ -37,7 +36,7 @@ returns-in-Some-clause-slot g c = λ tells b holds.
     let alike = alike_held held (g.H.Host.disk c.args.host.now) (c.requires.rests tells) b holds in
     let mark : is_deleted slot ≡ false =
     mark_alike b held alike c.args.place c.args.number ∙ (ap (λ slots. is_deleted (numbered slots c.args.number)) (sym c.requires.base) ∙ (sym c.is_deleted.ensures ∙ c.if-is_deleted.false)) in
-    sym (held_packed slot c.in-Some.message mark (sym (message_is b c.args.place c.args.number holds.0) ∙ (sym (c.in_ok-message.ensures.message tells b holds) ∙ c.in-Some.is)))
+    sym (held_packed slot c.in-Some.message mark (sym (c.in_ok-message.ensures.message tells b holds) ∙ c.in-Some.is))
 
 pub returns-in-Some-clause-outline : goal.returns-in-Some-clause-outline
 returns-in-Some-clause-outline g c =
@@ -45,7 +44,7 @@ returns-in-Some-clause-outline g c =
     let slot : Slot = numbered (slots_in held c.args.place) c.args.number in
     let mark : is_deleted slot ≡ false = ap (λ slots. is_deleted (numbered slots c.args.number)) (sym c.requires.base) ∙ (sym c.is_deleted.ensures ∙ c.if-is_deleted.false) in
     outline_packed slot c.in-Some.message mark
-    (ap (option_map message_outline) (sym c.in-Some.is) ∙ (c.in_ok-message.ensures.outline ∙ ap (option_map message_outline) (message_is held c.args.place c.args.number c.requires.valid)))
+    (ap (option_map message_outline) (sym c.in-Some.is) ∙ c.in_ok-message.ensures.outline)
 
 pub returns-in-Some-clause-lines : goal.returns-in-Some-clause-lines
 returns-in-Some-clause-lines g c = subst (λ (o : Option Message). IfSome o (λ (m : Message). HasBody (Held m))) c.in-Some.is c.in_ok-message.ensures.lines
@@ -53,12 +52,12 @@ returns-in-Some-clause-lines g c = subst (λ (o : Option Message). IfSome o (λ 
 -- ---- none
 pub returns-in-None-clause-slot : goal.returns-in-None-clause-slot
 returns-in-None-clause-slot g c = λ tells b holds.
-    sym (none_packed (numbered (slots_in b c.args.place) c.args.number) (sym (message_is b c.args.place c.args.number holds.0) ∙ (sym (c.in_ok-message.ensures.message tells b holds) ∙ c.in-None.is)))
+    sym (none_packed (numbered (slots_in b c.args.place) c.args.number) (sym (c.in_ok-message.ensures.message tells b holds) ∙ c.in-None.is))
 
 pub returns-in-None-clause-outline : goal.returns-in-None-clause-outline
 returns-in-None-clause-outline g c =
     let held : Board = c.args.board.now.board in
     let slot : Slot = numbered (slots_in held c.args.place) c.args.number in
     let none = none_like (held_in slot)
-    (ap (option_map message_outline) (sym c.in-None.is) ∙ (c.in_ok-message.ensures.outline ∙ ap (option_map message_outline) (message_is held c.args.place c.args.number c.requires.valid))) in
+    (ap (option_map message_outline) (sym c.in-None.is) ∙ c.in_ok-message.ensures.outline) in
     ap slot_outline (sym (none_packed slot none))

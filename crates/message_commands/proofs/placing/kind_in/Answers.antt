@@ -1,12 +1,15 @@
-use Rattle.std.proofs.Common.{◌≡◌, None, slice_get, sym, ap, ◌∙◌, arith}
-use Rattle.std.specs.Option.{option_copied}
-use Rattle.board_layout.proofs.BoardLookups.{conferences_count, not_past}
+use Rattle.std.proofs.Common.{◌∙◌, length, sym, ap, arith}
+use Rattle.std.specs.Prelude.{Option, slice_get}
+use Rattle.std.specs.Option.{option_map_or}
 use Rattle.board_layout.specs.Board.{Board}
+use Rattle.jam_records.specs.declared.message.Kind.TheVariants.{Local}
+use Rattle.setup_file.specs.declared.conference.Conference.{Conference as SetupConference}
 use Rattle.message_commands.proofs.placing.kind_in.Goals as goal
 
-pub unreachable-requires : goal.unreachable-requires
-unreachable-requires c =
-    let b : Board = c.args.board.now.board in
-    let none : slice_get b.ledger.setup.conferences c.args.place ≡ None =
-    sym (c.get.ensures ∙ (λ i. slice_get (c.setup.ensures.setup i).conferences (c.from.ensures i))) ∙ ap option_copied c.in-None.is in
-    not_past b.ledger.setup.conferences c.args.place (omega (arith, conferences_count b c.setup.ensures.valid, c.requires)) none
+pub conference_of-requires : goal.conference_of-requires
+conference_of-requires c = omega (arith, c.requires, ap (λ (b : Board). length b.conferences) c.stored.ensures.board)
+
+pub returns : goal.returns
+returns c =
+    ap (λ (o : Option SetupConference). option_map_or (λ (k : SetupConference). k.kind) o Local)
+    (sym c.conference_of.ensures ∙ ap (λ (b : Board). slice_get b.ledger.setup.conferences c.args.place) c.stored.ensures.board)

@@ -11,12 +11,12 @@ use Rattle.board_commands.specs.Kept.{AreSure, IsKept, kept_board, unread}
 use Rattle.board_commands.specs.State.{Stores, migrated}
 use Rattle.board_commands.specs.declared.halt.BoardHalt.{BoardHalt}
 use Rattle.board_layout.specs.Board.{Board}
+use Rattle.board_layout.specs.Lookups.{place_of}
 use Rattle.entry_runs.specs.Entry.{Works}
 use Rattle.entry_runs.specs.Promise.{HasCauses, counts, ended}
 use Rattle.jam_pack.specs.declared.error.PackError.TheVariants.{DiskFault}
 use Rattle.mail_board.specs.Causes.{HasFault}
 use Rattle.mail_board.specs.Held.{RestsOn}
-use Rattle.mail_board.specs.Readers.{place_of}
 use Rattle.mail_board.specs.declared.loading.Loaded.{Loaded}
 use Rattle.message_commands.proofs.Exits.{refused_on, unmade_by}
 use Rattle.shelf_files.specs.declared.refusal.Refusal.TheVariants.{NoConference}

@@ -2,6 +2,7 @@ use Rattle.std.proofs.Common.{rules, ◌≡◌, ◌≤◌, length, Some, None, E
 use Rattle.std.specs.Prelude.{option_map}
 use Rattle.board_changes.specs.Changed.{base_at}
 use Rattle.board_layout.specs.Board.{Board}
+use Rattle.board_layout.specs.Valid.{IsBoard}
 use Rattle.board_layout.specs.declared.error.ReadError.TheVariants.{Damaged}
 use Rattle.jam_base.specs.Contents.{Contents}
 use Rattle.jam_base.specs.Slots.{numbered}
@@ -20,7 +21,7 @@ returns-in_default-clause-message g c = λ tells b holds.
     let past : length c.bases.result.now ≤ c.from.result = search rules in
     let none : base_at c.args.place c.self.inside.stored ≡ None = no_base_there c.self.inside.stored c.bases.result.now c.args.place c.from.result c.bases.ensures.contents c.from.ensures past in
     let gone : base_at c.args.place held ≡ None = subst (λ (k : Board). base_at c.args.place k ≡ None) (ap (λ (h : HeldBoard). h.board) c.self.view_is) none in
-    no_base held b (alike_held held (g.H.Host.disk c.args.host.now) (c.requires.rests tells) b holds) c.args.place c.args.number gone
+    no_base held b (alike_held held (g.H.Host.disk c.args.host.now) (c.requires.rests tells) b holds) c.args.place c.args.number holds.0 gone
 
 pub returns-in_default-clause-outline : goal.returns-in_default-clause-outline
 returns-in_default-clause-outline g c =
@@ -28,7 +29,8 @@ returns-in_default-clause-outline g c =
     let past : length c.bases.result.now ≤ c.from.result = search rules in
     let none : base_at c.args.place c.self.inside.stored ≡ None = no_base_there c.self.inside.stored c.bases.result.now c.args.place c.from.result c.bases.ensures.contents c.from.ensures past in
     let gone : base_at c.args.place held ≡ None = subst (λ (k : Board). base_at c.args.place k ≡ None) (ap (λ (h : HeldBoard). h.board) c.self.view_is) none in
-    ap (option_map message_outline) (sym (message_here held c.args.place c.args.number None gone))
+    let valid : IsBoard held = subst IsBoard (ap (λ (h : HeldBoard). h.board) c.self.view_is) c.bases.ensures.board in
+    ap (option_map message_outline) (sym (message_here held c.args.place c.args.number None valid gone))
 
 -- ---- it has one
 pub fetched-requires-clause-base : goal.fetched-requires-clause-base
@@ -69,7 +71,7 @@ returns-in_ok-found-in-Some-message_of-clause-message g c = λ tells b holds.
     let alike = alike_held held disk (c.requires.rests tells) b holds in
     let one = other held b alike c.args.place c.args.number base here in
     let has = other_bodies held b alike c.args.place c.args.number base here disk.files holds.0 holds.1.files in
-    message_there held b alike c.args.place c.args.number base here c.in_ok-found-in-Some-message_of.found (c.in_ok-found-in-Some-message_of.ensures.message tells one.0 has)
+    message_there held b alike c.args.place c.args.number base here c.in_ok-found-in-Some-message_of.found holds.0 (c.in_ok-found-in-Some-message_of.ensures.message tells one.0 has)
 
 pub returns-in_ok-found-in-Some-message_of-clause-outline : goal.returns-in_ok-found-in-Some-message_of-clause-outline
 returns-in_ok-found-in-Some-message_of-clause-outline g c =
@@ -78,7 +80,8 @@ returns-in_ok-found-in-Some-message_of-clause-outline g c =
     let there : base_at c.args.place c.self.inside.stored ≡ Some base =
     base_there c.self.inside.stored c.bases.result.now c.args.place c.from.result c.in-Some.base.now c.bases.ensures.contents c.from.ensures (search rules) (search rules) in
     let here : base_at c.args.place held ≡ Some base = subst (λ (k : Board). base_at c.args.place k ≡ Some base) (ap (λ (h : HeldBoard). h.board) c.self.view_is) there in
-    c.in_ok-found-in-Some-message_of.ensures.outline ∙ ap (option_map message_outline) (sym (message_here held c.args.place c.args.number (Some base) here))
+    let valid : IsBoard held = subst IsBoard (ap (λ (h : HeldBoard). h.board) c.self.view_is) c.bases.ensures.board in
+    c.in_ok-found-in-Some-message_of.ensures.outline ∙ ap (option_map message_outline) (sym (message_here held c.args.place c.args.number (Some base) valid here))
 
 -- ---- no slot of the number holds a message
 pub returns-in-None-clause-message : goal.returns-in-None-clause-message
@@ -88,7 +91,7 @@ returns-in-None-clause-message g c = λ tells b holds.
     let there : base_at c.args.place c.self.inside.stored ≡ Some base =
     base_there c.self.inside.stored c.bases.result.now c.args.place c.from.result c.in-Some.base.now c.bases.ensures.contents c.from.ensures (search rules) (search rules) in
     let here : base_at c.args.place held ≡ Some base = subst (λ (k : Board). base_at c.args.place k ≡ Some base) (ap (λ (h : HeldBoard). h.board) c.self.view_is) there in
-    no_message held b (alike_held held (g.H.Host.disk c.args.host.now) (c.requires.rests tells) b holds) c.args.place c.args.number base here (none_whole (numbered base.conference.slots c.args.number) c.in-None.ensures)
+    no_message held b (alike_held held (g.H.Host.disk c.args.host.now) (c.requires.rests tells) b holds) c.args.place c.args.number base here holds.0 (none_whole (numbered base.conference.slots c.args.number) c.in-None.ensures)
 
 pub returns-in-None-clause-outline : goal.returns-in-None-clause-outline
 returns-in-None-clause-outline g c =
@@ -97,4 +100,5 @@ returns-in-None-clause-outline g c =
     let there : base_at c.args.place c.self.inside.stored ≡ Some base =
     base_there c.self.inside.stored c.bases.result.now c.args.place c.from.result c.in-Some.base.now c.bases.ensures.contents c.from.ensures (search rules) (search rules) in
     let here : base_at c.args.place held ≡ Some base = subst (λ (k : Board). base_at c.args.place k ≡ Some base) (ap (λ (h : HeldBoard). h.board) c.self.view_is) there in
-    ap (option_map message_outline) (none_whole (numbered base.conference.slots c.args.number) c.in-None.ensures ∙ sym (message_here held c.args.place c.args.number (Some base) here))
+    let valid : IsBoard held = subst IsBoard (ap (λ (h : HeldBoard). h.board) c.self.view_is) c.bases.ensures.board in
+    ap (option_map message_outline) (none_whole (numbered base.conference.slots c.args.number) c.in-None.ensures ∙ sym (message_here held c.args.place c.args.number (Some base) valid here))
