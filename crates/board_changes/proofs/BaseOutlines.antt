@@ -15,7 +15,7 @@ use Rattle.jam_layout.specs.declared.conference.Conference.{Conference}
 use Rattle.jam_layout.specs.declared.shape.Shape.{Shape}
 use Rattle.setup_file.specs.declared.setup.Setup.{Setup}
 
-conferences_outlined : (bases : List Contents) → map outline (conferences_in bases) ≡ conferences_in (map outlined bases)
+pub conferences_outlined : (bases : List Contents) → map outline (conferences_in bases) ≡ conferences_in (map outlined bases)
 conferences_outlined [] = refl
 conferences_outlined (base ∷ bases) = ap (λ (cs : List Conference). outline base.conference ∷ cs) (conferences_outlined bases)
 

@@ -2,6 +2,7 @@
 use Rattle.std.proofs.Common.{◌≡◌, ℕ, List, map, set, Option, Some, None, sym, ap, ◌∙◌}
 use Rattle.std.specs.Prelude.{option_map, slice_get, unwrap_or}
 use Rattle.std.proofs.lemmas.List.{map-set}
+use Rattle.board_changes.proofs.BaseOutlines.{conferences_outlined}
 use Rattle.board_changes.specs.Changed.{base_at, with_base}
 use Rattle.board_layout.proofs.OneOutline.{alike_ledger}
 use Rattle.board_layout.proofs.OutlineLaws.{outline_base, outline_contents}
@@ -10,7 +11,6 @@ use Rattle.board_layout.specs.Renewed.{contents_of}
 use Rattle.jam_base.specs.Contents.{Contents}
 use Rattle.jam_base.specs.Outlined.{outlined}
 use Rattle.jam_layout.specs.Outlines.{outline}
-use Rattle.post_changes.proofs.EachPost.{conferences_outline}
 use Rattle.mail_board.specs.Held.{AreAlike}
 
 -- ---- two boards with one outline
@@ -28,7 +28,7 @@ module _ (a b : Board) (alike : AreAlike a b) where
       let ys : List Contents = set (contents_of b) place y in
       let bases : map outlined xs ≡ map outlined ys =
       map-set outlined (contents_of a) place x ∙ ((λ i. set (bases_alike i) place (same i)) ∙ sym (map-set outlined (contents_of b) place y)) in
-      let conferences : map outline (conferences_in xs) ≡ map outline (conferences_in ys) = conferences_outline xs ∙ (ap conferences_in bases ∙ sym (conferences_outline ys)) in
+      let conferences : map outline (conferences_in xs) ≡ map outline (conferences_in ys) = conferences_outlined xs ∙ (ap conferences_in bases ∙ sym (conferences_outlined ys)) in
       λ i. record { ledger = alike_ledger a b alike i; conferences = conferences i }
 
   -- with what is made of their bases in a place, where there are such

@@ -4,7 +4,7 @@ use Rattle.std.proofs.Common.{◌≡◌, ℕ, ◌+◌, Bool, true, false, cond, 
 use Rattle.std.specs.Prelude.{All, option_map, unwrap_or}
 use Rattle.std.specs.List.{AllZip}
 use Rattle.std.proofs.lemmas.List.Elements.{All-nil, All-cons, All-head, All-tail}
-use Rattle.board_changes.proofs.BaseOutlines.{own_bases}
+use Rattle.board_changes.proofs.BaseOutlines.{conferences_outlined, own_bases}
 use Rattle.board_changes.proofs.OneBase.{are_bases, shapes_back}
 use Rattle.board_layout.proofs.BasePlaces.{IsBase, zipped}
 use Rattle.board_layout.proofs.OneOutline.{alike_ledger, alike_user, alike_valid, conference_back}
@@ -34,7 +34,7 @@ use Rattle.offer_changes.proofs.ReadLaws.{all_shapes}
 use Rattle.offer_changes.proofs.UserLaws.{Alike, user_there}
 use Rattle.offer_changes.specs.Changed.{acknowledged, all_read, for_user, is_high_above, offer_in, read_by, read_offer, read_up_to, with_user_replaced, without_offer}
 use Rattle.open_offers.specs.declared.offer.OpenOffer.{OpenOffer}
-use Rattle.post_changes.proofs.EachPost.{conferences_outline, head_is, tail_is}
+use Rattle.post_changes.proofs.EachPost.{head_is, tail_is}
 use Rattle.mail_board.proofs.EachBases.{bases_alike}
 use Rattle.mail_board.specs.Held.{AreAlike}
 
@@ -124,7 +124,7 @@ module _ (a b : Board) (alike : AreAlike a b) (id packet now : ℕ) where
       let ys : List Contents = all_read id u.name now (contents_of b) o.highs in
       let ledgers : (read_offer id now u o a).ledger ≡ (read_offer id now u o b).ledger = ap (with_user_replaced id (without_offer o.number u)) (alike_ledger a b alike) in
       let conferences : map outline (conferences_in xs) ≡ map outline (conferences_in ys) =
-      conferences_outline xs ∙ (ap conferences_in (all_read_same id u.name now (contents_of a) (contents_of b) o.highs (bases_alike a b alike)) ∙ sym (conferences_outline ys)) in
+      conferences_outlined xs ∙ (ap conferences_in (all_read_same id u.name now (contents_of a) (contents_of b) o.highs (bases_alike a b alike)) ∙ sym (conferences_outlined ys)) in
       λ i. record { ledger = ledgers i; conferences = conferences i }
 
   by_offer : (u : User) (found : Option OpenOffer) → AreAlike (unwrap_or (option_map (λ o. read_offer id now u o a) found) a) (unwrap_or (option_map (λ o. read_offer id now u o b) found) b)
@@ -179,7 +179,7 @@ module _ (b : Board) (own : board_outline b ≡ b) (id packet now : ℕ) where
       let bases : List Contents = all_read id u.name now (contents_of b) o.highs in
       let same : map outlined bases ≡ bases =
       all_read_outline id u.name now (contents_of b) o.highs ∙ ap (λ (xs : List Contents). all_read id u.name now xs o.highs) (own_bases b own) in
-      ap (λ (cs : List Conference). record { ledger = (read_offer id now u o b).ledger; conferences = cs }) (conferences_outline bases ∙ ap conferences_in same)
+      ap (λ (cs : List Conference). record { ledger = (read_offer id now u o b).ledger; conferences = cs }) (conferences_outlined bases ∙ ap conferences_in same)
 
   own_found : (u : User) (found : Option OpenOffer) → board_outline (unwrap_or (option_map (λ o. read_offer id now u o b) found) b) ≡ unwrap_or (option_map (λ o. read_offer id now u o b) found) b
   own_found u None = own

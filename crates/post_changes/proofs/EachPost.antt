@@ -3,6 +3,7 @@ use Rattle.std.proofs.Common.{◌≡◌, ℕ, ◌+◌, List, [], ◌∷◌, leng
 use Rattle.std.specs.Prelude.{All, slice_get}
 use Rattle.std.specs.List.{AllZip}
 use Rattle.std.proofs.lemmas.List.Elements.{All-nil, All-cons, All-head, All-tail}
+use Rattle.board_changes.proofs.BaseOutlines.{conferences_outlined}
 use Rattle.board_changes.proofs.EachBoard.{leads_as}
 use Rattle.board_changes.proofs.GatherLaws.{gathered_kept}
 use Rattle.board_changes.specs.Outlined.{ChangesEach, GatheredEach, KeepsEach, LeadsEach}
@@ -21,7 +22,6 @@ use Rattle.jam_base.proofs.PatchLaws.{nothing_turns}
 use Rattle.jam_base.specs.Contents.{Contents, with_messages}
 use Rattle.jam_base.specs.Outlined.{outlined, TurnsEach}
 use Rattle.jam_layout.specs.Messages.{IsMessage}
-use Rattle.jam_layout.specs.Outlines.{outline}
 use Rattle.jam_layout.specs.Valid.{IsConference}
 use Rattle.jam_layout.specs.declared.conference.Conference.{Conference}
 use Rattle.jam_layout.specs.declared.shape.Shape.{Shape}
@@ -52,10 +52,6 @@ head_is x y xs ys e = cc
 pub tail_is : (x y : Contents) (xs ys : List Contents) → x ∷ xs ≡ y ∷ ys → xs ≡ ys
 tail_is x y xs ys e = cc
 
-pub conferences_outline : (bases : List Contents) → map outline (conferences_in bases) ≡ conferences_in (map outlined bases)
-conferences_outline [] = refl
-conferences_outline (base ∷ bases) = ap (λ (cs : List Conference). outline base.conference ∷ cs) (conferences_outline bases)
-
 module _ (a b : Board) (alike : board_outline a ≡ board_outline b) (posts : List (ℕ × Message)) where
   -- both give the posts the same msgids
   one_same : (place : ℕ) (base : Contents) → posted_in a posts place base ≡ posted_in b posts place base
@@ -75,7 +71,7 @@ module _ (a b : Board) (alike : board_outline a ≡ board_outline b) (posts : Li
   posted_outline l =
       let same : map outlined (contents_of a) ≡ map outlined (contents_of b) = sym (outline_contents a) ∙ (ap contents_of alike ∙ outline_contents b) in
       ap (λ (cs : List Conference). record { ledger = l; conferences = cs })
-      (conferences_outline (all_posted a posts 0 (contents_of a)) ∙ (ap conferences_in (all_outline 0 (contents_of a) (contents_of b) same) ∙ sym (conferences_outline (all_posted b posts 0 (contents_of b)))))
+      (conferences_outlined (all_posted a posts 0 (contents_of a)) ∙ (ap conferences_in (all_outline 0 (contents_of a) (contents_of b) same) ∙ sym (conferences_outlined (all_posted b posts 0 (contents_of b)))))
 
   one_base : (place : ℕ) (x y : Contents) → outlined x ≡ outlined y → IsBase x → IsBase (posted_in b posts place y) → IsBase (posted_in a posts place x)
   one_base place x y same was next =

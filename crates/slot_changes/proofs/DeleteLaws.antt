@@ -1,10 +1,10 @@
 -- A board with a message deleted: it has the same size, and is valid.
-use Rattle.std.proofs.Common.{◌≡◌, ℕ, zero, suc, eqb, ◌+◌, ◌-◌, ◌<◌, ◌≤◌, Bool, true, false, cond, List, [], ◌∷◌, length, get_or, set, refl, sym, ap, ◌∙◌, subst, arith}
-use Rattle.std.specs.Prelude.{IsSomeAnd, option_map, slice_get, unwrap_or, Option, Some, None, sum_by}
-use Rattle.std.proofs.lemmas.Bool.{cond-true, cond-false, ne_eqb}
+use Rattle.std.proofs.Common.{◌≡◌, ℕ, ◌+◌, ◌-◌, ◌<◌, ◌≤◌, Bool, true, false, cond, List, [], ◌∷◌, length, get_or, set, refl, sym, ap, ◌∙◌, subst, arith}
+use Rattle.std.specs.Prelude.{IsSomeAnd, option_map, Option, Some, None, sum_by}
+use Rattle.std.proofs.lemmas.Bool.{cond-true}
 use Rattle.std.proofs.lemmas.List.{length-set}
 use Rattle.std.proofs.lemmas.List.Sums.{sum_by-set}
-use Rattle.std.proofs.lemmas.Option.{slice_get_within, unwrap_or-slice_get}
+use Rattle.std.proofs.lemmas.Option.{slice_get_within}
 use Rattle.board_changes.proofs.OneBase.{base_was, board_next, size_next}
 use Rattle.board_changes.specs.Changed.{base_at, with_base}
 use Rattle.board_layout.specs.Board.{Board, shapes_of}
@@ -13,7 +13,7 @@ use Rattle.board_layout.specs.Renewed.{contents}
 use Rattle.board_layout.specs.Valid.{IsBoard}
 use Rattle.jam_base.proofs.SlotChanges.{deleted_is, live_above, live_within, numbered_is}
 use Rattle.jam_base.specs.Contents.{Contents, with_deleted}
-use Rattle.jam_base.specs.Slots.{has_live, numbered, slot_deleted, slots_deleted}
+use Rattle.jam_base.specs.Slots.{has_live, slot_deleted, slots_deleted}
 use Rattle.jam_layout.specs.Fields.{subfields_of}
 use Rattle.jam_layout.specs.Headers.{header_size}
 use Rattle.jam_layout.specs.Sizes.{slot_size}
@@ -72,13 +72,6 @@ killed_bytes base number = by (has_live number base.conference.slots) refl
     by : (live : Bool) → has_live number base.conference.slots ≡ live → base_size (cond live (with_deleted number base) base) ≡ base_size base
     by true is = same_bytes base number is
     by false is = refl
-
--- no slot has the number
-pub gone_past : (number : ℕ) (slots : List Slot) → cond (eqb number 0) None (slice_get slots (number - 1)) ≡ None → numbered slots number ≡ Gone
-gone_past zero slots none = refl
-gone_past (suc n) slots none =
-    let past : slice_get slots (suc n - 1) ≡ None = sym (cond-false (eqb (suc n) 0) None (slice_get slots (suc n - 1)) (ne_eqb (suc n) 0 (λ e. omega (arith, e)))) ∙ none in
-    numbered_is slots (suc n) (omega arith) ∙ (sym (unwrap_or-slice_get slots (suc n - 1) Gone) ∙ ap (λ (s : Option Slot). unwrap_or s Gone) past)
 
 -- ---- the board
 pub deleted_there : (b : Board) (place number : ℕ) (base : Contents) → base_at place b ≡ Some base → deleted place number b ≡ with_base place (Some (with_killed number base)) b
