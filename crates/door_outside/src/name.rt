@@ -80,7 +80,8 @@ impl ShelfName {
         Ok(Some(ShelfName { text }))
     }
 
-    /// The name, `/` and a further part, or None where that is no shelf name.
+    /// The name, `/` and a further part, or None where that is no shelf name. For callers of the library; the program
+    /// doesn't call it.
     pub fn join(&self, alloc: Global, part: &[u8]) -> Result<Option<ShelfName>, AllocError>
         ensures { let text = self.now ++ 47 ∷ part.now in IfOk result (λ found. MatchOption found (¬ IsShelfName text) (λ name. IsShelfName text × (name ≡ text))) }
     {

@@ -63,7 +63,7 @@ impl Intent {
     #[tactic(auto, using(crate::proofs::Spelling::size_more))]
     /// Whether a patch may be added: its file isn't the journal; the file has no patch for all its bytes yet,
     /// and none at all where this is one; its end is below 2^31; and the spelled intent stays within
-    /// 41,943,040 bytes.
+    /// 41,943,040 bytes. For callers of the library; the program doesn't call it.
     pub fn takes(&self, patch: &Patch) -> bool
         ensures { IsTrue result ↔ TakesPatch self.now patch.now }
     {

@@ -389,7 +389,8 @@ impl Base {
 
     /// The base with these messages at the end, one after the other. Its patches make its files of those of
     /// this base. Where there are no messages, nothing changes; else the change counter rises by one, and stays
-    /// at 4,294,967,295. Each message is one that a conference of this kind may hold, with a msgid.
+    /// at 4,294,967,295. Each message is one that a conference of this kind may hold, with a msgid. For callers of the
+    /// library; the program doesn't call it.
     ///
     /// `Slots` comes where more than 9,999 slots would stand, and says how many. `OutOfMemory` comes where there
     /// is no memory.
@@ -460,7 +461,7 @@ impl Base {
     /// The base with each message to a name, ignoring case, marked read at a moment in Unix seconds that isn't
     /// deleted, isn't read and has a number above one bound and at most the other. Its patches make its files
     /// of those of this base. Where there is such a message, the change counter rises by one, and stays at
-    /// 4,294,967,295; else nothing changes.
+    /// 4,294,967,295; else nothing changes. For callers of the library; the program doesn't call it.
     ///
     /// The error comes where there is no memory.
     pub fn received(

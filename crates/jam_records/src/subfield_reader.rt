@@ -56,7 +56,7 @@ fn subfields_in(alloc: Global, bytes: &[u8]) -> Result<Subfields, SubfieldError>
     Ok(subfields)
 }
 
-/// The subfields of the whole slice.
+/// The subfields of the whole slice. For callers of the library; the program doesn't call it.
 pub fn read_subfields(alloc: Global, bytes: &[u8]) -> Result<Subfields, SubfieldError>
     requires { length bytes.now < 2 ^ 31 }
     ensures ok { IfOk result (λ subfields. SubfieldsRead bytes.now subfields) }

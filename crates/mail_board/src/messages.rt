@@ -21,7 +21,8 @@ use slot_changes::msgid_of;
 use std::alloc::{AllocError, Global};
 
 impl Board {
-    /// The msgid that is generated for a message number in a place: `CONFERENCE.NUMBER.BBSID`. The place is there.
+    /// The msgid that is generated for a message number in a place: `CONFERENCE.NUMBER.BBSID`. The place is there. For
+    /// callers of the library; the program doesn't call it.
     ///
     /// The error comes where there is no memory.
     pub fn msgid_of(&self, alloc: Global, place: u8, number: u32) -> Result<Bytes, AllocError>

@@ -108,7 +108,7 @@ impl Board {
     }
 
     /// The number of the message that the message of a number answers, or 0 where it answers none that is there or
-    /// no slot has the number.
+    /// no slot has the number. For callers of the library; the program doesn't call it.
     pub fn reply_to(&self, place: u8, number: u32) -> u32
         requires { place < length self.now.board.conferences }
         ensures { Some result ≡ option_map (λ c. original c.slots number) (slice_get self.now.board.conferences place) }
@@ -117,7 +117,7 @@ impl Board {
     }
 
     /// Whether a message that the conference in a place holds, deleted or not, has this msgid. It takes no memory, and goes
-    /// over the slots.
+    /// over the slots. For callers of the library; the program doesn't call it.
     pub fn has_msgid(&self, place: u8, msgid: &[u8]) -> bool
         requires { place < length self.now.board.conferences }
         ensures { result ≡ has_msgid_in place msgid.now self.now.board }
@@ -132,7 +132,8 @@ impl Board {
     }
 
     /// The last-read pointer of a user in the conference in a place: a message number, or 0 before the first. None
-    /// where the board has no such place, or the user isn't a member.
+    /// where the board has no such place, or the user isn't a member. For callers of the library; the program doesn't
+    /// call it.
     pub fn pointer(&self, place: u8, user: u32) -> Option<u32>
         ensures { result ≡ pointer_at place user self.now.board }
     {
@@ -144,7 +145,8 @@ impl Board {
 
     /// Whether the user of an id, from 1, sees the message of a number, from 1, in a place, from 0: all three are
     /// there, the message isn't deleted, the user is a member of its conference, and it isn't private, or is to the
-    /// user or from the user, ignoring ASCII case, or the user is the sysop. It takes no memory.
+    /// user or from the user, ignoring ASCII case, or the user is the sysop. It takes no memory. For callers of the
+    /// library; the program doesn't call it.
     pub fn sees(&self, user: u32, place: u8, number: u32) -> bool
         ensures { result ≡ is_seen self.now.board user place number }
     {

@@ -19,6 +19,7 @@ use std::alloc::Global;
 impl Board {
     /// Whether the conference in a place may get these slots: it is there and has as many, each message that they hold is
     /// one that it may hold, with a msgid, and the data files would have at most 34,603,008 bytes. It takes no memory.
+    /// For callers of the library; the program doesn't call it.
     pub fn fits_slots(&self, place: u8, slots: &Slots) -> bool
         ensures { IsTrue result ↔ FitsSlots place slots.now self.now.board }
     {

@@ -84,7 +84,8 @@ pub fn listed_conference(control: &Control, number: u32) -> Option<u16>
 }
 
 /// Adds the messages of a sheet to a conference at the end of a reply packet, from the packet's user. `now`
-/// is in seconds since 1970, in UTC. After an error the packet is as it was.
+/// is in seconds since 1970, in UTC. After an error the packet is as it was. For callers of the library; the program
+/// doesn't call it.
 pub fn compose(
     alloc: Global,
     control: &Control,

@@ -92,7 +92,7 @@ pub fn message_at(messages: &QwkMessages, place: u32) -> Option<&QwkMessage>
 
 /// Adds the reply to the message in a place, which counts from 1, at the end of a reply packet: from the
 /// packet's user, with the lines of a text. `now` is in seconds since 1970, in UTC. After an error the
-/// packet is as it was.
+/// packet is as it was. For callers of the library; the program doesn't call it.
 pub fn reply_to(
     alloc: Global,
     control: &Control,

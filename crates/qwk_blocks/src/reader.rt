@@ -109,7 +109,8 @@ impl BlockReader {
         }
     }
 
-    /// The last full block, also while the next one is gathered, or zeros before the first one.
+    /// The last full block, also while the next one is gathered, or zeros before the first one. For callers of the
+    /// library; the program doesn't call it.
     pub fn block(&self) -> &[u8; BLOCK]
         ensures { (stream : List ℕ) → HoldsStream self.now stream → IsLastBlock stream result.now }
     {

@@ -91,7 +91,7 @@ impl Control {
 
     /// Whether there is a written form: no text has a CR or an LF, the serial has no comma, the board
     /// id has 1 to 8 bytes from 21h to 7Eh, the count is at most 999,999,999, and there are 1 to 65,536
-    /// conferences.
+    /// conferences. For callers of the library; the program doesn't call it.
     pub fn writable(&self) -> bool
         ensures { IsTrue result ↔ WritableControl self.now }
     {

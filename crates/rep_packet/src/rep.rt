@@ -31,7 +31,7 @@ impl Rep {
 }
 
 /// Adds a message at the end. Where there is no memory for it, the packet is unchanged and the message
-/// dropped.
+/// dropped. For callers of the library; the program doesn't call it.
 pub fn add_reply(rep: &mut Rep, message: QwkMessage) -> Result<(), AllocError>
     ensures ok { OnOk result (rep.new ≡ record rep.old { messages = rep.old.messages ++ message ∷ [] }) }
     ensures err { OnErr result (rep.new ≡ rep.old) }

@@ -51,28 +51,28 @@ impl Setup {
         setup_in(alloc, bytes)
     }
 
-    /// The board's name.
+    /// The board's name. For callers of the library; the program doesn't call it.
     pub fn board(&self) -> &Bytes
         ensures { result.now ≡ self.now.board }
     {
         &self.board
     }
 
-    /// The board's city.
+    /// The board's city. For callers of the library; the program doesn't call it.
     pub fn city(&self) -> &Bytes
         ensures { result.now ≡ self.now.city }
     {
         &self.city
     }
 
-    /// The board's phone number.
+    /// The board's phone number. For callers of the library; the program doesn't call it.
     pub fn phone(&self) -> &Bytes
         ensures { result.now ≡ self.now.phone }
     {
         &self.phone
     }
 
-    /// The sysop's name.
+    /// The sysop's name. For callers of the library; the program doesn't call it.
     pub fn sysop(&self) -> &Bytes
         ensures { result.now ≡ self.now.sysop }
     {
@@ -86,14 +86,14 @@ impl Setup {
         &self.bbsid
     }
 
-    /// The serial number.
+    /// The serial number. For callers of the library; the program doesn't call it.
     pub fn serial(&self) -> u32
         ensures { result ≡ self.now.serial }
     {
         self.serial
     }
 
-    /// Whether a zone is one of the board's.
+    /// Whether a zone is one of the board's. For callers of the library; the program doesn't call it.
     pub fn has_zone(&self, zone: u16) -> bool
         ensures { IsTrue result ↔ Contains self.now.zones zone }
     {
