@@ -58,6 +58,13 @@ impl Bytes {
         self.inner.extend_from_slice(part)
     }
 
+    /// Makes room for so many bytes more, so that these take no memory when they are added. The string stays as it is.
+    pub fn reserve(&mut self, count: usize) -> Result<(), AllocError>
+        ensures { self.new ≡ self.old }
+    {
+        self.inner.reserve(count)
+    }
+
     /// The bytes.
     pub fn as_slice(&self) -> &[u8]
         ensures same { result.now ≡ self.now }

@@ -44,10 +44,11 @@ fn has_room(body: &Bytes, line: &[u8]) -> bool
     line.len() < MOST - body.as_slice().len()
 }
 
-/// Adds a line and its carriage return to a body.
+/// Adds a line and its carriage return to a body, in room for both.
 fn add_body_line(body: &mut Bytes, line: &[u8]) -> Result<(), AllocError>
     ensures { OnOk result (body.new ≡ body.old ++ (line.now ++ 13 ∷ [])) }
 {
+    body.reserve(line.len().saturating_add(1))?;
     body.add(line)?;
     body.add(b"\r")
 }

@@ -23,5 +23,5 @@ pub use index_record::{IndexRecord, read_index, write_index};
 pub use last_read::{LastRead, read_last, write_last};
 pub use message::{Kind, Message, Messages, Slot, Slots};
 pub use message_header::{MessageHeader, read_message_header, write_message_header};
-pub use subfield::{Subfield, Subfields, write_subfields};
+pub use subfield::{Subfield, Subfields, add_subfield, write_subfields};
 pub use subfield_reader::read_subfields;

@@ -29,15 +29,16 @@ impl Duplicate for Subfield {
     }
 }
 
-/// Adds a subfield.
+/// Adds the subfield of two ids and a value, which has fewer than 2^31 bytes.
+///
+/// The error comes where there is no memory. The bytes may then have a part of it more.
 #[tactic(auto, unfolding(crate::specs::Subfields::subfield_text))]
-fn add_subfield(bytes: &mut Bytes, subfield: &Subfield) -> Result<(), AllocError>
-    requires { length subfield.now.value < 2 ^ 31 }
-    ensures { OnOk result (bytes.new ≡ bytes.old ++ subfield_text subfield.now) }
+pub fn add_subfield(bytes: &mut Bytes, lo: u16, hi: u16, value: &[u8]) -> Result<(), AllocError>
+    requires { length value.now < 2 ^ 31 }
+    ensures { OnOk result (bytes.new ≡ bytes.old ++ subfield_text (record { lo = lo; hi = hi; value = value.now })) }
 {
-    let value = subfield.value.as_slice();
     let mut head = [0; 8];
-    LittleEndian::write_u16_into(&[subfield.lo, subfield.hi], &mut head[..4]);
+    LittleEndian::write_u16_into(&[lo, hi], &mut head[..4]);
     LittleEndian::write_u32(&mut head[4..], value.len() as u32);
     bytes.add(&head)?;
     bytes.add(value)
@@ -50,7 +51,12 @@ pub fn write_subfields(alloc: Global, value: &Subfields) -> Result<Bytes, AllocE
 {
     let mut bytes = Bytes::new(alloc);
     for subfield in value.as_slice() {
-        add_subfield(&mut bytes, subfield)?;
+        add_subfield(
+            &mut bytes,
+            subfield.lo,
+            subfield.hi,
+            subfield.value.as_slice(),
+        )?;
     }
     Ok(bytes)
 }

@@ -1,24 +1,29 @@
 -- The subfields of a message, added one after the other.
-use Rattle.std.proofs.Common.{◌≡◌, List, [], ◌++◌, ap, ◌∙◌, append_assoc}
+use Rattle.std.proofs.Common.{◌≡◌, ℕ, List, ◌++◌, sym, ap, ◌∙◌, append_assoc}
+use Rattle.jam_records.specs.Subfields.{subfields_text}
 use Rattle.jam_records.specs.declared.message.Message.{Message}
-use Rattle.jam_records.specs.declared.subfield.Subfield.{Subfield}
 use Rattle.jam_layout.specs.Fields.{field, subfields_of}
+use Rattle.jam_layout.proofs.ValueLaws.{texts}
 
-regroup : (a b c d e f g : List Subfield) → (((((a ++ b) ++ c) ++ d) ++ e) ++ f) ++ g ≡ a ++ (b ++ (c ++ (d ++ (e ++ (f ++ g)))))
-regroup a b c d e f g = simp append_assoc
+regroup : (old a b c d e f g : List ℕ) → ((((((old ++ a) ++ b) ++ c) ++ d) ++ e) ++ f) ++ g ≡ old ++ (a ++ (b ++ (c ++ (d ++ (e ++ (f ++ g))))))
+regroup old a b c d e f g = simp append_assoc
 
-more : (old new part before : List Subfield) → new ≡ old ++ part → old ≡ before → new ≡ before ++ part
+more : (old new part before : List ℕ) → new ≡ old ++ part → old ≡ before → new ≡ before ++ part
 more old new part before is so_far = is ∙ ap (λ xs. xs ++ part) so_far
 
-pub seven_added : (m : Message) (none a b c d e f g : List Subfield) → none ≡ [] → a ≡ none ++ field 0 m.origin → b ≡ a ++ field 1 m.destination → c ≡ b ++ field 2 m.from → d ≡ c ++ field 3 m.to → e ≡ d ++ field 4 m.msgid
-    → f ≡ e ++ field 5 m.replyid → g ≡ f ++ field 6 m.subject → g ≡ subfields_of m
+abbrev text : ℕ → List ℕ → List ℕ
+text id value = subfields_text (field id value)
+
+pub seven_added : (m : Message) (old a b c d e f g : List ℕ) → a ≡ old ++ subfields_text (field 0 m.origin) → b ≡ a ++ subfields_text (field 1 m.destination) → c ≡ b ++ subfields_text (field 2 m.from) → d ≡ c ++ subfields_text (field 3 m.to)
+    → e ≡ d ++ subfields_text (field 4 m.msgid) → f ≡ e ++ subfields_text (field 5 m.replyid) → g ≡ f ++ subfields_text (field 6 m.subject) → g ≡ old ++ subfields_text (subfields_of m)
 unfolding subfields_of
-seven_added m none a b c d e f g empty a_is b_is c_is d_is e_is f_is g_is =
-    let f0 : List Subfield = field 0 m.origin in
-    let f1 : List Subfield = f0 ++ field 1 m.destination in
-    let f2 : List Subfield = f1 ++ field 2 m.from in
-    let f3 : List Subfield = f2 ++ field 3 m.to in
-    let f4 : List Subfield = f3 ++ field 4 m.msgid in
-    let f5 : List Subfield = f4 ++ field 5 m.replyid in
-    more f g (field 6 m.subject) f5 g_is (more e f (field 5 m.replyid) f4 f_is (more d e (field 4 m.msgid) f3 e_is (more c d (field 3 m.to) f2 d_is (more b c (field 2 m.from) f1 c_is (more a b (field 1 m.destination) f0 b_is (more none a f0 [] a_is empty))))))
-    ∙ regroup (field 0 m.origin) (field 1 m.destination) (field 2 m.from) (field 3 m.to) (field 4 m.msgid) (field 5 m.replyid) (field 6 m.subject)
+seven_added m old a b c d e f g a_is b_is c_is d_is e_is f_is g_is =
+    let t0 : List ℕ = old ++ text 0 m.origin in
+    let t1 : List ℕ = t0 ++ text 1 m.destination in
+    let t2 : List ℕ = t1 ++ text 2 m.from in
+    let t3 : List ℕ = t2 ++ text 3 m.to in
+    let t4 : List ℕ = t3 ++ text 4 m.msgid in
+    let t5 : List ℕ = t4 ++ text 5 m.replyid in
+    more f g (text 6 m.subject) t5 g_is (more e f (text 5 m.replyid) t4 f_is (more d e (text 4 m.msgid) t3 e_is (more c d (text 3 m.to) t2 d_is (more b c (text 2 m.from) t1 c_is (more a b (text 1 m.destination) t0 b_is a_is)))))
+    ∙ (regroup old (text 0 m.origin) (text 1 m.destination) (text 2 m.from) (text 3 m.to) (text 4 m.msgid) (text 5 m.replyid) (text 6 m.subject)
+    ∙ ap (λ xs. old ++ xs) (sym (texts (field 0 m.origin) (field 1 m.destination) (field 2 m.from) (field 3 m.to) (field 4 m.msgid) (field 5 m.replyid) (field 6 m.subject))))

@@ -3,13 +3,13 @@ ghost use Rattle.jam_records.specs.Subfields.{subfields_text};
 ghost use Rattle.jam_layout.specs.Fields.{subfields_of};
 ghost use Rattle.jam_layout.specs.Headers.{entry_text, header_size, marks_in, message_header};
 
-use crate::message_subfields::subfields;
+use crate::message_subfields::add_subfields;
 use byte_lists::Bytes;
-use jam_layout::Marks;
-use jam_records::{Kind, Message, MessageHeader, write_message_header, write_subfields};
+use jam_layout::{Marks, header_size as size_of_header};
+use jam_records::{Kind, Message, MessageHeader, write_message_header};
 use jam_threads::Link;
 use name_crc::name_crc;
-use std::alloc::{AllocError, Global};
+use std::alloc::AllocError;
 
 /// PasswordCRC without a password.
 const NO_PASSWORD: u32 = 0xFFFF_FFFF;
@@ -68,7 +68,6 @@ fn header(
 /// The error comes where there is no memory. The bytes may then have a part of it more.
 #[tactic(auto, unfolding(jam_layout::specs::Headers::header_size))]
 pub fn add_header(
-    alloc: Global,
     jhr: &mut Bytes,
     kind: Kind,
     number: u32,
@@ -80,9 +79,8 @@ pub fn add_header(
     requires { header_size message.now < 2 ^ 31 }
     ensures { OnOk result (jhr.new ≡ jhr.old ++ entry_text kind offset (record { number = number; text_len = text_len; link = link; message = message.now })) }
 {
-    let fields = write_subfields(alloc, &subfields(alloc, message)?)?;
-    let len = fields.as_slice().len() as u32;
+    let len = size_of_header(message) - 76;
     let header = header(kind, number, offset, text_len, link, message, len);
     jhr.add(&write_message_header(&header))?;
-    jhr.add(fields.as_slice())
+    add_subfields(jhr, message)
 }

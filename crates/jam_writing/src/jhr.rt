@@ -7,11 +7,10 @@ use crate::header::add_header;
 use byte_lists::Bytes;
 use jam_records::{Kind, Slot};
 use jam_threads::Link;
-use std::alloc::{AllocError, Global};
+use std::alloc::AllocError;
 
 /// Adds the header of what a slot holds, whose body has so many bytes, and answers where the next body begins.
 pub(crate) fn add_slot(
-    alloc: Global,
     jhr: &mut Bytes,
     kind: Kind,
     number: u32,
@@ -28,7 +27,7 @@ pub(crate) fn add_slot(
     match slot {
         Slot::Gone => Ok(offset),
         Slot::Held(message) => {
-            add_header(alloc, jhr, kind, number, offset, length, link, message)?;
+            add_header(jhr, kind, number, offset, length, link, message)?;
             Ok(offset + length)
         }
     }

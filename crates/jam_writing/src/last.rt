@@ -44,7 +44,7 @@ pub fn write_last_headers(
         let number = place as u32 + 1;
         let length = slots.body_length(place);
         let slot = slots.at(place);
-        at = add_slot_header(alloc, &mut text, kind, number, at, length, link, slot)?;
+        at = add_slot_header(&mut text, kind, number, at, length, link, slot)?;
     }
     Ok(text)
 }

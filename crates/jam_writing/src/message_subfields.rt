@@ -1,40 +1,36 @@
-ghost use Rattle.std.specs.Prelude.{◌≡◌, ◌++◌, IfOk, OnOk};
+ghost use Rattle.std.specs.Prelude.{◌≡◌, ◌++◌, ◌<◌, ◌^◌, length, OnOk};
+ghost use Rattle.jam_records.specs.Subfields.{subfields_text};
 ghost use Rattle.jam_layout.specs.Fields.{field, subfields_of};
 
 use byte_lists::Bytes;
-use jam_records::{Message, Subfield, Subfields};
-use std::alloc::{AllocError, Global};
+use jam_records::{Message, add_subfield};
+use std::alloc::AllocError;
 
 /// Adds the subfield of a value. A value that is empty has none.
-fn add_value(
-    alloc: Global,
-    subfields: &mut Subfields,
-    id: u16,
-    value: &Bytes,
-) -> Result<(), AllocError>
-    ensures { OnOk result (subfields.new ≡ subfields.old ++ field id value.now) }
+fn add_value(jhr: &mut Bytes, id: u16, value: &[u8]) -> Result<(), AllocError>
+    requires { length (subfields_text (field id value.now)) < 2 ^ 31 }
+    ensures { OnOk result (jhr.new ≡ jhr.old ++ subfields_text (field id value.now)) }
 {
-    if value.as_slice().is_empty() {
+    if value.is_empty() {
         return Ok(());
     }
-    subfields.add(Subfield {
-        lo: id,
-        hi: 0,
-        value: value.copy(alloc)?,
-    })
+    add_subfield(jhr, id, 0, value)
 }
 
-/// The subfields of a message, in rising id.
-pub fn subfields(alloc: Global, message: &Message) -> Result<Subfields, AllocError>
-    ensures { IfOk result (λ subfields. subfields ≡ subfields_of message.now) }
+/// Adds the subfields of a message, in rising id, which have fewer than 2^31 bytes.
+///
+/// The error comes where there is no memory. The bytes may then have a part of them more.
+#[tactic(auto, using(jam_layout::proofs::SizeLaws::whole_length))]
+pub fn add_subfields(jhr: &mut Bytes, message: &Message) -> Result<(), AllocError>
+    requires { length (subfields_text (subfields_of message.now)) < 2 ^ 31 }
+    ensures { OnOk result (jhr.new ≡ jhr.old ++ subfields_text (subfields_of message.now)) }
 {
-    let mut subfields = Subfields::new(alloc);
-    add_value(alloc, &mut subfields, 0, &message.origin)?;
-    add_value(alloc, &mut subfields, 1, &message.destination)?;
-    add_value(alloc, &mut subfields, 2, &message.from)?;
-    add_value(alloc, &mut subfields, 3, &message.to)?;
-    add_value(alloc, &mut subfields, 4, &message.msgid)?;
-    add_value(alloc, &mut subfields, 5, &message.replyid)?;
-    add_value(alloc, &mut subfields, 6, &message.subject)?;
-    Ok(subfields)
+    add_value(jhr, 0, message.origin.as_slice())?;
+    add_value(jhr, 1, message.destination.as_slice())?;
+    add_value(jhr, 2, message.from.as_slice())?;
+    add_value(jhr, 3, message.to.as_slice())?;
+    add_value(jhr, 4, message.msgid.as_slice())?;
+    add_value(jhr, 5, message.replyid.as_slice())?;
+    add_value(jhr, 6, message.subject.as_slice())?;
+    Ok(())
 }
