@@ -1,9 +1,8 @@
 //! Dates of packed messages. The calendar is that of QWK's fields.
 ghost use Rattle.std.specs.Prelude.{◌≡◌, ◌<◌, IfSome};
-ghost use Rattle.qwk_moments.specs.Moments.{two_digit_number};
 ghost use Rattle.fts_packet.specs.Date.{has_spaces as has_spaces_of, has_colons as has_colons_of, month_digits as month_digits_of, digit_or_space as digit_of, date_field as date_field_of, time_field as time_field_of, second_of as second_in, moment_in as moment_between, moment_of_date};
 
-use qwk_moments::read_moment;
+use qwk_moments::{number_of_two, read_moment};
 
 /// Whether the spaces of a date are where they must be.
 fn has_spaces(date: &[u8; 20]) -> bool
@@ -69,18 +68,6 @@ fn time_field(date: &[u8; 20]) -> [u8; 5]
     ensures { result ≡ time_field_of date.now }
 {
     [date[11], date[12], b':', date[14], date[15]]
-}
-
-/// The number of two digits; None where one of the bytes is no digit.
-fn number_of_two(tens: u8, units: u8) -> Option<u8>
-    ensures value { result ≡ two_digit_number tens units }
-    ensures short { IfSome result (λ number. number < 100) }
-{
-    if tens.is_ascii_digit() && units.is_ascii_digit() {
-        Some((tens - b'0') * 10 + (units - b'0'))
-    } else {
-        None
-    }
 }
 
 /// The second, or None where it isn't two digits of a number below 60.

@@ -7,5 +7,6 @@ mod fields;
 pub mod laws;
 mod reading;
 
+pub use digits::number_of_two;
 pub use fields::{date_field, stamp, time_field};
 pub use reading::read_moment;
