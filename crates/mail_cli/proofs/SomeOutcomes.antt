@@ -73,7 +73,7 @@ use Rattle.qwk_control.specs.Control.{ControlReads}
 use Rattle.qwk_control.specs.Fault.{ControlFault}
 use Rattle.qwk_control.specs.declared.control.Control.{Control}
 use Rattle.reading_laws.proofs.Controls.{control_or_fault}
-use Rattle.reading_laws.proofs.Fields.{all_or_not}
+use Rattle.text_fields.proofs.Fields.{all_or_not}
 use Rattle.reading_laws.proofs.Packets.{packet_or_fault, rep_or_fault}
 use Rattle.reading_laws.proofs.Sheets.{sheet_or_fault}
 use Rattle.reading_laws.proofs.Type2Packets.{type2_or_fault}

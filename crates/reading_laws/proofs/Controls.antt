@@ -9,7 +9,7 @@ use Rattle.qwk_control.specs.Line.{IdLine, IsId, IsSpace, PlaceLine, line, or_em
 use Rattle.qwk_control.specs.declared.control.Control.{Control}
 use Rattle.qwk_control.specs.declared.fault.ControlError.{ControlError}
 use Rattle.qwk_control.specs.declared.fault.ControlError.TheVariants.{TooFewLines, BadNumber, BadBoardId}
-use Rattle.reading_laws.proofs.Fields.{all_or_not, number_or_none, some_trimmed, split_or_lacks}
+use Rattle.text_fields.proofs.Fields.{all_or_not, number_or_none, some_trimmed, split_or_lacks}
 use Rattle.text_fields.proofs.Numbers.{number_unique}
 use Rattle.text_fields.proofs.Splits.{not_split, split_once}
 use Rattle.text_fields.proofs.Trimming.{trimmed_unique}

@@ -1,4 +1,3 @@
-pub mod Fields
 pub mod Packets
 pub mod Controls
 pub mod Sheets

@@ -1,8 +1,8 @@
 -- Any bytes read as the messages of a packet, or have a first fault; and so do those of a reply packet.
 use Rattle.std.proofs.Common.{◌≡◌, ◌⊎◌, inl, inr, ℕ, zero, suc, ◌+◌, ◌-◌, ◌*◌, ◌<◌, ◌≤◌, List, [], ◌∷◌, ◌++◌, length, take, drop, refl, ap, subst, arith, length-append, length-take}
-use Rattle.std.proofs.lemmas.Bool.{cases_eq, cases_lt}
+use Rattle.std.proofs.lemmas.Bool.{cases_lt}
 use Rattle.std.proofs.lemmas.List.{length-drop, length-take-le, take_all}
-use Rattle.qwk_blocks.proofs.Exists.{some_message}
+use Rattle.qwk_blocks.proofs.Exists.{pad_or_not, some_message}
 use Rattle.qwk_blocks.proofs.First.{count_of_front, goes_on, no_count, notice_alone, past_end, too_short}
 use Rattle.qwk_blocks.proofs.Messages.{longest}
 use Rattle.qwk_blocks.specs.Header.{BlockCountReads, IsPad, field}
@@ -10,7 +10,7 @@ use Rattle.qwk_blocks.specs.Packet.{FirstFault, MessageReads, PacketAt, PacketRe
 use Rattle.qwk_blocks.specs.declared.fault.QwkFault.{QwkFault}
 use Rattle.qwk_blocks.specs.declared.fault.QwkFault.TheVariants.{Truncated, BadBlocks}
 use Rattle.qwk_blocks.specs.declared.message.QwkMessage.{QwkMessage}
-use Rattle.reading_laws.proofs.Fields.{number_or_none, some_trimmed_end}
+use Rattle.text_fields.proofs.Fields.{number_or_none, some_trimmed_end}
 use Rattle.rep_packet.proofs.Once.{not_cut}
 use Rattle.text_fields.proofs.Numbers.{number_unique}
 use Rattle.text_fields.proofs.Trimming.{trimmed_end_unique}
@@ -24,15 +24,6 @@ use Rattle.rep_packet.specs.declared.rep.Rep.{Rep}
 -- ---- packets
 abbrev IsPacket : List ℕ → Type 0
 IsPacket bytes = ((messages : List QwkMessage) × PacketReads bytes messages) ⊎ ((fault : QwkFault) × FirstFault bytes fault)
-
-pad_or_not : (b : ℕ) → IsPad b ⊎ (IsPad b → ⊥)
-pad_or_not b = elim (cases_eq b 32) [
-  | inl space ↦ inl (inl space)
-  | inr other ↦ elim (cases_eq b 0) [
-    | inl nul ↦ inl (inr nul)
-    | inr none ↦ inr (λ pad. elim pad [ inl e ↦ other e | inr e ↦ none e ])
-  ]
-]
 
 count_or_none : (rest : List ℕ) → ((count : ℕ) × BlockCountReads rest count) ⊎ ((count : ℕ) → BlockCountReads rest count → ⊥)
 count_or_none rest = elim (number_or_none IsPad pad_or_not 6 (field 117 6 rest)) [

@@ -20,7 +20,7 @@ use Rattle.import_sheet.specs.declared.fault.SheetRule.TheVariants.{Header, Twic
 use Rattle.import_sheet.specs.declared.field.Field.{Field}
 use Rattle.import_sheet.specs.declared.field.Field.TheVariants.{From, To, Subject, Date, Msgid, Reply, Private}
 use Rattle.import_sheet.specs.declared.sheet.Sheet.{Sheet}
-use Rattle.reading_laws.proofs.Fields.{all_or_not, split_or_lacks, some_trimmed, value_or_none}
+use Rattle.text_fields.proofs.Fields.{all_or_not, split_or_lacks, some_trimmed, value_or_none}
 use Rattle.text_fields.proofs.Splits.{not_split}
 use Rattle.text_fields.specs.Blank.{IsBlank}
 use Rattle.text_fields.specs.Trim.{Trimmed}

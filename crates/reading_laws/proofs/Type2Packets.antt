@@ -12,7 +12,7 @@ use Rattle.fts_packet.specs.Text.{text_lines}
 use Rattle.fts_packet.specs.declared.fault.FtsRule.{FtsRule}
 use Rattle.fts_packet.specs.declared.fault.FtsRule.TheVariants.{Short, WrongType, Kind, Cut}
 use Rattle.fts_packet.specs.declared.packet.FtsMessage.{FtsMessage}
-use Rattle.reading_laws.proofs.Fields.{split_or_lacks}
+use Rattle.text_fields.proofs.Fields.{split_or_lacks}
 use Rattle.record_numbers.specs.Numbers.{u16_at}
 use Rattle.text_fields.specs.Split.{Lacks}
 

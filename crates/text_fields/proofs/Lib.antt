@@ -2,3 +2,4 @@ pub mod Trimming
 pub mod Numbers
 pub mod Splits
 pub mod LineLists
+pub mod Fields
