@@ -4,7 +4,7 @@ use Rattle.std.specs.Prelude.{Result, Ok, Err}
 use Rattle.std.specs.Str.Lines.{lines}
 use Rattle.line_words.proofs.LineLaws.{one_reading}
 use Rattle.line_words.specs.Line.{LineReads}
-use Rattle.setup_file.specs.Reads.{is_skipped}
+use Rattle.text_fields.specs.Lines.{is_skipped}
 use Rattle.shelf_files.specs.declared.refusal.Refusal.{Refusal}
 use Rattle.door_commands.proofs.OneCommand.{command_unique}
 use Rattle.door_commands.specs.Batch.{BatchReads, IsNoLine, LineEntry, LineIs, BatchLinesRead}

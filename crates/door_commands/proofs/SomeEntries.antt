@@ -2,7 +2,7 @@
 use Rattle.std.proofs.Common.{◌≡◌, ◌⊎◌, inl, inr, ℕ, ◌+◌, Bool, true, false, List, [], ◌∷◌, refl, subst}
 use Rattle.std.specs.Prelude.{Result, Ok, Err}
 use Rattle.std.specs.Str.Lines.{lines}
-use Rattle.setup_file.specs.Reads.{is_skipped}
+use Rattle.text_fields.specs.Lines.{is_skipped}
 use Rattle.shelf_files.specs.declared.refusal.Refusal.{Refusal}
 use Rattle.door_commands.proofs.Batches.{no_inner, no_line, no_words}
 use Rattle.door_commands.proofs.Deciding.{command_or_none, line_or_none}

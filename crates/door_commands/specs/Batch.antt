@@ -2,7 +2,7 @@
 use Rattle.std.specs.Prelude.{◌≡◌, ◌⊎◌, ℕ, ◌+◌, List, [], ◌∷◌, false, IsTrue, Result, Ok, Err}
 use Rattle.std.specs.Str.Lines.{lines}
 use Rattle.line_words.specs.Line.{LineReads}
-use Rattle.setup_file.specs.Reads.{is_skipped}
+use Rattle.text_fields.specs.Lines.{is_skipped}
 use Rattle.shelf_files.specs.declared.refusal.Refusal.{Refusal}
 use Rattle.door_commands.specs.Words.{CommandReads, IsBatch}
 use Rattle.door_commands.specs.declared.command.Command.{Command}

@@ -1,7 +1,6 @@
 //! The entries of a batch's lines.
-ghost use Rattle.std.specs.Prelude.{◌≡◌, ◌<◌, ◌^◌, All, IfOk, IsTrue, length};
+ghost use Rattle.std.specs.Prelude.{◌<◌, ◌^◌, All, IfOk, IsTrue, length};
 ghost use Rattle.std.specs.Str.Lines.{lines};
-ghost use Rattle.setup_file.specs.Reads.{is_skipped as skipped_test};
 ghost use Rattle.door_commands.specs.Batch.{LineEntry, BatchLinesRead};
 ghost use Rattle.door_commands.specs.Entries.{EntryCanRun};
 
@@ -9,17 +8,7 @@ use crate::command::Command;
 use crate::entry::{Entries, Entry, Usage};
 use crate::words::Words;
 use std::alloc::{AllocError, Global};
-use text_fields::next_line;
-
-/// Whether a line is skipped: an empty one, and one that begins with `#`.
-fn is_skipped(line: &[u8]) -> bool
-    ensures { result ≡ skipped_test line.now }
-{
-    match line {
-        [] => true,
-        [first, ..] => *first == b'#',
-    }
-}
+use text_fields::{is_skipped, next_line};
 
 /// The entry that a line of a number is. A batch in a batch is no command.
 fn entry_of(alloc: Global, number: u32, line: &[u8]) -> Result<Entry, AllocError>

@@ -4,7 +4,8 @@ use Rattle.std.proofs.lemmas.Bool.{cases_lt}
 use Rattle.std.proofs.lemmas.List.{append-nil}
 use Rattle.std.specs.List.{slice_get}
 use Rattle.setup_file.specs.Rules.{keys, broken_rule}
-use Rattle.setup_file.specs.Reads.{is_skipped, counted}
+use Rattle.text_fields.specs.Lines.{is_skipped}
+use Rattle.setup_file.specs.Reads.{counted}
 use Rattle.setup_file.specs.Fault.{KeepRules, LinesFault, at_line, at_end}
 use Rattle.setup_file.specs.State.{Ahead, SkippedTo, Kept, SetupFaultOrMemory}
 use Rattle.setup_file.specs.declared.error.SetupRule.{SetupRule}

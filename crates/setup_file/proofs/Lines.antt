@@ -6,7 +6,8 @@ use Rattle.std.proofs.lemmas.List.Splits.{length-slice_split}
 use Rattle.std.proofs.lemmas.List.Sums.{count_by-le-length}
 use Rattle.std.specs.List.{slice_split}
 use Rattle.std.specs.Str.Lines.{lines, lines_of_parts}
-use Rattle.setup_file.specs.Reads.{is_skipped, counted}
+use Rattle.text_fields.specs.Lines.{is_skipped}
+use Rattle.setup_file.specs.Reads.{counted}
 use Rattle.setup_file.specs.State.{IsNumbered, Ahead, AllSkipped, StartsCounted}
 
 -- a text has not many more lines than bytes

@@ -5,7 +5,8 @@ use Rattle.std.proofs.lemmas.List.{append-nil}
 use Rattle.std.specs.Result.{MatchResult}
 use Rattle.text_fields.proofs.Trimming.{same_front, same_rest}
 use Rattle.setup_file.specs.Rules.{broken_rule}
-use Rattle.setup_file.specs.Reads.{is_skipped, counted, SetupLinesRead}
+use Rattle.text_fields.specs.Lines.{is_skipped}
+use Rattle.setup_file.specs.Reads.{counted, SetupLinesRead}
 use Rattle.setup_file.specs.Fault.{KeepRules, LinesFault, at_line, at_end, SetupUnlessMemory}
 use Rattle.setup_file.specs.State.{SetupFaultOrMemory}
 use Rattle.setup_file.specs.declared.error.SetupError.{SetupError}

@@ -1,7 +1,8 @@
 -- The first line of a setup file that breaks a rule.
 use Rattle.std.specs.Prelude.{◌≡◌, ◌⊎◌, ℕ, ◌+◌, ◌<◌, List, [], ◌∷◌, ◌++◌, length, Some, None, false, Result, Err}
 use Rattle.std.specs.Str.Lines.{lines}
-use Rattle.setup_file.specs.Reads.{is_skipped, counted}
+use Rattle.text_fields.specs.Lines.{is_skipped}
+use Rattle.setup_file.specs.Reads.{counted}
 use Rattle.setup_file.specs.Rules.{broken_rule}
 use Rattle.setup_file.specs.declared.error.SetupError.{SetupError}
 use Rattle.setup_file.specs.declared.error.SetupError.TheVariants.{OutOfMemory}

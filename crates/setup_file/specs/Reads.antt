@@ -1,18 +1,14 @@
 -- Setup files by their lines.
-use Rattle.std.specs.Prelude.{◌≡◌, ℕ, List, [], ◌∷◌, Some, Bool, true, not, filter, IsTrue, ◌==◌}
+use Rattle.std.specs.Prelude.{◌≡◌, ℕ, List, [], ◌∷◌, Some, not, filter, IsTrue}
 use Rattle.std.specs.List.{list_all}
 use Rattle.std.specs.Str.Lines.{lines}
+use Rattle.text_fields.specs.Lines.{is_skipped}
 use Rattle.setup_file.specs.Valid.{IsSetup}
 use Rattle.setup_file.specs.Words.{words, is_number, number_of, numbers_of_words, kind_of, rights_of, begins_with, value_behind}
 use Rattle.setup_file.specs.Rules.{key_text, zones_key, conference_key, number_word, kind_word, rights_word, name_behind}
 use Rattle.setup_file.specs.declared.conference.Conference.{Conference}
 use Rattle.setup_file.specs.declared.key.Key.TheVariants.{Board, City, Phone, Sysop, Bbsid, Serial}
 use Rattle.setup_file.specs.declared.setup.Setup.{Setup}
-
--- an empty line, and one that begins with `#`
-abbrev pub is_skipped : List ℕ → Bool
-is_skipped [] = true
-is_skipped (b ∷ rest) = b == 0x23
 
 -- the lines that aren't skipped
 abbrev pub counted : List (List ℕ) → List (List ℕ)

@@ -2,7 +2,8 @@
 use Rattle.std.specs.Prelude.{◌≡◌, ℕ, ◌+◌, ◌≤◌, List, [], ◌∷◌, ◌++◌, length, map, All, Some, None, true, false, IsTrue, unwrap_or}
 use Rattle.setup_file.specs.Words.{is_number, number_of, kind_of, rights_of, value_behind}
 use Rattle.setup_file.specs.Rules.{LineRules, broken_in, key_text, conference_key, number_word, kind_word, rights_word, name_behind}
-use Rattle.setup_file.specs.Reads.{is_skipped, counted}
+use Rattle.text_fields.specs.Lines.{is_skipped}
+use Rattle.setup_file.specs.Reads.{counted}
 use Rattle.setup_file.specs.Fault.{KeepRules}
 use Rattle.jam_records.specs.declared.message.Kind.TheVariants.{Local}
 use Rattle.setup_file.specs.declared.conference.Conference.{Conference}

@@ -1,26 +1,15 @@
 ghost use Rattle.std.specs.Prelude.{◌≡◌, ℕ, List, [], ◌∷◌, length, MatchOption};
 ghost use Rattle.std.specs.Str.Lines.{lines};
-ghost use Rattle.setup_file.specs.Reads.{is_skipped as skipped_test};
 ghost use Rattle.setup_file.specs.State.{IsNumbered, Ahead, SkippedTo};
 
 use crate::error::{SetupError, SetupRule};
-use text_fields::next_line;
+use text_fields::{is_skipped, next_line};
 
 /// What isn't read yet of a file, and the number of its first line.
 #[derive(Clone, Copy)]
 pub struct Unread<'a> {
     pub text: &'a [u8],
     pub line: u32,
-}
-
-/// Whether a line is skipped: an empty one, and one that begins with `#`.
-fn is_skipped(line: &[u8]) -> bool
-    ensures { result ≡ skipped_test line.now }
-{
-    match line {
-        [] => true,
-        [first, ..] => *first == b'#',
-    }
 }
 
 impl<'a> Unread<'a> {

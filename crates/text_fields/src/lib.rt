@@ -12,7 +12,7 @@ mod trim;
 
 pub use blank::Blank;
 pub use digits::{add_decimal, digits_of};
-pub use lines::{add_line, lines_of, next_line};
+pub use lines::{add_line, is_skipped, lines_of, next_line};
 pub use number::number_of;
 pub use split::split_at_byte;
 pub use trim::{trimmed, trimmed_end};

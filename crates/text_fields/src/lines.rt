@@ -1,6 +1,6 @@
 ghost use Rattle.std.specs.Prelude.{◌≡◌, [], ◌∷◌, ◌++◌, MatchOption, IfOk, OnOk};
 ghost use Rattle.std.specs.Str.Lines.{lines, strip_carriage_return};
-ghost use Rattle.text_fields.specs.Lines.{crlf_line};
+ghost use Rattle.text_fields.specs.Lines.{crlf_line, is_skipped as skipped_test};
 
 use crate::split::split_at_byte;
 use byte_lists::{Bytes, Lines};
@@ -42,6 +42,16 @@ pub fn lines_of(alloc: Global, text: &[u8]) -> Result<Lines, AllocError>
         rest = after;
     }
     Ok(all)
+}
+
+/// Whether a line is skipped: an empty one, and one that begins with `#`.
+pub fn is_skipped(line: &[u8]) -> bool
+    ensures { result ≡ skipped_test line.now }
+{
+    match line {
+        [] => true,
+        [first, ..] => *first == b'#',
+    }
 }
 
 /// Adds a line, and CR LF behind it.

@@ -4,7 +4,7 @@ use Rattle.std.proofs.lemmas.List.Elements.{All-nil, All-push}
 use Rattle.std.specs.Prelude.{All}
 use Rattle.std.specs.Str.Lines.{lines}
 use Rattle.setup_file.proofs.Lines.{lines_numbered}
-use Rattle.setup_file.specs.Reads.{is_skipped}
+use Rattle.text_fields.specs.Lines.{is_skipped}
 use Rattle.door_commands.proofs.Batches.{SoFar, runs_on, skips_on}
 use Rattle.door_commands.specs.Batch.{BatchLinesRead}
 use Rattle.door_commands.specs.Entries.{EntryCanRun, IsWrong}

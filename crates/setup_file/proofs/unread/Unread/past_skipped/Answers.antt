@@ -1,6 +1,6 @@
 use Rattle.std.proofs.Common.{◌≡◌, ◌++◌, ◌∷◌, [], true}
 use Rattle.std.specs.Str.Lines.{lines}
-use Rattle.setup_file.specs.Reads.{is_skipped}
+use Rattle.text_fields.specs.Lines.{is_skipped}
 use Rattle.setup_file.proofs.Lines.{more_taken, left_numbered, skip_one}
 use Rattle.setup_file.proofs.unread.Unread.past_skipped.Goals as goal
 
