@@ -15,7 +15,8 @@ use Rattle.import_sheet.specs.declared.field.Field.TheVariants.{From, To}
 use Rattle.import_sheet.specs.declared.found.Found.{Found}
 use Rattle.import_sheet.specs.declared.sheet.Sheet.{Sheet}
 use Rattle.import_sheet.specs.declared.unread.Unread.{Unread}
-use Rattle.import_sheet.proofs.Lines.{more_taken, nothing_starts}
+use Rattle.text_fields.proofs.Numbered.{more_taken}
+use Rattle.import_sheet.proofs.Lines.{nothing_starts}
 
 pub weaker_fault : (P Q : ℕ → SheetRule → Type 0) → ((n : ℕ) (r : SheetRule) → P n r → Q n r) → (e : SheetError) → SheetFaultOrMemory P e → SheetFaultOrMemory Q e
 weaker_fault P Q f (Line n r) h = f n r h

@@ -10,7 +10,8 @@ use Rattle.text_fields.specs.Trim.{EndsWithNone}
 use Rattle.text_fields.specs.declared.blank.Blank.TheVariants.{Spaces}
 use Rattle.text_fields.proofs.Numbers.{number_small}
 use Rattle.import_sheet.proofs.Heads.{gives_fits}
-use Rattle.import_sheet.proofs.Lines.{All_last, lines_numbered}
+use Rattle.text_fields.proofs.Numbered.{lines_numbered}
+use Rattle.import_sheet.proofs.Lines.{All_last}
 use Rattle.import_sheet.specs.Header.{IsPlainText}
 use Rattle.import_sheet.specs.Sheet.{HeaderGives, HeaderGivesOrEmpty, SheetIs, SheetsAre}
 use Rattle.import_sheet.specs.declared.field.Field.TheVariants.{To, Subject}

@@ -14,7 +14,8 @@ use Rattle.setup_file.specs.declared.error.SetupError.TheVariants.{Line, OutOfMe
 use Rattle.setup_file.specs.declared.error.SetupRule.{SetupRule}
 use Rattle.setup_file.specs.declared.error.SetupRule.TheVariants.{Missing}
 use Rattle.setup_file.specs.declared.setup.Setup.{Setup}
-use Rattle.setup_file.proofs.Lines.{counted_append, counted_at, counted_none, longer}
+use Rattle.text_fields.proofs.Numbered.{longer}
+use Rattle.setup_file.proofs.Lines.{counted_append, counted_at, counted_none}
 use Rattle.setup_file.proofs.KeptLines.{keep_at, keep_push}
 use Rattle.setup_file.proofs.Readings.{First, lines_of, setup_of, kept_reads, reads_keep, reads_many, one_reading}
 

@@ -3,3 +3,4 @@ pub mod Numbers
 pub mod Splits
 pub mod LineLists
 pub mod Fields
+pub mod Numbered

@@ -3,7 +3,7 @@ use Rattle.std.proofs.lemmas.List.{append-nil}
 use Rattle.std.proofs.lemmas.List.Elements.{All-nil, All-push}
 use Rattle.std.specs.Prelude.{All}
 use Rattle.std.specs.Str.Lines.{lines}
-use Rattle.setup_file.proofs.Lines.{lines_numbered}
+use Rattle.text_fields.proofs.Numbered.{lines_numbered}
 use Rattle.text_fields.specs.Lines.{is_skipped}
 use Rattle.door_commands.proofs.Batches.{SoFar, runs_on, skips_on}
 use Rattle.door_commands.specs.Batch.{BatchLinesRead}

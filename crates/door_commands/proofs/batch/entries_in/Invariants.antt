@@ -1,7 +1,7 @@
 use Rattle.std.proofs.Common.{length}
 use Rattle.std.specs.Prelude.{All}
 use Rattle.std.specs.Str.Lines.{lines}
-use Rattle.setup_file.specs.State.{IsNumbered}
+use Rattle.text_fields.specs.Numbered.{IsNumbered}
 use Rattle.door_commands.proofs.Batches.{SoFar}
 use Rattle.door_commands.specs.Entries.{EntryCanRun}
 use Rattle.door_commands.proofs.batch.entries_in.Given as goal

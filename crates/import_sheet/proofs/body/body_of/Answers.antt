@@ -4,7 +4,7 @@ use Rattle.std.specs.Str.Lines.{lines}
 use Rattle.import_sheet.specs.Sheet.{stored_body, without_dot}
 use Rattle.import_sheet.specs.Fault.{with_return, too_long}
 use Rattle.import_sheet.specs.State.{Ahead, SheetFaultOrMemory, BodyFaultAt}
-use Rattle.import_sheet.proofs.Lines.{more_taken, left_numbered}
+use Rattle.text_fields.proofs.Numbered.{more_taken, left_numbered}
 use Rattle.import_sheet.proofs.Bodies.{body_push, body_text_push, broken_body, over, no_room}
 use Rattle.import_sheet.proofs.body.body_of.Goals as goal
 

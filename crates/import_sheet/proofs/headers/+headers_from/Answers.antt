@@ -4,7 +4,8 @@ use Rattle.std.proofs.lemmas.Result.{err_from_is_err_and}
 use Rattle.std.specs.Str.Lines.{lines}
 use Rattle.import_sheet.specs.Fault.{LineBreaks}
 use Rattle.import_sheet.specs.State.{Ahead, SheetFaultOrMemory, FaultAt}
-use Rattle.import_sheet.proofs.Lines.{more_taken, no_length}
+use Rattle.text_fields.proofs.Numbered.{more_taken}
+use Rattle.import_sheet.proofs.Lines.{no_length}
 use Rattle.import_sheet.proofs.Reading.{weaker_fault, end_fault, line_fault, ended_cases}
 use Rattle.import_sheet.proofs.headers.+headers_from.Goals as goal
 

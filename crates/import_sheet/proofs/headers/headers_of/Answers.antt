@@ -1,6 +1,6 @@
 use Rattle.std.proofs.Common.{[]}
 use Rattle.std.specs.Str.Lines.{lines}
-use Rattle.import_sheet.proofs.Lines.{none_taken}
+use Rattle.text_fields.proofs.Numbered.{none_taken}
 use Rattle.import_sheet.proofs.headers.headers_of.Goals as goal
 
 pub returns : goal.returns

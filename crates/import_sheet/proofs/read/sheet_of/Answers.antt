@@ -2,7 +2,7 @@ use Rattle.std.proofs.Common.{[], ◌∷◌, ◌++◌}
 use Rattle.std.proofs.lemmas.Result.{err_from_is_err_and}
 use Rattle.std.specs.Str.Lines.{lines}
 use Rattle.import_sheet.specs.State.{FaultAt, BodyFaultAt}
-use Rattle.import_sheet.proofs.Lines.{left_numbered}
+use Rattle.text_fields.proofs.Numbered.{left_numbered}
 use Rattle.import_sheet.proofs.Reading.{weaker_fault, body_fault, sheet_taken}
 use Rattle.import_sheet.proofs.read.sheet_of.Goals as goal
 

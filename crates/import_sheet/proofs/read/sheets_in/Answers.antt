@@ -5,7 +5,7 @@ use Rattle.std.specs.Str.Lines.{lines}
 use Rattle.import_sheet.specs.Sheet.{SheetsAre}
 use Rattle.import_sheet.specs.Fault.{SheetLinesFault}
 use Rattle.import_sheet.specs.State.{FaultAt}
-use Rattle.import_sheet.proofs.Lines.{none_taken, more_taken, left_numbered, lines_numbered}
+use Rattle.text_fields.proofs.Numbered.{none_taken, more_taken, left_numbered, lines_numbered}
 use Rattle.import_sheet.proofs.Reading.{weaker_fault, sheets_push, sheets_blanks, file_fault}
 use Rattle.import_sheet.proofs.read.sheets_in.Goals as goal
 

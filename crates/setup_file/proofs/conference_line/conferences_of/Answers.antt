@@ -6,7 +6,8 @@ use Rattle.setup_file.specs.Words.{value_behind}
 use Rattle.setup_file.specs.Rules.{number_before, conference_key}
 use Rattle.setup_file.specs.Fault.{LinesFault}
 use Rattle.setup_file.specs.State.{Kept, SetupFaultOrMemory, conference_of_value}
-use Rattle.setup_file.proofs.Lines.{left_numbered, starts_counted}
+use Rattle.text_fields.proofs.Numbered.{left_numbered}
+use Rattle.setup_file.proofs.Lines.{starts_counted}
 use Rattle.setup_file.proofs.KeptLines.{kept_skip, kept_more, line_fault, end_fault}
 use Rattle.setup_file.proofs.ConferenceLines.{number_behind, no_number_before, rule_of_next, conferences_more, count_is, none_before, some_own}
 use Rattle.setup_file.proofs.conference_line.conferences_of.Goals as goal

@@ -1,7 +1,7 @@
 use Rattle.std.proofs.Common.{[], ◌∷◌, refl}
 use Rattle.std.proofs.lemmas.Result.{err_from_is_err_and}
 use Rattle.std.specs.Str.Lines.{lines}
-use Rattle.setup_file.proofs.Lines.{lines_numbered}
+use Rattle.text_fields.proofs.Numbered.{lines_numbered}
 use Rattle.setup_file.proofs.KeptLines.{kept_start}
 use Rattle.setup_file.proofs.Readings.{setup_reads}
 use Rattle.setup_file.proofs.parse.setup_in.Goals as goal

@@ -2,7 +2,8 @@ use Rattle.std.proofs.Common.{◌≡◌, ℕ, List, [], ◌∷◌, ◌++◌, ari
 use Rattle.std.proofs.lemmas.Bool.Decides.{nat_tests}
 use Rattle.std.proofs.lemmas.List.Elements.{All-push}
 use Rattle.std.specs.Str.Lines.{lines}
-use Rattle.import_sheet.proofs.Lines.{more_taken, left_numbered, no_length}
+use Rattle.text_fields.proofs.Numbered.{more_taken, left_numbered}
+use Rattle.import_sheet.proofs.Lines.{no_length}
 use Rattle.import_sheet.proofs.unread.Unread.without_empty_lines.Goals as goal
 
 pub loop-line-preserved : goal.loop-line-preserved

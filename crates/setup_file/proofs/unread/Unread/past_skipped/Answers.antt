@@ -1,7 +1,8 @@
 use Rattle.std.proofs.Common.{◌≡◌, ◌++◌, ◌∷◌, [], true}
 use Rattle.std.specs.Str.Lines.{lines}
 use Rattle.text_fields.specs.Lines.{is_skipped}
-use Rattle.setup_file.proofs.Lines.{more_taken, left_numbered, skip_one}
+use Rattle.text_fields.proofs.Numbered.{more_taken, left_numbered}
+use Rattle.setup_file.proofs.Lines.{skip_one}
 use Rattle.setup_file.proofs.unread.Unread.past_skipped.Goals as goal
 
 pub loop-line-preserved : goal.loop-line-preserved
