@@ -14,7 +14,7 @@ use Rattle.import_sheet.specs.declared.fault.SheetRule.TheVariants.{Missing, End
 use Rattle.import_sheet.specs.declared.field.Field.TheVariants.{From, To}
 use Rattle.import_sheet.specs.declared.found.Found.{Found}
 use Rattle.import_sheet.specs.declared.sheet.Sheet.{Sheet}
-use Rattle.import_sheet.specs.declared.unread.Unread.{Unread}
+use Rattle.text_fields.specs.declared.unread.Unread.{Unread}
 use Rattle.text_fields.proofs.Numbered.{more_taken}
 use Rattle.import_sheet.proofs.Lines.{nothing_starts}
 

@@ -5,9 +5,10 @@ ghost use Rattle.import_sheet.specs.Sheet.{dot, without_dot as without_its_dot};
 ghost use Rattle.import_sheet.specs.State.{IsNumbered, BodyTaken, SheetFaultOrMemory, BodyFaultAt};
 
 use crate::fault::{SheetError, SheetRule};
-use crate::unread::Unread;
+use crate::unread::breaks;
 use byte_lists::Bytes;
 use std::alloc::{AllocError, Global};
+use text_fields::Unread;
 
 /// The most bytes that a body has.
 const MOST: usize = 16_384;
@@ -65,14 +66,14 @@ pub fn body_of(alloc: Global, start: Unread<'_>) -> Result<(Bytes, Unread<'_>), 
             return Ok((body, after));
         }
         if !has_no_return(line) {
-            return Err(here.breaks(SheetRule::Byte));
+            return Err(breaks(here, SheetRule::Byte));
         }
         let text = without_dot(line);
         if !has_room(&body, text) {
-            return Err(here.breaks(SheetRule::Length));
+            return Err(breaks(here, SheetRule::Length));
         }
         add_body_line(&mut body, text)?;
         here = after;
     }
-    Err(here.breaks(SheetRule::End))
+    Err(breaks(here, SheetRule::End))
 }

@@ -8,7 +8,8 @@ ghost use Rattle.import_sheet.specs.declared.field.Field.TheVariants as field;
 
 use crate::fault::{SheetError, SheetRule};
 use crate::found::Found;
-use crate::unread::Unread;
+use crate::unread::breaks;
+use text_fields::Unread;
 
 /// The values with those of one header line more, which is the first that is unread here.
 fn with_header<'a>(
@@ -21,7 +22,7 @@ fn with_header<'a>(
 {
     match found.with_line(line) {
         Ok(more) => Ok(more),
-        Err(rule) => Err(here.breaks(rule)),
+        Err(rule) => Err(breaks(here, rule)),
     }
 }
 
@@ -36,7 +37,7 @@ fn ended<'a>(
     ensures whole { (headers : List (List ℕ)) → Headers headers → HoldsValues headers found.entry → MatchResult result (λ _. WholeHeaders headers) (SheetFaultOrMemory (λ at broken. (at ≡ here.entry.line) × (broken ≡ rule.Missing) × (HasNone headers field.From ⊎ HasNone headers field.To))) }
 {
     if !found.is_whole() {
-        return Err(here.breaks(SheetRule::Missing));
+        return Err(breaks(here, SheetRule::Missing));
     }
     Ok((found, after))
 }
@@ -51,7 +52,7 @@ fn headers_from<'a>(
     ensures { (all headers : List (List ℕ)) (number : ℕ) → StartsWithText all → Headers headers → HoldsValues headers found.entry → Ahead all number (lines here.entry.text.now) here.entry.line headers → MatchResult result (λ taken. HeadersTaken all number taken.0 (lines taken.1.text.now) taken.1.line) (SheetFaultOrMemory (FaultAt all number)) }
 {
     let Some((line, after)) = here.next() else {
-        return Err(here.breaks(SheetRule::End));
+        return Err(breaks(here, SheetRule::End));
     };
     if line.is_empty() {
         return ended(found, here, after);

@@ -11,8 +11,9 @@ use crate::body::body_of;
 use crate::fault::SheetError;
 use crate::headers::headers_of;
 use crate::sheet::{Sheet, Sheets};
-use crate::unread::Unread;
+use crate::unread::without_empty_lines;
 use std::alloc::Global;
+use text_fields::Unread;
 
 /// The message that begins with the first line, and what stands behind it.
 fn sheet_of(alloc: Global, start: Unread<'_>) -> Result<(Sheet, Unread<'_>), SheetError>
@@ -35,7 +36,7 @@ fn sheets_in(alloc: Global, bytes: &[u8]) -> Result<Sheets, SheetError>
         text: bytes,
         line: 1,
     };
-    while let Some(start) = here.without_empty_lines() {
+    while let Some(start) = without_empty_lines(here) {
         let (sheet, rest) = sheet_of(alloc, start)?;
         sheets.add(sheet)?;
         here = rest;

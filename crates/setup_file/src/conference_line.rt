@@ -8,11 +8,12 @@ ghost use Rattle.setup_file.specs.State.{IsNumbered, Kept, SetupFaultOrMemory, B
 use crate::conference::{Conference, Conferences};
 use crate::error::{SetupError, SetupRule};
 use crate::texts::is_conference_name;
-use crate::unread::Unread;
+use crate::unread::{breaks, past_skipped};
 use crate::word::{kind_of, number_of, rights_of, split_word, value_behind};
 use byte_lists::Bytes;
 use jam_records::Kind;
 use std::alloc::{AllocError, Global};
+use text_fields::Unread;
 
 /// What a conference line says.
 #[derive(Clone, Copy)]
@@ -119,18 +120,18 @@ pub fn conferences_of(alloc: Global, start: Unread<'_>) -> Result<Conferences, S
 {
     let mut conferences = Conferences::new(alloc);
     let mut last = None;
-    let mut here = start.past_skipped();
+    let mut here = past_skipped(start);
     while let Some((line, after)) = here.next() {
         let parts = match line_parts(line, conferences.len(), last) {
             Ok(parts) => parts,
-            Err(rule) => return Err(here.breaks(rule)),
+            Err(rule) => return Err(breaks(here, rule)),
         };
         last = Some(parts.number);
         conferences.add(parts.conference(alloc)?)?;
-        here = after.past_skipped();
+        here = past_skipped(after);
     }
     if last.is_none() {
-        return Err(here.breaks(SetupRule::Missing));
+        return Err(breaks(here, SetupRule::Missing));
     }
     Ok(conferences)
 }

@@ -7,7 +7,8 @@ ghost use Rattle.setup_file.specs.State.{IsNumbered, Kept, OneMore, HeadTaken, S
 
 use crate::error::{SetupError, SetupRule};
 use crate::key::Key;
-use crate::unread::Unread;
+use crate::unread::{breaks, past_skipped};
+use text_fields::Unread;
 
 /// The values of the first six lines.
 #[derive(Clone, Copy)]
@@ -30,13 +31,13 @@ fn value_of<'a>(key: Key, start: Unread<'a>) -> Result<(&'a [u8], Unread<'a>), S
         (λ found. OneMore all kept (lines found.1.text.now) found.1.line (λ line. found.0.now ≡ value_behind (key_text key) line))
         (SetupFaultOrMemory (LinesFault all)) }
 {
-    let here = start.past_skipped();
+    let here = past_skipped(start);
     let Some((line, after)) = here.next() else {
-        return Err(here.breaks(SetupRule::Missing));
+        return Err(breaks(here, SetupRule::Missing));
     };
     match key.value_of(line) {
         Ok(value) => Ok((value, after)),
-        Err(rule) => Err(here.breaks(rule)),
+        Err(rule) => Err(breaks(here, rule)),
     }
 }
 

@@ -9,12 +9,12 @@ use crate::conference_line::conferences_of;
 use crate::error::SetupError;
 use crate::head::{Head, head_of};
 use crate::setup::Setup;
-use crate::unread::Unread;
 use crate::word::number_of;
 use crate::zones::Zones;
 use crate::zones_line::zones_of;
 use byte_lists::Bytes;
 use std::alloc::{AllocError, Global};
+use text_fields::Unread;
 
 /// The number of a serial, which is 1 to 5 digits.
 fn serial_of(digits: &[u8]) -> u32

@@ -7,10 +7,11 @@ ghost use Rattle.setup_file.specs.Fault.{LinesFault};
 ghost use Rattle.setup_file.specs.State.{IsNumbered, Kept, OneMore, SetupFaultOrMemory, BreaksAt, NoneBroken};
 
 use crate::error::{SetupError, SetupRule};
-use crate::unread::Unread;
+use crate::unread::{breaks, past_skipped};
 use crate::word::{next_word, number_of, value_behind};
 use crate::zones::{Zones, are_zones};
 use std::alloc::{AllocError, Global};
+use text_fields::Unread;
 
 /// The zone that a word says, or None where it isn't 1 to 5 digits of a number from 1 to 32,767.
 fn zone_of(word: &[u8]) -> Option<u16>
@@ -78,9 +79,9 @@ pub fn zones_of<'a>(alloc: Global, start: Unread<'a>) -> Result<(Zones, Unread<'
         (λ found. OneMore all kept (lines found.1.text.now) found.1.line (λ line. found.0 ≡ numbers_of_words (value_in zones_key line)))
         (SetupFaultOrMemory (LinesFault all)) }
 {
-    let here = start.past_skipped();
+    let here = past_skipped(start);
     let Some((line, after)) = here.next() else {
-        return Err(here.breaks(SetupRule::Missing));
+        return Err(breaks(here, SetupRule::Missing));
     };
     let zones = line_zones(alloc, line, here.line)?;
     Ok((zones, after))

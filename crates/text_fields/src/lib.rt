@@ -9,6 +9,7 @@ mod lines;
 mod number;
 mod split;
 mod trim;
+mod unread;
 
 pub use blank::Blank;
 pub use digits::{add_decimal, digits_of};
@@ -16,3 +17,4 @@ pub use lines::{add_line, is_skipped, lines_of, next_line};
 pub use number::number_of;
 pub use split::split_at_byte;
 pub use trim::{trimmed, trimmed_end};
+pub use unread::Unread;
