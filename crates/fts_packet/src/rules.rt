@@ -1,7 +1,7 @@
 ghost use Rattle.std.specs.Prelude.{◌≡◌};
 ghost use Rattle.std.specs.Option.{option_copied};
-ghost use Rattle.netmail_rules.specs.Rules.{names_nobody as names_nobody_of, first_refusing as first_refusing_of};
-ghost use Rattle.fts_packet.specs.Tossed.{toss_rules as rules_in, missing as missing_of};
+ghost use Rattle.netmail_rules.specs.Rules.{names_nobody as names_nobody_of, first_refusing};
+ghost use Rattle.fts_packet.specs.Tossed.{missing as missing_of, toss_rules};
 
 use crate::packet::FtsMessage;
 use crate::rule::TossRule;
@@ -28,35 +28,21 @@ pub fn missing(tag: Option<&[u8]>) -> TossRule
     }
 }
 
-/// The rules of a message with this draft, in their order, each with whether it refuses.
-fn rules_of(message: &FtsMessage, draft: &Message) -> [(TossRule, bool); 4]
-    ensures { result ≡ rules_in message.now draft.now }
-{
-    [
-        (TossRule::To, names_nobody(message.to.as_slice())),
-        (TossRule::From, names_nobody(message.from.as_slice())),
-        (TossRule::Subject, !is_plain(message.subject.as_slice())),
-        (TossRule::Length, draft.body.as_slice().len() > MOST),
-    ]
-}
-
-/// The first rule that refuses, of rules in order.
-fn first_refusing(rules: &[(TossRule, bool)]) -> Option<TossRule>
-    ensures { result ≡ first_refusing_of rules.now }
-{
-    let mut rest = rules;
-    while let [(rule, refuses), more @ ..] = rest {
-        if *refuses {
-            return Some(*rule);
-        }
-        rest = more;
-    }
-    None
-}
-
 /// The first rule that refuses a message with this draft, which a conference takes.
 pub fn refusal_of(message: &FtsMessage, draft: &Message) -> Option<TossRule>
-    ensures { result ≡ first_refusing_of (rules_in message.now draft.now) }
+    ensures { result ≡ first_refusing (toss_rules message.now draft.now) }
 {
-    first_refusing(&rules_of(message, draft))
+    if names_nobody(message.to.as_slice()) {
+        return Some(TossRule::To);
+    }
+    if names_nobody(message.from.as_slice()) {
+        return Some(TossRule::From);
+    }
+    if !is_plain(message.subject.as_slice()) {
+        return Some(TossRule::Subject);
+    }
+    if draft.body.as_slice().len() > MOST {
+        return Some(TossRule::Length);
+    }
+    None
 }
