@@ -23,7 +23,7 @@ use byte_lists::Bytes;
 use door_outside::{Host, Shelf};
 use jam_adopt::Foreign;
 use mail_board::{Board, Change, Loaded};
-use mail_intake::add_counts;
+use mail_intake::with_counts;
 use message_commands::place_in;
 use std::alloc::{AllocError, Global};
 
@@ -40,17 +40,10 @@ fn ended_with(adopted: Adopted, count: usize) -> Result<Adopting, AllocError>
     ensures may { (conference place : ℕ) (b : Boards.Board) (records : List Founds.Found) → AreAdopted conference place b records adopted → length records ≡ count → IfOk result (λ adopting. MayAdopt conference place records b (Ok adopting)) }
     ensures change { (conference place : ℕ) (b : Boards.Board) (records : List Founds.Found) → AreAdopted conference place b records adopted → IfOk result (TakesOver conference place records b) }
 {
-    let Adopted { tally, mut lines } = adopted;
-    let posted = tally.posts.len();
-    add_counts(
-        &mut lines,
-        posted as u64,
-        count.saturating_sub(posted) as u64,
-    )?;
-    Ok(Adopting {
-        change: Change::Spread { posts: tally.posts },
-        reply: lines,
-    })
+    let Adopted { tally, lines } = adopted;
+    let reply = with_counts(lines, tally.posts.len(), count)?;
+    let change = Change::Spread { posts: tally.posts };
+    Ok(Adopting { change, reply })
 }
 
 /// The change by which the records of a base come into the conference of a number in a place.

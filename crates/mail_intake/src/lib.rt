@@ -6,6 +6,6 @@ mod lines;
 mod msgids;
 mod tally;
 
-pub use lines::{add_counts, add_posted, add_refused};
+pub use lines::{add_posted, add_refused, with_counts};
 pub use msgids::MsgidSet;
 pub use tally::Tally;

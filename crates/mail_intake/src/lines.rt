@@ -1,5 +1,5 @@
 //! The lines that say what became of messages.
-ghost use Rattle.std.specs.Prelude.{◌≡◌, ◌++◌, OnOk};
+ghost use Rattle.std.specs.Prelude.{◌≡◌, ◌-◌, ◌++◌, IfOk, OnOk};
 ghost use Rattle.mail_intake.specs.Lines.{counts_line, posted_line, refused_line};
 
 use byte_lists::Bytes;
@@ -37,7 +37,7 @@ pub fn add_refused(text: &mut Bytes, place: u32, word: &[u8]) -> Result<(), Allo
 
 /// Adds the line of how many messages were posted and how many refused. Where there is no memory, the text is no longer
 /// of use.
-pub fn add_counts(text: &mut Bytes, posted: u64, refused: u64) -> Result<(), AllocError>
+fn add_counts(text: &mut Bytes, posted: u64, refused: u64) -> Result<(), AllocError>
     ensures { OnOk result (text.new ≡ text.old ++ counts_line posted refused) }
 {
     text.add(b"posted ")?;
@@ -45,4 +45,20 @@ pub fn add_counts(text: &mut Bytes, posted: u64, refused: u64) -> Result<(), All
     text.add(b" refused ")?;
     add_decimal(text, refused)?;
     text.add(b"\n")
+}
+
+/// The lines of messages, of which so many were posted, and behind them the line of how many of the count were posted and
+/// how many refused.
+///
+/// The error comes where there is no memory.
+pub fn with_counts(lines: Bytes, posted: usize, count: usize) -> Result<Bytes, AllocError>
+    ensures { IfOk result (λ text. text ≡ lines ++ counts_line posted (count - posted)) }
+{
+    let mut text = lines;
+    add_counts(
+        &mut text,
+        posted as u64,
+        count.saturating_sub(posted) as u64,
+    )?;
+    Ok(text)
 }

@@ -22,7 +22,7 @@ use byte_lists::Bytes;
 use door_outside::{Host, Shelf, ShelfName};
 use fts_packet::FtsPacket;
 use mail_board::{Board, Change, Loaded};
-use mail_intake::add_counts;
+use mail_intake::with_counts;
 use std::alloc::{AllocError, Global};
 
 /// The change that posts what was taken of a packet, and what is to be said of it.
@@ -38,21 +38,10 @@ fn ended_with(tossed: Tossed, count: usize) -> Result<Tossing, AllocError>
     ensures may { (now : ℕ) (b : Boards.Board) (messages : List Fts.FtsMessage) → AreTossed now b messages tossed → length messages ≡ count → IfOk result (λ tossing. MayToss now messages b (Ok tossing)) }
     ensures change { (now : ℕ) (b : Boards.Board) (messages : List Fts.FtsMessage) → AreTossed now b messages tossed → IfOk result (PostsTossed now messages b) }
 {
-    let Tossed {
-        tally,
-        mut lines,
-        ..
-    } = tossed;
-    let posted = tally.posts.len();
-    add_counts(
-        &mut lines,
-        posted as u64,
-        count.saturating_sub(posted) as u64,
-    )?;
-    Ok(Tossing {
-        change: Change::Spread { posts: tally.posts },
-        reply: lines,
-    })
+    let Tossed { tally, lines, .. } = tossed;
+    let reply = with_counts(lines, tally.posts.len(), count)?;
+    let change = Change::Spread { posts: tally.posts };
+    Ok(Tossing { change, reply })
 }
 
 /// The change by which the messages of a packet come into the conferences at a moment.
