@@ -1,5 +1,6 @@
 -- The exits of `toss` once the board is found.
 use Rattle.std.proofs.Common.{◌≡◌, ℕ, List, Option, Some, Ok, Err, refl, sym}
+use Rattle.board_commands.proofs.CauseLaws.{stops_by}
 use Rattle.board_commands.proofs.Exits.{shelf_fails, starved}
 use Rattle.board_commands.specs.Halts.{told, of_journal, of_shelf}
 use Rattle.board_commands.specs.Kept.{IsOutlined, unread}
@@ -13,8 +14,6 @@ use Rattle.door_outside.specs.Shelf as Shelf
 use Rattle.entry_runs.proofs.Commands.{works_same}
 use Rattle.entry_runs.specs.Door.{World}
 use Rattle.entry_runs.specs.Entry.{Changes, Finds, IsAt, Works}
-use Rattle.entry_runs.specs.Promise.{Counts, HasCauses, ended}
-use Rattle.entry_runs.specs.declared.status.Status.TheVariants as status
 use Rattle.fts_packet.specs.declared.packet.FtsMessage.{FtsMessage}
 use Rattle.intent_journal.specs.Recovered.{recovered}
 use Rattle.intent_journal.specs.declared.recovery.JournalError.{JournalError}
@@ -47,11 +46,8 @@ module _ (file : List ℕ) (now : ℕ) {world : World State} {old mid : Disk} {s
   module _ (messages : List FtsMessage) (reads : FtsPacketOf shelf file (Ok messages)) where
     -- there is no memory for what becomes of the messages
     pub unprepared : (e : BoardHalt) → MayToss now messages b (Err e) → Works Stores (tosses file now) unread world old mid later (told said (Err e))
-    unprepared board_halt.OutOfMemory may = works_same Stores (tosses file now) same (starved (Tosses file now) at finds)
-    unprepared (board_halt.Refused why) may = absurd may
-    unprepared (board_halt.Damaged d) may = absurd may
-    unprepared board_halt.DiskFault may = absurd may
-    unprepared board_halt.ShelfFault may = absurd may
+    unprepared = stops_by (λ (e : BoardHalt). Works Stores (tosses file now) unread world old mid later (told said (Err e)))
+        (λ why may. absurd may) (works_same Stores (tosses file now) same (starved (Tosses file now) at finds))
 
     module _ (t : Tossing) (may : MayToss now messages b (Ok t)) (change : PostsTossed now messages b t) where
       takes : (real : Board) → IsBoard real → AreAlike real b → Tosses file now shelf (Some real) (carried t.change real t.reply)
@@ -63,11 +59,3 @@ module _ (file : List ℕ) (now : ℕ) {world : World State} {old mid : Disk} {s
       pub untossed : {new : Disk} {T : Type 0} (error : JournalError) → ((r : Board) → Stores (Made r) (recovered mid.files) → Changes Stores {T = T} unread (Made r) (Made (changed t.change r)) mid new (Err error)) → (error ≡ Starved → Unchanged mid new)
           → Works Stores (tosses file now) unread world old new later (told said (Err (of_journal error)))
       untossed error changes still = works_same Stores (tosses file now) same (unchanged_by (Tosses file now) at kept finds found b kept_is t.change t.reply takes said error changes still)
-
--- a packet for which there is no memory is no fault
-pub no_fault : (now : ℕ) (messages : List FtsMessage) (b : Board) {old new : Counts} (e : BoardHalt) → MayToss now messages b (Err e) → HasCauses old new status.OutOfMemory → HasCauses old new (ended (told said (Err e)))
-no_fault now messages b board_halt.OutOfMemory may halted = halted
-no_fault now messages b (board_halt.Refused why) may halted = absurd may
-no_fault now messages b (board_halt.Damaged d) may halted = absurd may
-no_fault now messages b board_halt.DiskFault may halted = absurd may
-no_fault now messages b board_halt.ShelfFault may halted = absurd may

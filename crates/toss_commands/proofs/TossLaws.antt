@@ -1,17 +1,12 @@
--- What becomes of the messages of a packet: of none, of one more, and of all; and the turn of it.
-use Rattle.std.proofs.Common.{◌≡◌, ℕ, ◌+◌, ◌-◌, ◌<◌, ◌≤◌, suc, List, [], ◌∷◌, ◌++◌, length, drop, get_or, Some, refl, sym, ap, ◌∙◌, arith}
+-- What becomes of the messages of a packet: of none, of one more, and of all.
+use Rattle.std.proofs.Common.{◌≡◌, ℕ, ◌+◌, ◌<◌, ◌≤◌, suc, List, [], ◌∷◌, length, drop, get_or, refl, sym, ap, ◌∙◌, arith}
 use Rattle.std.proofs.Math.Seq.{drop-cons}
 use Rattle.std.proofs.lemmas.List.{drop_all}
-use Rattle.board_commands.specs.Turns.{Turn}
 use Rattle.board_layout.specs.Board.{Board}
 use Rattle.fts_packet.specs.Tossed.{toss_verdict}
 use Rattle.fts_packet.specs.declared.packet.FtsMessage.{FtsMessage}
 use Rattle.jam_records.specs.declared.message.Message.{Message}
-use Rattle.mail_intake.specs.Lines.{counts_line, intake_text}
 use Rattle.mail_intake.specs.Tallies.{IsTally}
-use Rattle.post_changes.specs.Posted.{spread}
-use Rattle.shelf_files.specs.Halts.{done}
-use Rattle.toss_commands.specs.Toss.{tossing}
 use Rattle.toss_commands.specs.Tossed.{tossed, tossed_as, tossed_from}
 use Rattle.toss_commands.specs.Tossing.{AreSeen, AreTossed}
 use Rattle.toss_commands.specs.declared.tossed.Tossed.{Tossed as Toss}
@@ -48,13 +43,3 @@ from_none b now at so_far = refl
 
 pub all_tossed : (b : Board) (now i at : ℕ) (so_far all : List ℕ × List (ℕ × Message)) (messages : List FtsMessage) → length messages ≤ i → tossed_from b now at so_far (drop i messages) ≡ all → so_far ≡ all
 all_tossed b now i at so_far all messages past before = sym (from_none b now at so_far) ∙ (ap (tossed_from b now at so_far) (sym (drop_all i messages past)) ∙ before)
-
--- the turn
-pub ends : (now : ℕ) (b : Board) (messages : List FtsMessage) (lines reply : List ℕ) (posts : List (ℕ × Message)) (count posted refused : ℕ) → (lines, posts) ≡ tossed b now messages → length messages ≡ count → posted ≡ length posts → refused ≡ count - posted
-    → reply ≡ lines ++ counts_line posted refused → tossing now b messages ≡ record { board = Some (spread posts b); reply = done reply }
-ends now b messages lines reply posts count posted refused so_far counted posted_is refused_is said =
-    let turn_of : List ℕ × List (ℕ × Message) → Turn = λ all. record { board = Some (spread all.1 b); reply = done (intake_text (length messages) all) } in
-    let rest : refused ≡ length messages - length posts = omega (arith, refused_is, counted, posted_is) in
-    let text : reply ≡ lines ++ counts_line (length posts) (length messages - length posts)
-    = said ∙ (ap (λ (n : ℕ). lines ++ counts_line n refused) posted_is ∙ ap (λ (n : ℕ). lines ++ counts_line (length posts) n) rest) in
-    ap turn_of (sym so_far) ∙ sym (ap (λ (t : List ℕ). record { board = Some (spread posts b); reply = done t }) text)

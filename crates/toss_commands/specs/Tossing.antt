@@ -1,8 +1,8 @@
 -- What is known between two messages of a packet, and what is found before those that are taken are posted.
 use Rattle.std.specs.Prelude.{◌≡◌, ℕ, ◌≤◌, List, [], length, slice_get, Contains, Option, Some, None, Result, Ok, Err}
 use Rattle.std.specs.List.{list_any}
+use Rattle.board_commands.specs.Halts.{StopsBy}
 use Rattle.board_commands.specs.declared.halt.BoardHalt.{BoardHalt}
-use Rattle.board_commands.specs.declared.halt.BoardHalt.TheVariants.{Refused, Damaged, DiskFault, ShelfFault, OutOfMemory}
 use Rattle.board_layout.specs.Board.{Board}
 use Rattle.fts_packet.specs.Packet.{FtsReads}
 use Rattle.fts_packet.specs.declared.packet.FtsMessage.{FtsMessage}
@@ -65,8 +65,4 @@ PostsTossed now messages b t = t.change ≡ Spread (tossed b now messages).1
 abbrev pub MayToss : ℕ → List FtsMessage → Board → Result Tossing BoardHalt → Type 0
 MayToss now messages b (Ok t) =
     Fits t.change b × (tossing now b messages ≡ record { board = Some (changed t.change b); reply = done t.reply }) × IsPosting t.change
-MayToss now messages b (Err OutOfMemory) = Unit {0}
-MayToss now messages b (Err (Refused why)) = ⊥
-MayToss now messages b (Err (Damaged d)) = ⊥
-MayToss now messages b (Err DiskFault) = ⊥
-MayToss now messages b (Err ShelfFault) = ⊥
+MayToss now messages b (Err e) = StopsBy (λ why. ⊥) e

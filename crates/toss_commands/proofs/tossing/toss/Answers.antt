@@ -1,5 +1,6 @@
 use Rattle.std.proofs.Common.{rules, ◌≡◌, ℕ, List, Some, Err, refl, sym, ◌∙◌, ap, subst}
 use Rattle.std.specs.Prelude.{Result}
+use Rattle.board_commands.proofs.CauseLaws.{no_fault}
 use Rattle.board_commands.proofs.Exits.{unfound}
 use Rattle.board_commands.proofs.FindLaws.{same_host}
 use Rattle.board_commands.proofs.WriteLaws.{found_within}
@@ -15,7 +16,7 @@ use Rattle.entry_runs.specs.declared.status.Status.TheVariants as status
 use Rattle.mail_board.specs.Changes.{Fits}
 use Rattle.message_commands.proofs.Exits.{unmade_by}
 use Rattle.toss_commands.proofs.TossBounds.{toss_within}
-use Rattle.toss_commands.proofs.TossExits.{no_fault, no_packet, said, tosses_all, unprepared, untossed}
+use Rattle.toss_commands.proofs.TossExits.{no_packet, said, tosses_all, unprepared, untossed}
 use Rattle.toss_commands.specs.Toss.{Tosses, tosses}
 use Rattle.toss_commands.proofs.tossing.toss.Goals as goal
 
@@ -82,9 +83,10 @@ returns-in_err-tossing-clause-causes g c =
     let is : c.from_residual-in_err-tossing.result ≡ Err e = search rules in
     let old : Counts = counts (g.H.Host.disk_faults c.args.host.now) (g.H.Host.voice_faults c.args.host.now) (g.S.Shelf.faults c.args.shelf.now) in
     let new : Counts = counts (g.H.Host.disk_faults c.find.new.host) (g.H.Host.voice_faults c.find.new.host) (g.S.Shelf.faults c.packet_in.new.shelf) in
+    let done : HasCauses old new status.Done = search rules in
     let starved : HasCauses old new status.OutOfMemory = search rules in
     subst (λ (r : Result (List ℕ) BoardHalt). HasCauses old new (ended (told said r))) (sym is)
-    (no_fault c.args.now c.in_ok-messages.messages c.in_ok-board.board.now.board e c.in_err-tossing.ensures.may starved)
+    (no_fault said _ e c.in_err-tossing.ensures.may done starved)
 
 pub returns-in_err-find-clause-wrote : goal.returns-in_err-find-clause-wrote
 returns-in_err-find-clause-wrote g c tells shelf_tells closed = found_within (tosses c.args.file.now c.args.now) (g.H.Host.disk c.args.host.now) (g.H.Host.disk c.find.new.host) (g.S.Shelf.files c.args.shelf.now) closed (c.find.ensures.wrote tells)
