@@ -1,52 +1,14 @@
--- The four clauses of `Ledger::read`, from the one function that it computes.
-use Rattle.std.proofs.Common.{◌≡◌, Option, Some, None, Result, Ok, Err, refl, sym, ap, subst, ◌∙◌, inl, inr}
-use Rattle.std.specs.Prelude.{IfOk}
+-- The error of reading a ledger tells of a damage, or of want of memory.
+use Rattle.std.proofs.Common.{◌≡◌, ◌⊎◌, refl, inl, inr}
 use Rattle.jam_records.specs.declared.damage.Damage.{Damage}
+use Rattle.damage_rules.proofs.ReadingClauses.{TellsDamage}
 use Rattle.board_ledger.specs.declared.error.LedgerError.{LedgerError}
 use Rattle.board_ledger.specs.declared.error.LedgerError.TheVariants.{Damaged, OutOfMemory}
-use Rattle.board_ledger.specs.Rules.{LedgerGives, LedgerUnlessMemory}
-use Rattle.damage_rules.specs.Rules.{damage_of}
+use Rattle.board_ledger.specs.Rules.{damage_of_ledger}
 
-abbrev ok : {X : Type 0} → X → Result X LedgerError
-ok x = Ok x
+damage_or_memory : (e : LedgerError) → ((d : Damage) × (e ≡ Damaged d)) ⊎ (e ≡ OutOfMemory)
+damage_or_memory (Damaged d) = inl (d, refl)
+damage_or_memory OutOfMemory = inr refl
 
-abbrev err : {X : Type 0} → LedgerError → Result X LedgerError
-err e = Err e
-
-abbrev read_ok : {X : Type 0} → X → Result X Damage
-read_ok x = Ok x
-
-abbrev read_err : {X : Type 0} → Damage → Result X Damage
-read_err d = Err d
-
-ok_once : {X : Type 0} (x y : X) → read_ok x ≡ read_ok y → x ≡ y
-ok_once x y e = cc
-
-apart : {X : Type 0} (x : X) (d : Damage) → read_err d ≡ read_ok x → ⊥
-apart x d e = cc
-
-some_once : (d e : Damage) → Some d ≡ Some e → d ≡ e
-some_once d e h = cc
-
-pub if_read : {X : Type 0} (r : Result X LedgerError) (read : Result X Damage) (P : X → Type 0) → LedgerGives (λ y. y) r read → ((x : X) → read ≡ Ok x → P x) → IfOk r P
-if_read (Ok x) read P h f = f x h
-if_read (Err e) read P h f = tt
-
-pub only_ok : {X : Type 0} (r : Result X LedgerError) (read : Result X Damage) (x : X) → LedgerGives (λ y. y) r read → read ≡ Ok x → LedgerUnlessMemory r (Ok x)
-only_ok (Ok y) read x h e = inl (ap (λ z. Ok z) (ok_once y x (sym h ∙ e)))
-only_ok (Err (Damaged d)) read x h e = absurd (apart x d (sym h ∙ e))
-only_ok (Err OutOfMemory) read x h e = inr refl
-
-pub is_damage : {X : Type 0} (r : Result X LedgerError) (read : Result X Damage) (d : Damage) → LedgerGives (λ y. y) r read → r ≡ Err (Damaged d) → damage_of read ≡ Some d
-is_damage {X = X} r read d h e = ap damage_of (subst (λ (q : Result X LedgerError). LedgerGives (λ y. y) q read) e h)
-
-abbrev none : Option Damage
-none = None
-
-no_some : (d : Damage) → none ≡ Some d → ⊥
-no_some d e = cc
-
-pub only_damage : {X : Type 0} (r : Result X LedgerError) (read : Result X Damage) (d : Damage) → LedgerGives (λ y. y) r read → damage_of read ≡ Some d → LedgerUnlessMemory r (Err (Damaged d))
-only_damage (Ok y) read d h e = absurd (no_some d (sym (ap damage_of h) ∙ e))
-only_damage (Err (Damaged b)) read d h e = inl (ap (λ k. Err (Damaged k)) (some_once b d (sym (ap damage_of h) ∙ e)))
-only_damage (Err OutOfMemory) read d h e = inr refl
+pub ledger_tells : TellsDamage damage_of_ledger (λ d. Damaged d) OutOfMemory
+ledger_tells = record { each = damage_or_memory; damage = λ d. refl }

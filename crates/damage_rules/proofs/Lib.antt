@@ -1,3 +1,4 @@
 pub mod KeptRules
 pub mod RecordWalks
 pub mod BoolTests
+pub mod ReadingClauses
