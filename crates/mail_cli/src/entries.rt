@@ -18,7 +18,7 @@ use std::alloc::Global;
 
 /// Carries out entries in order, and says their replies, with the board as it was kept, up to and with the first that
 /// ends the run.
-fn carry_on<H: Host, S: Shelf>(
+pub fn run_entries<H: Host, S: Shelf>(
     alloc: Global,
     entries: &[Entry],
     host: &mut H,
@@ -55,31 +55,4 @@ fn carry_on<H: Host, S: Shelf>(
         }
     }
     status
-}
-
-/// Carries out entries in order, and says their replies, up to and with the first that ends the run.
-pub fn run_entries<H: Host, S: Shelf>(
-    alloc: Global,
-    entries: &[Entry],
-    host: &mut H,
-    shelf: &mut S,
-    now: u32,
-) -> Status
-    requires can_run { All EntryCanRun entries.now }
-    requires settled { IsTrue H.tells → IsSettled (H.disk host.old) }
-    ensures settled { IsTrue H.tells → IsSettled (H.disk host.new) }
-    ensures leaves { IsTrue H.tells → IsTrue S.tells → EntriesLeave now entries.now result (H.disk host.old) (H.disk host.new) (S.files shelf.old) (S.files shelf.new) }
-    ensures survives { IsTrue H.tells → IsTrue S.tells → EntriesSurvive now entries.now (H.disk host.old) (H.disk host.new) (S.files shelf.old) }
-    ensures damaged { IsTrue H.tells → IsTrue S.tells → DamagedOnlyIfSpoiled result (H.disk host.old) (S.files shelf.old) }
-    ensures touched { result ≡ Status.Damaged → IsTrue (any_touches (door now) entries.now) }
-    ensures causes { HaveCauses H.disk_faults H.voice_faults S.faults host.old host.new shelf.old shelf.new result }
-    ensures usage { result ≡ Status.Usage → HasWrong entries.now }
-    ensures wrong { BeginsWrong entries.now → AnswersUsage result }
-    ensures files_stay { any_touches (door now) entries.now ≡ false → IsTrue H.tells → LeavesFiles (H.disk host.old) (H.disk host.new) }
-    ensures disk_faults_stay { any_touches (door now) entries.now ≡ false → H.disk_faults host.new ≡ H.disk_faults host.old }
-    ensures shelf_stays { any_uses_shelf entries.now ≡ false → shelf.new ≡ shelf.old }
-    ensures wrote { IsTrue H.tells → IsTrue S.tells → OneKeepsBound now entries.now (H.disk host.old) (H.disk host.new) (S.files shelf.old) }
-{
-    let mut kept = None;
-    carry_on(alloc, entries, host, shelf, &mut kept, now)
 }

@@ -91,5 +91,6 @@ pub fn run<H: Host, S: Shelf>(
         Err(Unread::ShelfFault) => return Status::ShelfFault,
         Err(Unread::OutOfMemory) => return Status::OutOfMemory,
     };
-    run_entries(alloc, entries.as_slice(), host, shelf, now)
+    let mut kept = None;
+    run_entries(alloc, entries.as_slice(), host, shelf, &mut kept, now)
 }

@@ -12,7 +12,7 @@ use Rattle.mail_cli.proofs.EntryLaws.{lawful, only_spoiled, still_spoiled}
 use Rattle.mail_cli.proofs.CommandBounds.{one_bound}
 use Rattle.mail_cli.proofs.Staying.{and_on, none_at, nothing_done}
 use Rattle.mail_cli.proofs.Wrongs.{wrong_head, not_begun, has_wrong, some_from, ends_usage, ends_damaged, quiet_usage, quiet_damaged, stopped_usage, stopped_damaged, unsaid_usage, goes_right}
-use Rattle.mail_cli.proofs.entries.carry_on.Goals as goal
+use Rattle.mail_cli.proofs.entries.run_entries.Goals as goal
 
 pub loop-entry-init : goal.loop-entry-init
 loop-entry-init g c = record {

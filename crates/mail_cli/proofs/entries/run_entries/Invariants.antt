@@ -10,7 +10,7 @@ use Rattle.door_commands.specs.Entries.{BeginsWrong}
 use Rattle.mail_cli.specs.CommandBound.{OneKeepsBound}
 use Rattle.mail_cli.specs.Run.{LeavesFiles}
 use Rattle.mail_cli.specs.Step.{any_uses_shelf, door}
-use Rattle.mail_cli.proofs.entries.carry_on.Given as goal
+use Rattle.mail_cli.proofs.entries.run_entries.Given as goal
 
 abbrev pub invariant-loop-entry : goal.invariant-loop-entry
 invariant-loop-entry g l = record {
