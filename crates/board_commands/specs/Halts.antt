@@ -32,6 +32,11 @@ StopsBy Why (Damaged d) = ⊥
 StopsBy Why DiskFault = ⊥
 StopsBy Why ShelfFault = ⊥
 
+-- what a call answered, with its error as why a command isn't carried out
+abbrev pub halted : {T E : Type 0} → (E → BoardHalt) → Result T E → Result T BoardHalt
+halted why (Ok value) = Ok value
+halted why (Err e) = Err (why e)
+
 -- why a command isn't carried out where the board wasn't read
 abbrev pub halt_of_read : ReadError → BoardHalt
 halt_of_read (read.Damaged d) = Damaged d

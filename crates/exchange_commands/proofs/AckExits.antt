@@ -4,7 +4,7 @@ use Rattle.std.specs.Prelude.{Result, OnOk}
 use Rattle.std.specs.Result.{result_err}
 use Rattle.board_commands.proofs.ChangeLaws.{changes_to}
 use Rattle.board_commands.proofs.Exits.{answered, starved, turned, unturned}
-use Rattle.board_commands.specs.Halts.{told}
+use Rattle.board_commands.specs.Halts.{halted, told}
 use Rattle.board_commands.specs.Kept.{unread}
 use Rattle.board_commands.specs.State.{State, Made, Stores, migrated}
 use Rattle.board_commands.specs.Turns.{Turn, refuses}
@@ -28,7 +28,7 @@ use Rattle.intent_journal.specs.declared.recovery.JournalError.TheVariants as jo
 use Rattle.mail_board.specs.Held.{BeforeOrNext, Rests}
 use Rattle.shelf_files.specs.Halts.{refused as says_refusal}
 use Rattle.exchange_commands.specs.Ack.{ack_turn, acknowledged_line, acknowledges, ack_refusal, turn_of}
-use Rattle.exchange_commands.specs.Acknowledging.{ack_halted}
+use Rattle.exchange_commands.specs.Acknowledging.{ack_halt}
 
 abbrev turns : List ℕ → ℕ → ℕ → Files → Option Board → Turn → Type 0
 turns name packet now files board turn = turn ≡ ack_turn name packet now board
@@ -72,7 +72,7 @@ module _ (name : List ℕ) (packet now : ℕ) (small : now < 2 ^ 32) (b : Board)
         refused same reason (r_is ∙ ap Err one)
 
     pub works : {new : Disk} (r : Result Board AckRefusal) → ack_of name packet now b ≡ r → (result : Result (Unit {0}) AckError) → Leaves b mid new r result
-        → Works Stores (acknowledges name packet now) unread world old new shelf (told (λ _. acknowledged_line packet) (ack_halted result))
+        → Works Stores (acknowledges name packet now) unread world old new shelf (told (λ _. acknowledged_line packet) (halted ack_halt result))
     works (Ok next) r_is (Ok x) leaves =
         turned (turns name packet now) at {board = Some b} finds is (turn_of packet b (Ok next)) (takes world.shelf (Ok next) r_is) (changes (Ok next) r_is (Ok x) leaves {E = JournalError} (Ok (tt {0})) leaves.rests)
     works (Ok next) r_is (Err NoUser) leaves = absurd (cc leaves.refused_is)

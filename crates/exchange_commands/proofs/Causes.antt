@@ -2,7 +2,7 @@
 use Rattle.std.proofs.Common.{◌≡◌, ◌≢◌, ℕ, List, Ok, Err, refl}
 use Rattle.std.specs.Prelude.{Result}
 use Rattle.board_commands.proofs.CauseLaws.{disk_fails, quiet, shelf_fails, unraised}
-use Rattle.board_commands.specs.Halts.{told}
+use Rattle.board_commands.specs.Halts.{halted, told}
 use Rattle.door_export.specs.declared.acknowledging.AckError.{AckError}
 use Rattle.door_export.specs.declared.acknowledging.AckError.TheVariants as ack
 use Rattle.door_export.specs.declared.exporting.ExportError.{ExportError}
@@ -12,11 +12,11 @@ use Rattle.entry_runs.specs.Promise.{HasCauses, counts, ended}
 use Rattle.entry_runs.specs.declared.status.Status.TheVariants as status
 use Rattle.mail_board.specs.Causes.{HasFault}
 use Rattle.exchange_commands.specs.Acknowledging as acknowledging
-use Rattle.exchange_commands.specs.Exporting.{export_halted}
+use Rattle.exchange_commands.specs.Exporting.{export_halt}
 
 module _ {disk voice shelf disk_after voice_after shelf_after : ℕ} (voice_same : voice_after ≡ voice) where
   pub export_causes : (text : Exported → List ℕ) (result : Result Exported ExportError) → HasFault DiskFault disk disk_after result → HasFault ShelfFault shelf shelf_after result → result ≢ Err Doubt
-      → HasCauses (counts disk voice shelf) (counts disk_after voice_after shelf_after) (ended (told text (export_halted result)))
+      → HasCauses (counts disk voice shelf) (counts disk_after voice_after shelf_after) (ended (told text (halted export_halt result)))
   export_causes text (Ok e) d s certain = quiet voice_same status.Done (λ is. absurd (cc is)) (λ is. absurd (cc is)) (λ is. absurd (cc is)) (unraised DiskFault _ d (λ is. cc is)) (unraised ShelfFault _ s (λ is. cc is))
   export_causes text (Err NoUser) d s certain = quiet voice_same status.Done (λ is. absurd (cc is)) (λ is. absurd (cc is)) (λ is. absurd (cc is)) (unraised DiskFault _ d (λ is. cc is)) (unraised ShelfFault _ s (λ is. cc is))
   export_causes text (Err Limit) d s certain = quiet voice_same status.Done (λ is. absurd (cc is)) (λ is. absurd (cc is)) (λ is. absurd (cc is)) (unraised DiskFault _ d (λ is. cc is)) (unraised ShelfFault _ s (λ is. cc is))
@@ -28,7 +28,7 @@ module _ {disk voice shelf disk_after voice_after shelf_after : ℕ} (voice_same
   export_causes text (Err OutOfMemory) d s certain = quiet voice_same status.OutOfMemory (λ is. absurd (cc is)) (λ is. absurd (cc is)) (λ is. absurd (cc is)) (unraised DiskFault _ d (λ is. cc is)) (unraised ShelfFault _ s (λ is. cc is))
 
   pub ack_causes : (text : Unit {0} → List ℕ) (result : Result (Unit {0}) AckError) → HasFault ack.DiskFault disk disk_after result → shelf_after ≡ shelf → result ≢ Err ack.Doubt
-      → HasCauses (counts disk voice shelf) (counts disk_after voice_after shelf_after) (ended (told text (acknowledging.ack_halted result)))
+      → HasCauses (counts disk voice shelf) (counts disk_after voice_after shelf_after) (ended (told text (halted acknowledging.ack_halt result)))
   ack_causes text (Ok x) d s certain = quiet voice_same status.Done (λ is. absurd (cc is)) (λ is. absurd (cc is)) (λ is. absurd (cc is)) (unraised ack.DiskFault _ d (λ is. cc is)) s
   ack_causes text (Err ack.NoUser) d s certain = quiet voice_same status.Done (λ is. absurd (cc is)) (λ is. absurd (cc is)) (λ is. absurd (cc is)) (unraised ack.DiskFault _ d (λ is. cc is)) s
   ack_causes text (Err (ack.NoPacket offer)) d s certain = quiet voice_same status.Done (λ is. absurd (cc is)) (λ is. absurd (cc is)) (λ is. absurd (cc is)) (unraised ack.DiskFault _ d (λ is. cc is)) s

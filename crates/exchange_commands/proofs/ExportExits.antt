@@ -3,7 +3,7 @@ use Rattle.std.proofs.Common.{◌≡◌, ◌≢◌, ℕ, List, Option, Some, Ok,
 use Rattle.std.specs.Prelude.{Result, IfOk, IsErrOf, OnOk, option_map}
 use Rattle.std.specs.Result.{result_err, result_ok}
 use Rattle.board_commands.proofs.ChangeLaws.{changes_to}
-use Rattle.board_commands.specs.Halts.{told}
+use Rattle.board_commands.specs.Halts.{halted, told}
 use Rattle.board_commands.specs.Kept.{unread}
 use Rattle.board_commands.specs.State.{State, Made, Stores, migrated}
 use Rattle.board_layout.specs.Board.{Board}
@@ -31,7 +31,7 @@ use Rattle.mail_board.specs.Held.{BeforeOrNext, Rests}
 use Rattle.shelf_files.specs.Halts.{done, refused as says_refusal}
 use Rattle.exchange_commands.proofs.HandingExits.{answered, cut_short, handed, starved, unchanged}
 use Rattle.exchange_commands.specs.Export.{export_handing, exports, handing_of, packet_line, export_refusal}
-use Rattle.exchange_commands.specs.Exporting.{export_halted}
+use Rattle.exchange_commands.specs.Exporting.{export_halt}
 use Rattle.exchange_commands.specs.Handing.{Handing, refused_handing}
 
 abbrev hands : List ℕ → ℕ → List ℕ → ℕ → Files → Option Board → Handing → Type 0
@@ -99,7 +99,7 @@ module _ (name : List ℕ) (limit : ℕ) (folder : List ℕ) (now : ℕ) (b : Bo
         (written ∙ ap (with_packet folder p.controls p.messages) at.shelf_is))
 
     pub works : {new : Disk} {later : Files} (r : Result Handout ExportRefusal) → export_of name limit now b ≡ r → (result : Result Exported ExportError) → Leaves b folder mid new shelf later r result
-        → Works Stores (exports name limit folder now) unread world old new later (told packet_line (export_halted result))
+        → Works Stores (exports name limit folder now) unread world old new later (told packet_line (halted export_halt result))
     works (Ok p) r_is (Ok e) leaves = exported p e r_is leaves
     works (Ok p) r_is (Err NoUser) leaves = absurd (cc leaves.refused_is)
     works (Ok p) r_is (Err Limit) leaves = absurd (cc leaves.refused_is)

@@ -3,7 +3,7 @@ use Rattle.std.proofs.Common.{◌≡◌, ℕ, List, Option, Some, None, Result, 
 use Rattle.std.specs.Prelude.{◌⊎◌, IsErrOf, IsSome, OnOk}
 use Rattle.board_commands.proofs.ChangeLaws.{changes_to}
 use Rattle.board_commands.proofs.Exits.{answered, shelf_fails, starved, turned, unturned}
-use Rattle.board_commands.specs.Halts.{told, of_shelf}
+use Rattle.board_commands.specs.Halts.{halted, told, of_shelf}
 use Rattle.board_commands.specs.Kept.{unread}
 use Rattle.board_commands.specs.State.{State, Made, Stores, migrated}
 use Rattle.board_commands.specs.Turns.{Turn, refuses}
@@ -38,7 +38,7 @@ use Rattle.shelf_files.specs.declared.halt.Halt.TheVariants as halt
 use Rattle.shelf_files.specs.declared.refusal.Refusal.{Refusal}
 use Rattle.shelf_files.specs.declared.refusal.Refusal.TheVariants.{NoUser}
 use Rattle.exchange_commands.specs.Upload.{Uploads, UploadsFile, UploadsRead, upload_refusal, turn_of, uploaded_text, uploads}
-use Rattle.exchange_commands.specs.Uploading.{upload_halted}
+use Rattle.exchange_commands.specs.Uploading.{upload_halt}
 
 -- what an upload to a board in no doubt left, by what the bytes come to
 pub record Leaves (b : Board) (mid new : Disk) (r : Result Upload UploadRefusal) (result : Result Uploaded UploadError) : Type 0 where
@@ -60,7 +60,7 @@ some_is None some = absurd (cc some)
 some_is (Some n) some = (n, refl)
 
 -- a refusal is told as one, and leaves all
-refused_told : (why : UploadRefusal) → told uploaded_text (upload_halted (Err (upload_error why))) ≡ Ok (says_refusal (upload_refusal why))
+refused_told : (why : UploadRefusal) → told uploaded_text (halted upload_halt (Err (upload_error why))) ≡ Ok (says_refusal (upload_refusal why))
 refused_told upload.NoUser = refl
 refused_told (upload.Broken fault) = refl
 refused_told upload.NoBoardId = refl
@@ -103,17 +103,17 @@ module _ (name file : List ℕ) (now : ℕ) (b : Board) {world : World State} {o
     still same = found_still Stores at.board (Ok (tt {0})) finds same (λ never. absurd (cc never))
 
     -- memory ran out
-    pub out_of_memory : {new : Disk} (result : Result Uploaded UploadError) → result ≡ Err OutOfMemory → (UploadLeavesAll result → Unchanged mid new) → Works Stores (uploads name file now) unread world old new later (told uploaded_text (upload_halted result))
+    pub out_of_memory : {new : Disk} (result : Result Uploaded UploadError) → result ≡ Err OutOfMemory → (UploadLeavesAll result → Unchanged mid new) → Works Stores (uploads name file now) unread world old new later (told uploaded_text (halted upload_halt result))
     out_of_memory {new} result e same =
-        subst (λ (r : Result Uploaded UploadError). Works Stores (uploads name file now) unread world old new later (told uploaded_text (upload_halted r))) (sym e)
+        subst (λ (r : Result Uploaded UploadError). Works Stores (uploads name file now) unread world old new later (told uploaded_text (halted upload_halt r))) (sym e)
         (works_same Stores (uploads name file now) same_shelf (starved (Uploads name file now) at (still (same (subst UploadLeavesAll (sym e) tt)))))
 
     module _ (ok : IsBoard b) (bytes : List ℕ) (bytes_is : file_within shelf file rep_limit ≡ Ok bytes) {new : Disk} (result : Result Uploaded UploadError) where
       -- the board stays, and this is answered
-      stays : (r : Result Upload UploadRefusal) → UploadsFor id bytes now b r → (answer : Result Uploaded UploadError) → UploadLeavesAll answer → (turn_of b r).board ≡ Some b → told uploaded_text (upload_halted answer) ≡ Ok (turn_of b r).reply → result ≡ answer → Leaves b mid new r result
-          → Works Stores (uploads name file now) unread world old new later (told uploaded_text (upload_halted result))
+      stays : (r : Result Upload UploadRefusal) → UploadsFor id bytes now b r → (answer : Result Uploaded UploadError) → UploadLeavesAll answer → (turn_of b r).board ≡ Some b → told uploaded_text (halted upload_halt answer) ≡ Ok (turn_of b r).reply → result ≡ answer → Leaves b mid new r result
+          → Works Stores (uploads name file now) unread world old new later (told uploaded_text (halted upload_halt result))
       stays r gives answer early board says e leaves =
-          subst (Works Stores (uploads name file now) unread world old new later) (sym (ap (λ (x : Result Uploaded UploadError). told uploaded_text (upload_halted x)) e ∙ says))
+          subst (Works Stores (uploads name file now) unread world old new later) (sym (ap (λ (x : Result Uploaded UploadError). told uploaded_text (halted upload_halt x)) e ∙ says))
           (works_same Stores (uploads name file now) same_shelf
           (answered (Uploads name file now) at {board = Some b} (still (leaves.same (subst UploadLeavesAll (sym e) early))) is (turn_of b r) (takes (Ok bytes) bytes_is (turn_of b r) (r, gives, refl)) board))
 
@@ -134,23 +134,23 @@ module _ (name file : List ℕ) (now : ℕ) (b : Board) {world : World State} {o
             subst (λ (s : State). Changes Stores unread s (Made next) mid new part) (sym is)
             (changes_to (Made b) (IsLayout b) (λ files laid. (ok, laid)) next valid part leaves.moments leaves.now_is leaves.settled rests)
 
-        posts : result ≡ Ok (Judged outcomes) → Works Stores (uploads name file now) unread world old new later (told uploaded_text (upload_halted result))
+        posts : result ≡ Ok (Judged outcomes) → Works Stores (uploads name file now) unread world old new later (told uploaded_text (halted upload_halt result))
         unfolding turn
         posts e =
             let valid : IsBoard next = next_board (λ oom. cc (sym e ∙ oom)) in
             let rests : Rests next new = subst (λ (x : Result Uploaded UploadError). OnOk x (Rests next new)) e leaves.rests in
-            subst (λ (x : Result Uploaded UploadError). Works Stores (uploads name file now) unread world old new later (told uploaded_text (upload_halted x))) (sym e)
+            subst (λ (x : Result Uploaded UploadError). Works Stores (uploads name file now) unread world old new later (told uploaded_text (halted upload_halt x))) (sym e)
             (works_same Stores (uploads name file now) same_shelf (turned (Uploads name file now) at {board = Some b} finds is turn taken (changes {E = JournalError} (Ok (tt {0})) valid rests)))
 
-        fails : result ≡ Err DiskFault → Works Stores (uploads name file now) unread world old new later (told uploaded_text (upload_halted result))
+        fails : result ≡ Err DiskFault → Works Stores (uploads name file now) unread world old new later (told uploaded_text (halted upload_halt result))
         unfolding turn
         fails e =
             let valid : IsBoard next = next_board (λ oom. cc (sym e ∙ oom)) in
-            subst (λ (x : Result Uploaded UploadError). Works Stores (uploads name file now) unread world old new later (told uploaded_text (upload_halted x))) (sym e)
+            subst (λ (x : Result Uploaded UploadError). Works Stores (uploads name file now) unread world old new later (told uploaded_text (halted upload_halt x))) (sym e)
             (works_same Stores (uploads name file now) same_shelf
             (unturned (Uploads name file now) at {board = Some b} finds is turn taken uploaded_text journal.DiskFault (changes {T = Unit {0}} (Err journal.DiskFault) valid tt) (λ never. absurd (cc never))))
 
-      pub works : (r : Result Upload UploadRefusal) → UploadsFor id bytes now b r → Leaves b mid new r result → Works Stores (uploads name file now) unread world old new later (told uploaded_text (upload_halted result))
+      pub works : (r : Result Upload UploadRefusal) → UploadsFor id bytes now b r → Leaves b mid new r result → Works Stores (uploads name file now) unread world old new later (told uploaded_text (halted upload_halt result))
       works (Err why) gives leaves = ⊎_elim (λ e. stays (Err why) gives (Err (upload_error why)) (refusal_leaves why) refl (refused_told why) e leaves) (λ oom. out_of_memory result oom leaves.same) leaves.answers
       works (Ok (upload.Again counts)) gives leaves = ⊎_elim (λ e. stays (Ok (upload.Again counts)) gives (Ok (Again counts)) tt refl refl e leaves) (λ oom. out_of_memory result oom leaves.same) leaves.answers
       works (Ok (upload.Judged next outcomes)) gives leaves =

@@ -1,5 +1,4 @@
 -- How the command `ack` ends, by what the acknowledgement answered.
-use Rattle.std.specs.Prelude.{Result, Ok, Err}
 use Rattle.board_commands.specs.declared.halt.BoardHalt.{BoardHalt}
 use Rattle.board_commands.specs.declared.halt.BoardHalt.TheVariants.{Refused, DiskFault, OutOfMemory}
 use Rattle.door_export.specs.declared.acknowledging.AckError.{AckError}
@@ -13,7 +12,3 @@ ack_halt (error.NoPacket offer) = Refused (NoPacket offer)
 ack_halt error.DiskFault = DiskFault
 ack_halt error.Doubt = DiskFault
 ack_halt error.OutOfMemory = OutOfMemory
-
-abbrev pub ack_halted : {T : Type 0} → Result T AckError → Result T BoardHalt
-ack_halted (Ok value) = Ok value
-ack_halted (Err e) = Err (ack_halt e)

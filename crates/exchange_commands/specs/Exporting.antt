@@ -1,5 +1,4 @@
 -- How the command `export` ends, by what the export answered.
-use Rattle.std.specs.Prelude.{Result, Ok, Err}
 use Rattle.board_commands.specs.declared.halt.BoardHalt.{BoardHalt}
 use Rattle.board_commands.specs.declared.halt.BoardHalt.TheVariants.{Refused, Damaged, DiskFault, ShelfFault, OutOfMemory}
 use Rattle.door_export.specs.declared.exporting.ExportError.{ExportError}
@@ -16,7 +15,3 @@ export_halt error.Doubt = DiskFault
 export_halt (error.Damaged d) = Damaged d
 export_halt error.ShelfFault = ShelfFault
 export_halt error.OutOfMemory = OutOfMemory
-
-abbrev pub export_halted : {T : Type 0} → Result T ExportError → Result T BoardHalt
-export_halted (Ok value) = Ok value
-export_halted (Err e) = Err (export_halt e)

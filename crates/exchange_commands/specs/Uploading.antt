@@ -1,5 +1,4 @@
 -- How the command `upload` ends, by what the upload answered.
-use Rattle.std.specs.Prelude.{Result, Ok, Err}
 use Rattle.board_commands.specs.declared.halt.BoardHalt.{BoardHalt}
 use Rattle.board_commands.specs.declared.halt.BoardHalt.TheVariants.{Refused, Damaged, DiskFault, OutOfMemory}
 use Rattle.door_upload.specs.declared.answer.UploadError.{UploadError}
@@ -18,7 +17,3 @@ upload_halt error.DiskFault = DiskFault
 upload_halt error.Doubt = DiskFault
 upload_halt (error.Damaged d) = Damaged d
 upload_halt error.OutOfMemory = OutOfMemory
-
-abbrev pub upload_halted : {T : Type 0} → Result T UploadError → Result T BoardHalt
-upload_halted (Ok value) = Ok value
-upload_halted (Err e) = Err (upload_halt e)

@@ -1,7 +1,7 @@
 //! The command `ack`.
 ghost use Rattle.std.specs.Prelude.{◌≡◌, ◌≢◌, Err, IsTrue};
 ghost use Rattle.board_commands.specs.Causes.{HostHasCauses};
-ghost use Rattle.board_commands.specs.Halts.{told};
+ghost use Rattle.board_commands.specs.Halts.{halted, told};
 ghost use Rattle.board_commands.specs.Kept.{AreSure, IsKept, unread};
 ghost use Rattle.board_commands.specs.State.{State, Stores};
 ghost use Rattle.door_export.specs.declared.acknowledging.AckError.TheVariants.{Doubt};
@@ -10,7 +10,7 @@ ghost use Rattle.entry_runs.specs.Door.{World};
 ghost use Rattle.entry_runs.specs.Entry.{IsAt, Works};
 ghost use Rattle.entry_runs.specs.Promise.{ended};
 ghost use Rattle.exchange_commands.specs.Ack.{acknowledged_line, acknowledges};
-ghost use Rattle.exchange_commands.specs.Acknowledging.{ack_halted};
+ghost use Rattle.exchange_commands.specs.Acknowledging.{ack_halt};
 
 use board_commands::{BoardHalt, find, keep_board, take_board};
 use door_export::{AckError, acknowledge};
@@ -22,7 +22,7 @@ use std::alloc::Global;
 /// What an acknowledgement on a board in no doubt answers, or why the command isn't carried out.
 fn answered(acknowledged: Result<(), AckError>) -> Result<(), BoardHalt>
     requires { acknowledged ≢ Err Doubt }
-    ensures { result ≡ ack_halted acknowledged }
+    ensures { result ≡ halted ack_halt acknowledged }
 {
     match acknowledged {
         Ok(()) => Ok(()),

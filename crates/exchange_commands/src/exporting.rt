@@ -1,7 +1,7 @@
 //! The command `export`.
 ghost use Rattle.std.specs.Prelude.{◌≡◌, ◌≢◌, Err, IsTrue};
 ghost use Rattle.board_commands.specs.Causes.{HaveCauses};
-ghost use Rattle.board_commands.specs.Halts.{told};
+ghost use Rattle.board_commands.specs.Halts.{halted, told};
 ghost use Rattle.board_commands.specs.Kept.{AreSure, IsKept, unread};
 ghost use Rattle.board_commands.specs.State.{State, Stores};
 ghost use Rattle.door_export.specs.declared.exporting.ExportError.TheVariants.{Doubt};
@@ -10,7 +10,7 @@ ghost use Rattle.entry_runs.specs.Door.{World};
 ghost use Rattle.entry_runs.specs.Entry.{IsAt, Works};
 ghost use Rattle.entry_runs.specs.Promise.{ended};
 ghost use Rattle.exchange_commands.specs.Export.{exports, packet_line};
-ghost use Rattle.exchange_commands.specs.Exporting.{export_halted};
+ghost use Rattle.exchange_commands.specs.Exporting.{export_halt};
 
 use board_commands::{BoardHalt, find, keep_board, take_board};
 use door_export::{ExportError, Exported};
@@ -22,7 +22,7 @@ use std::alloc::Global;
 /// What an export of a board in no doubt answers, or why the command isn't carried out.
 fn answered(exported: Result<Exported, ExportError>) -> Result<Exported, BoardHalt>
     requires { exported ≢ Err Doubt }
-    ensures { result ≡ export_halted exported }
+    ensures { result ≡ halted export_halt exported }
 {
     match exported {
         Ok(packet) => Ok(packet),

@@ -1,7 +1,7 @@
 //! The command `upload`.
 ghost use Rattle.std.specs.Prelude.{◌≡◌, ◌≢◌, Err, IsSome, IsTrue, MatchResult, None};
 ghost use Rattle.board_commands.specs.Causes.{HaveCauses};
-ghost use Rattle.board_commands.specs.Halts.{told};
+ghost use Rattle.board_commands.specs.Halts.{halted, told};
 ghost use Rattle.board_commands.specs.Kept.{AreSure, IsKept, unread};
 ghost use Rattle.board_commands.specs.State.{State, Stores};
 ghost use Rattle.board_commands.specs.WriteBound.{KeepsWriteBound};
@@ -14,7 +14,7 @@ ghost use Rattle.intent_journal.specs.Journal.{IsClosed};
 ghost use Rattle.mail_board.specs.Readers.{user_id};
 ghost use Rattle.shelf_files.specs.declared.refusal.Refusal.TheVariants as refusal;
 ghost use Rattle.exchange_commands.specs.Upload.{uploaded_text, uploads};
-ghost use Rattle.exchange_commands.specs.Uploading.{upload_halted};
+ghost use Rattle.exchange_commands.specs.Uploading.{upload_halt};
 
 use board_commands::{BoardHalt, board_in, find, keep_board, take_board};
 use door_outside::{Host, Shelf, ShelfName};
@@ -36,7 +36,7 @@ fn look_for(board: &Board, name: &[u8]) -> Result<(), BoardHalt>
 /// What an upload to a board in no doubt answers, or why the command isn't carried out.
 fn answered(uploaded: Result<Uploaded, UploadError>) -> Result<Uploaded, BoardHalt>
     requires { uploaded ≢ Err Doubt }
-    ensures { result ≡ upload_halted uploaded }
+    ensures { result ≡ halted upload_halt uploaded }
 {
     match uploaded {
         Ok(answer) => Ok(answer),

@@ -5,7 +5,7 @@ use Rattle.board_commands.proofs.CauseLaws.{disk_fails, quiet, unraised}
 use Rattle.board_commands.proofs.ChangeLaws.{changes_to}
 use Rattle.board_commands.proofs.Exits.{starved, turned, unturned}
 use Rattle.board_commands.proofs.KeptLaws.{doubted, next_sure, none_sure, same_sure}
-use Rattle.board_commands.specs.Halts.{told}
+use Rattle.board_commands.specs.Halts.{halted, told}
 use Rattle.board_commands.specs.Kept.{AreSure, IsKept, unless_doubtful, unread}
 use Rattle.board_commands.specs.State.{State, Made, Stores, migrated}
 use Rattle.board_commands.specs.Turns.{Turn}
@@ -33,7 +33,7 @@ use Rattle.slot_changes.proofs.PackLaws.{packed_board}
 use Rattle.slot_changes.specs.Packed.{packed}
 use Rattle.pack_commands.proofs.PackAlike.{packing}
 use Rattle.pack_commands.specs.Pack.{pack_turn, packed_line, packs}
-use Rattle.pack_commands.specs.Packing.{pack_halted}
+use Rattle.pack_commands.specs.Packing.{pack_halt}
 
 abbrev turns : ℕ → Files → Option Board → Turn → Type 0
 turns conference files board turn = turn ≡ pack_turn conference board
@@ -60,7 +60,7 @@ module _ (conference place : ℕ) (b : Board) (ok : IsBoard b) where
     still same = found_still Stores at.board (Ok (tt {0})) finds same (λ never. absurd (cc never))
 
     pub works : {new : Disk} (result : Result ℕ PackError) → Leaves place b mid new result → ((count : ℕ) → result ≡ Ok count → packing conference place count b ≡ pack_turn conference (Some b)) → (some : ℕ) → packing conference place some b ≡ pack_turn conference (Some b)
-        → Works Stores (packs conference) unread world old new shelf (told (packed_line conference) (pack_halted result))
+        → Works Stores (packs conference) unread world old new shelf (told (packed_line conference) (halted pack_halt result))
     works (Ok count) leaves gives some any =
         turned (turns conference) at {board = Some b} finds is (packing conference place count b) (gives count refl) (changes (Ok count) leaves {E = JournalError} (Ok (tt {0})) leaves.rests)
     works (Err DiskFault) leaves gives some any =
@@ -77,7 +77,7 @@ counted (Err e) count is counts = absurd (cc is)
 
 -- ---- the counts of faults
 module _ {disk voice shelf disk_after voice_after shelf_after : ℕ} (voice_same : voice_after ≡ voice) where
-  pub pack_causes : (text : ℕ → List ℕ) (result : Result ℕ PackError) → HasFault DiskFault disk disk_after result → shelf_after ≡ shelf → result ≢ Err Doubt → HasCauses (counts disk voice shelf) (counts disk_after voice_after shelf_after) (ended (told text (pack_halted result)))
+  pub pack_causes : (text : ℕ → List ℕ) (result : Result ℕ PackError) → HasFault DiskFault disk disk_after result → shelf_after ≡ shelf → result ≢ Err Doubt → HasCauses (counts disk voice shelf) (counts disk_after voice_after shelf_after) (ended (told text (halted pack_halt result)))
   pack_causes text (Ok count) d s certain = quiet voice_same status.Done (λ is. absurd (cc is)) (λ is. absurd (cc is)) (λ is. absurd (cc is)) (unraised DiskFault _ d (λ is. cc is)) s
   pack_causes text (Err DiskFault) d s certain = disk_fails voice_same d.later (d.rose refl) s
   pack_causes text (Err Doubt) d s certain = absurd (certain refl)

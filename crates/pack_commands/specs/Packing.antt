@@ -1,5 +1,4 @@
 -- How the command `pack` ends, by what the pack answered.
-use Rattle.std.specs.Prelude.{Result, Ok, Err}
 use Rattle.board_commands.specs.declared.halt.BoardHalt.{BoardHalt}
 use Rattle.board_commands.specs.declared.halt.BoardHalt.TheVariants.{Damaged, DiskFault, OutOfMemory}
 use Rattle.jam_pack.specs.declared.error.PackError.{PackError}
@@ -11,7 +10,3 @@ pack_halt error.DiskFault = DiskFault
 pack_halt error.Doubt = DiskFault
 pack_halt (error.Damaged d) = Damaged d
 pack_halt error.OutOfMemory = OutOfMemory
-
-abbrev pub pack_halted : {T : Type 0} → Result T PackError → Result T BoardHalt
-pack_halted (Ok value) = Ok value
-pack_halted (Err e) = Err (pack_halt e)

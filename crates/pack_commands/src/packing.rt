@@ -1,7 +1,7 @@
 //! The command `pack`.
 ghost use Rattle.std.specs.Prelude.{◌≡◌, ◌≢◌, Err, IsTrue};
 ghost use Rattle.board_commands.specs.Causes.{HostHasCauses};
-ghost use Rattle.board_commands.specs.Halts.{told};
+ghost use Rattle.board_commands.specs.Halts.{halted, told};
 ghost use Rattle.board_commands.specs.Kept.{AreSure, IsKept, unread};
 ghost use Rattle.board_commands.specs.State.{State, Stores};
 ghost use Rattle.door_outside.specs.Shelf.{Files};
@@ -10,7 +10,7 @@ ghost use Rattle.entry_runs.specs.Entry.{IsAt, Works};
 ghost use Rattle.entry_runs.specs.Promise.{ended};
 ghost use Rattle.jam_pack.specs.declared.error.PackError.TheVariants.{Doubt};
 ghost use Rattle.pack_commands.specs.Pack.{packed_line, packs};
-ghost use Rattle.pack_commands.specs.Packing.{pack_halted};
+ghost use Rattle.pack_commands.specs.Packing.{pack_halt};
 
 use board_commands::{BoardHalt, board_in, find, keep_board, take_board};
 use door_outside::Host;
@@ -22,7 +22,7 @@ use std::alloc::Global;
 /// What a pack on a board in no doubt answers, or why the command isn't carried out.
 fn answered(packed: Result<u32, PackError>) -> Result<u32, BoardHalt>
     requires { packed ≢ Err Doubt }
-    ensures { result ≡ pack_halted packed }
+    ensures { result ≡ halted pack_halt packed }
 {
     match packed {
         Ok(count) => Ok(count),
