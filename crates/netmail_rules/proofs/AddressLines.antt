@@ -13,13 +13,14 @@ use Rattle.text_fields.specs.Split.{Lacks, SplitsAt}
 use Rattle.text_fields.specs.Trim.{TrimmedEnd}
 use Rattle.text_fields.specs.declared.blank.Blank.TheVariants.{Spaces}
 use Rattle.setup_file.specs.Words.{is_number, number_of, past_spaces, before_spaces}
+use Rattle.setup_file.proofs.Spaces.{before_is, trimmed_is}
 use Rattle.setup_file.proofs.Numbers.{number_is, number_value, no_number, too_long}
 use Rattle.jam_layout.specs.Address.{before, past, is_part}
 use Rattle.jam_layout.specs.Fields.{is_text}
 use Rattle.netmail_rules.specs.AddressLine.{SplitsAtLast, PartReads, PointReads, NodeReads, AddressReads, IsAddressLine, part_of, point_of, both, node_of, address_from, address_of, name_part, address_part, name_end, naming, net_line}
 use Rattle.netmail_rules.specs.declared.address.Address.{Address}
 use Rattle.netmail_rules.specs.declared.net_line.NetLine.{NetLine}
-use Rattle.netmail_rules.proofs.Marks.{before_at, past_at, from_at, before_whole, past_whole, from_whole, before_last_at, after_last_at, before_last_none, FrontSpaces, front_spaces, past_is, before_is, lacks_ends, trimmed_is}
+use Rattle.netmail_rules.proofs.Marks.{before_at, past_at, from_at, before_whole, past_whole, from_whole, before_last_at, after_last_at, before_last_none, FrontSpaces, front_spaces, past_is, lacks_ends}
 
 -- ---- numbers
 some_if : (a b : Bool) (k n : ℕ) → a ≡ true → b ≡ true → n ≡ k → cond (a && b) (Some k) None ≡ Some n
@@ -222,7 +223,7 @@ line_is line found r =
     let behind : List ℕ = r.address_text ++ r.after in
     let whole : line ≡ front ++ 64 ∷ behind = r.whole ∙ sym (append_assoc r.before r.name (64 ∷ behind)) in
     let last : Lacks 64 behind = All-append (λ b. b ≢ 64) r.address_text r.after (address_lacks 64 no_at r.address_text found.address r.address) (spaces_lack r.after r.blank_after) in
-    let back : before_spaces behind ≡ r.address_text = before_is r.address_text r.after (lacks_ends r.address_text (address_lacks 32 no_space r.address_text found.address r.address)) r.blank_after in
+    let back : before_spaces behind ≡ r.address_text = before_is r.address_text r.after r.blank_after (lacks_ends r.address_text (address_lacks 32 no_space r.address_text found.address r.address)) in
     let name : past_spaces front ≡ r.name = past_is r.before r.name r.blank_before r.begins in
     let to : length front ≡ found.name_to = length-append r.before r.name ∙ sym r.to in
     let from : length front - length r.name ≡ found.name_from = omega (arith, length-append r.before r.name, r.from) in

@@ -1,15 +1,15 @@
 -- A text split at the first or the last byte of a value, and the spaces at its ends.
 use Rattle.std.proofs.Common.{◌≡◌, ◌≢◌, ℕ, suc, ◌+◌, ◌-◌, ◌<◌, Bool, true, false, not, cond, eqb, List, [], ◌∷◌, ◌++◌, length, get_or, take, drop, refl, sym, ap, ◌∙◌, subst, arith, length-append, eq-eqb, ne_eqb}
 use Rattle.std.proofs.lemmas.Bool.Decides.{nat_tests}
-use Rattle.std.proofs.lemmas.List.{take_at, drop_at, take_all, take_more, drop_all, get_or_append_left, get_or-append_right, get_or_push}
+use Rattle.std.proofs.lemmas.List.{take_at, drop_at, take_all, drop_all, get_or-append_right, get_or_push}
 use Rattle.std.proofs.lemmas.List.Elements.{All-head, All-tail, All-cons, All-nil}
 use Rattle.std.proofs.lemmas.List.Sums.{suffix_len_is}
 use Rattle.std.specs.List.{All, prefix_len, suffix_len, before_last, after_last}
 use Rattle.text_fields.specs.Blank.{IsBlank}
 use Rattle.text_fields.specs.Split.{Lacks}
-use Rattle.text_fields.specs.Trim.{BeginsWithNone, EndsWithNone, TrimmedEnd}
+use Rattle.text_fields.specs.Trim.{BeginsWithNone, EndsWithNone}
 use Rattle.text_fields.specs.declared.blank.Blank.TheVariants.{Spaces}
-use Rattle.setup_file.specs.Words.{is_space, past_spaces, before_spaces}
+use Rattle.setup_file.specs.Words.{is_space, past_spaces}
 use Rattle.jam_layout.specs.Address.{before, past}
 
 -- ---- the first mark
@@ -139,25 +139,6 @@ past_is [] [] h none = refl
 past_is [] (c ∷ text) h none = no_space_first c text (λ is. none c text refl is)
 past_is (b ∷ blank) text h none =
     ap (λ c. past_spaces (c ∷ (blank ++ text))) (All-head IsSpace b blank h) ∙ (space_first (blank ++ text) ∙ past_is blank text (All-tail IsSpace b blank h) none)
-
-last_item : (text : List ℕ) → 0 < length text → text ≡ take (length text - 1) text ++ get_or text (length text - 1) 0 ∷ []
-last_item text some =
-    let e : length text - 1 + 1 ≡ length text = omega arith in
-    sym (take_all (length text) text (omega arith)) ∙ (ap (λ n. take n text) (sym e) ∙ take_more text (length text - 1) 0 (omega arith))
-
--- what ends with no space is what stands before spaces
-pub before_is : (text blank : List ℕ) → EndsWithNone IsSpace text → All IsSpace blank → before_spaces (text ++ blank) ≡ text
-before_is text blank ends h =
-    let len : length (text ++ blank) ≡ length text + length blank = length-append text blank in
-    let tail : suffix_len is_space (text ++ blank) ≡ length (text ++ blank) - length text
-    = suffix_len_is is_space (text ++ blank) (length text) 0 (omega arith)
-    (λ k le lt. eq-eqb (get_or (text ++ blank) k 0) 32 (get_or-append_right text blank (length text) k 0 refl le ∙ h (k - length text) 0 (omega arith)))
-    (λ some. ne_eqb (get_or (text ++ blank) (length text - 1) 0) 32 (λ is. ends _ _ (last_item text some) (sym (get_or_append_left text blank 0 (length text - 1) (omega arith)) ∙ is))) in
-    let n : length (text ++ blank) - suffix_len is_space (text ++ blank) ≡ length text = omega (arith, tail) in
-    ap (λ k. take k (text ++ blank)) n ∙ take_at text blank (length text) refl
-
-pub trimmed_is : (field text : List ℕ) → TrimmedEnd IsSpace field text → before_spaces field ≡ text
-trimmed_is field text t = ap before_spaces t.whole ∙ before_is text t.pad t.ends t.blank
 
 -- what has no space at all ends with none
 pub lacks_ends : (text : List ℕ) → Lacks 32 text → EndsWithNone IsSpace text

@@ -1,15 +1,16 @@
 -- What a trim leaves, and words between spaces.
-use Rattle.std.proofs.Common.{◌≡◌, ◌≢◌, ℕ, suc, ◌+◌, ◌-◌, ◌<◌, Bool, true, false, not, eqb, List, [], ◌∷◌, ◌++◌, length, get_or, take, drop, refl, sym, ap, ◌∙◌, subst, arith, length-append, append_assoc, eq-eqb, ne_eqb}
+use Rattle.std.proofs.Common.{◌≡◌, ◌≢◌, ℕ, suc, ◌+◌, ◌-◌, Bool, true, false, not, eqb, List, [], ◌∷◌, ◌++◌, length, get_or, take, drop, refl, sym, ap, ◌∙◌, subst, arith, length-append, append_assoc, eq-eqb, ne_eqb}
 use Rattle.std.proofs.lemmas.Bool.Decides.{nat_tests}
-use Rattle.std.proofs.lemmas.List.{take_at, drop_at, take_all, take_more, append-nil, get_or_append_left, get_or-append_right}
+use Rattle.std.proofs.lemmas.List.{take_at, drop_at, take_all, append-nil, get_or_append_left, get_or-append_right}
 use Rattle.std.proofs.lemmas.List.Elements.{All-append}
 use Rattle.std.proofs.lemmas.List.Splits.{slice_split_at, slice_split_none}
 use Rattle.std.proofs.lemmas.List.Sums.{suffix_len_is}
 use Rattle.std.specs.List.{All, prefix_len, suffix_len, slice_split}
 use Rattle.text_fields.specs.Blank.{IsBlank}
 use Rattle.text_fields.specs.Split.{Lacks}
-use Rattle.text_fields.specs.Trim.{EndsWithNone, Trimmed}
+use Rattle.text_fields.specs.Trim.{EndsWithNone, Trimmed, TrimmedEnd}
 use Rattle.text_fields.specs.declared.blank.Blank.TheVariants.{Spaces}
+use Rattle.text_fields.proofs.Trimming.{last_split}
 use Rattle.setup_file.specs.Words.{is_space, past_spaces, before_spaces, trim, first_word, behind_word, words}
 
 abbrev IsSpace : ℕ → Type 0
@@ -39,23 +40,22 @@ blank_trim gap h =
     let none : drop (length gap) gap ≡ [] = ap (drop (length gap)) (sym (append-nil gap)) ∙ drop_at gap [] (length gap) refl in
     trim_from gap [] (ap (λ n. drop n gap) all ∙ none)
 
-last_is : (text : List ℕ) → 0 < length text → text ≡ take (length text - 1) text ++ get_or text (length text - 1) 0 ∷ []
-last_is text some =
-    let e : length text - 1 + 1 ≡ length text = omega arith in
-    sym (take_all (length text) text (omega arith)) ∙ (ap (λ n. take n text) (sym e) ∙ take_more text (length text - 1) 0 (omega arith))
-
 -- spaces at the end, behind a text that ends with none
 suffix_at : (text after : List ℕ) → All IsSpace after → EndsWithNone IsSpace text → suffix_len is_space (text ++ after) ≡ length (text ++ after) - length text
 suffix_at text after h ends =
     suffix_len_is is_space (text ++ after) (length text) 0 (omega (arith, length-append text after))
     (λ k le lt. eq-eqb (get_or (text ++ after) k 0) 32 (get_or-append_right text after (length text) k 0 refl le ∙ h (k - length text) 0 (omega (arith, length-append text after))))
     (λ some. ne_eqb (get_or (text ++ after) (length text - 1) 0) 32
-    (λ e. ends _ _ (last_is text some) (sym (get_or_append_left text after 0 (length text - 1) (omega arith)) ∙ e)))
+    (λ e. ends _ _ (last_split text some) (sym (get_or_append_left text after 0 (length text - 1) (omega arith)) ∙ e)))
 
-before_is : (text after : List ℕ) → All IsSpace after → EndsWithNone IsSpace text → before_spaces (text ++ after) ≡ text
+-- what ends with no space is what stands before spaces
+pub before_is : (text after : List ℕ) → All IsSpace after → EndsWithNone IsSpace text → before_spaces (text ++ after) ≡ text
 before_is text after h ends =
     let n : length (text ++ after) - suffix_len is_space (text ++ after) ≡ length text = omega (arith, suffix_at text after h ends, length-append text after) in
     ap (λ k. take k (text ++ after)) n ∙ take_at text after (length text) refl
+
+pub trimmed_is : (field text : List ℕ) → TrimmedEnd IsSpace field text → before_spaces field ≡ text
+trimmed_is field text t = ap before_spaces t.whole ∙ before_is text t.pad t.blank t.ends
 
 -- what has no space at either end, between spaces, is what a trim leaves
 pub trim_is : (text value : List ℕ) → Trimmed IsSpace text value → value ≡ trim text

@@ -7,7 +7,7 @@ use Rattle.std.specs.List.{All}
 use Rattle.text_fields.specs.Trim.{BeginsWithNone, EndsWithNone, Trimmed, TrimmedEnd}
 
 -- a list that isn't empty ends with its last item
-last_split : (xs : List ℕ) → 0 < length xs → xs ≡ take (length xs - 1) xs ++ get_or xs (length xs - 1) 0 ∷ []
+pub last_split : (xs : List ℕ) → 0 < length xs → xs ≡ take (length xs - 1) xs ++ get_or xs (length xs - 1) 0 ∷ []
 last_split xs h =
     let e : length xs - 1 + 1 ≡ length xs = omega arith in
     let more : take (length xs - 1 + 1) xs ≡ take (length xs - 1) xs ++ get_or xs (length xs - 1) 0 ∷ [] = take_more xs (length xs - 1) 0 (omega arith) in
