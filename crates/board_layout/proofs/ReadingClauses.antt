@@ -1,10 +1,9 @@
--- What a base and a ledger are read as, from the clauses of `read_base` and `Ledger::read`; and what calls leave.
+-- What a base and a ledger are read as, from the clauses of `read_base` and `Ledger::read`.
 use Rattle.std.proofs.Common.{◌≡◌, inl, inr, ℕ, List, Ok, sym, ap, ◌∙◌, subst}
 use Rattle.board_ledger.specs.Ledger.{ledger_of, stored_text}
 use Rattle.board_ledger.specs.Valid.{IsStored}
 use Rattle.board_ledger.specs.declared.ledger.Ledger.{Ledger}
 use Rattle.board_ledger.proofs.LedgerLaws.{ledger_again}
-use Rattle.door_outside.specs.Disk.{Disk, Unchanged}
 use Rattle.jam_layout.specs.Layout.{layout, conference_of}
 use Rattle.jam_layout.specs.Valid.{ShapeFits, IsConference}
 use Rattle.jam_layout.specs.declared.conference.Conference.{Conference}
@@ -23,13 +22,3 @@ ledger_read bytes read l from ok text = ap ledger_of (from ∙ text) ∙ ledger_
 
 pub kept_at_ok : {T : Type 0} (x : T) (before now : ℕ) → HasReadCause {T = T} before now (Ok x) → now ≡ before
 kept_at_ok x before now cause = elim cause.kept [ inl fault ↦ absurd cc | inr kept ↦ kept ]
-
-pub unchanged_twice : (old mid new : Disk) → Unchanged old mid → Unchanged mid new → Unchanged old new
-unchanged_twice old mid new first second = record {
-  files = second.files ∙ first.files;
-  said = second.said ∙ first.said;
-  clock = second.clock ∙ first.clock;
-  wrote = second.wrote ∙ first.wrote;
-  leaves = λ t image left. first.leaves t image (second.leaves t image left);
-  left = λ t image left. second.left t image (first.left t image left);
-}

@@ -5,6 +5,7 @@ use Rattle.std.proofs.lemmas.List.Elements.{All-head, All-tail}
 use Rattle.std.proofs.lemmas.Bool.{cases_eq, cases_Bool, eq-eqb, and_parts, and_from, and_left, or_left, or_right, true≢false}
 use Rattle.std.specs.Prelude.{All, Bool, true, false, not, ◌&&◌, ◌||◌, ◌==◌, nat_le, max, replicate, IsTrue, Some, None}
 use Rattle.std.specs.List.{list_any}
+use Rattle.door_outside.proofs.Disks.{unchanged_none, unchanged_twice}
 use Rattle.door_outside.specs.Disk.{Disk, Unchanged}
 use Rattle.intent_journal.specs.declared.patch.Patch.{Patch}
 use Rattle.intent_journal.specs.Journal.{front, patch_by, patches_of}
@@ -14,19 +15,6 @@ use Rattle.intent_journal.proofs.Carried.{some_pair}
 use Rattle.intent_journal.proofs.Front.{begins, file_by, nothing_left, whole_by}
 use Rattle.intent_journal.proofs.Puts.{written_long}
 use Rattle.intent_journal.proofs.Steps.{apply_here, apply_there, is_put_in, once_apart}
-
-pub unchanged_twice : (old mid new : Disk) → Unchanged old mid → Unchanged mid new → Unchanged old new
-unchanged_twice old mid new first second = record {
-  files = second.files ∙ first.files;
-  said = second.said ∙ first.said;
-  clock = second.clock ∙ first.clock;
-  wrote = second.wrote ∙ first.wrote;
-  leaves = λ t image left. first.leaves t image (second.leaves t image left);
-  left = λ t image left. second.left t image (first.left t image left);
-}
-
-pub unchanged_none : (disk : Disk) → Unchanged disk disk
-unchanged_none disk = record { files = refl; said = refl; clock = refl; wrote = refl; leaves = λ t image left. left; left = λ t image left. left }
 
 -- the files as the patches so far leave them, those of the patches to come by their lengths
 pub record Lengths (patches todo : List Patch) (ends : List ℕ) (old : Files) : Type 0 where

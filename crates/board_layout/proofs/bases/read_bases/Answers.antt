@@ -13,7 +13,8 @@ use Rattle.setup_file.specs.declared.conference.Conference.{Conference as SetupC
 use Rattle.board_layout.specs.Board.{shape_of}
 use Rattle.board_layout.specs.Rules.{IsOutlineOf, ReadSo, damage_of_read}
 use Rattle.board_layout.proofs.ReadingBases.{BasesRead, WholesRead, bases_more, next_left, wholes_done, wholes_fail, wholes_more}
-use Rattle.board_layout.proofs.ReadingClauses.{kept_at_ok, unchanged_twice}
+use Rattle.door_outside.proofs.Disks.{unchanged_twice}
+use Rattle.board_layout.proofs.ReadingClauses.{kept_at_ok}
 use Rattle.board_layout.proofs.bases.read_bases.Goals as goal
 
 pub loop-place-preserved : goal.loop-place-preserved

@@ -4,7 +4,8 @@ use Rattle.damage_rules.specs.Rules.{Stops}
 use Rattle.intent_journal.specs.Patches.{Files}
 use Rattle.board_layout.specs.Damage.{is_rest_place}
 use Rattle.board_layout.specs.Rules.{damage_of_read}
-use Rattle.board_layout.proofs.ReadingClauses.{kept_at_ok, unchanged_twice}
+use Rattle.door_outside.proofs.Disks.{unchanged_twice}
+use Rattle.board_layout.proofs.ReadingClauses.{kept_at_ok}
 use Rattle.board_layout.proofs.RestLaws.{one_place_more, one_place_fails, no_place}
 use Rattle.board_layout.proofs.rest.check_rests.Goals as goal
 

@@ -1,5 +1,5 @@
 use Rattle.std.proofs.Common.{◌∙◌, ℕ, length, ap, arith}
-use Rattle.board_layout.proofs.ReadingClauses.{unchanged_twice}
+use Rattle.door_outside.proofs.Disks.{unchanged_twice}
 use Rattle.board_layout.proofs.SizeLaws.{size_none, size_more}
 use Rattle.board_layout.proofs.sizes.data_size.Goals as goal
 

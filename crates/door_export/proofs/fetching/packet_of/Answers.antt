@@ -3,7 +3,8 @@ use Rattle.std.proofs.lemmas.List.{append-nil}
 use Rattle.std.proofs.lemmas.List.Elements.{All-nil}
 use Rattle.std.specs.List.{cons_option}
 use Rattle.std.specs.Prelude.{All}
-use Rattle.board_layout.proofs.ReadingClauses.{kept_at_ok, unchanged_twice}
+use Rattle.door_outside.proofs.Disks.{unchanged_twice}
+use Rattle.board_layout.proofs.ReadingClauses.{kept_at_ok}
 use Rattle.mail_board.proofs.OneHost.{holds_still}
 use Rattle.offered_packets.proofs.PacketSizes.{are_writable, spelling_short}
 use Rattle.offered_packets.proofs.Packets.{shown_next}

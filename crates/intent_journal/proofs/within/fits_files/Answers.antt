@@ -1,7 +1,8 @@
 use Rattle.std.proofs.Common.{◌≡◌, ◌∙◌, refl, suc, ◌+◌, ◌-◌, arith}
 use Rattle.intent_journal.specs.Journal.{patches_of, spelled}
 use Rattle.intent_journal.proofs.Front.{reads_fit}
-use Rattle.intent_journal.proofs.Fitting.{fitting_end, fitting_on, fitting_past, fitting_start, fitting_there, unchanged_twice}
+use Rattle.door_outside.proofs.Disks.{unchanged_twice}
+use Rattle.intent_journal.proofs.Fitting.{fitting_end, fitting_on, fitting_past, fitting_start, fitting_there}
 use Rattle.intent_journal.proofs.within.fits_files.Goals as goal
 
 pub loop-done-init : goal.loop-done-init

@@ -2,7 +2,8 @@ use Rattle.std.proofs.Common.{rules, ◌<◌, ◌∙◌, [], ◌∷◌, List, le
 use Rattle.std.specs.Prelude.{All}
 use Rattle.std.proofs.lemmas.List.{take_all}
 use Rattle.std.proofs.lemmas.List.Elements.{All-append, All-cons, All-nil}
-use Rattle.board_layout.proofs.ReadingClauses.{kept_at_ok, unchanged_twice}
+use Rattle.door_outside.proofs.Disks.{unchanged_twice}
+use Rattle.board_layout.proofs.ReadingClauses.{kept_at_ok}
 use Rattle.board_layout.specs.Board.{Board}
 use Rattle.board_layout.specs.Outlines.{HasBody}
 use Rattle.jam_layout.specs.Outlines.{slot_outline}
