@@ -1,5 +1,5 @@
 -- The files of a conference are bytes, and how long they are at most, from what its slots may hold.
-use Rattle.std.proofs.Common.{◌≡◌, ℕ, zero, suc, ◌+◌, ◌*◌, ◌^◌, ◌≤◌, ◌<◌, List, [], ◌∷◌, ◌++◌, length, sym, subst, arith, length-append, inl, inr}
+use Rattle.std.proofs.Common.{◌≡◌, ℕ, zero, suc, true, ◌+◌, ◌*◌, ◌^◌, ◌≤◌, ◌<◌, List, [], ◌∷◌, ◌++◌, length, sym, subst, arith, length-append, inl, inr}
 use Rattle.std.specs.Prelude.{All, IsTrue, replicate, decimal, ◌&&◌, nat_le}
 use Rattle.std.specs.Int.{byte_at, bytes_low_first}
 use Rattle.std.proofs.lemmas.Bool.{and_parts, leb-true}
@@ -128,9 +128,8 @@ point_at_most : (n : ℕ) → IsPart n → length (point_text n) ≤ 6
 point_at_most zero small = omega arith
 point_at_most (suc n) small = omega (arith, part_at_most (suc n) small)
 
-address_at_most : (text : List ℕ) → EmptyOr is_address text → length text ≤ 23
-address_at_most text (inl none) = omega (arith, none)
-address_at_most text (inr ok) =
+pub address_most : (text : List ℕ) → is_address text ≡ true → length text ≤ 23
+address_most text ok =
     let a = test_is text ok in
     let node : List ℕ = decimal a.node ++ point_text a.point in
     let net : List ℕ = decimal a.net ++ (47 ∷ node) in
@@ -146,6 +145,10 @@ address_at_most text (inr ok) =
       part_at_most a.node a.small.2,
       point_at_most a.point a.small.3,
     )
+
+address_at_most : (text : List ℕ) → EmptyOr is_address text → length text ≤ 23
+address_at_most text (inl none) = omega (arith, none)
+address_at_most text (inr ok) = address_most text ok
 
 field_at_most : (id most : ℕ) (value : List ℕ) → length value ≤ most → length (subfields_text (field id value)) ≤ 8 + most
 field_at_most id most [] le = omega arith
