@@ -1,7 +1,6 @@
 -- The text of a valid ledger is bytes, and how long it is at most.
-use Rattle.std.proofs.Common.{◌≡◌, ℕ, zero, suc, ◌+◌, ◌*◌, ◌^◌, ◌≤◌, ◌<◌, Bool, true, false, cond, not, ◌&&◌, eqb, leb, List, [], ◌∷◌, ◌++◌, length, arith, length-append}
+use Rattle.std.proofs.Common.{◌≡◌, ℕ, ◌+◌, ◌*◌, ◌^◌, ◌≤◌, ◌<◌, Bool, true, false, cond, not, ◌&&◌, eqb, leb, List, [], ◌∷◌, ◌++◌, length, arith, length-append}
 use Rattle.std.specs.Prelude.{All, IsTrue}
-use Rattle.std.specs.Int.{byte_at, bytes_low_first}
 use Rattle.std.specs.List.{flat_map, list_all}
 use Rattle.std.proofs.lemmas.Bool.{leb-true, and_parts}
 use Rattle.std.proofs.lemmas.Bool.Decides.{nat_tests}
@@ -9,6 +8,7 @@ use Rattle.std.proofs.lemmas.List.Elements.{All-nil, All-cons, All-append, All-d
 use Rattle.std.proofs.lemmas.List.Sums.{AllPass-from_list_all}
 use Rattle.byteorder.specs.Endian.{little_bytes}
 use Rattle.byte_lists.specs.Byte.{IsByte}
+use Rattle.record_numbers.proofs.NumberLemmas.{number_bytes}
 use Rattle.record_numbers.specs.Numbers.{u16_text, u32_text, u32s_text}
 use Rattle.jam_records.specs.declared.message.Kind.{Kind}
 use Rattle.jam_records.specs.declared.message.Kind.TheVariants.{Local, Echo, Net}
@@ -38,14 +38,6 @@ use Rattle.board_ledger.proofs.VersionLaws.{today_valid}
 -- ---- numbers and lists of records
 both : (xs ys : List ℕ) → All IsByte xs → All IsByte ys → All IsByte (xs ++ ys)
 both xs ys all others = All-append IsByte xs ys all others
-
-byte_small : (i n : ℕ) → byte_at i n < 256
-byte_small zero n = omega arith
-byte_small (suc i) n = omega arith
-
-number_bytes : (i width n : ℕ) → All IsByte (bytes_low_first i width n)
-number_bytes i zero n = All-nil IsByte
-number_bytes i (suc width) n = All-cons IsByte (byte_at i n) (bytes_low_first (suc i) width n) (byte_small i n) (number_bytes (suc i) width n)
 
 numbers_bytes : (width : ℕ) (numbers : List ℕ) → All IsByte (flat_map (little_bytes width) numbers)
 numbers_bytes width [] = All-nil IsByte

@@ -1,11 +1,11 @@
 -- The files of a conference are bytes, and how long they are at most, from what its slots may hold.
 use Rattle.std.proofs.Common.{◌≡◌, ℕ, zero, suc, true, ◌+◌, ◌*◌, ◌^◌, ◌≤◌, ◌<◌, List, [], ◌∷◌, ◌++◌, length, sym, subst, arith, length-append, inl, inr}
 use Rattle.std.specs.Prelude.{All, IsTrue, replicate, decimal, ◌&&◌, nat_le}
-use Rattle.std.specs.Int.{byte_at, bytes_low_first}
 use Rattle.std.proofs.lemmas.Bool.{and_parts, leb-true}
 use Rattle.std.proofs.lemmas.Fmt.{length-decimal-le}
 use Rattle.std.proofs.lemmas.List.Elements.{All-nil, All-cons, All-append, All-drop, All-replicate}
 use Rattle.byte_lists.specs.Byte.{IsByte}
+use Rattle.record_numbers.proofs.NumberLemmas.{number_bytes}
 use Rattle.record_numbers.specs.Numbers.{u16_text, u32_text, u32s_text}
 use Rattle.jam_records.specs.Addresses.{IsPart, point_text}
 use Rattle.jam_records.specs.BaseHeaders.{base_fields, base_text}
@@ -49,14 +49,6 @@ use Rattle.jam_threads.specs.Links.{link_of}
 -- ---- records are bytes
 both : (xs ys : List ℕ) → All IsByte xs → All IsByte ys → All IsByte (xs ++ ys)
 both xs ys all others = All-append IsByte xs ys all others
-
-byte_small : (i n : ℕ) → byte_at i n < 256
-byte_small zero n = omega arith
-byte_small (suc i) n = omega arith
-
-number_bytes : (i width n : ℕ) → All IsByte (bytes_low_first i width n)
-number_bytes i zero n = All-nil IsByte
-number_bytes i (suc width) n = All-cons IsByte (byte_at i n) (bytes_low_first (suc i) width n) (byte_small i n) (number_bytes (suc i) width n)
 
 numbers_bytes : (numbers : List ℕ) → All IsByte (u32s_text numbers)
 numbers_bytes [] = All-nil IsByte

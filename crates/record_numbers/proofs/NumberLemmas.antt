@@ -3,6 +3,7 @@ use Rattle.std.proofs.Common.{◌≡◌, ℕ, zero, suc, ◌+◌, ◌*◌, ◌/�
 use Rattle.std.proofs.Math.Nat.{div-div-eq-div-mul, pow-suc, mul_comm}
 use Rattle.std.proofs.lemmas.Nat.{mod_low, shr_high}
 use Rattle.std.proofs.lemmas.List.{get_or_default}
+use Rattle.std.proofs.lemmas.List.Elements.{All-cons, All-nil}
 use Rattle.std.specs.Prelude.{All}
 use Rattle.std.specs.Int.{byte_at, bytes_low_first}
 use Rattle.byteorder.specs.Endian.{little_from, little_number, little_bytes}
@@ -39,3 +40,12 @@ number_of_bytes width n rest small = little_number-reads_back width n rest small
 -- each item is a byte, as a slice of bytes says it of the places
 pub all_bytes : (bytes : List ℕ) → ((i : ℕ) → get_or bytes i 0 < 256) → All IsByte bytes
 all_bytes bytes small = λ k d within. subst (λ (n : ℕ). n < 256) (get_or_default bytes k 0 d within) (small k)
+
+-- the bytes of a number are bytes
+byte_small : (i n : ℕ) → byte_at i n < 256
+byte_small zero n = omega arith
+byte_small (suc i) n = omega arith
+
+pub number_bytes : (i width n : ℕ) → All IsByte (bytes_low_first i width n)
+number_bytes i zero n = All-nil IsByte
+number_bytes i (suc width) n = All-cons IsByte (byte_at i n) (bytes_low_first (suc i) width n) (byte_small i n) (number_bytes (suc i) width n)
