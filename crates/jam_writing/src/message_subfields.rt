@@ -7,14 +7,15 @@ use jam_records::{Message, add_subfield};
 use std::alloc::AllocError;
 
 /// Adds the subfield of a value. A value that is empty has none.
-fn add_value(jhr: &mut Bytes, id: u16, value: &[u8]) -> Result<(), AllocError>
+#[tactic(auto, using(jam_layout::proofs::SizeLaws::field_length))]
+fn add_value(jhr: &mut Bytes, id: u16, value: &Bytes) -> Result<(), AllocError>
     requires { length (subfields_text (field id value.now)) < 2 ^ 31 }
     ensures { OnOk result (jhr.new ≡ jhr.old ++ subfields_text (field id value.now)) }
 {
-    if value.is_empty() {
+    if value.as_slice().is_empty() {
         return Ok(());
     }
-    add_subfield(jhr, id, 0, value)
+    add_subfield(jhr, id, 0, value.as_slice())
 }
 
 /// Adds the subfields of a message, in rising id, which have fewer than 2^31 bytes.
@@ -25,12 +26,12 @@ pub fn add_subfields(jhr: &mut Bytes, message: &Message) -> Result<(), AllocErro
     requires { length (subfields_text (subfields_of message.now)) < 2 ^ 31 }
     ensures { OnOk result (jhr.new ≡ jhr.old ++ subfields_text (subfields_of message.now)) }
 {
-    add_value(jhr, 0, message.origin.as_slice())?;
-    add_value(jhr, 1, message.destination.as_slice())?;
-    add_value(jhr, 2, message.from.as_slice())?;
-    add_value(jhr, 3, message.to.as_slice())?;
-    add_value(jhr, 4, message.msgid.as_slice())?;
-    add_value(jhr, 5, message.replyid.as_slice())?;
-    add_value(jhr, 6, message.subject.as_slice())?;
+    add_value(jhr, 0, &message.origin)?;
+    add_value(jhr, 1, &message.destination)?;
+    add_value(jhr, 2, &message.from)?;
+    add_value(jhr, 3, &message.to)?;
+    add_value(jhr, 4, &message.msgid)?;
+    add_value(jhr, 5, &message.replyid)?;
+    add_value(jhr, 6, &message.subject)?;
     Ok(())
 }
