@@ -8,7 +8,7 @@ use crate::fault::{SheetError, SheetRule};
 use crate::unread::breaks;
 use byte_lists::Bytes;
 use std::alloc::{AllocError, Global};
-use text_fields::Unread;
+use text_fields::{Unread, split_at_byte};
 
 /// The most bytes that a body has.
 const MOST: usize = 16_384;
@@ -34,7 +34,10 @@ fn without_dot(line: &[u8]) -> &[u8]
 fn has_no_return(line: &[u8]) -> bool
     ensures { IsTrue result ↔ Lacks 13 line.now }
 {
-    line.iter().all(|b| *b != b'\r')
+    match split_at_byte(line, b'\r') {
+        None => true,
+        Some(_) => false,
+    }
 }
 
 /// Whether there is room for a line and its carriage return in a body.
