@@ -18,27 +18,36 @@ use example_runs::Miss;
 use numbered::{expect_each, expect_joined};
 use std::alloc::Global;
 
+/// Boards whose users, mail and packets are at their limits.
+const BOARDS: [&str; 11] = [
+    users::USERS,
+    boards::MANY,
+    slots::SAMPLED,
+    uploads::MOST,
+    uploads::RECORDS,
+    exports::MOST,
+    exports::NUMBERS,
+    fields::LONGEST,
+    fields::TOO_LONG,
+    fields::POSTED,
+    fields::ADDRESSED,
+];
+
+/// A board that is filled, and what a full one still does.
+const FULL: [&str; 2] = [boards::ROOM, boards::FULL];
+
+/// A board that is nearly full, and the base that fills it.
+const ADOPTED: [&str; 2] = [filled::FILLED, adoptions::ADOPTED];
+
+/// The same, and the packet that fills it.
+const TOSSED: [&str; 2] = [filled::FILLED, tosses::TOSSED];
+
 /// Plays the transcripts of boards, whose users, mail and packets are at their limits.
 fn expect_boards(alloc: Global) -> Result<(), Miss> {
-    expect_each(
-        alloc,
-        &[
-            users::USERS,
-            boards::MANY,
-            slots::SAMPLED,
-            uploads::MOST,
-            uploads::RECORDS,
-            exports::MOST,
-            exports::NUMBERS,
-            fields::LONGEST,
-            fields::TOO_LONG,
-            fields::POSTED,
-            fields::ADDRESSED,
-        ],
-    )?;
-    expect_joined(alloc, &[boards::ROOM, boards::FULL])?;
-    expect_joined(alloc, &[filled::FILLED, adoptions::ADOPTED])?;
-    expect_joined(alloc, &[filled::FILLED, tosses::TOSSED])
+    expect_each(alloc, &BOARDS)?;
+    expect_joined(alloc, &FULL)?;
+    expect_joined(alloc, &ADOPTED)?;
+    expect_joined(alloc, &TOSSED)
 }
 
 #[test]
@@ -46,20 +55,20 @@ fn boards_have_limits(rt: HostRuntime) -> Result<(), Miss> {
     expect_boards(rt.alloc())
 }
 
+/// Batches, files and packets that are as long as they may be.
+const FILES: [&str; 7] = [
+    batches::MOST,
+    batches::CHECKED,
+    batches::FILES,
+    packets::MANY,
+    packets::HEADERS,
+    packets::LINE,
+    control::LONG,
+];
+
 /// Plays the transcripts of batches, files and packets that are as long as they may be.
 fn expect_files(alloc: Global) -> Result<(), Miss> {
-    expect_each(
-        alloc,
-        &[
-            batches::MOST,
-            batches::CHECKED,
-            batches::FILES,
-            packets::MANY,
-            packets::HEADERS,
-            packets::LINE,
-            control::LONG,
-        ],
-    )?;
+    expect_each(alloc, &FILES)?;
     expect_joined(alloc, &control::MANY)?;
     control::expect_many(alloc)
 }
