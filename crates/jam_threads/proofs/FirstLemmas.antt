@@ -44,19 +44,6 @@ or_zero : (b : Bool) (n : ℕ) (found : Option ℕ) → unwrap_or (cond b (Some 
 or_zero true n found = refl
 or_zero false n found = refl
 
--- a number that is kept where there was none
-pub kept_more : (old new : List ℕ → ℕ) (id : List ℕ) (number : ℕ) → old id ≡ 0 → ((other : List ℕ) → new other ≡ cond (bytes_eq id other) number (old other)) → (other : List ℕ) → new other ≡ cond (old other == 0 && bytes_eq id other) number (old other)
-kept_more old new id number none updates other =
-    elim (cases_Bool (bytes_eq id other)) [
-      | inl same ↦
-          let here : old other ≡ 0 = subst (λ key. old key ≡ 0) ((bytes_decides id other).0 same) none in
-          updates other ∙ cond-true (bytes_eq id other) number (old other) same
-          ∙ sym (ap (λ test. cond (test && bytes_eq id other) number (old other)) (eq-eqb (old other) 0 here) ∙ cond-true (bytes_eq id other) number (old other) same)
-      | inr differs ↦
-          updates other ∙ cond-false (bytes_eq id other) number (old other) differs
-          ∙ sym (ap (λ test. cond (old other == 0 && test) number (old other)) differs ∙ ap (λ test. cond test number (old other)) (and_false (old other == 0)))
-    ]
-
 -- ---- the first message of an id
 first_found : (slots : List Slot) (id : List ℕ) → position_or_len (has_msgid id) slots < length slots → first_of_id slots id ≡ position_or_len (has_msgid id) slots + 1
 first_found slots id within = ap number_at (cond-true (nat_lt (position_or_len (has_msgid id) slots) (length slots)) _ _ (grind (arith, nat_tests)))

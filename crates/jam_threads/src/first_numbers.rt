@@ -1,4 +1,4 @@
-ghost use Rattle.std.specs.Prelude.{◌≡◌, ℕ, List, length, fold, ◌==◌, ◌&&◌, if◌then◌else◌, IfOk, OnOk};
+ghost use Rattle.std.specs.Prelude.{◌≡◌, ℕ, List, [], Some, length, fold, ◌==◌, ◌&&◌, if◌then◌else◌, IfOk, IfErr, OnOk};
 ghost use Rattle.std.specs.Str.{bytes_eq};
 ghost use Rattle.jam_threads.specs.FirstNumbers.{kept_number, number_or, older_number as number_among};
 ghost use Rattle.jam_threads.specs.IdNumbers.{mapped_number};
@@ -69,17 +69,39 @@ fn newer_number(found: u32, newer: &[IdNumber], id: &[u8]) -> u32
     number
 }
 
+/// A map of the older ids, where no copy shares it; or else the handle again.
+fn unshared(alloc: Global, older: Option<Shared<IdNumbers>>) -> Result<IdNumbers, Shared<IdNumbers>>
+    ensures map { IfOk result (λ numbers. (id : List ℕ) → mapped_number numbers id ≡ number_among older id) }
+    ensures back { IfErr result (λ shared. older ≡ Some shared) }
+{
+    match older {
+        None => Ok(IdNumbers::new(alloc)),
+        Some(shared) => shared.into_value(),
+    }
+}
+
 /// A map of the older ids, which isn't copied where no other has it.
 fn owned(alloc: Global, older: Option<Shared<IdNumbers>>) -> Result<IdNumbers, AllocError>
     ensures { IfOk result (λ numbers. (id : List ℕ) → mapped_number numbers id ≡ number_among older id) }
 {
-    let Some(shared) = older else {
-        return Ok(IdNumbers::new(alloc));
-    };
-    match shared.into_value() {
+    match unshared(alloc, older) {
         Ok(numbers) => Ok(numbers),
         Err(shared) => shared.get().copy(),
     }
+}
+
+/// A map with a message more, to be shared.
+fn with_message(
+    alloc: Global,
+    numbers: IdNumbers,
+    id: &[u8],
+    number: u32,
+) -> Result<Shared<IdNumbers>, AllocError>
+    ensures { IfOk result (λ shared. (other : List ℕ) → mapped_number shared other ≡ (if mapped_number numbers other == 0 && bytes_eq id.now other then number else mapped_number numbers other)) }
+{
+    let mut more = numbers;
+    more.add(alloc, id, number)?;
+    Shared::new(alloc, more)
 }
 
 /// A map of the older ids and the newer ones.
@@ -157,15 +179,43 @@ impl FirstNumbers {
         self.newer.add(IdNumber { id, number })
     }
 
-    /// Adds a message behind the others.
-    pub(crate) fn add(&mut self, alloc: Global, id: &[u8], number: u32) -> Result<(), AllocError>
+    /// Adds a message behind the others to the newer ids.
+    fn add_newer(&mut self, alloc: Global, id: &[u8], number: u32) -> Result<(), AllocError>
         ensures { OnOk result ((other : List ℕ) → kept_number self.new other ≡ (if kept_number self.old other == 0 && bytes_eq id.now other then number else kept_number self.old other)) }
     {
         if self.number(id) != 0 {
             return Ok(());
         }
-        self.make_room(alloc)?;
         self.push(alloc, id, number)
+    }
+
+    /// Adds a message behind the others where there are no newer ids: to the older ones, where no copy shares these.
+    fn add_older(&mut self, alloc: Global, id: &[u8], number: u32) -> Result<(), AllocError>
+        requires { self.old.newer ≡ [] }
+        ensures { OnOk result ((other : List ℕ) → kept_number self.new other ≡ (if kept_number self.old other == 0 && bytes_eq id.now other then number else kept_number self.old other)) }
+    {
+        match unshared(alloc, mem::replace(&mut self.older, None)) {
+            Ok(numbers) => {
+                self.older = Some(with_message(alloc, numbers, id, number)?);
+                Ok(())
+            }
+            Err(shared) => {
+                self.older = Some(shared);
+                self.add_newer(alloc, id, number)
+            }
+        }
+    }
+
+    /// Adds a message behind the others.
+    pub(crate) fn add(&mut self, alloc: Global, id: &[u8], number: u32) -> Result<(), AllocError>
+        ensures { OnOk result ((other : List ℕ) → kept_number self.new other ≡ (if kept_number self.old other == 0 && bytes_eq id.now other then number else kept_number self.old other)) }
+    {
+        self.make_room(alloc)?;
+        if self.newer.len() == 0 {
+            self.add_older(alloc, id, number)
+        } else {
+            self.add_newer(alloc, id, number)
+        }
     }
 
     /// The same numbers.

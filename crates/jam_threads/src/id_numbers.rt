@@ -30,12 +30,23 @@ impl IdNumbers {
         self.numbers.get(id).copied().unwrap_or(0)
     }
 
-    /// Adds a message behind the others.
+    /// Puts the number of an id, and answers the one before, or 0.
+    #[tactic(auto, unfolding(crate::specs::IdNumbers::mapped_number))]
+    fn put(&mut self, alloc: Global, id: &[u8], number: u32) -> Result<u32, AllocError>
+        ensures before { IfOk result (λ before. before ≡ mapped_number self.old id.now) }
+        ensures updates { OnOk result ((other : List ℕ) → mapped_number self.new other ≡ (if bytes_eq id.now other then number else mapped_number self.old other)) }
+    {
+        let key = Vec::from_slice(alloc, id)?;
+        Ok(self.numbers.insert(key, number)?.unwrap_or(0))
+    }
+
+    /// Adds a message behind the others. Most ids are new, so that one is put before it is known whether it was there.
     pub(crate) fn add(&mut self, alloc: Global, id: &[u8], number: u32) -> Result<(), AllocError>
         ensures { OnOk result ((other : List ℕ) → mapped_number self.new other ≡ (if mapped_number self.old other == 0 && bytes_eq id.now other then number else mapped_number self.old other)) }
     {
-        if self.number(id) == 0 {
-            self.numbers.insert(Vec::from_slice(alloc, id)?, number)?;
+        let before = self.put(alloc, id, number)?;
+        if before != 0 {
+            self.put(alloc, id, before)?;
         }
         Ok(())
     }
