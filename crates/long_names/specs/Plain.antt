@@ -24,9 +24,17 @@ with_names to from subject h = record h { to = to; from = from; subject = subjec
 abbrev pub with_lead : LeadValues → Header → Header
 with_lead found h = with_names found.to found.from found.subject h
 
--- Lines without the empty one that marks them as text: behind it, and more empty ones, stand lines that would be taken.
+-- An empty line marks the others as text: behind it, and more empty ones, stand lines that would be taken.
+abbrev pub is_marked : Header → List (List ℕ) → Bool
+is_marked h lines = begins_empty lines && takes h (past_empty lines)
+
+-- lines without the empty one that marks them as text
 abbrev pub unmarked : Header → List (List ℕ) → List (List ℕ)
-unmarked h lines = if begins_empty lines && takes h (past_empty lines) then drop 1 lines else lines
+unmarked h lines = if is_marked h lines then drop 1 lines else lines
+
+-- its reader sees the message as it is
+abbrev pub reads_as_is : QwkMessage → Bool
+reads_as_is m = not (takes m.header m.lines) && not (is_marked m.header m.lines)
 
 -- the message that its reader sees
 unfoldable pub plain : QwkMessage → QwkMessage

@@ -11,6 +11,6 @@ mod value;
 mod writing;
 
 pub use line_field::LineField;
-pub use reading::plain;
+pub use reading::{plain, reads_as_is};
 pub use value::{is_long, short_form};
 pub use writing::with_long;

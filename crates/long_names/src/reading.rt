@@ -1,6 +1,6 @@
 ghost use Rattle.std.specs.Prelude.{◌≡◌, ◌<◌, ◌≤◌, length, drop, IfOk, IsTrue, true, false};
 ghost use Rattle.long_names.specs.Lead.{lead as lead_in, begins_empty as begins_empty_of, takes as takes_of};
-ghost use Rattle.long_names.specs.Plain.{is_empty, past_empty as past_empty_of, with_names as with_names_of, unmarked as unmarked_of, plain as plain_of};
+ghost use Rattle.long_names.specs.Plain.{is_empty, past_empty as past_empty_of, with_names as with_names_of, is_marked as is_marked_of, unmarked as unmarked_of, reads_as_is as reads_as_is_of, plain as plain_of};
 
 use crate::header::{add_lines, with_names};
 use crate::lead::{Lead, begins_empty, taken, takes};
@@ -42,15 +42,32 @@ fn with_lead(alloc: Global, header: &Header, lead: &Lead) -> Result<QwkMessage, 
     Ok(QwkMessage { header, lines })
 }
 
+/// Whether the first line is an empty one that marks the lines as text.
+fn is_marked(header: &Header, lines: &[Bytes]) -> bool
+    ensures { result ≡ is_marked_of header.now lines.now }
+{
+    begins_empty(lines) && takes(header, past_empty(lines))
+}
+
 /// The lines of a text without the empty line that marks it as text.
 fn unmarked<'a>(header: &Header, lines: &'a [Bytes]) -> &'a [Bytes]
     ensures { result.now ≡ unmarked_of header.now lines.now }
 {
-    if begins_empty(lines) && takes(header, past_empty(lines)) {
+    if is_marked(header, lines) {
         behind_first(lines)
     } else {
         lines
     }
+}
+
+/// Whether a reader sees the message as it is: no line before its text gives a long value, and none marks it as text.
+#[tactic(auto, unfolding(crate::specs::Plain::plain))]
+pub fn reads_as_is(message: &QwkMessage) -> bool
+    ensures value { result ≡ reads_as_is_of message.now }
+    ensures same { IsTrue result → plain_of message.now ≡ message.now }
+{
+    let lines = message.lines.as_slice();
+    !takes(&message.header, lines) && !is_marked(&message.header, lines)
 }
 
 /// The message that a reader sees: with the long values that lines before its text give, which are left out of the

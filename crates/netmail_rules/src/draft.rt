@@ -77,10 +77,11 @@ fn kept_lines(named: Option<NetLine>, lines: &[Bytes]) -> &[Bytes]
     }
 }
 
-/// Adds a line as it is kept: a space for each carriage return, and one carriage return at the end.
+/// Adds a line as it is kept, in room for it: a space for each carriage return, and one carriage return at the end.
 fn add_line(body: &mut Bytes, line: &[u8]) -> Result<(), AllocError>
     ensures { OnOk result (body.new ≡ body.old ++ kept_line line.now) }
 {
+    body.reserve(line.len().saturating_add(1))?;
     let mut left = line;
     while let Some((front, rest)) = split_at_byte(left, b'\r') {
         body.add(front)?;

@@ -6,7 +6,7 @@ use crate::rule::Rule;
 use crate::rules::{first_refusing, refusal_in, rules_before};
 use crate::view::View;
 use jam_records::Message;
-use long_names::plain;
+use long_names::{plain, reads_as_is};
 use qwk_blocks::QwkMessage;
 use std::alloc::{AllocError, Global};
 
@@ -52,6 +52,9 @@ pub fn judge(
 ) -> Result<Verdict, AllocError>
     ensures { IfOk result (λ judged. judged ≡ verdict view.now message.now now) }
 {
+    if reads_as_is(message) {
+        return judge_plain(alloc, view, message, now);
+    }
     let read = plain(alloc, message)?;
     judge_plain(alloc, view, &read, now)
 }

@@ -92,7 +92,7 @@ impl Judging {
         let header = &message.header;
         let place = place_of(board, header.number);
         let user = board.user_of(self.user);
-        let conference = conference_seen(alloc, board, user, &self.accepted, place)?;
+        let conference = conference_seen(board, user, &self.accepted, place);
         let reference = header.reference;
         let reply = reply_seen(alloc, board, self.user, &self.accepted, place, reference)?;
         self.view.conference = conference;

@@ -15,7 +15,7 @@ use board_ledger::User;
 use byte_lists::Bytes;
 use netmail_rules::{ConferenceView, View};
 use offered_packets::is_sysop;
-use slot_changes::msgid_of;
+use slot_changes::generated_len;
 use std::alloc::{AllocError, Global};
 
 /// What the rules see of a board for a user, without a conference and a reply.
@@ -53,60 +53,59 @@ fn slot_count(board: &StoredBoard, accepted: &Accepted, place: u8) -> u32
 }
 
 /// How many bytes the msgid has that is generated for a message number in a place.
-fn msgid_len(alloc: Global, board: &StoredBoard, place: u8, number: u32) -> Result<u32, AllocError>
+fn msgid_len(board: &StoredBoard, place: u8, number: u32) -> u32
     requires board { IsBoard board.now }
     requires place { place < length board.now.ledger.setup.conferences }
     requires number { number < 100000 }
-    ensures { IfOk result (λ len. len ≡ length (msgid_in place board.now number)) }
+    ensures { result ≡ length (msgid_in place board.now number) }
 {
-    let msgid = msgid_of(alloc, board, place, number)?;
-    Ok(msgid.as_slice().len() as u32)
+    let conference = board.conference_of(place).number;
+    let bbsid = board.ledger().setup.bbsid.as_slice();
+    generated_len(conference, bbsid, u64::from(number)) as u32
 }
 
 /// What the rules see of the conference in a place.
 fn conference_view(
-    alloc: Global,
     board: &StoredBoard,
     user: &User,
     accepted: &Accepted,
     place: u8,
-) -> Result<ConferenceView, AllocError>
+) -> ConferenceView
     requires indexed { IsIndexed accepted.now }
     requires place { place < length board.now.ledger.setup.conferences }
     requires few { length accepted.now.posts ≤ verdict_limit }
-    ensures view { IfOk result (λ view. Some view ≡ seen_of (spread accepted.now.posts board.now) user.now (Some place)) }
-    ensures slots { IfOk result (λ view. view.slots ≤ slot_limit + verdict_limit) }
+    ensures view { Some result ≡ seen_of (spread accepted.now.posts board.now) user.now (Some place) }
+    ensures slots { result.slots ≤ slot_limit + verdict_limit }
 {
     let slots = slot_count(board, accepted, place);
     let conference = board.conference_of(place);
-    Ok(ConferenceView {
+    ConferenceView {
         number: conference.number,
         kind: conference.kind,
         readonly: conference.readonly,
         private: conference.private,
         member: user.is_member(u32::from(place)),
         slots,
-        msgid_len: msgid_len(alloc, board, place, slots + 1)?,
-    })
+        msgid_len: msgid_len(board, place, slots + 1),
+    }
 }
 
 /// What the rules see of the conference in a place, where there is one.
 pub(crate) fn conference_seen(
-    alloc: Global,
     board: &StoredBoard,
     user: &User,
     accepted: &Accepted,
     place: Option<u8>,
-) -> Result<Option<ConferenceView>, AllocError>
+) -> Option<ConferenceView>
     requires indexed { IsIndexed accepted.now }
     requires place { IfSome place (λ place. place < length board.now.ledger.setup.conferences) }
     requires few { length accepted.now.posts ≤ verdict_limit }
-    ensures seen { IfOk result (λ seen. seen ≡ seen_of (spread accepted.now.posts board.now) user.now place) }
-    ensures there { IfOk result (λ seen. is_none place ≡ is_none seen) }
-    ensures slots { IfOk result (λ seen. IfSome seen (λ view. view.slots ≤ slot_limit + verdict_limit)) }
+    ensures seen { result ≡ seen_of (spread accepted.now.posts board.now) user.now place }
+    ensures there { is_none place ≡ is_none result }
+    ensures slots { IfSome result (λ view. view.slots ≤ slot_limit + verdict_limit) }
 {
     match place {
-        Some(place) => Ok(Some(conference_view(alloc, board, user, accepted, place)?)),
-        None => Ok(None),
+        Some(place) => Some(conference_view(board, user, accepted, place)),
+        None => None,
     }
 }

@@ -17,6 +17,7 @@ pub(crate) fn generated(
     ensures { IfOk result (λ msgid. msgid ≡ generated_of conference bbsid.now number) }
 {
     let mut msgid = Bytes::new(alloc);
+    msgid.reserve(generated_len(conference, bbsid, u64::from(number)) as usize)?;
     add_decimal(&mut msgid, u64::from(conference))?;
     msgid.add(b".")?;
     add_decimal(&mut msgid, u64::from(number))?;
