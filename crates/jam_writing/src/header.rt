@@ -14,6 +14,9 @@ use std::alloc::AllocError;
 /// PasswordCRC without a password.
 const NO_PASSWORD: u32 = 0xFFFF_FFFF;
 
+/// How many bytes a header has before its subfields (JAM message base proposal, revision 1, .JHR).
+const FIXED_SIZE: u32 = 76;
+
 /// The marks of a message.
 fn marks(message: &Message) -> Marks
     ensures { result ≡ marks_in message.now }
@@ -79,7 +82,7 @@ pub fn add_header(
     requires { header_size message.now < 2 ^ 31 }
     ensures { OnOk result (jhr.new ≡ jhr.old ++ entry_text kind offset (record { number = number; text_len = text_len; link = link; message = message.now })) }
 {
-    let len = size_of_header(message) - 76;
+    let len = size_of_header(message) - FIXED_SIZE;
     let header = header(kind, number, offset, text_len, link, message, len);
     jhr.add(&write_message_header(&header))?;
     add_subfields(jhr, message)
