@@ -1,4 +1,4 @@
-ghost use Rattle.std.specs.Prelude.{◌≡◌, All, IfOk, IfSome};
+ghost use Rattle.std.specs.Prelude.{All, IfOk, IfSome};
 ghost use Rattle.base_bench.specs.Outlines.{AreOutlines};
 ghost use Rattle.jam_layout.specs.Messages.{IsSlot};
 ghost use Rattle.jam_base.specs.Valid.{IsShape};

@@ -1,5 +1,4 @@
-ghost use Rattle.std.specs.Prelude.{◌≡◌, ◌<◌, ◌+◌, ◌==◌, ◌∷◌, ◌++◌, [], Some, None, length, slice_get, unwrap_or, IfOk, OnOk, if◌then◌else◌};
-ghost use Rattle.std.specs.Int.{bit_at};
+ghost use Rattle.std.specs.Prelude.{◌≡◌, ◌<◌, ◌+◌, Some, None, length, slice_get, unwrap_or, IfOk, OnOk};
 ghost use Rattle.board_changes.specs.Change.{Becomes};
 ghost use Rattle.board_changes.specs.Changed.{enrolled as enrolled_of, new_user as new_user_of, with_user as with_user_of, with_member};
 ghost use Rattle.board_changes.specs.Outlined.{GatheredEach, LeadsEach};

@@ -101,10 +101,6 @@ pub kept_settled : (kept : Option Loaded) (disk : Disk) → IsKept kept disk →
 kept_settled None disk kept = kept
 kept_settled (Some loaded) disk kept = calm_is_settled disk (kept_calm loaded disk kept)
 
-pub keeps_loaded : (loaded : Loaded) (disk : Disk) → IsCalm disk → StandsIn disk.files loaded → IsKept (Some loaded) disk
-keeps_loaded NotMade disk calm stands = (calm, stands)
-keeps_loaded (Ready held) disk calm stands = record { calm = calm; stands = stands }
-
 -- ---- damage
 damage_in : (none : Bool) (read : Result Board Damage) (d : Damage) → cond none (Ok None) (some_board read) ≡ Err d → damage_of read ≡ Some d
 damage_in true read d e = let never : Ok None ≡ Err d = e in absurd (cc never)

@@ -1,9 +1,9 @@
 -- A loop over the conferences of a ledger: those that were read, and those that are left.
-use Rattle.std.proofs.Common.{◌≡◌, ℕ, ◌+◌, ◌<◌, Bool, true, List, [], ◌∷◌, ◌++◌, length, map, drop, get_or, Option, Result, Ok, Err, refl, sym, ap, ◌∙◌, subst, arith, append_assoc}
+use Rattle.std.proofs.Common.{◌≡◌, ℕ, ◌+◌, ◌<◌, Bool, true, List, [], ◌∷◌, ◌++◌, length, map, drop, get_or, Option, Ok, refl, sym, ap, ◌∙◌, subst, arith, append_assoc}
 use Rattle.std.specs.Prelude.{All, IsTrue}
 use Rattle.std.specs.List.{AllZip}
 use Rattle.std.proofs.lemmas.List.{append-nil, map-append, length-map, length_push, drop_more}
-use Rattle.std.proofs.lemmas.List.Elements.{All-nil, All-push}
+use Rattle.std.proofs.lemmas.List.Elements.{All-push}
 use Rattle.board_ledger.specs.declared.ledger.Ledger.{Ledger}
 use Rattle.damage_rules.specs.Rules.{Stops}
 use Rattle.damage_rules.proofs.KeptRules.{with_front, one_more, one_fails}
@@ -32,19 +32,6 @@ pub record BasesRead (tells : Bool) (l : Ledger) (place : ℕ) (left : List Setu
   pub conferences : All IsBase bases
   pub read : IsTrue tells → with_front (conferences_in bases) (conferences_of (shapes_from l place left) files) ≡ conferences_of (shapes_of l) files
   pub layout : IsTrue tells → AreAt 0 (map files_in bases) files
-
-no_front : {A : Type 0} (read : Result (List A) Damage) → with_front [] read ≡ read
-no_front (Ok xs) = refl
-no_front (Err d) = refl
-
-pub bases_none : (tells : Bool) (l : Ledger) (files : Files) → BasesRead tells l 0 l.setup.conferences files []
-bases_none tells l files = record {
-  count = refl;
-  shapes = refl;
-  conferences = All-nil IsBase;
-  read = λ told. no_front (conferences_of (shapes_of l) files);
-  layout = λ told. tt;
-}
 
 module _ (tells : Bool) (l : Ledger) (place : ℕ) (c : SetupConference) (left : List SetupConference) (files : Files) (bases : List Contents) (so_far : BasesRead tells l place (c ∷ left) files bases) where
   pub bases_more : (b : Contents) → b.shape ≡ shape_of l place c.kind → IsConference b.shape b.conference
@@ -86,9 +73,6 @@ pub record WholesRead (l : Ledger) (place : ℕ) (left : List SetupConference) (
   pub wholes : List Contents
   pub alike : map outlined wholes ≡ bases
   pub so_far : BasesRead true l place left files wholes
-
-pub wholes_none : (l : Ledger) (files : Files) → WholesRead l 0 l.setup.conferences files []
-wholes_none l files = record { wholes = []; alike = refl; so_far = bases_none true l files }
 
 module _ (l : Ledger) (place : ℕ) (c : SetupConference) (left : List SetupConference) (files : Files) (bases : List Contents) (so : WholesRead l place (c ∷ left) files bases) where
   pub wholes_more : (b : Contents) → b.shape ≡ shape_of l place c.kind → ReadSo (IsOutlineOf (files_of_place place files)) b (conference_of (shape_of l place c.kind) (files_of_place place files)) → WholesRead l (place + 1) left files (bases ++ b ∷ [])

@@ -56,9 +56,6 @@ limit_by false = (omega arith, omega arith)
 pub limit_most : (text : List ℕ) → size_limit text ≤ board_limit
 limit_most text = (limit_by (is_old_text text)).0
 
-pub limit_least : (text : List ℕ) → old_limit ≤ size_limit text
-limit_least text = (limit_by (is_old_text text)).1
-
 limit_old : (l : Ledger) (text : List ℕ) → text ≡ text_in First l → size_limit text ≡ old_limit
 limit_old l text is = ap (λ old. cond old old_limit board_limit) (ap is_old_text is ∙ old_first l)
 

@@ -1,4 +1,4 @@
-ghost use Rattle.std.specs.Prelude.{◌≡◌, ◌≤◌, ◌<◌, ◌+◌, ◌++◌, [], length, map, IfOk, OnOk, All, if◌then◌else◌};
+ghost use Rattle.std.specs.Prelude.{◌≡◌, ◌≤◌, ◌<◌, ◌+◌, ◌++◌, [], length, IfOk, OnOk, All};
 ghost use Rattle.std.specs.List.{flat_map};
 ghost use Rattle.board_ledger.specs.Rules.{LedgerGives};
 ghost use Rattle.board_ledger.specs.Records.{records_at};

@@ -1,4 +1,4 @@
-ghost use Rattle.std.specs.Prelude.{◌≡◌, ℕ, List, length, IfOk, Some, Ok, Err};
+ghost use Rattle.std.specs.Prelude.{◌≡◌, length, IfOk, Some, Ok, Err};
 ghost use Rattle.jam_records.specs.declared.damage.Damage.{Damage};
 ghost use Rattle.board_ledger.specs.Rules.{LedgerUnlessMemory};
 ghost use Rattle.board_ledger.specs.Ledger.{ledger_text, ledger_damage, stored_text};

@@ -1,4 +1,4 @@
-ghost use Rattle.std.specs.Prelude.{◌≡◌, ◌≤◌, ◌<◌, ◌++◌, [], ◌∷◌, length, not, IfOk, MatchOption};
+ghost use Rattle.std.specs.Prelude.{◌≡◌, ◌≤◌, ◌<◌, [], ◌∷◌, length, not, IfOk, MatchOption};
 ghost use Rattle.damage_rules.specs.Rules.{first_broken, by_rules};
 ghost use Rattle.setup_file.specs.Texts.{is_bbsid as is_bbsid_text};
 ghost use Rattle.setup_file.specs.Zones.{are_zones as are_zone_numbers};
@@ -6,7 +6,7 @@ ghost use Rattle.record_numbers.specs.Numbers.{u16_at as u16_in};
 ghost use Rattle.board_ledger.specs.Limits.{upload_limit, user_limit};
 ghost use Rattle.board_ledger.specs.Rules.{LedgerGives};
 ghost use Rattle.open_offers.specs.Versions.{wrong_version as version_wrong};
-ghost use Rattle.board_ledger.specs.Opening.{places_of as places_in, setup_of as setup_in, opening_of as opening_in, opening_at as opening_read, wrong_counts as counts_wrong, wrong_texts as texts_wrong, fixed_rules, setup_rules};
+ghost use Rattle.board_ledger.specs.Opening.{places_of as places_in, setup_of as setup_in, opening_at as opening_read, wrong_counts as counts_wrong, wrong_texts as texts_wrong, fixed_rules, setup_rules};
 
 use crate::damaged::damaged;
 use crate::error::LedgerError;

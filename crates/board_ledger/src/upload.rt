@@ -1,4 +1,4 @@
-ghost use Rattle.std.specs.Prelude.{◌≡◌, ◌≤◌, ◌<◌, ◌^◌, ◌++◌, length, IfOk, OnOk};
+ghost use Rattle.std.specs.Prelude.{◌≡◌, ◌≤◌, ◌<◌, ◌^◌, ◌++◌, length, OnOk};
 ghost use Rattle.board_ledger.specs.Uploads.{upload_text, upload_in_record as upload_in, wrong_user as user_wrong, too_many as counts_wrong, upload_size};
 
 use byte_lists::{Bytes, Duplicate, List};

@@ -1,4 +1,4 @@
-ghost use Rattle.std.specs.Prelude.{◌≡◌, ℕ, List, [], ◌++◌, length, All, IfOk, OnOk, OnErr};
+ghost use Rattle.std.specs.Prelude.{◌≡◌, ℕ, List, [], ◌++◌, All, IfOk, OnOk, OnErr};
 ghost use Rattle.byte_lists.specs.Byte.{IsByte};
 
 use crate::copies::Duplicate;

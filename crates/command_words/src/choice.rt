@@ -1,4 +1,4 @@
-ghost use Rattle.std.specs.Prelude.{◌≡◌, ◌≤◌, ◌<◌, ◌^◌, length, ◌==◌, IfOk, MatchOption};
+ghost use Rattle.std.specs.Prelude.{◌≡◌, ◌≤◌, ◌<◌, length, ◌==◌, IfOk, MatchOption};
 ghost use Rattle.std.specs.List.{list_all, list_any};
 ghost use Rattle.command_words.specs.Choice.{ChoiceReads, is_known as is_known_of, has_unknown as has_unknown_of, is_chosen, chosen_from};
 ghost use Rattle.command_words.specs.declared.choice.Choice as Choices;

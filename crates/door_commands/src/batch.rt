@@ -1,5 +1,5 @@
 //! The entries of a batch's lines.
-ghost use Rattle.std.specs.Prelude.{◌<◌, ◌^◌, All, IfOk, IsTrue, length};
+ghost use Rattle.std.specs.Prelude.{◌<◌, ◌^◌, All, IfOk, length};
 ghost use Rattle.std.specs.Str.Lines.{lines};
 ghost use Rattle.door_commands.specs.Batch.{LineEntry, BatchLinesRead};
 ghost use Rattle.door_commands.specs.Entries.{EntryCanRun};

@@ -2,7 +2,7 @@
 use Rattle.std.proofs.Common.{◌≡◌, ℕ, ◌<◌, ◌^◌, Bool, true, false, cond, ◌||◌, eqb, List, [], ◌∷◌, Option, Some, None, Ok, Err, refl, sym, ap, ◌∙◌}
 use Rattle.std.specs.Prelude.{IsSome}
 use Rattle.std.specs.List.{list_any}
-use Rattle.std.proofs.lemmas.Bool.{cond-false, cond-true, false≢true}
+use Rattle.std.proofs.lemmas.Bool.{cond-true, false≢true}
 use Rattle.board_layout.specs.Board.{Board}
 use Rattle.board_layout.specs.Lookups.{user_of}
 use Rattle.board_layout.specs.Valid.{IsBoard}
@@ -14,7 +14,7 @@ use Rattle.offer_changes.proofs.AcknowledgeLaws.{acknowledged_board}
 use Rattle.offer_changes.proofs.FitLaws.{offer_kept}
 use Rattle.offer_changes.specs.Changed.{acknowledged, offer_in}
 use Rattle.open_offers.specs.declared.offer.OpenOffer.{OpenOffer}
-use Rattle.door_export.specs.Ack.{NoPacket, NoUser, ack_as, ack_of, ack_offer, after_ack}
+use Rattle.door_export.specs.Ack.{NoPacket, ack_as, ack_of, ack_offer, after_ack}
 
 pub ack_board : (name : List ℕ) (packet now : ℕ) (b : Board) → now < 2 ^ 32 → IsBoard b → IsBoard (after_ack b (ack_of name packet now b))
 ack_board name packet now b small ok = by_id (user_id name b)
@@ -30,13 +30,6 @@ ack_board name packet now b small ok = by_id (user_id name b)
 -- ---- what is answered
 pub ack_found : (name : List ℕ) (packet now : ℕ) (b : Board) (id : ℕ) → user_id name b ≡ Some id → ack_of name packet now b ≡ ack_offer packet now b id
 ack_found name packet now b id is = ap (ack_as packet now b) is
-
-pub ack_nobody : (name : List ℕ) (packet now : ℕ) (b : Board) → user_id name b ≡ None → ack_of name packet now b ≡ Err NoUser
-ack_nobody name packet now b is = ap (ack_as packet now b) is
-
--- no open packet has the number
-pub not_open : (packet now : ℕ) (b : Board) (id : ℕ) → is_offered id packet b ≡ false → ack_offer packet now b id ≡ Err (NoPacket (offer_of id b))
-not_open packet now b id is = cond-false (is_offered id packet b) (Ok (acknowledged id packet now b)) (Err (NoPacket (offer_of id b))) is
 
 -- one has
 pub is_open : (packet now : ℕ) (b : Board) (id : ℕ) → is_offered id packet b ≡ true → ack_offer packet now b id ≡ Ok (acknowledged id packet now b)

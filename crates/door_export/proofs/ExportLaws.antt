@@ -16,8 +16,8 @@ use Rattle.offer_changes.proofs.LedgerLaws.{user_was}
 use Rattle.offer_changes.proofs.UserLaws.{Alike, user_there}
 use Rattle.offered_packets.specs.Offered.{highs, offered}
 use Rattle.door_export.proofs.HighsFit.{offer_may}
-use Rattle.door_export.specs.Export.{ExportRefusal, NoUser, Limit, Packets, after_export, export_as, export_of, export_to, packet_to, handed_unless_refused, user_refusal}
-use Rattle.door_export.specs.Exporting.{KeepsOffer, ExportLeavesAll, export_error, export_change_error, refusal_of}
+use Rattle.door_export.specs.Export.{ExportRefusal, Limit, Packets, after_export, export_as, export_of, export_to, packet_to, handed_unless_refused, user_refusal}
+use Rattle.door_export.specs.Exporting.{KeepsOffer, ExportLeavesAll, export_change_error}
 use Rattle.door_export.specs.declared.exporting.ExportError.{ExportError}
 
 -- ---- a user who isn't refused
@@ -78,10 +78,6 @@ export_board name limit now b ok = by_id (user_id name b)
     by_id (Some id) = by_user id (user_of id b) refl
 
 -- ---- what is answered
-pub error_back : (why : ExportRefusal) → refusal_of (export_error why) ≡ Some why
-error_back NoUser = refl
-error_back Limit = refl
-error_back Packets = refl
 
 -- what an export comes to, once the user is found
 pub export_found : (name : List ℕ) (limit now : ℕ) (b : Board) (id : ℕ) (u : User) → user_id name b ≡ Some id → user_of id b ≡ Some u → export_of name limit now b ≡ handed_unless_refused (packet_to limit now b id u) (user_refusal limit u)

@@ -1,4 +1,4 @@
-ghost use Rattle.std.specs.Prelude.{◌≡◌, ℕ, ◌<◌, ◌≤◌, ◌^◌, length, IfOk, OnOk, IsErrOf, IsTrue};
+ghost use Rattle.std.specs.Prelude.{◌≡◌, ◌<◌, ◌≤◌, ◌^◌, length, IfOk, OnOk, IsErrOf, IsTrue};
 ghost use Rattle.door_outside.specs.Cause.{Rose};
 ghost use Rattle.door_outside.specs.Shelf.{held, fetched, FetchedWithin};
 

@@ -15,7 +15,7 @@ use Rattle.mail_board.proofs.EachNext.{fits_alike}
 use Rattle.mail_board.specs.Changes.{changed}
 use Rattle.mail_board.specs.Held.{AreAlike, HeldBoard}
 use Rattle.mail_board.specs.declared.change.Change.{Change}
-use Rattle.packet_verdicts.specs.Judged.{judged, refused_count}
+use Rattle.packet_verdicts.specs.Judged.{refused_count}
 use Rattle.packet_verdicts.specs.declared.outcome.Outcome.{Outcome}
 use Rattle.post_changes.specs.Posted.{uploaded}
 use Rattle.rep_packet.specs.declared.rep.Rep.{Rep}

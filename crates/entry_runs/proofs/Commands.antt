@@ -208,10 +208,6 @@ causes_quiet causes disk voice shelf = record {
   shelf_kept = inr (⊎_elim (λ is. absurd (cc is)) (λ same. same) causes.shelf_kept);
 }
 
--- and then memory ran out
-pub causes_starved : {old new : Counts} → HasCauses old new status.Done → HasCauses old new status.OutOfMemory
-causes_starved causes = causes_quiet causes (λ is. absurd (cc is)) (λ is. absurd (cc is)) (λ is. absurd (cc is))
-
 -- and then an entry of a class came
 pub causes_class : {old new : Counts} (so_far : Status) (class : Class) → (so_far ≡ status.Done) ⊎ (so_far ≡ status.Refused) → HasCauses old new status.Done → HasCauses old new (with_class so_far class)
 causes_class {old} {new} so_far Done quiet causes = ⊎_elim

@@ -67,10 +67,6 @@ voiced_by_call {text = text} {old = old} {new = new} result tells call partly wr
   done = told (new.said ≡ old.said ++ text) result done tells;
 }
 
--- a host that was settled is settled once a text was said
-pub voiced_settled : {T E : Type 0} {text : List ℕ} {old new : Disk} {result : Result T E} → Voiced text old new result → IsSettled old → IsSettled new
-voiced_settled {old = old} {new = new} voiced settled = settled_then old new (λ image left. (voiced.now image left).files) voiced.files settled
-
 longer : (a b heard : List ℕ) → IsFront heard a → IsFront heard (a ++ b)
 longer a b heard part = record { unheard = part.unheard ++ b; whole = ap (λ (l : List ℕ). l ++ b) part.whole ∙ append_assoc heard part.unheard b }
 

@@ -1,6 +1,5 @@
 //! The machine's last start. After a sync that failed, the system may drop what wasn't written and answer Ok the next
 //! time, so that until the machine is started again no sync shows anything.
-ghost use Rattle.std.specs.Prelude.{◌≡◌, length, IfOk};
 
 use crate::transfer::{WriterAt, read_full, write_full};
 use std::fs::{self, File};

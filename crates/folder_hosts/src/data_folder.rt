@@ -1,5 +1,5 @@
 //! The data files as they lie in a folder.
-ghost use Rattle.std.specs.Prelude.{◌≡◌, ℕ, ◌<◌, ◌≤◌, ◌^◌, length, IfOk};
+ghost use Rattle.std.specs.Prelude.{◌≡◌, ◌<◌, ◌≤◌, ◌^◌, length, IfOk};
 
 use crate::boot::{boot_id, keep_id, kept_id};
 use crate::data_paths::data_path;

@@ -1,7 +1,7 @@
 //! The host over a data folder and the standard output.
-ghost use Rattle.std.specs.Prelude.{◌≡◌, ℕ, ◌≤◌, false};
-ghost use Rattle.door_outside.specs.Cause.{HasCause, Rose};
-ghost use Rattle.door_outside.specs.Disk.{Disk, silent};
+ghost use Rattle.std.specs.Prelude.{◌≡◌, false};
+ghost use Rattle.door_outside.specs.Cause.{HasCause};
+ghost use Rattle.door_outside.specs.Disk.{silent};
 
 use crate::data_folder::DataFolder;
 use crate::transfer::write_full;

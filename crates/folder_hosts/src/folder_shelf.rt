@@ -1,8 +1,8 @@
 //! The shelf over a folder.
-ghost use Rattle.std.specs.Prelude.{◌≡◌, ℕ, ◌≤◌, false, length, IfOk};
+ghost use Rattle.std.specs.Prelude.{◌≡◌, false, length, IfOk};
 ghost use Rattle.std.specs.FinMap as map;
 ghost use Rattle.door_outside.specs.Cause.{HasCause};
-ghost use Rattle.door_outside.specs.Shelf.{Files, PieceWithin};
+ghost use Rattle.door_outside.specs.Shelf.{PieceWithin};
 
 use crate::opening::{above_standard, not_regular, open_found};
 use crate::transfer::{read_full, write_full};

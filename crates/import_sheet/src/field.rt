@@ -1,4 +1,4 @@
-ghost use Rattle.std.specs.Prelude.{◌≡◌, ℕ, List, MatchOption};
+ghost use Rattle.std.specs.Prelude.{◌≡◌, MatchOption};
 ghost use Rattle.import_sheet.specs.Header.{word_of, rule_of_field, BeginsWithWord, HeaderLineReads};
 ghost use Rattle.import_sheet.specs.declared.field.Field.{Field};
 

@@ -1,10 +1,10 @@
 -- The patches are being written, one after the other.
-use Rattle.std.proofs.Common.{◌≡◌, ◌≢◌, inl, inr, ℕ, suc, ◌+◌, ◌≤◌, List, [], ◌∷◌, ◌++◌, refl, sym, ◌∙◌, ap, subst, append_assoc, length, arith}
+use Rattle.std.proofs.Common.{◌≡◌, ◌≢◌, inl, inr, ℕ, suc, ◌+◌, ◌≤◌, List, [], ◌∷◌, ◌++◌, sym, ◌∙◌, ap, subst, append_assoc, length, arith}
 use Rattle.std.specs.Prelude.{All, Bool, true, IsTrue, Some, None}
 use Rattle.std.proofs.lemmas.Bool.{cases_eq}
 use Rattle.std.proofs.lemmas.List.Sums.{sum_by-cons}
 use Rattle.door_outside.specs.Disk.{Disk, Image, AllNow, Between, Passes, InFile, HoldsBytes, Reached, as_read}
-use Rattle.door_outside.proofs.Moments.{still, joined, by_call, now_by}
+use Rattle.door_outside.proofs.Moments.{joined, by_call, now_by}
 use Rattle.intent_journal.proofs.Steps.{apply_here, apply_there, part_hidden, part_within, same_files}
 use Rattle.intent_journal.specs.Journal.{front, patch_by, patches_of}
 use Rattle.intent_journal.specs.Patches.{Files, file_of, bytes_of, byte_count, is_once, patched_file, apply, patched, data_files}
@@ -30,15 +30,6 @@ pub record Carrying (tells : Bool) (patches : List Patch) (n : ℕ) (text : List
   pub split : patches ≡ done ++ todo
   pub reads : patches_of n text ≡ Some todo
   pub reach : IsTrue tells → Reach patches todo old now
-
-pub carry_start : (tells : Bool) (patches : List Patch) (n : ℕ) (text : List ℕ) (old : Disk) → patches_of n text ≡ Some patches → (IsTrue tells → AllNow old (Stands patches (as_read old))) → Carrying tells patches n text old old
-carry_start tells patches n text old reads stands = record {
-  done = [];
-  todo = patches;
-  split = refl;
-  reads = reads;
-  reach = λ t. record { since = still old _; stands = stands t; left = refl; wrote = omega arith };
-}
 
 -- a part of a patch keeps the outcome
 pub stands_on : (done : List Patch) (p : Patch) (rest : List Patch) (goal before image : Image) → is_once (done ++ p ∷ rest) ≡ true → file_of p ≢ 1 → Stands (done ++ p ∷ rest) goal before → InFile (file_of p) (Partly p) before image

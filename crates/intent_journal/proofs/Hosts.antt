@@ -1,12 +1,11 @@
 -- How the words for hosts go together, and what a sync and calls that change nothing do to them.
-use Rattle.std.proofs.Common.{List, ⊎_elim, inl, arith, ◌≡◌, [], sym, ◌∙◌, ap, subst}
-use Rattle.door_outside.specs.Disk.{Between, Disk, Image, AllNow, Passes, Same, Unchanged, as_read}
-use Rattle.door_outside.proofs.Moments.{now_same, now_unchanged, reads_have}
-use Rattle.intent_journal.specs.declared.patch.Patch.{Patch}
+use Rattle.std.proofs.Common.{◌≡◌, [], sym, ◌∙◌, ap, subst}
+use Rattle.door_outside.specs.Disk.{Disk, Image, AllNow, Passes, Same, Unchanged, as_read}
+use Rattle.door_outside.proofs.Moments.{now_same, now_unchanged}
 use Rattle.intent_journal.specs.Hosts.{IsFirm, IsSettled, IsCalm}
 use Rattle.intent_journal.specs.Journal.{IsClosed}
 use Rattle.intent_journal.specs.Patches.{Files, SameFiles, data_files}
-use Rattle.intent_journal.specs.Recovered.{recovered, Back, OldOrPatched}
+use Rattle.intent_journal.specs.Recovered.{recovered, Back}
 use Rattle.intent_journal.specs.Steps.{IsSure, JournalKept}
 use Rattle.intent_journal.proofs.DataFiles.{kept_unchanged, recovered_same}
 use Rattle.intent_journal.proofs.Moves.{intent_closed, recovered_by}
@@ -27,10 +26,6 @@ calm_is_settled disk calm = firm_is_settled disk (calm_is_firm disk calm)
 -- the data files of a calm host are the recovered ones
 pub calm_recovers : (disk : Disk) → IsCalm disk → recovered disk.files ≡ data_files disk.files
 calm_recovers disk calm = recovered_by [] disk.files (intent_closed disk.files calm.closed)
-
--- where every image recovers to one outcome, the host is firm
-pub firm_by_outcome : (disk : Disk) (outcome : Files) → AllNow disk (λ image. recovered image.files ≡ outcome) → IsFirm disk
-firm_by_outcome disk outcome all image left = all image left ∙ sym (reads_have disk (λ image. recovered image.files ≡ outcome) all)
 
 -- a settled host whose journal is durable is firm
 pub settled_is_firm : (disk : Disk) → IsSettled disk → JournalKept disk → IsFirm disk
@@ -69,22 +64,6 @@ sure_unchanged old new sure same = record {
   firm = firm_unchanged old new sure.firm same;
   journal = λ image left. now_unchanged same sure.journal image left ∙ ap (λ (f : Files). f 1) (sym same.files);
 }
-
-pub back_unchanged : (old mid : Disk) → Unchanged old mid → (image : Image) → Back mid image → Back old image
-back_unchanged old mid same image back = record { said = back.said ∙ same.said; files = back.files ∙ ap recovered same.files }
-
-pub back_still : (old mid : Disk) → IsFirm old → Unchanged old mid → AllNow mid (Back old)
-back_still old mid firm same image left = record { said = mid.stays image left ∙ same.said; files = now_unchanged same firm image left }
-
--- every image since the entry of a commit recovers to the old data files or to the patched ones
-pub since_calm : (patches : List Patch) (old new : Disk) → IsCalm old → Between old new (OldOrPatched patches old) → (image : Image) → new.leaves old.clock image → OldOrPatched patches old image
-since_calm patches old new calm run image left = ⊎_elim
-    (λ before. record { said = old.stays image before; files = inl (calm_is_firm old calm image before ∙ calm_recovers old calm) })
-    (λ in_it. in_it) (run.each old.clock image (omega arith) left)
-
--- every image since the entry of a recovery of a firm host recovers to one outcome
-pub since_firm : (old new : Disk) → IsFirm old → Between old new (Back old) → (image : Image) → new.leaves old.clock image → Back old image
-since_firm old new firm run image left = ⊎_elim (λ before. record { said = old.stays image before; files = firm image before }) (λ in_it. in_it) (run.each old.clock image (omega arith) left)
 
 -- a host on one image, with nothing pending
 pub at_rest_is_settled : (disk : Disk) → AllNow disk (λ image. image ≡ as_read disk) → IsSettled disk

@@ -1,7 +1,7 @@
 // Carrying out patches.
-ghost use Rattle.std.specs.Prelude.{◌≡◌, ℕ, ◌+◌, ◌<◌, ◌≤◌, ◌^◌, false, length, Some, OnOk, IsTrue};
+ghost use Rattle.std.specs.Prelude.{◌≡◌, ◌+◌, ◌<◌, ◌≤◌, ◌^◌, false, length, Some, OnOk, IsTrue};
 ghost use Rattle.door_outside.specs.Cause.{HasCause};
-ghost use Rattle.door_outside.specs.Disk.{Disk, Image, Passes, InFile, HoldsBytes, Between, AllNow, as_read};
+ghost use Rattle.door_outside.specs.Disk.{Passes, InFile, HoldsBytes, Between, AllNow, as_read};
 ghost use Rattle.intent_journal.specs.Hosts.{IsCalm};
 ghost use Rattle.intent_journal.specs.Journal.{patch_by, patches_of, spelled};
 ghost use Rattle.intent_journal.specs.Patches.{are_within, byte_count, data_files, is_once, patched, patched_file};

@@ -1,7 +1,7 @@
 // Committing an intent.
-ghost use Rattle.std.specs.Prelude.{◌≡◌, ℕ, ◌+◌, ◌*◌, ◌<◌, ◌≤◌, ◌^◌, length, OnOk, IsTrue};
+ghost use Rattle.std.specs.Prelude.{◌≡◌, ◌+◌, ◌*◌, ◌<◌, ◌≤◌, ◌^◌, length, OnOk, IsTrue};
 ghost use Rattle.door_outside.specs.Cause.{HasCause};
-ghost use Rattle.door_outside.specs.Disk.{Disk, Passes, InFile, HoldsBytes, Between, AllNow, as_read, written};
+ghost use Rattle.door_outside.specs.Disk.{Passes, InFile, HoldsBytes, Between, AllNow, as_read, written};
 ghost use Rattle.intent_journal.specs.Hosts.{IsCalm, IsSettled};
 ghost use Rattle.intent_journal.specs.Journal.{spelled, IsSpelled};
 ghost use Rattle.intent_journal.specs.Patches.{are_within, byte_count, data_files, patched};

@@ -1,8 +1,8 @@
 // What a recovery finds in the journal. It reads one byte, and more only behind an open gate.
-ghost use Rattle.std.specs.Prelude.{◌≡◌, ℕ, [], ◌∷◌, ◌+◌, ◌≤◌, length, take, drop, nat_le, true, false, Some, IfOk, OnOk, IsErrOf, IsTrue, MatchOption};
+ghost use Rattle.std.specs.Prelude.{◌≡◌, [], ◌∷◌, ◌+◌, ◌≤◌, length, take, drop, nat_le, true, false, Some, IfOk, OnOk, IsErrOf, IsTrue, MatchOption};
 ghost use Rattle.door_outside.specs.Cause.{HasCause, Rose};
-ghost use Rattle.door_outside.specs.Disk.{Disk, Unchanged};
-ghost use Rattle.intent_journal.specs.Found.{JournalFinds, HasHead, HasJournalText, HasNoBody, HasWholeHead};
+ghost use Rattle.door_outside.specs.Disk.{Unchanged};
+ghost use Rattle.intent_journal.specs.Found.{JournalFinds, HasHead, HasWholeHead};
 ghost use Rattle.intent_journal.specs.Journal.{IsClosed, begins_body};
 
 use crate::gate::is_open;

@@ -1,7 +1,7 @@
 // The gate of the journal.
-ghost use Rattle.std.specs.Prelude.{◌≡◌, ℕ, ◌+◌, ◌≤◌, [], ◌∷◌, take, true, false, OnOk, IsTrue};
+ghost use Rattle.std.specs.Prelude.{◌≡◌, ◌+◌, ◌≤◌, [], ◌∷◌, take, true, false, OnOk, IsTrue};
 ghost use Rattle.door_outside.specs.Cause.{HasCause};
-ghost use Rattle.door_outside.specs.Disk.{Disk, Passes, InFile, Torn, HoldsBytes, written};
+ghost use Rattle.door_outside.specs.Disk.{Passes, InFile, Torn, HoldsBytes, written};
 ghost use Rattle.intent_journal.specs.Journal.{IsClosed};
 ghost use Rattle.intent_journal.specs.Steps.{JournalKept};
 

@@ -1,5 +1,5 @@
 // An intent, as its patches are spelled.
-ghost use Rattle.std.specs.Prelude.{◌≡◌, ℕ, ◌≤◌, [], ◌∷◌, ◌++◌, ◌↔◌, length, OnOk, OnErr, IsTrue};
+ghost use Rattle.std.specs.Prelude.{◌≡◌, ◌≤◌, [], ◌∷◌, ◌++◌, ◌↔◌, length, OnOk, OnErr, IsTrue};
 ghost use Rattle.intent_journal.specs.Journal.{journal_text, spelled, IsSpelled, TakesPatch};
 
 use crate::headers::patch_header;

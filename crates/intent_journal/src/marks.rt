@@ -1,5 +1,5 @@
 // Which files have a patch.
-ghost use Rattle.std.specs.Prelude.{◌≡◌, ℕ, ◌<◌, List, [], ◌∷◌, ◌||◌, true, false, replicate, slice_index_or, slice_set, if◌then◌else◌};
+ghost use Rattle.std.specs.Prelude.{◌≡◌, List, [], ◌∷◌, ◌||◌, true, false, replicate};
 ghost use Rattle.door_outside.specs.File.{file_count};
 ghost use Rattle.std.specs.List.{list_any};
 ghost use Rattle.intent_journal.specs.Journal.{Marks};

@@ -1,5 +1,5 @@
 // Reading the bytes of the journal.
-ghost use Rattle.std.specs.Prelude.{◌≡◌, ℕ, ◌+◌, ◌<◌, ◌≤◌, ◌^◌, Bool, List, false, length, take, Some, None, IfSome, MatchOption};
+ghost use Rattle.std.specs.Prelude.{◌≡◌, ℕ, ◌+◌, ◌<◌, ◌≤◌, ◌^◌, List, false, length, take, Some, None, IfSome, MatchOption};
 ghost use Rattle.record_numbers.specs.Numbers.{u16_at};
 ghost use Rattle.intent_journal.specs.Journal.{begins_patch, begins_body, front, patch_by, patches_of, are_once};
 ghost use Rattle.intent_journal.specs.Found.{HasHead};

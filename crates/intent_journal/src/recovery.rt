@@ -1,7 +1,7 @@
 // Recovering what a crash left.
-ghost use Rattle.std.specs.Prelude.{◌≡◌, ℕ, [], ◌∷◌, ◌+◌, ◌≤◌, take, Some, OnOk, IsErrOf, IsTrue};
+ghost use Rattle.std.specs.Prelude.{◌≡◌, [], ◌∷◌, ◌+◌, ◌≤◌, take, Some, OnOk, IsErrOf, IsTrue};
 ghost use Rattle.door_outside.specs.Cause.{HasCause, Rose};
-ghost use Rattle.door_outside.specs.Disk.{Disk, Between, AllNow, as_read};
+ghost use Rattle.door_outside.specs.Disk.{Between, AllNow, as_read};
 ghost use Rattle.intent_journal.specs.Found.{JournalFinds, HasJournalText};
 ghost use Rattle.intent_journal.specs.Hosts.{IsCalm, IsFirm, IsSettled};
 ghost use Rattle.intent_journal.specs.Journal.{intent_of, patches_of, spelled};

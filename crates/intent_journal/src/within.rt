@@ -1,7 +1,7 @@
 // Whether each patch begins at most at the end of its file.
-ghost use Rattle.std.specs.Prelude.{◌≡◌, ℕ, ◌<◌, ◌^◌, ◌≤◌, ◌||◌, nat_le, max, length, replicate, Some, IfOk, OnOk, IsTrue};
+ghost use Rattle.std.specs.Prelude.{◌≡◌, ◌<◌, ◌||◌, nat_le, max, length, replicate, Some, IfOk, IsTrue};
 ghost use Rattle.door_outside.specs.Cause.{HasCause};
-ghost use Rattle.door_outside.specs.Disk.{Disk, Unchanged};
+ghost use Rattle.door_outside.specs.Disk.{Unchanged};
 ghost use Rattle.door_outside.specs.File.{file_count};
 ghost use Rattle.intent_journal.specs.Journal.{patches_of, spelled};
 ghost use Rattle.intent_journal.specs.Patches.{are_within, is_once};

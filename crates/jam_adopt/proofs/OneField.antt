@@ -1,5 +1,5 @@
 -- One whole subfield at a place.
-use Rattle.std.proofs.Common.{◌≡◌, ℕ, ◌+◌, ◌-◌, ◌^◌, ◌<◌, ◌≤◌, List, [], ◌∷◌, ◌++◌, length, take, drop, refl, sym, ap, ◌∙◌, arith, append-nil}
+use Rattle.std.proofs.Common.{◌≡◌, ℕ, ◌+◌, ◌-◌, ◌≤◌, List, [], ◌∷◌, ◌++◌, length, take, drop, refl, sym, ap, ◌∙◌, arith, append-nil}
 use Rattle.std.specs.Prelude.{All, bit_and}
 use Rattle.std.proofs.lemmas.List.{length-drop, length-take, take-append-drop, drop-drop, drop-take}
 use Rattle.std.proofs.lemmas.List.Elements.{All-nil, All-cons, All-drop, All-take}
@@ -7,8 +7,8 @@ use Rattle.byteorder.specs.Numbers.{little_from-lt, little_from-take}
 use Rattle.byteorder.specs.Endian.{little_number}
 use Rattle.byte_lists.specs.Byte.{IsByte}
 use Rattle.record_numbers.specs.Numbers.{u16_at, u32_at, IsU16}
-use Rattle.record_numbers.proofs.NumberFronts.{byte_small, u32_at-take}
-use Rattle.jam_records.specs.Subfields.{subfield_text, subfields_text, IsSubfield}
+use Rattle.record_numbers.proofs.NumberFronts.{byte_small}
+use Rattle.jam_records.specs.Subfields.{subfield_text, IsSubfield}
 use Rattle.jam_records.specs.declared.subfield.Subfield.{Subfield}
 use Rattle.jam_records.proofs.SubfieldLemmas.{subfield_of_bytes, taken_length}
 use Rattle.jam_adopt.specs.Leaps.{bit_of_id, PassesFields}

@@ -9,7 +9,7 @@ use Rattle.std.proofs.lemmas.List.Folds.{drop_split}
 use Rattle.std.proofs.lemmas.Nat.Bits.{bit_at_and, bit_at-zero, bit_at-pow_same, bit_at-pow_other, same_from_bits, and_pow}
 use Rattle.record_numbers.specs.Numbers.{u16_at, u32_at}
 use Rattle.record_numbers.proofs.NumberFronts.{u32_at-take}
-use Rattle.jam_records.specs.Subfields.{subfields_text, IsSubfield}
+use Rattle.jam_records.specs.Subfields.{subfields_text}
 use Rattle.jam_records.specs.declared.subfield.Subfield.{Subfield}
 use Rattle.jam_adopt.specs.Fields.{fields_of, first_field, value_of_id}
 use Rattle.jam_adopt.specs.Leaps.{bit_of_id, PassesFields, IsCutAt, StopsAt}

@@ -1,12 +1,10 @@
 -- What is looked up of a base: slots without bodies, by their message numbers.
 use Rattle.std.proofs.Common.{◌≡◌, ℕ, zero, suc, ◌-◌, ◌<◌, Bool, true, false, cond, List, [], ◌∷◌, length, map, get_or, Option, Some, None, refl, sym, ap, ◌∙◌, arith}
-use Rattle.std.specs.Prelude.{sum_by, slice_get, take, ◌==◌}
+use Rattle.std.specs.Prelude.{slice_get, ◌==◌}
 use Rattle.std.proofs.lemmas.Bool.{cond-false, ne_eqb}
-use Rattle.jam_records.specs.declared.message.Message.{Message}
 use Rattle.jam_records.specs.declared.message.Slot.{Slot}
 use Rattle.jam_records.specs.declared.message.Slot.TheVariants.{Gone, Held}
 use Rattle.jam_records.specs.declared.message.Kind.{Kind}
-use Rattle.jam_layout.specs.Bodies.{body_size}
 use Rattle.jam_layout.specs.Conference.{is_live}
 use Rattle.jam_layout.specs.Outlines.{slot_bare}
 use Rattle.shared_slots.specs.Kept.{slot_as_long}
@@ -15,7 +13,6 @@ use Rattle.jam_base.specs.Bodies.{body_begin, span_at, body_span}
 use Rattle.jam_base.specs.MarkPuts.{delete_put, receive_put}
 use Rattle.jam_base.specs.Slots.{has_due, has_live, is_due, numbered, slot_deleted, slot_received}
 use Rattle.jam_base.specs.declared.receipt.Receipt.{Receipt}
-use Rattle.jam_base.specs.declared.span.Span.{Span}
 use Rattle.jam_base.proofs.SlotChanges.{numbered_is}
 
 -- ---- by message number
@@ -51,10 +48,6 @@ get_there [] (suc place) s is = absurd (cc)
 get_there (t ∷ slots) zero s is = omega arith
 get_there (t ∷ slots) (suc place) s is = omega (arith, get_there slots place s is)
 
-pub looked_above : (number : ℕ) (slots : List Slot) (s : Slot) → Some s ≡ bare_at number slots → 0 < number
-looked_above zero slots s is = absurd (cc)
-looked_above (suc n) slots s is = omega arith
-
 pub looked_within : (number : ℕ) (slots : List Slot) (s : Slot) → Some s ≡ bare_at number slots → number - 1 < length slots
 looked_within zero slots s is = absurd (cc)
 looked_within (suc n) slots s is =
@@ -85,15 +78,6 @@ pub no_span : (number : ℕ) (slots : List Slot) (found : Option Slot) → found
 no_span number slots found is gone =
     let none : numbered slots number ≡ Gone = is_gone (numbered slots number) (sym (ap found_or_gone is ∙ looked_up number slots) ∙ gone) in
     sym (ap (span_at (body_begin number slots)) none)
-
-span_held : (at : ℕ) (s : Slot) (m : Message) → Held m ≡ slot_bare s → Some (record { at = at; len = body_size s }) ≡ span_at at s
-span_held at Gone m is = absurd (cc)
-span_held at (Held o) m is = refl
-
-pub some_span : (number : ℕ) (slots : List Slot) (m : Message) (span : Span) → Some (Held m) ≡ bare_at number slots → span.at ≡ sum_by body_size (take (number - 1) slots) → span.len ≡ body_size (numbered slots number) → Some span ≡ body_span number slots
-some_span number slots m span is at len =
-    let held : Held m ≡ slot_bare (numbered slots number) = ap found_or_gone is ∙ looked_up number slots in
-    (λ i. Some (record { at = at i; len = len i })) ∙ span_held (body_begin number slots) (numbered slots number) m held
 
 -- ---- marks
 pub due_bare : (name : List ℕ) (r : Receipt) (number : ℕ) (s : Slot) → has_due name r number (slot_bare s) ≡ has_due name r number s

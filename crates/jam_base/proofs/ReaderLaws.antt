@@ -38,12 +38,6 @@ pub fresh_base : (shape : Shape) (made : Contents) (slots : List Slot) (lengths 
     → made ≡ record { shape = shape; conference = record { counter = 0; slots = filled_slots lengths slots; pointers = pointers } } → made ≡ record { shape = shape; conference = no_slots shape }
 fresh_base shape made slots lengths pointers none zeros is = is ∙ (λ i. record { shape = shape; conference = record { counter = 0; slots = filled_slots lengths (none i); pointers = zeros i } })
 
-pub fresh_made : (shape : Shape) (slots : List Slot) (lengths pointers : List ℕ) → slots ≡ [] → pointers ≡ (no_slots shape).pointers → IsConference shape (record { counter = 0; slots = filled_slots lengths slots; pointers = pointers })
-fresh_made shape slots lengths pointers none zeros =
-    let made : Conference = record { counter = 0; slots = filled_slots lengths slots; pointers = pointers } in
-    let same : made ≡ no_slots shape = λ i. record { counter = 0; slots = filled_slots lengths (none i); pointers = zeros i } in
-    subst (IsConference shape) (sym same) (fresh_is shape)
-
 -- ---- a further reader
 one_zero : (count : ℕ) → All (λ p. p ≤ count) (0 ∷ [])
 one_zero count = All-cons (λ p. p ≤ count) 0 [] (omega arith) (All-nil (λ p. p ≤ count))

@@ -1,7 +1,6 @@
 -- A base with other slots is a conference of its shape: more messages, one deleted, some received.
 use Rattle.std.proofs.Common.{◌≡◌, ⊎_elim, ℕ, suc, zero, Bool, true, false, cond, ◌+◌, ◌-◌, ◌^◌, ◌≤◌, ◌<◌, List, [], ◌∷◌, ◌++◌, length, get_or, refl, sym, ap, ◌∙◌, subst, arith, length-append}
-use Rattle.std.specs.Prelude.{All, ◌==◌, slice_get, Option, None, unwrap_or}
-use Rattle.std.proofs.lemmas.Option.{unwrap_or-slice_get}
+use Rattle.std.specs.Prelude.{All, ◌==◌}
 use Rattle.std.proofs.lemmas.Bool.{cases_lt, cond-false, ne_eqb}
 use Rattle.std.proofs.lemmas.List.{get_or_past}
 use Rattle.std.proofs.Math.ListN.{set, length-set}
@@ -105,9 +104,6 @@ numbered_is slots number above = cond-false (number == 0) _ _ (ne_eqb number 0 (
 pub live_above : (number : ℕ) (slots : List Slot) → has_live number slots ≡ true → 0 < number
 live_above zero slots live = absurd (cc)
 live_above (suc n) slots live = omega arith
-
-pub none_live : (number : ℕ) (slots : List Slot) → 0 < number → slice_get slots (number - 1) ≡ None → has_live number slots ≡ false
-none_live number slots above none = ap is_live (numbered_is slots number above ∙ (sym (unwrap_or-slice_get slots (number - 1) Gone) ∙ ap (λ (s : Option Slot). unwrap_or s Gone) none))
 
 live_past : (number : ℕ) (slots : List Slot) → has_live number slots ≡ true → length slots < number → ⊥
 live_past number slots live past =

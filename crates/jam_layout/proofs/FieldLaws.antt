@@ -42,9 +42,6 @@ field_there id bytes long is reserved whole = grind (arith, nat_tests)
 field_other : (id : ℕ) (bytes : List ℕ) → (u16_at 0 bytes ≡ id → ⊥) → has_field id bytes ≡ false
 field_other id bytes other = grind (arith, nat_tests)
 
-field_short : (id : ℕ) → has_field id [] ≡ false
-field_short id = refl
-
 pair_is : (x v y rest : List ℕ) → x ≡ v → y ≡ rest → taken x y ≡ taken v rest
 pair_is x v y rest e f = cc
 

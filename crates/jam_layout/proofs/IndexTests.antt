@@ -1,8 +1,6 @@
 -- The test of a record of the index in the code finds its first broken rule.
 use Rattle.std.proofs.Common.{◌≡◌, ℕ, ◌+◌, List, [], ◌∷◌, length, true, false, cond, Result, Ok, refl, sym, ap, ◌∙◌, subst, arith}
-use Rattle.std.specs.Prelude.{sum_by}
 use Rattle.std.proofs.lemmas.Bool.{eqb-true}
-use Rattle.std.proofs.lemmas.List.Sums.{sum_by-cons}
 use Rattle.name_crc.specs.JamCrc.{jam_crc}
 use Rattle.jam_records.specs.declared.index_record.IndexRecord.{IndexRecord}
 use Rattle.jam_records.specs.declared.damage.Damage.{Damage}
@@ -87,8 +85,3 @@ unfolding slot_at
 gone_fails place item at pending bytes f none h =
     subst (λ (r : Result (WalkStep Pending Slot) Damage). BaseFails f r) (sym (ap (step place item bytes) (gone item at pending none)))
     (value_free f (jdx_file place) item (first_broken (index_rules no_pair bytes)) (tt {0}) (record { value = Gone; size = 8; next = record { item = item + 1; at = at; entries = pending } }) h)
-
--- the sizes of the headers that are left
-pub sizes_left : (pending rest : List Entry) (e : Entry) (m : Message) (at size : ℕ) → pending ≡ e ∷ rest → m ≡ e.message → size ≡ header_size m → at + size + sum_by (λ d. header_size d.message) rest ≡ at + sum_by (λ d. header_size d.message) pending
-sizes_left pending rest e m at size is same long =
-    omega (arith, ap (sum_by (λ (d : Entry). header_size d.message)) is, sum_by-cons (λ (d : Entry). header_size d.message) e rest, long, ap header_size same)

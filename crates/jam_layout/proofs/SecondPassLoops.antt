@@ -1,5 +1,5 @@
 -- The loops of the second pass: slots made of the entries so far, and links tested so far.
-use Rattle.std.proofs.Common.{◌≡◌, ℕ, ◌+◌, ◌-◌, ◌≤◌, ◌<◌, true, false, not, Bool, List, [], ◌∷◌, ◌++◌, length, drop, replicate, Result, Ok, Err, refl, sym, ap, ◌∙◌, subst, arith, append_assoc, append-nil, length-append}
+use Rattle.std.proofs.Common.{◌≡◌, ℕ, ◌+◌, ◌-◌, ◌≤◌, ◌<◌, not, Bool, List, [], ◌∷◌, ◌++◌, length, drop, replicate, Result, Ok, sym, ap, ◌∙◌, subst, arith, append_assoc, append-nil, length-append}
 use Rattle.std.proofs.Math.ListN.{length-replicate}
 use Rattle.std.proofs.lemmas.List.{drop_all}
 use Rattle.jam_records.specs.declared.damage.Damage.{Damage}
@@ -7,24 +7,13 @@ use Rattle.jam_records.specs.declared.damage.DamageRule.TheVariants.{Links}
 use Rattle.jam_records.specs.declared.message.Slot.{Slot}
 use Rattle.jam_records.specs.declared.message.Slot.TheVariants.{Gone, Held}
 use Rattle.jam_records.specs.declared.message.Message.{Message}
-use Rattle.jam_threads.specs.Links.{link_of}
 use Rattle.damage_rules.specs.Rules.{by_rules, ◌>>=◌}
 use Rattle.door_outside.specs.File.{jhr_file}
-use Rattle.jam_layout.specs.SecondPass.{same_link, links_at, slots_of, Numbered}
+use Rattle.jam_layout.specs.SecondPass.{links_at, slots_of, Numbered}
 use Rattle.jam_layout.specs.declared.entry.Entry.{Entry}
 
 abbrev one : ℕ → ℕ → Bool → Result (Unit {0}) Damage
 one place i b = by_rules (jhr_file place) i ((Links, not b) ∷ []) (tt {0})
-
-pub link_passes : (place i j : ℕ) (slots : List Slot) (entries : List Entry) (e : Entry) (total : Result (Unit {0}) Damage) → drop j entries ≡ e ∷ drop (j + 1) entries → same_link e.link (link_of slots e.number) ≡ true
-    → links_at place slots i (drop j entries) ≡ total → links_at place slots (i + 1) (drop (j + 1) entries) ≡ total
-link_passes place i j slots entries e total is same so_far =
-    sym (ap (links_at place slots i) is ∙ ap (λ b. one place i b >>= λ x. links_at place slots (i + 1) (drop (j + 1) entries)) same) ∙ so_far
-
-pub link_fails : (place i j : ℕ) (slots : List Slot) (entries : List Entry) (e : Entry) (total : Result (Unit {0}) Damage) → drop j entries ≡ e ∷ drop (j + 1) entries → same_link e.link (link_of slots e.number) ≡ false
-    → links_at place slots i (drop j entries) ≡ total → total ≡ Err (record { file = jhr_file place; item = i; rule = Links })
-link_fails place i j slots entries e total is same so_far =
-    sym so_far ∙ (ap (links_at place slots i) is ∙ ap (λ b. one place i b >>= λ x. links_at place slots (i + 1) (drop (j + 1) entries)) same)
 
 pub links_end : (place i j : ℕ) (slots : List Slot) (entries : List Entry) (total : Result (Unit {0}) Damage) → length entries ≤ j → links_at place slots i (drop j entries) ≡ total → total ≡ Ok (tt {0})
 links_end place i j slots entries total le so_far = sym so_far ∙ ap (links_at place slots i) (drop_all j entries le)
@@ -57,9 +46,6 @@ slots_more slots filled new j entries e m is full pushed same so_far =
 pub slots_done : (slots : List Slot) (j : ℕ) (entries : List Entry) → length entries ≤ j → SoFar slots j entries → slots ≡ slots_of 1 entries
 slots_done slots j entries le so_far =
     sym (ap (λ (xs : List Entry). slots ++ slots_of (length slots + 1) xs) (drop_all j entries le) ∙ append-nil slots) ∙ so_far.made
-
-pub slots_begin : (entries : List Entry) → Numbered 0 entries → SoFar [] 0 entries
-slots_begin entries numbered = record { made = refl; left = numbered }
 
 pub some_number : (slots : List Slot) (j : ℕ) (entries : List Entry) (e : Entry) → drop j entries ≡ e ∷ drop (j + 1) entries → SoFar slots j entries → 1 ≤ e.number
 some_number slots j entries e is so_far =

@@ -160,17 +160,6 @@ pub maybe_back : (value : List ℕ) → unwrap_or (maybe value) [] ≡ value
 maybe_back [] = refl
 maybe_back (b ∷ value) = refl
 
-pub has_in : (m : Message) → HasValues m (message_values m)
-has_in m = record {
-  origin = sym (maybe_back m.origin);
-  destination = sym (maybe_back m.destination);
-  from = sym (maybe_back m.from);
-  to = sym (maybe_back m.to);
-  msgid = sym (maybe_back m.msgid);
-  replyid = sym (maybe_back m.replyid);
-  subject = sym (maybe_back m.subject);
-}
-
 -- ---- right values and right messages
 maybe_passes : (test : List ℕ → Bool) (value : List ℕ) → EmptyOr test value → may_miss test (maybe value) ≡ true
 maybe_passes test [] e = refl

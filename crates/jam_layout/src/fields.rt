@@ -1,4 +1,4 @@
-ghost use Rattle.std.specs.Prelude.{◌≡◌, ◌+◌, ◌≤◌, length, IfOk, nat_le};
+ghost use Rattle.std.specs.Prelude.{◌≡◌, ◌+◌, IfOk, nat_le};
 ghost use Rattle.std.specs.List.{list_all};
 ghost use Rattle.jam_layout.specs.Address.{is_address};
 ghost use Rattle.jam_layout.specs.Fields.{has_field as has_field_of, field_at, values_at, is_text as is_text_of, there, may_miss, right_values as are_right};

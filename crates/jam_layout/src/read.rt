@@ -1,4 +1,4 @@
-ghost use Rattle.std.specs.Prelude.{◌≡◌, ◌+◌, ◌≤◌, ◌<◌, ◌^◌, ◌==◌, length, IfOk, Some, Err, Ok};
+ghost use Rattle.std.specs.Prelude.{◌≡◌, ◌≤◌, ◌<◌, ◌^◌, ◌==◌, length, IfOk, Some, Err, Ok};
 ghost use Rattle.std.specs.List.{list_all};
 ghost use Rattle.record_numbers.specs.Numbers.{u32_at as u32_of};
 ghost use Rattle.jam_records.specs.declared.damage.Damage.{Damage};

@@ -1,10 +1,8 @@
-ghost use Rattle.std.specs.Prelude.{◌≡◌, ◌+◌, ◌-◌, ◌≤◌, ◌<◌, ◌==◌, ◌^◌, ◌∷◌, ◌++◌, [], not, replicate, length, All, IfOk, OnOk};
+ghost use Rattle.std.specs.Prelude.{◌≡◌, ◌+◌, ◌-◌, ◌≤◌, ◌<◌, ◌==◌, ◌^◌, length, All, IfOk};
 ghost use Rattle.jam_records.specs.declared.damage.DamageRule.TheVariants.{Links};
 ghost use Rattle.jam_records.specs.declared.message.Slot.TheVariants.{Gone};
 ghost use Rattle.jam_threads.specs.Links.{link_of, AreLinks};
-ghost use Rattle.damage_rules.specs.Rules.{by_rules};
 ghost use Rattle.jam_layout.specs.Rules.{BaseGives};
-ghost use Rattle.door_outside.specs.File.{jhr_file};
 ghost use Rattle.jam_layout.specs.SecondPass.{slots_of, active_in, same_link as is_same_link, links_at, second_pass, Numbered};
 
 use crate::entry::Entry;

@@ -11,11 +11,11 @@ use Rattle.jam_threads.specs.Links.{link_of}
 use Rattle.jam_layout.specs.Headers.{headers_text}
 use Rattle.jam_layout.specs.Index.{index_records}
 use Rattle.jam_layout.specs.Layout.{entries_of}
-use Rattle.jam_layout.specs.Outlines.{slot_bare, slot_outline, slot_with}
+use Rattle.jam_layout.specs.Outlines.{slot_bare}
 use Rattle.jam_layout.specs.Sizes.{slot_header}
-use Rattle.jam_writing.specs.Pieces.{header_piece, body_size, index_piece}
-use Rattle.jam_writing.proofs.PieceLaws.{headers_more, index_more}
-use Rattle.shared_slots.proofs.BareSlots.{bare_is, filled, header_is}
+use Rattle.jam_writing.specs.Pieces.{body_size, index_piece}
+use Rattle.jam_writing.proofs.PieceLaws.{index_more}
+use Rattle.shared_slots.proofs.BareSlots.{bare_is, header_is}
 use Rattle.shared_slots.proofs.KeptLaws.{same_item}
 
 -- what is left begins with the slot that was read
@@ -42,28 +42,6 @@ pub record HeadersSoFar (kind : Kind) (slots : List Slot) (place offset : ℕ) (
 -- the slots from a place on
 pub headers_from : (kind : Kind) (slots : List Slot) (from offset : ℕ) → offset ≡ sum_by body_size (take from slots) → HeadersSoFar kind slots from offset [] (headers_text kind offset (entries_of (link_of slots) (from + 1) (drop from slots)))
 headers_from kind slots from offset is = record { text_is = refl; offset_is = omega (arith, is, sum_parts body_size slots from) }
-
-pub body_fits : (kind : Kind) (slots : List Slot) (place offset most n : ℕ) (text whole : List ℕ) → place < length slots → n ≡ body_size (get_or slots place Gone) → sum_by body_size slots < most → HeadersSoFar kind slots place offset text whole → offset + n < most
-body_fits kind slots place offset most n text whole within long small so_far =
-    let s : Slot = get_or slots place Gone in
-    omega (arith, so_far.offset_is, left_sum body_size slots place s within (same_item slots place Gone s within), small, long)
-
-pub header_added : (kind : Kind) (slots : List Slot) (place offset next n : ℕ) (text new whole : List ℕ) (b : Slot) → place < length slots → map slot_outline slots ≡ slots → b ≡ get_or (map slot_bare slots) place b → n ≡ body_size (get_or slots place Gone)
-    → new ≡ text ++ header_piece kind offset (place + 1) (link_of slots (place + 1)) (slot_with n b) → next ≡ offset + body_size (slot_with n b)
-    → HeadersSoFar kind slots place offset text whole → HeadersSoFar kind slots (place + 1) next new whole
-header_added kind slots place offset next n text new whole b within outline bare long written moved so_far =
-    let s : Slot = slot_with n b in
-    let item : s ≡ get_or slots place s = filled slots place n b within outline bare long ∙ same_item slots place Gone s within in
-    let rest : List Slot = drop (place + 1) slots in
-    let piece : List ℕ = header_piece kind offset (place + 1) (link_of slots (place + 1)) s in
-    let later : ℕ → List ℕ = λ at. headers_text kind at (entries_of (link_of slots) (place + 1 + 1) rest) in
-    let one : text ++ (piece ++ later (offset + body_size s)) ≡ whole =
-    ap (λ xs. text ++ xs) (sym (headers_more (link_of slots) kind offset (place + 1) s rest))
-    ∙ (ap (λ (xs : List Slot). text ++ headers_text kind offset (entries_of (link_of slots) (place + 1) xs)) (sym (left slots place s within item)) ∙ so_far.text_is) in
-    record {
-      text_is = ap (λ at. new ++ later at) moved ∙ (ap (λ xs. xs ++ later (offset + body_size s)) written ∙ (append_assoc text piece (later (offset + body_size s)) ∙ one));
-      offset_is = omega (arith, so_far.offset_is, left_sum body_size slots place s within item, moved);
-    }
 
 pub headers_end : (kind : Kind) (slots : List Slot) (place offset : ℕ) (text whole : List ℕ) → length slots ≤ place → HeadersSoFar kind slots place offset text whole → text ≡ whole
 headers_end kind slots place offset text whole none so_far =
@@ -103,7 +81,3 @@ record_added slots place first at next text new whole b within bare put behind s
       text_is = ap (λ n. new ++ later n) moved ∙ (ap (λ xs. xs ++ later (at + slot_header s)) written ∙ (append_assoc text (index_piece at s) (later (at + slot_header s)) ∙ one));
       at_is = omega (arith, so_far.at_is, left_sum slot_header slots place s within item, moved);
     }
-
-pub index_end : (slots : List Slot) (place first at : ℕ) (text whole : List ℕ) → length slots ≤ place → IndexSoFar slots place first at text whole → text ≡ whole
-index_end slots place first at text whole none so_far =
-    sym (append-nil text) ∙ (ap (λ (xs : List Slot). text ++ index_records at xs) (sym (drop_all place slots none)) ∙ so_far.text_is)

@@ -1,5 +1,5 @@
 ghost use Rattle.std.specs.Prelude.{◌≡◌, ◌+◌, ◌++◌, ◌<◌, ◌^◌, IfOk, OnOk};
-ghost use Rattle.jam_layout.specs.Index.{no_pair, pair_of};
+ghost use Rattle.jam_layout.specs.Index.{pair_of};
 ghost use Rattle.jam_layout.specs.Sizes.{slot_header};
 ghost use Rattle.jam_writing.specs.Pieces.{index_piece};
 

@@ -62,12 +62,6 @@ one_taken line (x ∷ rest) taken some space = subst (Taken line) (sym (take_all
 pub all_taken : (line rest : List ℕ) → Taken line rest → BeginsWithNone IsSpace rest → SkipsSpaces line rest
 all_taken line rest taken begins = record { spaces = taken.spaces; whole = taken.whole; blank = taken.blank; begins = begins }
 
-pub other_first : (rest : List ℕ) → get_or rest 0 0 ≢ 32 → BeginsWithNone IsSpace rest
-other_first rest other first behind is space = other (ap (λ (r : List ℕ). get_or r 0 0) is ∙ space)
-
-pub nothing_first : (rest : List ℕ) → length rest ≡ 0 → BeginsWithNone IsSpace rest
-nothing_first rest none first behind is space = omega (arith, none, ap length is)
-
 pub no_bytes : (rest : List ℕ) → length rest ≡ 0 → rest ≡ []
 no_bytes [] none = refl
 no_bytes (r ∷ rest) none = absurd (omega (arith, none))

@@ -105,9 +105,6 @@ lead_behind_from h to from = lead_at to from.0 (given Subject h.subject from.1).
 abbrev lead_behind_to : Header → List ℕ × List (List ℕ) → LeadValues
 lead_behind_to h to = lead_behind_from h to.0 (given From h.from to.1)
 
-lead_is : (h : Header) (lines : List (List ℕ)) → lead h lines ≡ lead_behind_to h (given To h.to lines)
-lead_is h lines = refl
-
 abbrev subject_lines : Header → List (List ℕ) → List (List ℕ)
 subject_lines h lines = as_line Subject h.subject ++ [] ∷ lines
 

@@ -1,5 +1,5 @@
 //! The lines before a text that give its long values.
-ghost use Rattle.std.specs.Prelude.{◌≡◌, true, false, MatchOption, drop};
+ghost use Rattle.std.specs.Prelude.{◌≡◌, true, false, MatchOption};
 ghost use Rattle.long_names.specs.Value.{gives, value_on};
 ghost use Rattle.long_names.specs.Lead.{given as given_of, lead as lead_in, begins_empty as begins_empty_of, takes as takes_of};
 

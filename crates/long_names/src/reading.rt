@@ -1,5 +1,4 @@
-ghost use Rattle.std.specs.Prelude.{◌≡◌, ◌<◌, ◌≤◌, length, drop, IfOk, IsTrue, true, false};
-ghost use Rattle.long_names.specs.Lead.{lead as lead_in, begins_empty as begins_empty_of, takes as takes_of};
+ghost use Rattle.std.specs.Prelude.{◌≡◌, ◌<◌, drop, IfOk, IsTrue};
 ghost use Rattle.long_names.specs.Plain.{is_empty, past_empty as past_empty_of, with_names as with_names_of, is_marked as is_marked_of, unmarked as unmarked_of, reads_as_is as reads_as_is_of, plain as plain_of};
 
 use crate::header::{add_lines, with_names};

@@ -1,5 +1,5 @@
-ghost use Rattle.std.specs.Prelude.{◌≡◌, ◌++◌, length, IfOk, OnOk};
-ghost use Rattle.long_names.specs.Plain.{in_field as in_field_of, short_header as short_header_of, as_line, long_lines, is_parted, with_long as with_long_of};
+ghost use Rattle.std.specs.Prelude.{◌≡◌, ◌++◌, IfOk, OnOk};
+ghost use Rattle.long_names.specs.Plain.{in_field as in_field_of, short_header as short_header_of, as_line, long_lines, with_long as with_long_of};
 
 use crate::header::{add_lines, with_names};
 use crate::lead::takes;

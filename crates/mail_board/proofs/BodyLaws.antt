@@ -1,5 +1,5 @@
 -- Where a body stands in .JDT, and that what stands there makes the message whole.
-use Rattle.std.proofs.Common.{◌≡◌, ℕ, zero, suc, ◌+◌, ◌-◌, ◌<◌, ◌≤◌, ◌^◌, true, false, ◌||◌, inl, inr, List, [], ◌∷◌, ◌++◌, length, map, take, drop, get_or, eqb, Option, Some, None, Result, Ok, Err, refl, sym, ap, ◌∙◌, subst, arith, length-append, append-nil}
+use Rattle.std.proofs.Common.{◌≡◌, ℕ, zero, suc, ◌+◌, ◌-◌, ◌<◌, ◌≤◌, ◌^◌, true, ◌||◌, inl, inr, List, [], ◌∷◌, ◌++◌, length, map, take, drop, get_or, eqb, Option, Some, None, Result, Ok, Err, refl, sym, ap, ◌∙◌, subst, arith, length-append, append-nil}
 use Rattle.std.specs.Prelude.{option_map, slice_get, sum_by}
 use Rattle.std.specs.List.{flat_map}
 use Rattle.std.proofs.lemmas.Bool.{cases_lt}
@@ -53,10 +53,6 @@ tested body e = elim (cases_lt 0 (length body)) [
   | inr none ↦ inl (omega arith)
   | inl some ↦ inr (grind (arith, nat_tests))
 ]
-
-pub untested : (body : List ℕ) → IsBody body → (eqb (length body) 0 || eqb (get_or body (length body - 1) 0) 0x0D) ≡ false → ⊥
-untested body (inl e) f = grind (arith, nat_tests)
-untested body (inr e) f = grind (arith, nat_tests)
 
 pub read_whole : (file : List ℕ) (at : ℕ) (buf : List ℕ) → at + length buf ≤ length file → read_into file at buf ≡ take (length buf) (drop at file)
 read_whole file at buf within =

@@ -128,11 +128,6 @@ pub opens_done : (old new : Disk) → IsCalm new → Opens old (as_read new) →
 opens_done old new calm same = subst (AreOpened (recovered old.files)) (calm_recovers new calm) same.files
 
 -- ---- files of version 2, or of no board, stay what they are
-pub opens_back : (old : Disk) (image : Image) → ¬ AreOld (recovered old.files) → Opens old image → Back old image
-opens_back old image other it = record {
-  said = it.said;
-  files = ⊎_elim (λ still. still) (λ is. absurd (other (record { board = is.board; valid = is.valid; layout = is.before }))) it.files;
-}
 
 -- a board that was found in version 1 stands in the recovered files
 pub found_old : (b : Board) (old mid : Disk) → IsBoard b → data_files mid.files ≡ recovered old.files → IsOldLayout b mid.files → AreOld (recovered old.files)

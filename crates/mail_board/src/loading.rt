@@ -1,7 +1,7 @@
 ghost use Rattle.std.specs.Prelude.{◌≡◌, ◌+◌, ◌≤◌, IfOk, IsErrOf, IsTrue};
 ghost use Rattle.board_layout.specs.Damage.{board_in};
 ghost use Rattle.board_layout.specs.Rules.{AreFoundOf, ReadGives, GivesSo, HasReadCause};
-ghost use Rattle.door_outside.specs.Disk.{Disk, AllNow, Between, as_read};
+ghost use Rattle.door_outside.specs.Disk.{AllNow, Between, as_read};
 ghost use Rattle.intent_journal.specs.Hosts.{IsCalm, IsFirm, IsSettled};
 ghost use Rattle.intent_journal.specs.Journal.{intent_of};
 ghost use Rattle.intent_journal.specs.Patches.{byte_count, data_files};

@@ -1,8 +1,7 @@
-ghost use Rattle.std.specs.Prelude.{◌≡◌, ◌≤◌, ◌⊎◌, IfOk, IsErrOf, IsOk, OnOk, IsTrue};
+ghost use Rattle.std.specs.Prelude.{◌≡◌, IfOk, IsErrOf, OnOk, IsTrue};
 ghost use Rattle.board_changes.specs.Changed.{made as made_of};
 ghost use Rattle.board_layout.specs.Layout.{AreEmpty};
-ghost use Rattle.door_outside.specs.Cause.{Rose};
-ghost use Rattle.door_outside.specs.Disk.{Disk, AllNow, Between};
+ghost use Rattle.door_outside.specs.Disk.{AllNow, Between};
 ghost use Rattle.intent_journal.specs.Hosts.{IsCalm, IsSettled};
 ghost use Rattle.mail_board.specs.Held.{BeforeOrNext, Rests, sure};
 ghost use Rattle.mail_board.specs.Causes.{HasFault};

@@ -1,6 +1,6 @@
 // A board in files of version 1, brought to version 2.
 ghost use Rattle.std.specs.Prelude.{◌≡◌, OnOk, IsErrOf, IsFalse, IsTrue};
-ghost use Rattle.door_outside.specs.Disk.{Disk, AllNow, Between};
+ghost use Rattle.door_outside.specs.Disk.{AllNow, Between};
 ghost use Rattle.intent_journal.specs.Hosts.{IsCalm, IsSettled};
 ghost use Rattle.mail_board.specs.Causes.{HasFault};
 ghost use Rattle.mail_board.specs.Held.{RestsOn};

@@ -1,4 +1,4 @@
-ghost use Rattle.std.specs.Prelude.{◌≡◌, ℕ, ◌≤◌, ◌<◌, [], length, take, IfOk, OnOk, OnErr};
+ghost use Rattle.std.specs.Prelude.{◌≡◌, ℕ, ◌≤◌, ◌<◌, [], length, take, OnOk, OnErr};
 ghost use Rattle.memory_outside.specs.Contents.{content, SameContents, Sets};
 ghost use Rattle.door_outside.specs.Disk.{written};
 ghost use Rattle.memory_outside.specs.Events.{file_after};

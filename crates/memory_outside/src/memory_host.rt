@@ -1,8 +1,7 @@
-ghost use Rattle.std.specs.Prelude.{◌≡◌, ℕ, ◌≤◌, ◌<◌, ◌^◌, ◌∷◌, [], length, IfOk, OnOk, OnErr, IsTrue, ◌↔◌};
+ghost use Rattle.std.specs.Prelude.{◌≡◌, ℕ, ◌<◌, ◌^◌, ◌∷◌, [], length, OnOk, OnErr};
 ghost use Rattle.memory_outside.specs.Contents.{content, SameContents};
 ghost use Rattle.memory_outside.specs.Events.{file_after, said_after};
 ghost use Rattle.door_outside.specs.Disk.{AllNow, HoldsBytes, InFile, NothingPending, Passes};
-ghost use Rattle.memory_outside.specs.Plan.{FailsNext, one_more};
 
 mod crash;
 mod host_calls;

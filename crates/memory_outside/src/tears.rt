@@ -1,5 +1,5 @@
 //! What a crash may make of the writes and cuts since a file's last sync.
-ghost use Rattle.std.specs.Prelude.{◌≡◌, ℕ, ◌+◌, ◌-◌, ◌≤◌, ◌<◌, ◌^◌, None, length, IfOk, OnOk, OnErr};
+ghost use Rattle.std.specs.Prelude.{◌≡◌, ℕ, ◌+◌, ◌-◌, ◌<◌, ◌^◌, None, length, OnOk};
 ghost use Rattle.memory_outside.specs.Contents.{content};
 ghost use Rattle.door_outside.specs.Disk.{Torn, Cut};
 ghost use Rattle.memory_outside.specs.Events.{IsShortEvent, synced_after};

@@ -1,7 +1,7 @@
 -- The turn of a sample, from what was looked at one by one.
 use Rattle.std.proofs.Common.{◌≡◌, ℕ, ◌≤◌, ◌<◌, Bool, true, false, ◌||◌, eqb, ltb, List, [], ◌∷◌, ◌++◌, map, refl, sym, ◌∙◌, ap, arith}
 use Rattle.std.specs.Prelude.{Option, Some, None}
-use Rattle.std.proofs.lemmas.Bool.{cond-false, cond-true, eq-eqb, le-ltb, lt-ltb, ltb-false, ne_eqb, or_left, or_right}
+use Rattle.std.proofs.lemmas.Bool.{cond-false, cond-true, le-ltb, ltb-false, ne_eqb}
 use Rattle.board_commands.specs.Enroll.{first_refusal}
 use Rattle.board_commands.specs.Turns.{refuses}
 use Rattle.board_layout.specs.Board.{Board}
@@ -29,12 +29,6 @@ some_before ((false, other) ∷ first) later why is = some_before first later wh
 -- the count is out of range
 abbrev pub is_wrong : ℕ → Bool
 is_wrong count = eqb count 0 || ltb 5000 count
-
-pub none_wrong : (count : ℕ) → count ≡ 0 → is_wrong count ≡ true
-none_wrong count none = or_left (eqb count 0) (ltb 5000 count) (eq-eqb count 0 none)
-
-pub many_wrong : (count : ℕ) → 5000 < count → is_wrong count ≡ true
-many_wrong count many = or_right (eqb count 0) (ltb 5000 count) (lt-ltb 5000 count many)
 
 both_false : (one other : Bool) → one ≡ false → other ≡ false → (one || other) ≡ false
 both_false true other a b = absurd (cc a)

@@ -1,4 +1,4 @@
-ghost use Rattle.std.specs.Prelude.{◌≡◌, ◌↔◌, ◌≤◌, MatchOption, length, slice_range};
+ghost use Rattle.std.specs.Prelude.{◌≡◌, ◌↔◌, MatchOption, slice_range};
 ghost use Rattle.text_fields.specs.Split.{Lacks};
 ghost use Rattle.setup_file.specs.Words.{past_spaces as text_past_spaces};
 ghost use Rattle.jam_layout.specs.Fields.{is_text};

@@ -45,10 +45,6 @@ limit_reached {X} p f old found i n limit is within full =
     = ap (λ (xs : List X). old ++ xs) parts ∙ (sym (append_assoc old (filter p (map f (range_with_len 1 i))) (filter p (drop i all))) ∙ ap (λ (xs : List X). xs ++ filter p (drop i all)) (sym is)) in
     sym (ap (take limit) behind ∙ take_at found (filter p (drop i all)) limit full)
 
--- all numbers were tried
-pub all_tried : {X : Type 0} (p : X → Bool) (f : ℕ → X) (old found : List X) (n limit : ℕ) → found ≡ old ++ filter p (map f (range_with_len 1 n)) → length found ≤ limit → found ≡ take limit (old ++ filter p (map f (range_with_len 1 n)))
-all_tried p f old found n limit is short = sym (ap (take limit) (sym is) ∙ take_all limit found short)
-
 -- nothing is found
 pub none_found : {X : Type 0} (old new : List X) (limit : ℕ) → new ≡ [] → length old ≤ limit → old ≡ take limit (old ++ new)
 none_found {X} old new limit none short = sym (ap (λ (xs : List X). take limit (old ++ xs)) none ∙ (ap (take limit) (append-nil old) ∙ take_all limit old short))

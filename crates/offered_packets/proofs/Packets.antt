@@ -1,8 +1,8 @@
 -- The messages of a packet, one by one.
-use Rattle.std.proofs.Common.{◌≡◌, ℕ, ◌+◌, ◌<◌, ◌≤◌, List, [], ◌∷◌, ◌++◌, length, get_or, take, sym, ap, ◌∙◌, arith}
+use Rattle.std.proofs.Common.{◌≡◌, ℕ, ◌+◌, ◌<◌, List, [], ◌∷◌, ◌++◌, length, get_or, take, sym, ap, ◌∙◌, arith}
 use Rattle.std.specs.Prelude.{Option, filter_map}
 use Rattle.std.specs.List.{cons_option, enumerate_from}
-use Rattle.std.proofs.lemmas.List.{get_or_default, length-take-le, take_all, take_more}
+use Rattle.std.proofs.lemmas.List.{get_or_default, length-take-le, take_more}
 use Rattle.std.proofs.lemmas.List.Elements.{filter_map-append}
 use Rattle.board_layout.specs.Board.{Board}
 use Rattle.qwk_blocks.specs.declared.message.QwkMessage.{QwkMessage}
@@ -38,7 +38,3 @@ shown_next b messages items d i logical old one same within e shows so_far =
     let m : OfferedMessage = get_or messages i d in
     let long : i < length messages = omega (arith, ap length same) in
     shown_more b messages m i logical old one long (get_or_default messages i d m long) e (shows ∙ ap (λ (xs : List OfferedMessage). shown b (get_or xs i d).place (get_or xs i d).number logical) same) so_far
-
--- all messages were shown
-pub shown_whole : (b : Board) (messages items : List OfferedMessage) (i : ℕ) (packet : List QwkMessage) → items ≡ messages → length items ≤ i → packet ≡ shown_all b (take i messages) → packet ≡ shown_all b messages
-shown_whole b messages items i packet same past so_far = so_far ∙ ap (shown_all b) (take_all i messages (omega (arith, ap length same)))

@@ -92,14 +92,6 @@ piece_fed (Some file) old new at n buf got rest (le, fed) is long more =
     let len : length (take at file ++ take n (got ++ rest)) ≡ at + n = omega (arith, length-append (take at file) (take n (got ++ rest)), length-take n (got ++ rest)) in
     (omega (arith, is.0, le), subst (HasFed new) (all ∙ ap (λ k. take k file) len) (more (take at file) fed))
 
-pub large_found : (held : Option (List ℕ)) (r : ReaderState) (at most : ℕ) → FedUpto held at r → most < at → ScanFinds most held TooLarge
-large_found None r at most fed over = absurd (omega arith)
-large_found (Some file) r at most (le, fed) over = omega arith
-
-pub missing_found : (held : Option (List ℕ)) (at most : ℕ) (buf got : List ℕ) → PieceIs held at buf got piece.Missing → ScanFinds most held Missing
-missing_found None at most buf got is = tt
-missing_found (Some file) at most buf got is = absurd is
-
 -- the end of the file
 pub end_found : (held : Option (List ℕ)) (r : ReaderState) (at most : ℕ) (buf got : List ℕ) (found : Scanned) → FedUpto held at r → PieceIs held at buf got (piece.Count 0) → 0 < length buf → at ≤ most
     → ((file : List ℕ) → HasFed r file → length file ≤ most → ScanFinds most (Some file) found) → ScanFinds most held found

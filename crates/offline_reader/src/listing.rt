@@ -1,5 +1,4 @@
-ghost use Rattle.std.specs.Prelude.{◌≡◌, ◌∷◌, [], ◌++◌, OnOk, IfOk, ℕ, length, codes, decimal};
-ghost use Rattle.std.specs.List.{flat_map, enumerate_from};
+ghost use Rattle.std.specs.Prelude.{◌≡◌, ◌++◌, OnOk, IfOk};
 ghost use Rattle.offline_reader.specs.Listing.{kind, place_text, kind_text, names, count_text, plain_line, listing_line, listing};
 
 use crate::print::{add_number, add_printed};

@@ -1,5 +1,5 @@
 //! Parts of a page, each added at its end.
-ghost use Rattle.std.specs.Prelude.{◌≡◌, ◌∷◌, [], ◌++◌, OnOk};
+ghost use Rattle.std.specs.Prelude.{◌≡◌, ◌++◌, OnOk};
 ghost use Rattle.offline_reader.specs.Printed as spec;
 ghost use Rattle.offline_reader.specs.Printed.{printed, printed_number, printed_line};
 

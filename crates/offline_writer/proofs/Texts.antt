@@ -2,7 +2,7 @@
 use Rattle.std.proofs.Common.{◌≡◌, ◌≢◌, ℕ, ◌+◌, ◌-◌, ◌<◌, ◌≤◌, true, false, List, [], ◌∷◌, ◌++◌, length, get_or, take, drop, reverse, refl, sym, ap, ◌∙◌, subst, inl, inr, arith, append_assoc, length-append, length-take, eqb, ne_eqb}
 use Rattle.std.proofs.lemmas.Bool.{cond-false, true≢false}
 use Rattle.std.proofs.lemmas.Bool.Decides.{nat_tests}
-use Rattle.std.proofs.lemmas.List.{append-nil, take_at, take_all, take_more, get_or_append_left, get_or-append_right, get_or-append-add, get_or-reverse, get_or-take, length-reverse, take-append-drop}
+use Rattle.std.proofs.lemmas.List.{take_at, take_all, take_more, get_or_append_left, get_or-append_right, get_or-append-add, get_or-reverse, get_or-take, length-reverse, take-append-drop}
 use Rattle.std.proofs.lemmas.List.Concat.{flat_map-append}
 use Rattle.std.proofs.lemmas.List.Elements.{All-head, All-tail}
 use Rattle.std.proofs.lemmas.List.Sums.{prefix_len_stops, suffix_len_is}
@@ -96,9 +96,6 @@ pub lines_end : (body rest : List ℕ) (lines new : List (List ℕ)) → lines +
 lines_end body [] lines new so_far lacks some is = absurd (true≢false (sym some))
 lines_end body (b ∷ rest) lines new so_far lacks some is =
     is ∙ (ap (λ ls. lines ++ ls) (sym (last_line (b ∷ rest) (λ none. absurd (cc none)) lacks)) ∙ so_far)
-
-pub lines_done : (body rest : List ℕ) (lines : List (List ℕ)) → lines ++ stored_lines rest ≡ stored_lines body → rest ≡ [] → lines ≡ stored_lines body
-lines_done body rest lines so_far none = sym (append-nil lines) ∙ (ap (λ (r : List ℕ). lines ++ stored_lines r) (sym none) ∙ so_far)
 
 -- ---- the size of lines
 abbrev ended_line : List ℕ → List ℕ

@@ -1,12 +1,12 @@
 -- The messages that are read from blocks, and how a loop over a file goes on.
-use Rattle.std.proofs.Common.{◌≡◌, ⊎_elim, ℕ, ◌+◌, ◌-◌, ◌*◌, ◌%◌, ◌<◌, ◌≤◌, List, [], ◌∷◌, ◌++◌, length, take, drop, Some, Result, Ok, Err, sym, ◌∙◌, ap, subst, inl, inr, arith, length-append, length-take}
+use Rattle.std.proofs.Common.{◌≡◌, ⊎_elim, ℕ, ◌+◌, ◌-◌, ◌*◌, ◌%◌, ◌<◌, ◌≤◌, List, [], ◌∷◌, ◌++◌, length, take, drop, Result, Ok, Err, sym, ◌∙◌, ap, subst, inl, inr, arith, length-append, length-take}
 use Rattle.std.proofs.Math.Seq.{take-add}
 use Rattle.std.proofs.lemmas.Bool.{cases_lt}
 use Rattle.std.proofs.lemmas.List.{append_assoc, take-append-drop, take_all, take-take, take-append-le, drop-append-le, length-drop}
 use Rattle.qwk_blocks.specs.Header.{BlockCountReads}
 use Rattle.qwk_blocks.specs.Packet.{MessageReads, PacketReads, FirstFault}
 use Rattle.qwk_blocks.specs.Answer.{HasRead}
-use Rattle.qwk_blocks.specs.Reader.{CountsMessages, EndsMessage, IsEvent, MovesFront, Awaits, ReaderState, HoldsStream, next_bytes}
+use Rattle.qwk_blocks.specs.Reader.{CountsMessages, EndsMessage, IsEvent, Awaits, ReaderState, HoldsStream, next_bytes}
 use Rattle.qwk_blocks.specs.declared.event.Event.{Event}
 use Rattle.qwk_blocks.specs.declared.event.Event.TheVariants as event
 use Rattle.qwk_blocks.specs.declared.event.Fed.{Fed}
@@ -15,7 +15,6 @@ use Rattle.qwk_blocks.specs.declared.fault.QwkFault.TheVariants.{Truncated, BadB
 use Rattle.qwk_blocks.specs.declared.message.QwkMessage.{QwkMessage}
 use Rattle.qwk_blocks.specs.declared.progress.Awaited.{Awaited}
 use Rattle.qwk_blocks.specs.declared.progress.Awaited.TheVariants.{Notice, Header, Text, Nothing}
-use Rattle.qwk_blocks.specs.declared.progress.Progress.{Progress}
 use Rattle.qwk_blocks.proofs.First.{count_of_front, count_of_whole, goes_on, no_count, notice_alone}
 use Rattle.qwk_blocks.proofs.Messages.{longest}
 use Rattle.qwk_blocks.proofs.OneFault.{no_fault}
@@ -104,14 +103,6 @@ pub has_read_more : (front at more : ℕ) (bytes : List ℕ) (ms : List QwkMessa
 has_read_more front at more bytes ms le further (inl none) = inl none
 has_read_more front at more bytes ms le further (inr packet) =
     inr (subst (λ (l : List ℕ). PacketReads l ms) (take-take front at bytes le ∙ sym (take-take front more bytes (omega arith))) packet)
-
--- where a message ends, the front moves to the end
-pub ended_front : (old new : Progress) (end : ℕ) (e : Event) → EndsMessage e → MovesFront old end (Some e) new → new.front ≡ end
-ended_front old new end event.Notice ends moves = absurd ends
-ended_front old new end (event.Head blocks) ends (inl moved) = moved.1
-ended_front old new end (event.Head blocks) ends (inr stays) = absurd (stays.0 ends)
-ended_front old new end (event.Text left) ends (inl moved) = moved.1
-ended_front old new end (event.Text left) ends (inr stays) = absurd (stays.0 ends)
 
 -- some of what is left is taken
 pub some_used : (s rest : List ℕ) (used : ℕ) → 0 < length rest → used ≡ length (next_bytes s rest) → 1 ≤ used

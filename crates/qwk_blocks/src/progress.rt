@@ -1,5 +1,5 @@
 //! How far a reader of blocks has come.
-ghost use Rattle.std.specs.Prelude.{◌≡◌, ◌≤◌, ◌<◌, ◌+◌, ◌-◌, ◌^◌, ℕ, List, length, drop, IfSome, IsTrue, MatchResult, ◌↔◌};
+ghost use Rattle.std.specs.Prelude.{◌≡◌, ◌≤◌, ◌<◌, ◌+◌, ◌-◌, ℕ, List, length, drop, IfSome, IsTrue, MatchResult, ◌↔◌};
 ghost use Rattle.qwk_blocks.specs.Packet.{FirstFault};
 ghost use Rattle.qwk_blocks.specs.Reader.{CountsMessages, IsProgress, AwaitsText, FollowsBlock, MovesFront};
 

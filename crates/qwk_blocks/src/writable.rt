@@ -1,4 +1,4 @@
-ghost use Rattle.std.specs.Prelude.{◌≡◌, ◌≤◌, ◌<◌, ◌^◌, ◌-◌, ◌↔◌, All, length, min, IsTrue, IfSome};
+ghost use Rattle.std.specs.Prelude.{◌≤◌, ◌<◌, ◌-◌, ◌↔◌, All, IsTrue, IfSome};
 ghost use Rattle.qwk_blocks.specs.Text.{IsLine};
 ghost use Rattle.qwk_blocks.specs.Written.{TextFits, HeaderTextsFit, HeaderFits, Writable};
 

@@ -185,9 +185,6 @@ wanted_upto all c x k w = elim w [
 pub no_fault : (all : List (List ℕ)) (c : Control) (fault : ControlError) → ControlLinesRead all c → LineFault all fault → ⊥
 no_fault all c fault x f = keeps_not_breaks all f.0 fault f.1 (kept all c x f.0 f.1 (wanted_upto all c x f.0 f.2)) f.4
 
-pub no_memory_fault : (all : List (List ℕ)) → LineFault all OutOfMemory → ⊥
-no_memory_fault all f = f.4
-
 pub only_ok : (all : List (List ℕ)) (r : Result Control ControlError) → MatchResult r (ControlLinesRead all) (MemoryOr (LineFault all)) → (c : Control) → ControlLinesRead all c → ControlUnlessMemory r (Ok c)
 only_ok all (Ok d) h c x = inl (ap Ok (control_unique all d c h x))
 only_ok all (Err e) h c x = elim h [ inl m ↦ inr (ap Err m) | inr f ↦ absurd (no_fault all c e x f) ]

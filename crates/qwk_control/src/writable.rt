@@ -1,4 +1,4 @@
-ghost use Rattle.std.specs.Prelude.{◌≢◌, ◌↔◌, All, IsTrue};
+ghost use Rattle.std.specs.Prelude.{◌↔◌, IsTrue};
 ghost use Rattle.text_fields.specs.Split.{Lacks};
 ghost use Rattle.qwk_control.specs.Written.{IsText, TextsFit, FilesFit, ConferenceFits, ConferencesFit};
 

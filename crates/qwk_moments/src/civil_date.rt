@@ -1,5 +1,5 @@
 //! Dates, against the library that knows the calendar.
-ghost use Rattle.std.specs.Prelude.{◌≡◌, ◌<◌, IfSome, pos};
+ghost use Rattle.std.specs.Prelude.{◌≡◌, ◌<◌, pos};
 ghost use Rattle.std.specs.Int.{IsInRange};
 ghost use Rattle.jiff.specs.Words.{civil_seconds, IsBetween};
 ghost use Rattle.qwk_moments.specs.Moments.{date_at, minute_start};

@@ -1,5 +1,5 @@
 //! How many bytes are written, up to the greatest number.
-ghost use Rattle.std.specs.Prelude.{◌≡◌, ◌≤◌, ◌-◌, ◌+◌, ◌^◌, ℕ, decimal, length, min};
+ghost use Rattle.std.specs.Prelude.{◌≡◌, ◌≤◌, ◌-◌, ◌+◌, ◌^◌, decimal, length, min};
 ghost use Rattle.qwk_blocks.specs.Text.{joined_lines};
 ghost use Rattle.qwk_blocks.specs.Written.{padded, number_text, blocks_of, header_block, message_text};
 

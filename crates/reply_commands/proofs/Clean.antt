@@ -19,14 +19,12 @@ use Rattle.import_sheet.specs.declared.sheet.Sheet.{Sheet}
 use Rattle.offline_reader.specs.Letter.{message_in}
 use Rattle.offline_writer.specs.Drafts.{reply_envelope, entry_envelope}
 use Rattle.offline_writer.specs.Fitting.{IsClean}
-use Rattle.packet_commands.specs.Packets.{ArePacket, IsControl}
+use Rattle.packet_commands.specs.Packets.{ArePacket}
 use Rattle.qwk_blocks.specs.Header as block
 use Rattle.qwk_blocks.specs.Header.{IsPad, HasNumber}
 use Rattle.qwk_blocks.specs.Packet.{MessagesRead}
 use Rattle.qwk_blocks.specs.declared.message.Header.{Header}
 use Rattle.qwk_blocks.specs.declared.message.QwkMessage.{QwkMessage}
-use Rattle.qwk_control.specs.Line.{IsId}
-use Rattle.qwk_control.specs.declared.control.Control.{Control}
 use Rattle.shelf_files.specs.Sheets.{AreSheets}
 
 -- ---- messages of a packet
@@ -58,8 +56,6 @@ answered_clean messages place answered read is =
     (messages_clean read.1.rest messages read.1.each (place - 1) answered (slice_get_within messages (place - 1) answered at))
 
 -- ---- the board id
-pub control_id : (control : Control) → IsControl control → IsId control.bbsid
-control_id control read = read.1.id.valid
 
 -- ---- entries of a sheet
 plain_ends : (value : List ℕ) → EndsWithNone (IsBlank Spaces) value → All (λ b. 0x20 ≤ b) value → EndsWithNone IsPad value

@@ -60,10 +60,6 @@ then_unique First Next one next (Err why) (Err other) (inr x) (inr y) =
     let same : x.0 ≡ y.0 = cc in
     next y.0 (Err why) (Err other) (subst (λ f. Next f (Err why)) same x.2) y.2
 
--- a step that is an equation is of one outcome
-is_unique : {A : Type 0} (is : Result A Refusal) (a b : Result A Refusal) → a ≡ is → b ≡ is → a ≡ b
-is_unique is a b x y = x ∙ sym y
-
 -- ---- the reply packet
 rep_from_unique : (name bbsid : List ℕ) (fetched : Fetched) (a b : Result Rep Refusal) → RepFrom name bbsid fetched a → RepFrom name bbsid fetched b → a ≡ b
 rep_from_unique name bbsid Missing a b x y = x ∙ sym y

@@ -2,9 +2,7 @@
 use Rattle.std.proofs.Common.{◌≡◌, ℕ, List, true, Result, Ok, Err, refl, sym, ap, ◌∙◌, inl, inr, subst}
 use Rattle.std.proofs.lemmas.Bool.{cond-true}
 use Rattle.door_outside.specs.Shelf.{Files}
-use Rattle.offline_writer.specs.Answer.{DraftsOrUnfit}
 use Rattle.offline_writer.specs.Placing.{lists_conference}
-use Rattle.offline_writer.specs.declared.fault.DraftError.{DraftError}
 use Rattle.offline_writer.specs.declared.fault.DraftError.TheVariants as draft
 use Rattle.qwk_blocks.specs.declared.fault.QwkFault.{QwkFault}
 use Rattle.qwk_blocks.specs.declared.message.QwkMessage.{QwkMessage}
@@ -19,16 +17,9 @@ use Rattle.shelf_files.specs.declared.halt.Halt.TheVariants.{Refused, ShelfFault
 use Rattle.shelf_files.specs.declared.refusal.Refusal.{Refusal}
 use Rattle.shelf_files.specs.declared.refusal.Refusal.TheVariants.{NoConference}
 use Rattle.reply_commands.specs.Compose.{ConferenceIn}
-use Rattle.reply_commands.specs.RepFile.{DraftsFit, Enlarges, EnlargesRep, RepIn, rep_halt, draft_halt}
+use Rattle.reply_commands.specs.RepFile.{DraftsFit, Enlarges, EnlargesRep, RepIn, rep_halt}
 use Rattle.reply_commands.specs.Steps.{Then}
 use Rattle.reply_commands.specs.declared.enlarging.Enlarged.{Enlarged}
-
--- the first step is refused
-pub comes_first : {A B : Type 0} (First : Result A Refusal → Type 0) (Next : A → Result B Refusal → Type 0) (halt : Halt)
-    → Comes {Value = A} (Err halt) First → Comes {Value = B} (Err halt) (Then First Next)
-comes_first First Next (Refused why) comes = inl comes
-comes_first First Next ShelfFault comes = tt
-comes_first First Next OutOfMemory comes = tt
 
 -- it gives a value, with which the others go on
 pub comes_next : {A B : Type 0} (First : Result A Refusal → Type 0) (Next : A → Result B Refusal → Type 0) (found : A) (result : Result B Halt)
@@ -44,11 +35,6 @@ pub no_rep : (bbsid bytes : List ℕ) (error : RepError) → ((fault : QwkFault)
 no_rep bbsid bytes (rep.Fault fault) breaks none = inl (rep.Fault fault, breaks fault refl, refl)
 no_rep bbsid bytes rep.NoBoardId breaks none = inl (rep.NoBoardId, none refl, refl)
 no_rep bbsid bytes rep.OutOfMemory breaks none = tt
-
--- drafts aren't made
-pub no_drafts : (drafts : List QwkMessage) (error : DraftError) → DraftsOrUnfit drafts (Err error) → Comes {Value = List QwkMessage} (Err (draft_halt error)) (DraftsFit drafts)
-no_drafts drafts (draft.Text number) unfit = (number, unfit, refl)
-no_drafts drafts draft.OutOfMemory unfit = tt
 
 -- drafts that fit, at the end of the reply packet of a shelf that is as it was
 pub enlarges : (old mid : Files) (name bbsid slice : List ℕ) (drafts made : List QwkMessage) (result : Result Enlarged Halt) → mid ≡ old → slice ≡ bbsid → DraftsFit drafts (Ok made)

@@ -1,9 +1,9 @@
-ghost use Rattle.std.specs.Prelude.{◌≡◌, ◌≤◌, ℕ, List, [], ◌++◌, length, IsTrue, ◌↔◌, IfOk, Option, MatchResult, MatchOption, true, false, ◌&&◌, nat_le};
+ghost use Rattle.std.specs.Prelude.{◌≡◌, ℕ, List, length, IfOk, Option, MatchResult, MatchOption, true, false};
 ghost use Rattle.std.specs.Str.Lines.{lines};
 ghost use Rattle.setup_file.specs.Words.{value_behind as value_in, number_of as number_in};
 ghost use Rattle.setup_file.specs.Rules.{conference_key, is_place_number, is_out_of_order as is_out_of_order_test, conference_value_rules, conference_rules};
 ghost use Rattle.setup_file.specs.Fault.{LinesFault};
-ghost use Rattle.setup_file.specs.State.{IsNumbered, Kept, SetupFaultOrMemory, BreaksAt, Breaks, NoneBroken, conference_of_value as conference_in, conferences_of_lines as conferences_in, PartsAre, ConferencesTaken};
+ghost use Rattle.setup_file.specs.State.{IsNumbered, Kept, SetupFaultOrMemory, Breaks, NoneBroken, conference_of_value as conference_in, PartsAre, ConferencesTaken};
 
 use crate::conference::{Conference, Conferences};
 use crate::error::{SetupError, SetupRule};

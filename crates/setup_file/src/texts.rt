@@ -1,4 +1,4 @@
-ghost use Rattle.std.specs.Prelude.{◌≡◌, nat_le};
+ghost use Rattle.std.specs.Prelude.{◌≡◌};
 ghost use Rattle.std.specs.List.{list_all};
 ghost use Rattle.setup_file.specs.Texts.{is_printed as printed_test, is_board_text as board_text_test};
 ghost use Rattle.setup_file.specs.Texts.{is_name_byte as name_byte_test, has_bare_ends as bare_ends_test, is_user_name as user_name_test};

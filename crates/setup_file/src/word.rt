@@ -1,4 +1,4 @@
-ghost use Rattle.std.specs.Prelude.{◌≡◌, ◌<◌, ℕ, [], ◌∷◌, length, IsTrue, MatchOption, false, true};
+ghost use Rattle.std.specs.Prelude.{◌≡◌, ◌<◌, [], ◌∷◌, MatchOption, false, true};
 ghost use Rattle.setup_file.specs.Words.{trim, first_word, behind_word, words, is_number, number_of as number_in, kind_of as kind_in, rights_of as rights_in, begins_with, value_behind as value_in};
 
 use jam_records::Kind;

@@ -1,4 +1,4 @@
-ghost use Rattle.std.specs.Prelude.{◌≡◌, nat_le, ◌&&◌};
+ghost use Rattle.std.specs.Prelude.{◌≡◌, ◌&&◌};
 ghost use Rattle.std.specs.List.{list_all};
 ghost use Rattle.setup_file.specs.Zones.{is_zone as zone_test, are_zones as zones_test};
 ghost use Rattle.setup_file.specs.Rising.{are_rising as rising_test, rise_above as rise_above_test};

@@ -1,4 +1,4 @@
-ghost use Rattle.std.specs.Prelude.{◌≡◌, ◌≤◌, ◌<◌, ℕ, List, Some, None, length, IfOk, MatchResult, MatchOption, IsTrue, true, false, ◌&&◌, nat_le};
+ghost use Rattle.std.specs.Prelude.{◌≡◌, ◌<◌, ℕ, List, Some, None, length, IfOk, MatchResult, MatchOption, true, false, ◌&&◌};
 ghost use Rattle.std.specs.Str.Lines.{lines};
 ghost use Rattle.setup_file.specs.Words.{value_behind as value_in, numbers_of_words, is_number, number_of as number_in};
 ghost use Rattle.setup_file.specs.Zones.{is_zone};

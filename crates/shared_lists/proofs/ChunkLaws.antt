@@ -1,15 +1,11 @@
 -- A place in a list in chunks of 128 items.
-use Rattle.std.proofs.Common.{◌≡◌, ℕ, suc, zero, ◌+◌, ◌*◌, ◌-◌, ◌/◌, ◌%◌, ◌≤◌, ◌<◌, List, [], ◌∷◌, ◌++◌, length, refl, sym, ap, ◌∙◌, arith, append-nil, length-append, get_or}
+use Rattle.std.proofs.Common.{◌≡◌, ℕ, suc, zero, ◌+◌, ◌*◌, ◌-◌, ◌/◌, ◌%◌, ◌≤◌, ◌<◌, List, [], ◌∷◌, ◌++◌, length, refl, sym, ap, ◌∙◌, arith, length-append, get_or}
 use Rattle.std.specs.Prelude.{All, slice_get, Some, None}
 use Rattle.std.proofs.lemmas.Option.{get_or_from_slice_get}
 use Rattle.std.proofs.Math.ListN.{set}
 use Rattle.std.proofs.lemmas.List.{set-append_left, set-append_right}
 use Rattle.std.proofs.lemmas.List.Elements.{All-head, All-tail}
-use Rattle.std.proofs.lemmas.Grind.{flat_map-append}
 use Rattle.shared_lists.specs.Chunks.{joined}
-
-abbrev pub IsFull : {X : Type 0} → List X → Type 0
-IsFull chunk = length chunk ≡ 128
 
 pub joined_length : {X : Type 0} (chunks : List (List X)) → All (λ chunk. length chunk ≡ 128) chunks → length (joined chunks) ≡ 128 * length chunks
 joined_length [] all = refl
@@ -79,13 +75,6 @@ module _ {X : Type 0} (chunks : List (List X)) (last : List X) (place : ℕ) (al
 
   pub set_last : (item : X) → length chunks ≤ place / 128 → set (joined chunks ++ last) place item ≡ joined chunks ++ set last (place - 128 * length chunks) item
   set_last item past = set-append_right (joined chunks) last (128 * length chunks) place item (joined_length chunks all) (omega arith)
-
--- the last items become a chunk
-pub chunk_closed : {X : Type 0} (chunks : List (List X)) (last : List X) → joined (chunks ++ last ∷ []) ++ [] ≡ joined chunks ++ last
-chunk_closed {X = X} chunks last =
-    append-nil (joined (chunks ++ last ∷ []))
-    ∙ (flat_map-append (λ (c : List X). c) chunks (last ∷ [])
-    ∙ ap (λ (zs : List X). joined chunks ++ zs) (append-nil last))
 
 -- an item that was looked up
 pub found_item : {X : Type 0} (xs : List X) (i : ℕ) (x : X) → slice_get xs i ≡ Some x → x ≡ get_or xs i x

@@ -4,7 +4,7 @@ use Rattle.std.specs.Prelude.{sum_by}
 use Rattle.std.proofs.Math.ListN.{set, length-set}
 use Rattle.std.proofs.lemmas.Option.{slice_get-get_or}
 use Rattle.std.proofs.lemmas.List.{map-append, map-set, length-replicate}
-use Rattle.std.proofs.lemmas.List.Sums.{sum_by-set, sum_by-append, sum_by-cons, get_or-le-sum_by}
+use Rattle.std.proofs.lemmas.List.Sums.{sum_by-set, sum_by-append, sum_by-cons}
 use Rattle.jam_records.specs.declared.message.Slot.{Slot}
 use Rattle.jam_records.specs.declared.message.Slot.TheVariants.{Gone, Held}
 use Rattle.jam_layout.specs.Conference.{live_count}
@@ -181,9 +181,6 @@ item_map f (x ∷ xs) (suc i) d e within = item_map f xs i d e (omega (arith, wi
 -- what the new list of live messages is, without a difference
 live_set : (old : List Slot) (place : ℕ) (s d : Slot) → place < length old → live_count (set old place s) + one_live (get_or old place d) ≡ live_count old + one_live s
 live_set old place s d within = sum_by-set one_live old place s d within
-
-pub live_enough : (old : List Slot) (place : ℕ) (s : Slot) → place < length old → one_live s ≡ one_live (get_or old place s) → one_live s ≤ live_count old
-live_enough old place s within item = omega (arith, item, get_or-le-sum_by one_live old place s within)
 
 -- a slot of an outline is one
 one_of_outline : (old : List Slot) (place : ℕ) (d : Slot) → map slot_outline old ≡ old → place < length old → slot_outline (get_or old place d) ≡ get_or old place d

@@ -1,15 +1,7 @@
 -- A text is split at its first byte of a value in one way.
-use Rattle.std.proofs.Common.{◌≡◌, ◌≢◌, ℕ, ◌+◌, ◌<◌, List, [], ◌∷◌, ◌++◌, length, get_or, take, drop, sym, ap, refl, ◌∙◌}
-use Rattle.std.proofs.lemmas.List.{take-append-drop, drop_more}
+use Rattle.std.proofs.Common.{◌≡◌, ◌≢◌, ℕ, ◌+◌, List, [], ◌∷◌, ◌++◌, sym, refl}
 use Rattle.std.proofs.lemmas.List.Elements.{All-head, All-tail}
-use Rattle.text_fields.specs.Split.{Lacks, SplitsAt}
-
--- where the first byte of the value stands
-pub splits_at : (byte : ℕ) (text : List ℕ) (place : ℕ) → place < length text → get_or text place 0 ≡ byte → Lacks byte (take place text) → SplitsAt byte text (take place text) (drop (place + 1) text)
-splits_at byte text place lt at clear = record {
-  whole = sym (take-append-drop place text) ∙ ap (λ zs. take place text ++ zs) (drop_more text place 0 lt ∙ ap (λ b. b ∷ drop (place + 1) text) at);
-  first = clear;
-}
+use Rattle.text_fields.specs.Split.{Lacks}
 
 -- a text that lacks the byte is not split at it
 pub not_split : (byte : ℕ) (text front rest : List ℕ) → Lacks byte text → text ≡ front ++ byte ∷ rest → ⊥

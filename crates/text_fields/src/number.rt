@@ -1,4 +1,4 @@
-ghost use Rattle.std.specs.Prelude.{◌≤◌, ℕ, length, MatchOption};
+ghost use Rattle.std.specs.Prelude.{◌≤◌, ℕ, MatchOption};
 ghost use Rattle.text_fields.specs.Blank.{IsBlank};
 ghost use Rattle.text_fields.specs.Number.{Number};
 

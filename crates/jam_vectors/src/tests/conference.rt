@@ -1,5 +1,5 @@
 //! The conference of the examples: its readers, and what its files share.
-ghost use Rattle.std.specs.Prelude.{◌≡◌, ℕ, ◌<◌, ◌^◌, length, All, IfOk, IsTrue};
+ghost use Rattle.std.specs.Prelude.{◌≡◌, ◌<◌, ◌^◌, length, All, IfOk, IsTrue};
 ghost use Rattle.jam_layout.specs.Valid.{IsShape};
 
 use byte_lists::Bytes;

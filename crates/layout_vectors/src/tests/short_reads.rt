@@ -1,5 +1,5 @@
 //! A read that comes short gives what came, and no zeros in place of the rest.
-ghost use Rattle.std.specs.Prelude.{◌≡◌, ◌<◌, ◌≤◌, ◌^◌, false};
+ghost use Rattle.std.specs.Prelude.{◌<◌, false};
 ghost use Rattle.door_outside.specs.Disk.{silent};
 
 use board_layout::{ReadError, read_board};

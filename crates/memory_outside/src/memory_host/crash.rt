@@ -1,4 +1,4 @@
-ghost use Rattle.std.specs.Prelude.{◌≡◌, ◌≢◌, ℕ, ◌<◌, ◌≤◌, ◌^◌, None, [], length, reverse, All, IfOk, OnOk};
+ghost use Rattle.std.specs.Prelude.{◌≡◌, ◌≢◌, ℕ, ◌<◌, ◌^◌, None, [], length, reverse, All, IfOk, OnOk};
 ghost use Rattle.memory_outside.specs.Contents.{content};
 ghost use Rattle.door_outside.specs.Disk.{NothingPending, Now, as_read};
 ghost use Rattle.memory_outside.specs.Events.{IsShortEvent, Left, read, spoken, synced};

@@ -1,4 +1,4 @@
-ghost use Rattle.std.specs.Prelude.{◌≡◌, ℕ, ◌+◌, ◌-◌, ◌≤◌, ◌<◌, ◌^◌, ◌∷◌, ◌++◌, true, length, take, min, IfOk, OnOk, OnErr, MatchResult, IsErr, IsTrue, ◌↔◌};
+ghost use Rattle.std.specs.Prelude.{◌≡◌, ◌+◌, ◌-◌, ◌≤◌, ◌<◌, ◌^◌, ◌∷◌, ◌++◌, true, length, take, min, IfOk, OnOk, OnErr, IsErr, IsTrue, ◌↔◌};
 ghost use Rattle.door_outside.specs.Cause.{HasCause};
 ghost use Rattle.door_outside.specs.Disk.{AllNow, as_read, Passes, InFile, Same, Torn, Cut, Says, HoldsBytes, Unchanged, written, read_count, read_into};
 ghost use Rattle.memory_outside.specs.Events.{IsShortEvent};

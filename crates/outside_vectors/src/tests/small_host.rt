@@ -1,5 +1,5 @@
 //! A host of short files that tells nothing of them.
-ghost use Rattle.std.specs.Prelude.{◌≡◌, ℕ, ◌≤◌, ◌<◌, false, IfOk};
+ghost use Rattle.std.specs.Prelude.{◌≤◌, ◌<◌, false, IfOk};
 ghost use Rattle.door_outside.specs.Cause.{HasCause, Rose};
 ghost use Rattle.door_outside.specs.Disk.{silent};
 
