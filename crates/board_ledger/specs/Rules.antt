@@ -1,5 +1,5 @@
 -- What the functions of this crate answer where they read by rules.
-use Rattle.std.specs.Prelude.{◌≡◌, ◌⊎◌, Option, Some, None, Result, Err}
+use Rattle.std.specs.Prelude.{Option, Some, None, Result}
 use Rattle.jam_records.specs.declared.damage.Damage.{Damage}
 use Rattle.damage_rules.specs.Rules.{Answers}
 use Rattle.board_ledger.specs.declared.error.LedgerError.{LedgerError}
@@ -13,7 +13,3 @@ damage_of_ledger (Damaged d) = Some d
 -- what a function answered, seen by view, is what is read, unless memory ran out
 abbrev pub LedgerGives : {X Y : Type 0} → (X → Y) → Result X LedgerError → Result Y Damage → Type 0
 LedgerGives view result read = Answers damage_of_ledger view result read
-
--- the answer, or want of memory
-abbrev pub LedgerUnlessMemory : {T : Type 0} → Result T LedgerError → Result T LedgerError → Type 0
-LedgerUnlessMemory result answer = (result ≡ answer) ⊎ (result ≡ Err OutOfMemory)

@@ -1,6 +1,6 @@
 ghost use Rattle.std.specs.Prelude.{◌≡◌, length, IfOk, Some, Ok, Err};
+ghost use Rattle.byte_lists.specs.Memory.{UnlessMemory};
 ghost use Rattle.jam_records.specs.declared.damage.Damage.{Damage};
-ghost use Rattle.board_ledger.specs.Rules.{LedgerUnlessMemory};
 ghost use Rattle.board_ledger.specs.Ledger.{ledger_text, ledger_damage, stored_text};
 ghost use Rattle.board_ledger.specs.Valid.{IsStored};
 
@@ -45,9 +45,9 @@ impl Ledger {
     /// `OutOfMemory` comes where there is no memory. Where both meet, either may be answered.
     pub fn read(alloc: Global, bytes: &[u8]) -> Result<Ledger, LedgerError>
         ensures ok { IfOk result (λ l. IsStored l × (bytes.now ≡ stored_text l)) }
-        ensures only_ok { (l : Ledger) → IsStored l → bytes.now ≡ stored_text l → LedgerUnlessMemory result (Ok l) }
+        ensures only_ok { (l : Ledger) → IsStored l → bytes.now ≡ stored_text l → UnlessMemory LedgerError.OutOfMemory result (Ok l) }
         ensures damaged { (d : Damage) → result ≡ Err (LedgerError.Damaged d) → ledger_damage bytes.now ≡ Some d }
-        ensures only_damaged { (d : Damage) → ledger_damage bytes.now ≡ Some d → LedgerUnlessMemory result (Err (LedgerError.Damaged d)) }
+        ensures only_damaged { (d : Damage) → ledger_damage bytes.now ≡ Some d → UnlessMemory LedgerError.OutOfMemory result (Err (LedgerError.Damaged d)) }
     {
         ledger_of(alloc, bytes)
     }

@@ -1,1 +1,2 @@
 pub mod Byte
+pub mod Memory

@@ -1,5 +1,6 @@
 -- What an upload answers.
 use Rattle.std.specs.Prelude.{◌≡◌, ◌⊎◌, ℕ, List, Bool, true, false, Result, Ok, Err}
+use Rattle.byte_lists.specs.Memory.{UnlessMemory}
 use Rattle.board_layout.specs.Board.{Board}
 use Rattle.board_layout.specs.Valid.{IsBoard}
 use Rattle.mail_board.specs.Changes.{changed, Fits}
@@ -84,18 +85,15 @@ abbrev pub FindsIn : List ℕ → List ℕ → ℕ → HeldBoard → Result Uplo
 FindsIn name bytes now h result = (result ≡ Err OutOfMemory) ⊎ ((r : Result Upload UploadRefusal) × UploadGives name bytes now h.board r × UploadFinds h r result)
 
 -- ---- the answer
-abbrev pub UploadUnlessMemory : Result Uploaded UploadError → Result Uploaded UploadError → Type 0
-UploadUnlessMemory result answer = (result ≡ answer) ⊎ (result ≡ Err OutOfMemory)
-
 abbrev pub UnlessFault : Result Uploaded UploadError → Result Uploaded UploadError → Type 0
-UnlessFault result answer = UploadUnlessMemory result answer ⊎ (result ≡ Err DiskFault)
+UnlessFault result answer = UnlessMemory OutOfMemory result answer ⊎ (result ≡ Err DiskFault)
 
 -- The answer to what the bytes come to: the refusal, or what became of the packet when it was sent before; else doubt
 -- where the board is doubtful, and what became of the messages.
 abbrev pub UploadAnswers : Bool → Result Upload UploadRefusal → Result Uploaded UploadError → Type 0
-UploadAnswers doubtful (Err why) result = UploadUnlessMemory result (Err (upload_error why))
-UploadAnswers doubtful (Ok (upload.Again counts)) result = UploadUnlessMemory result (Ok (Again counts))
-UploadAnswers true (Ok (upload.Judged next outcomes)) result = UploadUnlessMemory result (Err Doubt)
+UploadAnswers doubtful (Err why) result = UnlessMemory OutOfMemory result (Err (upload_error why))
+UploadAnswers doubtful (Ok (upload.Again counts)) result = UnlessMemory OutOfMemory result (Ok (Again counts))
+UploadAnswers true (Ok (upload.Judged next outcomes)) result = UnlessMemory OutOfMemory result (Err Doubt)
 UploadAnswers false (Ok (upload.Judged next outcomes)) result = UnlessFault result (Ok (Judged outcomes))
 
 -- an answer that leaves all as it was: any but what became of messages, and a disk fault

@@ -2,13 +2,14 @@
 use Rattle.std.proofs.Common.{◌≡◌, ℕ, ◌+◌, ◌<◌, true, false, cond, eqb, Some, None, Result, Ok, Err, List, [], ◌∷◌, ◌++◌, length, length-append, take, drop, refl, sym, ap, ◌∙◌, subst, inl, inr, arith, append_assoc, ne_eqb, le-ltb, true≢false}
 use Rattle.std.proofs.lemmas.Option.{none-some, same_Some}
 use Rattle.std.specs.Result.{MatchResult}
+use Rattle.byte_lists.specs.Memory.{UnlessMemory}
 use Rattle.text_fields.proofs.Splits.{split_once}
 use Rattle.text_fields.proofs.Trimming.{same_front, same_rest}
 use Rattle.record_numbers.specs.Numbers.{u16_at}
 use Rattle.fts_packet.specs.Text.{text_lines}
 use Rattle.fts_packet.specs.Packet.{IsHeader, PackedMessageReads, PackedMessagesRead, FtsReads, is_end, fts_address}
 use Rattle.fts_packet.specs.Fault.{message_rule, from_rule, subject_rule, text_rule, FtsFault, too_short, other_type, at_message}
-use Rattle.fts_packet.specs.Answer.{FrontTaken, FtsFaultOrMemory, FtsUnlessMemory}
+use Rattle.fts_packet.specs.Answer.{FrontTaken, FtsFaultOrMemory}
 use Rattle.fts_packet.specs.declared.fault.FtsError.{FtsError}
 use Rattle.fts_packet.specs.declared.fault.FtsError.TheVariants.{Fault, OutOfMemory}
 use Rattle.fts_packet.specs.declared.fault.FtsRule.{FtsRule}
@@ -186,7 +187,7 @@ fault_once bytes q r m n (at_message header before rest ms whole headed read goe
     (same_Some q r (sym broken ∙ (ap message_rule t.rests ∙ broken')), place ∙ (ap (λ (b : List ℕ). 58 + length b) t.fronts ∙ sym place'))
 
 -- ---- what the reader answers
-pub only_ok : (bytes : List ℕ) (r : Result (List FtsMessage) FtsError) → MatchResult r (FtsReads bytes) (FtsFaultOrMemory (FtsFault bytes)) → (ms : List FtsMessage) → FtsReads bytes ms → FtsUnlessMemory r (Ok ms)
+pub only_ok : (bytes : List ℕ) (r : Result (List FtsMessage) FtsError) → MatchResult r (FtsReads bytes) (FtsFaultOrMemory (FtsFault bytes)) → (ms : List FtsMessage) → FtsReads bytes ms → UnlessMemory OutOfMemory r (Ok ms)
 only_ok bytes (Ok ns) h ms p = inl (ap Ok (packet_once bytes ns ms h p))
 only_ok bytes (Err (Fault rule at)) h ms p = absurd (no_fault bytes ms rule at p h)
 only_ok bytes (Err OutOfMemory) h ms p = inr refl
@@ -194,7 +195,7 @@ only_ok bytes (Err OutOfMemory) h ms p = inr refl
 pub is_fault : (bytes : List ℕ) (r : Result (List FtsMessage) FtsError) → MatchResult r (FtsReads bytes) (FtsFaultOrMemory (FtsFault bytes)) → (rule : FtsRule) (at : ℕ) → r ≡ Err (Fault rule at) → FtsFault bytes rule at
 is_fault bytes r h rule at e = subst (λ (x : Result (List FtsMessage) FtsError). MatchResult x (FtsReads bytes) (FtsFaultOrMemory (FtsFault bytes))) e h
 
-pub only_fault : (bytes : List ℕ) (r : Result (List FtsMessage) FtsError) → MatchResult r (FtsReads bytes) (FtsFaultOrMemory (FtsFault bytes)) → (rule : FtsRule) (at : ℕ) → FtsFault bytes rule at → FtsUnlessMemory r (Err (Fault rule at))
+pub only_fault : (bytes : List ℕ) (r : Result (List FtsMessage) FtsError) → MatchResult r (FtsReads bytes) (FtsFaultOrMemory (FtsFault bytes)) → (rule : FtsRule) (at : ℕ) → FtsFault bytes rule at → UnlessMemory OutOfMemory r (Err (Fault rule at))
 only_fault bytes (Ok ns) h rule at f = absurd (no_fault bytes ns rule at h f)
 only_fault bytes (Err (Fault q m)) h rule at f =
     let same : (q ≡ rule) × (m ≡ at) = fault_once bytes q rule m at h f in

@@ -1,5 +1,5 @@
 -- What the reader answers, and what it knows of a message before it takes memory.
-use Rattle.std.specs.Prelude.{◌≡◌, ◌⊎◌, ℕ, List, ◌∷◌, ◌++◌, length, take, drop, Result, Err}
+use Rattle.std.specs.Prelude.{◌≡◌, ℕ, List, ◌∷◌, ◌++◌, length, take, drop}
 use Rattle.text_fields.specs.Split.{Lacks}
 use Rattle.record_numbers.specs.Numbers.{u16_at}
 use Rattle.fts_packet.specs.Text.{text_lines}
@@ -9,10 +9,6 @@ use Rattle.fts_packet.specs.declared.fault.FtsError.TheVariants.{Fault, OutOfMem
 use Rattle.fts_packet.specs.declared.fault.FtsRule.{FtsRule}
 use Rattle.fts_packet.specs.declared.packet.FtsMessage.{FtsMessage}
 use Rattle.fts_packet.specs.declared.parts.Parts.{Parts}
-
--- the answer, or want of memory, which may come at any time
-abbrev pub FtsUnlessMemory : {T : Type 0} → Result T FtsError → Result T FtsError → Type 0
-FtsUnlessMemory result answer = (result ≡ answer) ⊎ (result ≡ Err OutOfMemory)
 
 -- a rule is broken so at a place, or there was no memory
 abbrev pub FtsFaultOrMemory : (FtsRule → ℕ → Type 0) → FtsError → Type 0

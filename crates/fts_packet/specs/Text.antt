@@ -1,8 +1,7 @@
 -- The text of a packed message (FTS-0001, "Message text"): a carriage return ends a line, and line feeds are dropped.
 use Rattle.std.specs.Prelude.{ℕ, List, [], ◌∷◌, ◌==◌, if◌then◌else◌}
 use Rattle.std.specs.List.{onto_first}
-pub use Rattle.qwk_blocks.specs.Text.{if_any}
-pub use Rattle.text_fields.specs.Lines.{without_feeds}
+pub use Rattle.text_fields.specs.Lines.{if_any, without_feeds}
 
 -- The lines. What follows the last carriage return is one more where it isn't empty.
 abbrev pub text_lines : List ℕ → List (List ℕ)

@@ -1,7 +1,8 @@
 ghost use Rattle.std.specs.Prelude.{◌≡◌, ◌<◌, ◌≤◌, ◌^◌, ◌-◌, ℕ, List, Ok, Err, length, MatchResult, IfOk};
+ghost use Rattle.byte_lists.specs.Memory.{UnlessMemory};
 ghost use Rattle.fts_packet.specs.Packet.{FtsReads};
 ghost use Rattle.fts_packet.specs.Fault.{FtsFault};
-ghost use Rattle.fts_packet.specs.Answer.{HeaderTaken, FtsFaultOrMemory, FtsUnlessMemory};
+ghost use Rattle.fts_packet.specs.Answer.{HeaderTaken, FtsFaultOrMemory};
 ghost use Rattle.fts_packet.specs.declared.fault.FtsError.TheVariants.{Fault};
 ghost use Rattle.fts_packet.specs.declared.fault.FtsRule.{FtsRule};
 ghost use Rattle.fts_packet.specs.declared.packet.FtsMessage.{FtsMessage};
@@ -77,11 +78,11 @@ pub fn read_packet(alloc: Global, bytes: &[u8]) -> Result<FtsPacket, FtsError>
 
     // Messages are answered exactly where the bytes read as these, unless memory runs out.
     ensures ok { IfOk result (λ messages. FtsReads bytes.now messages) }
-    ensures only_ok { (messages : List FtsMessage) → FtsReads bytes.now messages → FtsUnlessMemory result (Ok messages) }
+    ensures only_ok { (messages : List FtsMessage) → FtsReads bytes.now messages → UnlessMemory FtsError.OutOfMemory result (Ok messages) }
 
     // So is a fault, exactly where it is the first one.
     ensures fault { (rule : FtsRule) (at : ℕ) → result ≡ Err (Fault rule at) → FtsFault bytes.now rule at }
-    ensures only_fault { (rule : FtsRule) (at : ℕ) → FtsFault bytes.now rule at → FtsUnlessMemory result (Err (Fault rule at)) }
+    ensures only_fault { (rule : FtsRule) (at : ℕ) → FtsFault bytes.now rule at → UnlessMemory FtsError.OutOfMemory result (Err (Fault rule at)) }
 {
     packet_in(alloc, bytes)
 }

@@ -1,8 +1,9 @@
 -- Lines read as one list of messages at most, and then have no fault; and they have one fault at most.
 use Rattle.std.proofs.Common.{◌≡◌, ℕ, ◌+◌, List, [], ◌∷◌, ◌++◌, Result, Ok, Err, length, length-append, refl, sym, ap, ◌∙◌, subst, inl, inr, arith, append_assoc}
 use Rattle.std.specs.Result.{MatchResult}
+use Rattle.byte_lists.specs.Memory.{UnlessMemory}
 use Rattle.import_sheet.specs.Sheet.{SheetIs, SheetsAre, AllEmpty}
-use Rattle.import_sheet.specs.Fault.{MessageFault, SheetLinesFault, SheetUnlessMemory}
+use Rattle.import_sheet.specs.Fault.{MessageFault, SheetLinesFault}
 use Rattle.import_sheet.specs.State.{StartsWithText, SheetFaultOrMemory}
 use Rattle.import_sheet.specs.declared.fault.SheetError.{SheetError}
 use Rattle.import_sheet.specs.declared.fault.SheetError.TheVariants.{Line, OutOfMemory}
@@ -90,7 +91,7 @@ rule_once all m n q r f g = (fault_once all m n q r f g).1
 abbrev pub Answers : List (List ℕ) → Result (List Sheet) SheetError → Type 0
 Answers all r = MatchResult r (SheetsAre all) (SheetFaultOrMemory (SheetLinesFault all))
 
-pub only_ok : (all : List (List ℕ)) (r : Result (List Sheet) SheetError) → Answers all r → (a : List Sheet) → SheetsAre all a → SheetUnlessMemory r (Ok a)
+pub only_ok : (all : List (List ℕ)) (r : Result (List Sheet) SheetError) → Answers all r → (a : List Sheet) → SheetsAre all a → UnlessMemory OutOfMemory r (Ok a)
 only_ok all (Ok b) h a x = inl (ap Ok (sheets_once all b a h x))
 only_ok all (Err (Line n q)) h a x = absurd (no_fault all a n q x h)
 only_ok all (Err OutOfMemory) h a x = inr refl
@@ -103,7 +104,7 @@ is_fault all (Err (Line m p)) h n q e =
     subst (SheetLinesFault all n) rule (subst (λ (k : ℕ). SheetLinesFault all k p) line h)
 is_fault all (Err OutOfMemory) h n q e = cc
 
-pub only_fault : (all : List (List ℕ)) (r : Result (List Sheet) SheetError) → Answers all r → (n : ℕ) (q : SheetRule) → SheetLinesFault all n q → SheetUnlessMemory r (Err (Line n q))
+pub only_fault : (all : List (List ℕ)) (r : Result (List Sheet) SheetError) → Answers all r → (n : ℕ) (q : SheetRule) → SheetLinesFault all n q → UnlessMemory OutOfMemory r (Err (Line n q))
 only_fault all (Ok b) h n q f = absurd (no_fault all b n q h f)
 only_fault all (Err (Line m p)) h n q f =
     let line : m ≡ n = line_once all m n p q h f in

@@ -1,11 +1,9 @@
 -- The first line of a sheet that breaks a rule.
-use Rattle.std.specs.Prelude.{◌≡◌, ◌≢◌, ◌⊎◌, ℕ, ◌+◌, ◌<◌, List, [], ◌∷◌, ◌++◌, length, Result, Err}
+use Rattle.std.specs.Prelude.{◌≡◌, ◌≢◌, ◌⊎◌, ℕ, ◌+◌, ◌<◌, List, [], ◌∷◌, ◌++◌, length}
 use Rattle.std.specs.Str.Lines.{lines}
 use Rattle.text_fields.specs.Split.{Lacks}
 use Rattle.import_sheet.specs.Header.{BeginsWithWord, HeaderLineReads, ValueFits, rule_of_field}
 use Rattle.import_sheet.specs.Sheet.{Has, HasNone, Headers, BodyLines, SheetsAre, stored_body, dot}
-use Rattle.import_sheet.specs.declared.fault.SheetError.{SheetError}
-use Rattle.import_sheet.specs.declared.fault.SheetError.TheVariants.{OutOfMemory}
 use Rattle.import_sheet.specs.declared.fault.SheetRule.{SheetRule}
 use Rattle.import_sheet.specs.declared.fault.SheetRule.TheVariants.{Header, Twice, Missing, Byte, Length, End}
 use Rattle.import_sheet.specs.declared.field.Field.{Field}
@@ -68,7 +66,3 @@ pub record SheetLinesFault (all : List (List ℕ)) (number : ℕ) (rule : SheetR
 -- this line, from 1, is the first that breaks a rule, and this is the rule
 abbrev pub SheetFault : List ℕ → ℕ → SheetRule → Type 0
 SheetFault bytes number rule = SheetLinesFault (lines bytes) number rule
-
--- the answer, or want of memory, which may come at any time
-abbrev pub SheetUnlessMemory : {T : Type 0} → Result T SheetError → Result T SheetError → Type 0
-SheetUnlessMemory result answer = (result ≡ answer) ⊎ (result ≡ Err OutOfMemory)

@@ -1,7 +1,8 @@
 ghost use Rattle.std.specs.Prelude.{◌≡◌, ◌<◌, ◌^◌, ℕ, List, Ok, Err, length, MatchResult, IfOk};
 ghost use Rattle.std.specs.Str.Lines.{lines};
+ghost use Rattle.byte_lists.specs.Memory.{UnlessMemory};
 ghost use Rattle.import_sheet.specs.Sheet.{SheetReads};
-ghost use Rattle.import_sheet.specs.Fault.{SheetFault, SheetUnlessMemory};
+ghost use Rattle.import_sheet.specs.Fault.{SheetFault};
 ghost use Rattle.import_sheet.specs.State.{IsNumbered, StartsWithText, SheetTaken, SheetFaultOrMemory, FaultAt};
 ghost use Rattle.import_sheet.specs.declared.fault.SheetError.TheVariants.{Line};
 ghost use Rattle.import_sheet.specs.declared.fault.SheetRule.{SheetRule};
@@ -51,11 +52,11 @@ pub fn read_sheet(alloc: Global, bytes: &[u8]) -> Result<Sheets, SheetError>
 
     // Messages are answered exactly where the bytes read as them, unless memory runs out.
     ensures ok { IfOk result (λ sheets. SheetReads bytes.now sheets) }
-    ensures only_ok { (sheets : List Sheet) → SheetReads bytes.now sheets → SheetUnlessMemory result (Ok sheets) }
+    ensures only_ok { (sheets : List Sheet) → SheetReads bytes.now sheets → UnlessMemory SheetError.OutOfMemory result (Ok sheets) }
 
     // So is a line with its rule, exactly where it is the first that fails.
     ensures fault { (line : ℕ) (rule : SheetRule) → result ≡ Err (Line line rule) → SheetFault bytes.now line rule }
-    ensures only_fault { (line : ℕ) (rule : SheetRule) → SheetFault bytes.now line rule → SheetUnlessMemory result (Err (Line line rule)) }
+    ensures only_fault { (line : ℕ) (rule : SheetRule) → SheetFault bytes.now line rule → UnlessMemory SheetError.OutOfMemory result (Err (Line line rule)) }
 {
     sheets_in(alloc, bytes)
 }

@@ -1,8 +1,8 @@
 ghost use Rattle.std.specs.Prelude.{◌≡◌, ◌<◌, ◌^◌, length, IfOk, Some, Err, Ok};
+ghost use Rattle.byte_lists.specs.Memory.{UnlessMemory};
 ghost use Rattle.jam_records.specs.declared.damage.Damage.{Damage};
 ghost use Rattle.jam_layout.specs.Layout.{layout, base_damage};
 ghost use Rattle.jam_layout.specs.Outlines.{outline};
-ghost use Rattle.jam_layout.specs.Rules.{BaseUnlessMemory};
 ghost use Rattle.jam_layout.specs.Valid.{IsShape, IsConference};
 ghost use Rattle.jam_layout.specs.declared.conference.Conference.{Conference};
 ghost use Rattle.jam_base.specs.Outlined.{IsReadOf};
@@ -23,9 +23,9 @@ pub fn read_base(alloc: Global, files: &BaseFiles, shape: &Shape) -> Result<Base
     requires jdx { length files.now.jdx < 2 ^ 31 }
     requires jlr { length files.now.jlr < 2 ^ 31 }
     ensures ok { IfOk result (IsReadOf shape.now files.now) }
-    ensures only_ok { (c : Conference) → IsConference shape.now c → files.now ≡ layout shape.now c → BaseUnlessMemory result (Ok (record { shape = shape.now; conference = outline c })) }
+    ensures only_ok { (c : Conference) → IsConference shape.now c → files.now ≡ layout shape.now c → UnlessMemory BaseError.OutOfMemory result (Ok (record { shape = shape.now; conference = outline c })) }
     ensures damaged { (d : Damage) → result ≡ Err (BaseError.Damaged d) → base_damage shape.now files.now ≡ Some d }
-    ensures only_damaged { (d : Damage) → base_damage shape.now files.now ≡ Some d → BaseUnlessMemory result (Err (BaseError.Damaged d)) }
+    ensures only_damaged { (d : Damage) → base_damage shape.now files.now ≡ Some d → UnlessMemory BaseError.OutOfMemory result (Err (BaseError.Damaged d)) }
 {
     let bare = read_bare(alloc, files, shape)?;
     Ok(Base::linked(alloc, shape, bare)?)

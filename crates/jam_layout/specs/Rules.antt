@@ -1,5 +1,5 @@
 -- What the functions of this crate answer where they read by rules.
-use Rattle.std.specs.Prelude.{◌≡◌, ◌⊎◌, Option, Some, None, Result, Err}
+use Rattle.std.specs.Prelude.{Option, Some, None, Result}
 use Rattle.jam_records.specs.declared.damage.Damage.{Damage}
 use Rattle.damage_rules.specs.Rules.{Stops, Answers}
 use Rattle.jam_layout.specs.declared.error.BaseError.{BaseError}
@@ -17,7 +17,3 @@ BaseFails e read = Stops (damage_of_base e) read
 -- what a function answered, seen by view, is what is read, unless memory ran out
 abbrev pub BaseGives : {X Y : Type 0} → (X → Y) → Result X BaseError → Result Y Damage → Type 0
 BaseGives view result read = Answers damage_of_base view result read
-
--- the answer, or want of memory
-abbrev pub BaseUnlessMemory : {T : Type 0} → Result T BaseError → Result T BaseError → Type 0
-BaseUnlessMemory result answer = (result ≡ answer) ⊎ (result ≡ Err OutOfMemory)

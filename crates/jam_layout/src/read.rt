@@ -1,9 +1,10 @@
 ghost use Rattle.std.specs.Prelude.{◌≡◌, ◌≤◌, ◌<◌, ◌^◌, ◌==◌, length, IfOk, Some, Err, Ok};
 ghost use Rattle.std.specs.List.{list_all};
+ghost use Rattle.byte_lists.specs.Memory.{UnlessMemory};
 ghost use Rattle.record_numbers.specs.Numbers.{u32_at as u32_of};
 ghost use Rattle.jam_records.specs.declared.damage.Damage.{Damage};
 ghost use Rattle.damage_rules.specs.Rules.{by_rules};
-ghost use Rattle.jam_layout.specs.Rules.{BaseGives, BaseUnlessMemory};
+ghost use Rattle.jam_layout.specs.Rules.{BaseGives};
 ghost use Rattle.door_outside.specs.File.{jhr_file};
 ghost use Rattle.jam_layout.specs.declared.conference.Conference.{Conference};
 ghost use Rattle.jam_layout.specs.Bare.{bare_of, bare_in as bare_read, IsBareOf};
@@ -116,9 +117,9 @@ pub fn read_bare(
     requires jdx { length files.now.jdx < 2 ^ 31 }
     requires jlr { length files.now.jlr < 2 ^ 31 }
     ensures ok { IfOk result (IsBareOf shape.now files.now) }
-    ensures only_ok { (c : Conference) → IsConference shape.now c → files.now ≡ layout shape.now c → BaseUnlessMemory result (Ok (bare_of c)) }
+    ensures only_ok { (c : Conference) → IsConference shape.now c → files.now ≡ layout shape.now c → UnlessMemory BaseError.OutOfMemory result (Ok (bare_of c)) }
     ensures damaged { (d : Damage) → result ≡ Err (BaseError.Damaged d) → base_damage shape.now files.now ≡ Some d }
-    ensures only_damaged { (d : Damage) → base_damage shape.now files.now ≡ Some d → BaseUnlessMemory result (Err (BaseError.Damaged d)) }
+    ensures only_damaged { (d : Damage) → base_damage shape.now files.now ≡ Some d → UnlessMemory BaseError.OutOfMemory result (Err (BaseError.Damaged d)) }
 {
     bare_in(alloc, files, shape)
 }

@@ -5,10 +5,11 @@ use Rattle.std.proofs.lemmas.Bool.{cases_eq}
 use Rattle.std.proofs.lemmas.List.{take_all, length-take-le}
 use Rattle.std.proofs.lemmas.List.Elements.{All-nil, All-cons, All-head, All-tail}
 use Rattle.std.specs.List.{All}
+use Rattle.text_fields.specs.Lines.{if_any}
 use Rattle.text_fields.specs.Trim.{TrimmedEnd}
 use Rattle.text_fields.proofs.Fields.{number_or_none, some_trimmed_end}
 use Rattle.qwk_blocks.specs.Header.{IsPad, field, byte, number_in, HasNumber, BlockCountReads, HeaderReads}
-use Rattle.qwk_blocks.specs.Text.{joined_lines, IsLine, if_any, TextReads}
+use Rattle.qwk_blocks.specs.Text.{joined_lines, IsLine, TextReads}
 use Rattle.qwk_blocks.specs.Packet.{MessageReads}
 use Rattle.qwk_blocks.specs.declared.message.Header.{Header}
 use Rattle.qwk_blocks.specs.declared.message.QwkMessage.{QwkMessage}

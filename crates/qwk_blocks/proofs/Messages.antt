@@ -4,12 +4,13 @@ use Rattle.std.proofs.lemmas.List.{take_at, take-take, append_assoc, append-nil,
 use Rattle.std.proofs.lemmas.List.Elements.{All-head, All-tail}
 use Rattle.std.proofs.lemmas.Bool.{cases_lt}
 use Rattle.std.specs.List.{All}
+use Rattle.text_fields.specs.Lines.{if_any}
 use Rattle.text_fields.specs.Trim.{TrimmedEnd}
 use Rattle.text_fields.proofs.Numbers.{number_unique}
 use Rattle.text_fields.proofs.Splits.{not_split, split_once}
 use Rattle.text_fields.proofs.Trimming.{same_front, same_rest, trimmed_end_unique}
 use Rattle.qwk_blocks.specs.Header.{IsPad, field, HasNumber, BlockCountReads, HeaderReads}
-use Rattle.qwk_blocks.specs.Text.{joined_lines, IsLine, if_any, TextReads}
+use Rattle.qwk_blocks.specs.Text.{joined_lines, IsLine, TextReads}
 use Rattle.qwk_blocks.specs.Packet.{MessageReads, MessagesRead, PacketReads, PacketAt}
 use Rattle.qwk_blocks.specs.declared.message.Header.{Header}
 use Rattle.qwk_blocks.specs.declared.message.QwkMessage.{QwkMessage}

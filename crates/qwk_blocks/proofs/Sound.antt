@@ -8,10 +8,11 @@ use Rattle.std.specs.List.{All}
 use Rattle.std.specs.Option.{IfSome}
 use Rattle.std.specs.Result.{IfOk}
 use Rattle.qwk_blocks.specs.Header.{IsPad, HasText, HasNumber, HeaderReads}
+use Rattle.text_fields.specs.Lines.{if_any}
 use Rattle.text_fields.specs.Trim.{TrimmedEnd}
 use Rattle.qwk_blocks.specs.Packet.{MessageReads, MessagesRead}
 use Rattle.qwk_blocks.specs.Answer.{ReadsOrFaults}
-use Rattle.qwk_blocks.specs.Text.{joined_lines, IsLine, if_any, TextReads}
+use Rattle.qwk_blocks.specs.Text.{joined_lines, IsLine, TextReads}
 use Rattle.qwk_blocks.specs.Written.{TextFits, HeaderFits, Writable}
 use Rattle.qwk_blocks.specs.declared.message.Header.{Header}
 use Rattle.qwk_blocks.specs.declared.message.QwkMessage.{QwkMessage}

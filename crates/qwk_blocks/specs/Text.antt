@@ -1,6 +1,7 @@
 -- The text of a message, by Lee's layout: lines that each end with the byte E3h.
 use Rattle.std.specs.Prelude.{◌≡◌, ℕ, List, [], ◌∷◌, ◌++◌, All}
 use Rattle.std.specs.List.{flat_map}
+use Rattle.text_fields.specs.Lines.{if_any}
 use Rattle.text_fields.specs.Split.{Lacks}
 use Rattle.text_fields.specs.Trim.{TrimmedEnd}
 use Rattle.qwk_blocks.specs.Header.{IsPad}
@@ -11,11 +12,6 @@ joined_lines lines = flat_map (λ line. line ++ 0xE3 ∷ []) lines
 
 abbrev pub IsLine : List ℕ → Type 0
 IsLine line = Lacks 0xE3 line
-
--- a line that is there where it isn't empty
-abbrev pub if_any : List ℕ → List (List ℕ)
-if_any [] = []
-if_any (b ∷ bytes) = (b ∷ bytes) ∷ []
 
 -- The bytes are lines, each with its E3h, and a rest without one. The rest without the spaces and NULs
 -- at its end is one more line where it isn't empty.

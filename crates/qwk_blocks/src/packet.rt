@@ -1,9 +1,10 @@
 ghost use Rattle.std.specs.Prelude.{◌≡◌, ◌≤◌, ◌<◌, ◌*◌, ◌^◌, ℕ, List, length, Err, IfOk, IfSome, All};
+ghost use Rattle.byte_lists.specs.Memory.{UnlessMemory};
 ghost use Rattle.qwk_blocks.specs.Header.{BlockCountReads};
 ghost use Rattle.qwk_blocks.specs.Packet.{MessageReads, PacketReads, FirstFault};
 ghost use Rattle.qwk_blocks.specs.Reader.{IsEvent, MovesFront};
 ghost use Rattle.qwk_blocks.specs.Written.{Writable};
-ghost use Rattle.qwk_blocks.specs.Answer.{HasRead, ReadsOrFaults, QwkUnlessMemory};
+ghost use Rattle.qwk_blocks.specs.Answer.{HasRead, ReadsOrFaults};
 ghost use Rattle.qwk_blocks.specs.declared.message.QwkMessage.{QwkMessage};
 ghost use Rattle.qwk_blocks.specs.declared.fault.QwkFault.{QwkFault};
 ghost use Rattle.qwk_blocks.specs.declared.progress.Progress.{Progress};
@@ -93,11 +94,11 @@ pub fn read_messages(alloc: Global, bytes: &[u8]) -> Result<QwkMessages, QwkErro
 
     // Messages are answered exactly where the bytes read as these, unless memory runs out.
     ensures ok { IfOk result (λ messages. PacketReads bytes.now messages) }
-    ensures only_ok { (messages : List QwkMessage) → PacketReads bytes.now messages → QwkUnlessMemory result (Ok messages) }
+    ensures only_ok { (messages : List QwkMessage) → PacketReads bytes.now messages → UnlessMemory QwkError.OutOfMemory result (Ok messages) }
 
     // So is a fault, exactly where it is the first one.
     ensures fault { (fault : QwkFault) → result ≡ Err (QwkError.Fault fault) → FirstFault bytes.now fault }
-    ensures only_fault { (fault : QwkFault) → FirstFault bytes.now fault → QwkUnlessMemory result (Err (QwkError.Fault fault)) }
+    ensures only_fault { (fault : QwkFault) → FirstFault bytes.now fault → UnlessMemory QwkError.OutOfMemory result (Err (QwkError.Fault fault)) }
 
     // What is read of at most a mebibyte can be written.
     ensures writable { length bytes.now ≤ 1048576 → IfOk result (λ messages. All Writable messages) }

@@ -4,9 +4,10 @@ use Rattle.std.proofs.lemmas.Bool.{cases_lt}
 use Rattle.std.proofs.lemmas.List.{get_or-append-add}
 use Rattle.std.proofs.lemmas.Option.{slice_get-get_or, slice_get_within}
 use Rattle.std.specs.Result.{MatchResult}
+use Rattle.byte_lists.specs.Memory.{UnlessMemory}
 use Rattle.qwk_control.specs.Line.{line, or_empty, PlaceLine, IdLine}
 use Rattle.qwk_control.specs.Control.{CountReads, ListedRead, ControlLinesRead}
-use Rattle.qwk_control.specs.Fault.{IsNumberPlace, IsWanted, LineKeeps, BreaksLine, LineFault, MemoryOr, ControlUnlessMemory}
+use Rattle.qwk_control.specs.Fault.{IsNumberPlace, IsWanted, LineKeeps, BreaksLine, LineFault, MemoryOr}
 use Rattle.qwk_control.specs.declared.control.Control.{Control}
 use Rattle.qwk_control.specs.declared.fault.ControlError.{ControlError}
 use Rattle.qwk_control.specs.declared.fault.ControlError.TheVariants.{TooFewLines, BadNumber, BadBoardId, OutOfMemory}
@@ -185,10 +186,10 @@ wanted_upto all c x k w = elim w [
 pub no_fault : (all : List (List ℕ)) (c : Control) (fault : ControlError) → ControlLinesRead all c → LineFault all fault → ⊥
 no_fault all c fault x f = keeps_not_breaks all f.0 fault f.1 (kept all c x f.0 f.1 (wanted_upto all c x f.0 f.2)) f.4
 
-pub only_ok : (all : List (List ℕ)) (r : Result Control ControlError) → MatchResult r (ControlLinesRead all) (MemoryOr (LineFault all)) → (c : Control) → ControlLinesRead all c → ControlUnlessMemory r (Ok c)
+pub only_ok : (all : List (List ℕ)) (r : Result Control ControlError) → MatchResult r (ControlLinesRead all) (MemoryOr (LineFault all)) → (c : Control) → ControlLinesRead all c → UnlessMemory OutOfMemory r (Ok c)
 only_ok all (Ok d) h c x = inl (ap Ok (control_unique all d c h x))
 only_ok all (Err e) h c x = elim h [ inl m ↦ inr (ap Err m) | inr f ↦ absurd (no_fault all c e x f) ]
 
-pub only_fault : (all : List (List ℕ)) (r : Result Control ControlError) → MatchResult r (ControlLinesRead all) (MemoryOr (LineFault all)) → (e : ControlError) → LineFault all e → ControlUnlessMemory r (Err e)
+pub only_fault : (all : List (List ℕ)) (r : Result Control ControlError) → MatchResult r (ControlLinesRead all) (MemoryOr (LineFault all)) → (e : ControlError) → LineFault all e → UnlessMemory OutOfMemory r (Err e)
 only_fault all (Ok d) h e f = absurd (no_fault all d e h f)
 only_fault all (Err g) h e f = elim h [ inl m ↦ inr (ap Err m) | inr k ↦ inl (ap Err (fault_unique all g e k f)) ]

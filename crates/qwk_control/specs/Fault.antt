@@ -1,5 +1,5 @@
 -- The first line of CONTROL.DAT that breaks its rule.
-use Rattle.std.specs.Prelude.{◌≡◌, ◌⊎◌, ℕ, ◌+◌, ◌*◌, ◌<◌, ◌≤◌, List, Some, length, drop, Result, Err}
+use Rattle.std.specs.Prelude.{◌≡◌, ◌⊎◌, ℕ, ◌+◌, ◌*◌, ◌<◌, ◌≤◌, List, Some, length, drop}
 use Rattle.std.specs.Str.Lines.{lines}
 use Rattle.qwk_control.specs.Line.{line, PlaceLine, IdLine}
 use Rattle.qwk_control.specs.declared.fault.ControlError.{ControlError}
@@ -54,7 +54,3 @@ FaultBehind before rest upto fault = (all : List (List ℕ)) → KeptBefore all 
 -- want of memory, or a fault of which P holds
 abbrev pub MemoryOr : (ControlError → Type 0) → ControlError → Type 0
 MemoryOr P fault = (fault ≡ OutOfMemory) ⊎ P fault
-
--- the answer, or want of memory, which may come at any time
-abbrev pub ControlUnlessMemory : {T : Type 0} → Result T ControlError → Result T ControlError → Type 0
-ControlUnlessMemory result answer = (result ≡ answer) ⊎ (result ≡ Err OutOfMemory)

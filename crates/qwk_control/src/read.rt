@@ -1,8 +1,9 @@
 ghost use Rattle.std.specs.Prelude.{◌≡◌, ◌⊎◌, Err, Ok, MatchResult, IfOk};
 ghost use Rattle.std.specs.Str.Lines.{lines};
+ghost use Rattle.byte_lists.specs.Memory.{UnlessMemory};
 ghost use Rattle.qwk_control.specs.Line.{or_empty};
 ghost use Rattle.qwk_control.specs.Control.{ControlReads};
-ghost use Rattle.qwk_control.specs.Fault.{ControlFault, MemoryOr, ControlUnlessMemory};
+ghost use Rattle.qwk_control.specs.Fault.{ControlFault, MemoryOr};
 ghost use Rattle.qwk_control.specs.declared.control.Control.{Control};
 ghost use Rattle.qwk_control.specs.declared.fault.ControlError.{ControlError};
 ghost use Rattle.qwk_control.specs.declared.fault.ControlError.TheVariants.{OutOfMemory};
@@ -131,11 +132,11 @@ fn control_in(alloc: Global, bytes: &[u8]) -> Result<Control, ControlError>
 pub fn read_control(alloc: Global, bytes: &[u8]) -> Result<Control, ControlError>
     // A value is answered exactly where the bytes read as it, unless memory runs out.
     ensures ok { IfOk result (λ control. ControlReads bytes.now control) }
-    ensures only_ok { (control : Control) → ControlReads bytes.now control → ControlUnlessMemory result (Ok control) }
+    ensures only_ok { (control : Control) → ControlReads bytes.now control → UnlessMemory ControlError.OutOfMemory result (Ok control) }
 
     // So is a fault, exactly where it is the first one.
     ensures fault { (error : ControlError) → result ≡ Err error → (error ≡ OutOfMemory) ⊎ ControlFault bytes.now error }
-    ensures only_fault { (error : ControlError) → ControlFault bytes.now error → ControlUnlessMemory result (Err error) }
+    ensures only_fault { (error : ControlError) → ControlFault bytes.now error → UnlessMemory ControlError.OutOfMemory result (Err error) }
 {
     control_in(alloc, bytes)
 }

@@ -1,15 +1,11 @@
 -- What the reader answers.
-use Rattle.std.specs.Prelude.{◌≡◌, ◌⊎◌, ℕ, List, Result, Ok, Err}
+use Rattle.std.specs.Prelude.{ℕ, List, Result, Ok, Err}
 use Rattle.qwk_blocks.specs.declared.fault.QwkError.{QwkError}
 use Rattle.qwk_blocks.specs.declared.fault.QwkError.TheVariants as packet
 use Rattle.rep_packet.specs.Rep.{RepReads, RepFault}
 use Rattle.rep_packet.specs.declared.rep.Rep.{Rep}
 use Rattle.rep_packet.specs.declared.fault.RepError.{RepError}
 use Rattle.rep_packet.specs.declared.fault.RepError.TheVariants.{Fault, NoBoardId, OutOfMemory}
-
--- the answer, or want of memory, which may come at any time
-abbrev pub RepUnlessMemory : {T : Type 0} → Result T RepError → Result T RepError → Type 0
-RepUnlessMemory result answer = (result ≡ answer) ⊎ (result ≡ Err OutOfMemory)
 
 -- what a packet's error is called here
 abbrev pub error_of_packet : QwkError → RepError

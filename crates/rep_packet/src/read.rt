@@ -1,6 +1,7 @@
 ghost use Rattle.std.specs.Prelude.{◌≡◌, ◌≤◌, ◌<◌, ◌^◌, ℕ, List, length, Ok, Err, IfOk, MatchOption};
+ghost use Rattle.byte_lists.specs.Memory.{UnlessMemory};
 ghost use Rattle.qwk_blocks.specs.declared.fault.QwkFault.{QwkFault};
-ghost use Rattle.rep_packet.specs.Answer.{RepOrFault, RepUnlessMemory};
+ghost use Rattle.rep_packet.specs.Answer.{RepOrFault};
 ghost use Rattle.rep_packet.specs.Rep.{HasBoardId, RepReads, RepFault};
 ghost use Rattle.rep_packet.specs.Written.{IsRep};
 ghost use Rattle.rep_packet.specs.declared.fault.RepError.TheVariants.{Fault, NoBoardId};
@@ -54,15 +55,15 @@ pub fn read_rep(alloc: Global, bytes: &[u8]) -> Result<Rep, RepError>
 
     // A packet is answered exactly where the bytes read as it, unless memory runs out.
     ensures ok { IfOk result (λ rep. RepReads bytes.now rep) }
-    ensures only_ok { (rep : Rep) → RepReads bytes.now rep → RepUnlessMemory result (Ok rep) }
+    ensures only_ok { (rep : Rep) → RepReads bytes.now rep → UnlessMemory RepError.OutOfMemory result (Ok rep) }
 
     // So is a fault of the blocks, exactly where it is the fault of the packet.
     ensures fault { (fault : QwkFault) → result ≡ Err (Fault fault) → RepFault bytes.now (Fault fault) }
-    ensures only_fault { (fault : QwkFault) → RepFault bytes.now (Fault fault) → RepUnlessMemory result (Err (Fault fault)) }
+    ensures only_fault { (fault : QwkFault) → RepFault bytes.now (Fault fault) → UnlessMemory RepError.OutOfMemory result (Err (Fault fault)) }
 
     // So is a missing board id.
     ensures no_board { result ≡ Err NoBoardId → RepFault bytes.now NoBoardId }
-    ensures only_no_board { RepFault bytes.now NoBoardId → RepUnlessMemory result (Err NoBoardId) }
+    ensures only_no_board { RepFault bytes.now NoBoardId → UnlessMemory RepError.OutOfMemory result (Err NoBoardId) }
 
     // What is read of at most a mebibyte can be written.
     ensures writable { length bytes.now ≤ 1048576 → IfOk result (λ rep. IsRep rep) }

@@ -3,11 +3,12 @@ use Rattle.std.proofs.Common.{◌≡◌, ◌⊎◌, ℕ, ◌+◌, ◌<◌, ◌�
 use Rattle.std.proofs.lemmas.Bool.{cases_lt}
 use Rattle.std.proofs.lemmas.List.{append-nil}
 use Rattle.std.specs.Result.{MatchResult}
+use Rattle.byte_lists.specs.Memory.{UnlessMemory}
 use Rattle.text_fields.proofs.Trimming.{same_front, same_rest}
 use Rattle.setup_file.specs.Rules.{broken_rule}
 use Rattle.text_fields.specs.Lines.{is_skipped}
 use Rattle.setup_file.specs.Reads.{counted, SetupLinesRead}
-use Rattle.setup_file.specs.Fault.{KeepRules, LinesFault, at_line, at_end, SetupUnlessMemory}
+use Rattle.setup_file.specs.Fault.{KeepRules, LinesFault, at_line, at_end}
 use Rattle.setup_file.specs.State.{SetupFaultOrMemory}
 use Rattle.setup_file.specs.declared.error.SetupError.{SetupError}
 use Rattle.setup_file.specs.declared.error.SetupError.TheVariants.{Line, OutOfMemory}
@@ -142,7 +143,7 @@ reads_or_fault all = from_here all [] all refl tt
 abbrev pub Answers : List (List ℕ) → Result Setup SetupError → Type 0
 Answers all r = MatchResult r (SetupLinesRead all) (SetupFaultOrMemory (LinesFault all))
 
-pub only_ok : (all : List (List ℕ)) (r : Result Setup SetupError) → Answers all r → (a : Setup) → SetupLinesRead all a → SetupUnlessMemory r (Ok a)
+pub only_ok : (all : List (List ℕ)) (r : Result Setup SetupError) → Answers all r → (a : Setup) → SetupLinesRead all a → UnlessMemory OutOfMemory r (Ok a)
 only_ok all (Ok b) h a x = inl (ap Ok (one_reading all b a h x))
 only_ok all (Err (Line n q)) h a x = absurd (no_fault all a n q x h)
 only_ok all (Err OutOfMemory) h a x = inr refl
@@ -155,7 +156,7 @@ is_fault all (Err (Line m p)) h n q e =
     subst (LinesFault all n) rule (subst (λ (k : ℕ). LinesFault all k p) line h)
 is_fault all (Err OutOfMemory) h n q e = cc
 
-pub only_fault : (all : List (List ℕ)) (r : Result Setup SetupError) → Answers all r → (n : ℕ) (q : SetupRule) → LinesFault all n q → SetupUnlessMemory r (Err (Line n q))
+pub only_fault : (all : List (List ℕ)) (r : Result Setup SetupError) → Answers all r → (n : ℕ) (q : SetupRule) → LinesFault all n q → UnlessMemory OutOfMemory r (Err (Line n q))
 only_fault all (Ok b) h n q f = absurd (no_fault all b n q h f)
 only_fault all (Err (Line m p)) h n q f =
     let line : m ≡ n = line_once all m n p q h f in

@@ -1,11 +1,9 @@
 -- The first line of a setup file that breaks a rule.
-use Rattle.std.specs.Prelude.{◌≡◌, ◌⊎◌, ℕ, ◌+◌, ◌<◌, List, [], ◌∷◌, ◌++◌, length, Some, None, false, Result, Err}
+use Rattle.std.specs.Prelude.{◌≡◌, ℕ, ◌+◌, ◌<◌, List, [], ◌∷◌, ◌++◌, length, Some, None, false}
 use Rattle.std.specs.Str.Lines.{lines}
 use Rattle.text_fields.specs.Lines.{is_skipped}
 use Rattle.setup_file.specs.Reads.{counted}
 use Rattle.setup_file.specs.Rules.{broken_rule}
-use Rattle.setup_file.specs.declared.error.SetupError.{SetupError}
-use Rattle.setup_file.specs.declared.error.SetupError.TheVariants.{OutOfMemory}
 use Rattle.setup_file.specs.declared.error.SetupRule.{SetupRule}
 use Rattle.setup_file.specs.declared.error.SetupRule.TheVariants.{Missing}
 
@@ -24,7 +22,3 @@ pub data LinesFault (all : List (List ℕ)) (number : ℕ) (rule : SetupRule) : 
 
 abbrev pub SetupFault : List ℕ → ℕ → SetupRule → Type 0
 SetupFault bytes number rule = LinesFault (lines bytes) number rule
-
--- the answer, or want of memory, which may come at any time
-abbrev pub SetupUnlessMemory : {T : Type 0} → Result T SetupError → Result T SetupError → Type 0
-SetupUnlessMemory result answer = (result ≡ answer) ⊎ (result ≡ Err OutOfMemory)

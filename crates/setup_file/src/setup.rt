@@ -1,7 +1,8 @@
 ghost use Rattle.std.specs.Prelude.{◌≡◌, ◌↔◌, ◌<◌, ◌^◌, ℕ, Ok, Err, length, min, slice_get, Contains, IsTrue, IfOk};
 ghost use Rattle.std.specs.Option.{option_copied};
+ghost use Rattle.byte_lists.specs.Memory.{UnlessMemory};
 ghost use Rattle.setup_file.specs.Reads.{SetupReads};
-ghost use Rattle.setup_file.specs.Fault.{SetupFault, SetupUnlessMemory};
+ghost use Rattle.setup_file.specs.Fault.{SetupFault};
 ghost use Rattle.setup_file.specs.declared.error.SetupError.TheVariants.{Line};
 ghost use Rattle.setup_file.specs.declared.error.SetupRule.{SetupRule};
 ghost use Rattle.setup_file.specs.declared.setup.Setup.{Setup};
@@ -42,11 +43,11 @@ impl Setup {
 
         // A setup is answered exactly where the bytes read as it, unless memory runs out.
         ensures ok { IfOk result (λ setup. SetupReads bytes.now setup) }
-        ensures only_ok { (setup : Setup) → SetupReads bytes.now setup → SetupUnlessMemory result (Ok setup) }
+        ensures only_ok { (setup : Setup) → SetupReads bytes.now setup → UnlessMemory SetupError.OutOfMemory result (Ok setup) }
 
         // So is a line with its rule, exactly where it is the first that fails.
         ensures fault { (line : ℕ) (rule : SetupRule) → result ≡ Err (Line line rule) → SetupFault bytes.now line rule }
-        ensures only_fault { (line : ℕ) (rule : SetupRule) → SetupFault bytes.now line rule → SetupUnlessMemory result (Err (Line line rule)) }
+        ensures only_fault { (line : ℕ) (rule : SetupRule) → SetupFault bytes.now line rule → UnlessMemory SetupError.OutOfMemory result (Err (Line line rule)) }
     {
         setup_in(alloc, bytes)
     }
