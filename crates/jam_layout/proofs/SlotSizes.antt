@@ -82,9 +82,6 @@ links_in c = link_of c.slots
 jhr_length : (shape : Shape) (c : Conference) → length (layout shape c).jhr ≡ 1024 + length (headers_text shape.kind 0 (entries_in c))
 jhr_length shape c = omega (arith, length-append (base_text (base_header shape c)) (headers_text shape.kind 0 (entries_in c)), base_length (base_header shape c))
 
-pub slot_headers_small : (shape : Shape) (c : Conference) → IsConference shape c → All (λ slot. slot_header slot < 2 ^ 31) c.slots
-slot_headers_small shape c ok = let short = (layout_fits shape c ok).jhr.1 in headers_within shape.kind (links_in c) 0 1 (2 ^ 31) c.slots (omega (arith, short, jhr_length shape c))
-
 pub slots_small : (shape : Shape) (c : Conference) → IsConference shape c → sum_by slot_size c.slots < 2 ^ 33
 slots_small shape c ok =
     let fit = layout_fits shape c ok in

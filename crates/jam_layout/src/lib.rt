@@ -31,5 +31,5 @@ pub use read::read_bare;
 pub use reader::Reader;
 pub use reader_list::Readers;
 pub use shape::Shape;
-pub use sizes::{files_size, header_size, message_size};
+pub use sizes::{header_size, message_size};
 pub use types::{moments, typed};
