@@ -5,7 +5,8 @@
 # The gate prints no times, so a sampler looks once a second at what it has started: a prover's words and folder say
 # what it works on. What provers took between the last look and their end is in what the gate has waited for by the
 # next look; where several ended between two looks each gets the same of it. So single numbers may be off by half a
-# second for each prover, and their sum isn't.
+# second for each prover, and their sum isn't. What rt itself takes grows as the paths of crates.txt, so these are
+# counted too.
 
 cd -- "$(dirname -- "$(readlink -f -- "$0")")/.." || exit 1
 place=$(mktemp -d) || exit 1
@@ -39,8 +40,10 @@ function look(    command, line, each, pid) {
         seconds[pid] = (each[12] + each[13] + each[14] + each[15]) / hertz
         key[pid] = pid " " each[20]
         memory[pid] = each[22] * page / 1e9
-        if (pid == gate)
+        if (pid == gate) {
             waited = (each[14] + each[15]) / hertz
+            own = (each[12] + each[13]) / hertz
+        }
     }
     close(command)
 }
@@ -127,8 +130,8 @@ BEGIN {
     # The second line is of what the script has waited for.
     while ((getline line < (folder "/times")) > 0)
         split(line, each, /[ms ]+/)
-    printf "In all %.0f processor seconds in %s: %.0f of provers; the rest is rt's own, links and runs of what was built.\n",
-        60 * each[1] + each[2] + 60 * each[3] + each[4], wall, provers
+    printf "In all %.0f processor seconds in %s: %.0f of provers, %.0f of rt itself; the rest is links and runs of what was built.\n",
+        60 * each[1] + each[2] + 60 * each[3] + each[4], wall, provers, own
 }
 PROGRAM
 
@@ -146,4 +149,5 @@ printf '\n%s\n%s\n' '| crate              | proof (s) | peak (GB) | tests (s) | 
     '|---|--:|--:|--:|--:|--:|--:|--:|'
 sort -t '|' -k 9,9nr "$place/rows" 2>/dev/null
 cat "$place/sums"
+bench/paths.py
 exit "$status"

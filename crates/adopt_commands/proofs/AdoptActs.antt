@@ -1,7 +1,7 @@
 -- The turns of `adopt` give what a lawful act asks.
 use Rattle.std.proofs.Common.{◌≡◌, ◌≢◌, ℕ, ◌-◌, List, [], ◌∷◌, ◌++◌, length, Option, Some, None, Result, Ok, Err, sym, ◌∙◌, subst}
-use Rattle.board_commands.proofs.BoardActs.{AreTurns}
-use Rattle.board_commands.proofs.TurnLaws.{IsTurn, are_turns, done_is, refuses_is}
+use Rattle.message_commands.proofs.board_commands.BoardActs.{AreTurns}
+use Rattle.message_commands.proofs.board_commands.TurnLaws.{IsTurn, are_turns, done_is, refuses_is}
 use Rattle.board_layout.specs.Board.{Board}
 use Rattle.board_layout.specs.Lookups.{place_of}
 use Rattle.door_outside.specs.Shelf.{Files}

@@ -1,17 +1,17 @@
 -- What becomes of another tool's records is the same on boards with one outline.
 use Rattle.std.proofs.Common.{◌≡◌, ℕ, ◌+◌, cond, List, [], ◌∷◌, ◌++◌, length, Some, refl, sym, ap, ◌∙◌}
 use Rattle.std.specs.Prelude.{codes, fold}
-use Rattle.board_commands.specs.Turns.{Turn}
+use Rattle.message_commands.specs.board_commands.Turns.{Turn}
 use Rattle.board_layout.specs.Board.{Board}
 use Rattle.jam_adopt.specs.declared.found.Found.{Found}
 use Rattle.jam_adopt.specs.declared.found.FoundVerdict.{FoundVerdict}
 use Rattle.jam_adopt.specs.declared.found.FoundVerdict.TheVariants.{Taken, Refused}
 use Rattle.jam_records.specs.declared.message.Kind.{Kind}
 use Rattle.jam_records.specs.declared.message.Message.{Message}
-use Rattle.mail_board.specs.Changes.{changed}
-use Rattle.mail_board.specs.Held.{AreAlike}
-use Rattle.mail_board.specs.declared.change.Change.{Change}
-use Rattle.mail_board.specs.declared.change.Change.TheVariants.{Spread}
+use Rattle.message_commands.specs.mail_board.Changes.{changed}
+use Rattle.message_commands.specs.mail_board.Held.{AreAlike}
+use Rattle.message_commands.specs.mail_board.declared.change.Change.{Change}
+use Rattle.message_commands.specs.mail_board.declared.change.Change.TheVariants.{Spread}
 use Rattle.mail_intake.proofs.RoomAlike.{count_alike, full_alike}
 use Rattle.mail_intake.specs.Lines.{intake_text, posted_line, refused_line}
 use Rattle.mail_intake.specs.Room.{is_full}

@@ -1,13 +1,13 @@
 -- The exits of `adopt` once the board is found.
 use Rattle.std.proofs.Common.{◌≡◌, ℕ, List, Option, Some, None, Result, Ok, Err, refl, sym, ◌∙◌, ap}
-use Rattle.board_commands.proofs.CauseLaws.{stops_by}
-use Rattle.board_commands.proofs.Exits.{shelf_fails, starved}
-use Rattle.board_commands.specs.Halts.{told, of_journal, of_shelf}
-use Rattle.board_commands.specs.Kept.{IsOutlined, unread}
-use Rattle.board_commands.specs.State.{State, Made, Stores, migrated}
-use Rattle.board_commands.specs.Turns.{Turn, refuses}
-use Rattle.board_commands.specs.declared.halt.BoardHalt.{BoardHalt}
-use Rattle.board_commands.specs.declared.halt.BoardHalt.TheVariants as board_halt
+use Rattle.message_commands.proofs.board_commands.CauseLaws.{stops_by}
+use Rattle.message_commands.proofs.board_commands.Exits.{shelf_fails, starved}
+use Rattle.message_commands.specs.board_commands.Halts.{told, of_journal, of_shelf}
+use Rattle.message_commands.specs.board_commands.Kept.{IsOutlined, unread}
+use Rattle.message_commands.specs.board_commands.State.{State, Made, Stores, migrated}
+use Rattle.message_commands.specs.board_commands.Turns.{Turn, refuses}
+use Rattle.message_commands.specs.board_commands.declared.halt.BoardHalt.{BoardHalt}
+use Rattle.message_commands.specs.board_commands.declared.halt.BoardHalt.TheVariants as board_halt
 use Rattle.board_layout.specs.Board.{Board}
 use Rattle.board_layout.specs.Valid.{IsBoard}
 use Rattle.board_layout.specs.Lookups.{place_of}
@@ -20,8 +20,8 @@ use Rattle.intent_journal.specs.Recovered.{recovered}
 use Rattle.intent_journal.specs.declared.recovery.JournalError.{JournalError}
 use Rattle.intent_journal.specs.declared.recovery.JournalError.TheVariants.{OutOfMemory as Starved}
 use Rattle.jam_adopt.specs.declared.found.Found.{Found}
-use Rattle.mail_board.specs.Changes.{changed}
-use Rattle.mail_board.specs.Held.{AreAlike}
+use Rattle.message_commands.specs.mail_board.Changes.{changed}
+use Rattle.message_commands.specs.mail_board.Held.{AreAlike}
 use Rattle.message_commands.proofs.Exits.{carried, changed_by, refused_on, unchanged_by}
 use Rattle.message_commands.proofs.PlaceAlike.{place_alike}
 use Rattle.shelf_files.specs.Halts.{Comes, done}

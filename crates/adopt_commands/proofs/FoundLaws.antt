@@ -23,7 +23,7 @@ use Rattle.jam_records.specs.declared.message.Message.{Message}
 use Rattle.jam_records.specs.declared.message_header.MessageHeader.{MessageHeader}
 use Rattle.jam_records.specs.declared.subfield.Subfield.{Subfield}
 use Rattle.setup_file.specs.Words.{before_spaces, is_space}
-use Rattle.slot_changes.specs.Values.{has_right_texts, is_empty_or, is_right_body}
+use Rattle.post_changes.specs.slot_changes.Values.{has_right_texts, is_empty_or, is_right_body}
 use Rattle.adopt_commands.specs.Adopting.{AreRight, IsRight}
 
 -- ---- texts

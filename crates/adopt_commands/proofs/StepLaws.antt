@@ -12,8 +12,8 @@ use Rattle.jam_records.specs.declared.message.Message.{Message}
 use Rattle.mail_intake.specs.Tallies.{MayTake}
 use Rattle.message_commands.proofs.EntryLaws.{private_enough}
 use Rattle.setup_file.specs.declared.conference.Conference.{Conference as SetupConference}
-use Rattle.slot_changes.proofs.ValueLaws.{tested_holds}
-use Rattle.slot_changes.specs.Values.{MayHold, has_right_texts}
+use Rattle.post_changes.proofs.slot_changes.ValueLaws.{tested_holds}
+use Rattle.post_changes.specs.slot_changes.Values.{MayHold, has_right_texts}
 use Rattle.adopt_commands.specs.Adopted.{adopted, adopted_next, kept_in}
 use Rattle.adopt_commands.specs.Adopting.{IsRight}
 

@@ -1,7 +1,7 @@
 -- The command `adopt`.
 use Rattle.std.specs.Prelude.{◌≡◌, ℕ, List, length, Option, Some, None, Result, Ok, Err}
-use Rattle.board_commands.specs.State.{State}
-use Rattle.board_commands.specs.Turns.{Turn, refuses, on_board}
+use Rattle.message_commands.specs.board_commands.State.{State}
+use Rattle.message_commands.specs.board_commands.Turns.{Turn, refuses, on_board}
 use Rattle.board_layout.specs.Board.{Board}
 use Rattle.board_layout.specs.Lookups.{place_of}
 use Rattle.door_outside.specs.Shelf.{Files}

@@ -11,7 +11,7 @@ use Rattle.jam_records.specs.declared.message.Message.{Message}
 use Rattle.mail_intake.specs.Lines.{posted_line, refused_line}
 use Rattle.mail_intake.specs.Room.{is_full}
 use Rattle.message_commands.specs.Import.{kind_of_place}
-use Rattle.packet_verdicts.specs.Views.{next_number}
+use Rattle.message_commands.specs.packet_verdicts.Views.{next_number}
 use Rattle.post_changes.specs.Posted.{spread}
 
 -- a message as a conference of a kind keeps it: always private in a net conference

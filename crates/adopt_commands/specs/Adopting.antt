@@ -1,21 +1,21 @@
 -- What is known between two records of another tool's base, and what is found before its messages are posted.
 use Rattle.std.specs.Prelude.{◌≡◌, ℕ, List, Some, Result, Ok, Err, All, IsTrue}
-use Rattle.board_commands.specs.Halts.{StopsBy}
-use Rattle.board_commands.specs.declared.halt.BoardHalt.{BoardHalt}
+use Rattle.message_commands.specs.board_commands.Halts.{StopsBy}
+use Rattle.message_commands.specs.board_commands.declared.halt.BoardHalt.{BoardHalt}
 use Rattle.board_layout.specs.Board.{Board}
 use Rattle.jam_adopt.specs.declared.found.Found.{Found}
 use Rattle.jam_adopt.specs.declared.found.FoundVerdict.{FoundVerdict}
 use Rattle.jam_adopt.specs.declared.found.FoundVerdict.TheVariants as verdict
-use Rattle.mail_board.specs.Changes.{changed, Fits}
-use Rattle.mail_board.specs.Written.{IsPosting}
-use Rattle.mail_board.specs.declared.change.Change.TheVariants.{Spread}
+use Rattle.message_commands.specs.mail_board.Changes.{changed, Fits}
+use Rattle.message_commands.specs.mail_board.Written.{IsPosting}
+use Rattle.message_commands.specs.mail_board.declared.change.Change.TheVariants.{Spread}
 use Rattle.mail_intake.specs.Tallies.{IsTally}
 use Rattle.adopt_commands.specs.Adopt.{adopting}
 use Rattle.adopt_commands.specs.Adopted.{adopted}
 use Rattle.adopt_commands.specs.declared.adopted.Adopted.{Adopted}
 use Rattle.adopt_commands.specs.declared.adopting.Adopting.{Adopting}
 use Rattle.shelf_files.specs.Halts.{done}
-use Rattle.slot_changes.specs.Values.{has_right_texts, is_right_body}
+use Rattle.post_changes.specs.slot_changes.Values.{has_right_texts, is_right_body}
 
 -- the texts of the record's message are such as a conference may hold; its msgid may be missing
 abbrev pub IsRight : FoundVerdict → Type 0

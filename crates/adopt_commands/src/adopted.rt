@@ -13,7 +13,7 @@ use jam_adopt::{Foreign, Found, FoundVerdict};
 use jam_layout::typed;
 use jam_records::{Kind, Message};
 use mail_intake::{Tally, add_posted, add_refused};
-use slot_changes::is_net;
+use post_changes::is_net;
 use std::alloc::{AllocError, Global};
 
 /// Where the messages of a base go.

@@ -1,10 +1,10 @@
 //! The command `adopt`.
 ghost use Rattle.std.specs.Prelude.{◌≡◌, ◌<◌, ◌++◌, ℕ, List, codes, length, Ok, IfOk, IsTrue};
-ghost use Rattle.board_commands.specs.Causes.{HaveCauses};
-ghost use Rattle.board_commands.specs.Halts.{told};
-ghost use Rattle.board_commands.specs.Kept.{AreSure, IsKept, unread};
-ghost use Rattle.board_commands.specs.State.{State, Stores};
-ghost use Rattle.board_commands.specs.WriteBound.{KeepsWriteBound};
+ghost use Rattle.message_commands.specs.board_commands.Causes.{HaveCauses};
+ghost use Rattle.message_commands.specs.board_commands.Halts.{told};
+ghost use Rattle.message_commands.specs.board_commands.Kept.{AreSure, IsKept, unread};
+ghost use Rattle.message_commands.specs.board_commands.State.{State, Stores};
+ghost use Rattle.message_commands.specs.board_commands.WriteBound.{KeepsWriteBound};
 ghost use Rattle.board_layout.specs.Board as Boards;
 ghost use Rattle.board_layout.specs.Valid.{IsBoard};
 ghost use Rattle.door_outside.specs.Name.{IsShelfName};
@@ -18,13 +18,11 @@ ghost use Rattle.adopt_commands.specs.Adopting.{AreAdopted, AreRight, MayAdopt, 
 
 use crate::adopted::{Adopted, Target, adopted_of};
 use crate::base_files::base_in;
-use board_commands::{BoardHalt, board_in, find, make_change};
 use byte_lists::Bytes;
 use door_outside::{Host, Shelf};
 use jam_adopt::Foreign;
-use mail_board::{Board, Change, Loaded};
 use mail_intake::with_counts;
-use message_commands::place_in;
+use message_commands::{Board, BoardHalt, Change, Loaded, board_in, find, make_change, place_in};
 use std::alloc::{AllocError, Global};
 
 /// The change that takes a base over, and what is to be said of it.

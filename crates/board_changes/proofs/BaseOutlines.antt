@@ -8,12 +8,12 @@ use Rattle.board_layout.proofs.OutlineLaws.{outline_contents}
 use Rattle.board_layout.specs.Board.{Board, conferences_in, shapes_of}
 use Rattle.board_layout.specs.Outlines.{board_outline}
 use Rattle.board_layout.specs.Renewed.{contents_of}
-use Rattle.jam_base.specs.Contents.{Contents, no_slots}
-use Rattle.jam_base.specs.Outlined.{outlined}
-use Rattle.jam_layout.specs.Outlines.{outline}
-use Rattle.jam_layout.specs.declared.conference.Conference.{Conference}
-use Rattle.jam_layout.specs.declared.shape.Shape.{Shape}
-use Rattle.setup_file.specs.declared.setup.Setup.{Setup}
+use Rattle.board_layout.specs.jam_base.Contents.{Contents, no_slots}
+use Rattle.board_layout.specs.jam_base.Outlined.{outlined}
+use Rattle.board_layout.specs.jam_layout.Outlines.{outline}
+use Rattle.board_layout.specs.jam_layout.declared.conference.Conference.{Conference}
+use Rattle.board_layout.specs.jam_layout.declared.shape.Shape.{Shape}
+use Rattle.board_ledger.specs.setup_file.declared.setup.Setup.{Setup}
 
 pub conferences_outlined : (bases : List Contents) → map outline (conferences_in bases) ≡ conferences_in (map outlined bases)
 conferences_outlined [] = refl

@@ -7,11 +7,11 @@ use Rattle.board_layout.specs.Layout.{files_in}
 use Rattle.intent_journal.specs.Journal.{patches_text}
 use Rattle.intent_journal.specs.Patches.{bytes_of, patch_offset}
 use Rattle.intent_journal.specs.declared.patch.Patch.{Patch}
-use Rattle.jam_base.specs.Change.{SuitsIntent, Turns}
-use Rattle.jam_base.specs.Contents.{Contents}
-use Rattle.jam_base.specs.Outlined.{outlined, TurnsEach}
-use Rattle.jam_layout.specs.Layout.{files_size}
-use Rattle.jam_layout.specs.declared.files.BaseFiles.{BaseFiles}
+use Rattle.board_layout.specs.jam_base.Change.{SuitsIntent, Turns}
+use Rattle.board_layout.specs.jam_base.Contents.{Contents}
+use Rattle.board_layout.specs.jam_base.Outlined.{outlined, TurnsEach}
+use Rattle.board_layout.specs.jam_layout.Layout.{files_size}
+use Rattle.board_layout.specs.jam_layout.declared.files.BaseFiles.{BaseFiles}
 
 -- an intent asks the same of patches for files of the same size
 pub suits_alike : (place : ℕ) (a b : BaseFiles) (patches : List Patch) → files_size a ≡ files_size b → SuitsIntent place a patches → SuitsIntent place b patches

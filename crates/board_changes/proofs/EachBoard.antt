@@ -17,9 +17,9 @@ use Rattle.board_layout.specs.Renewed.{contents_of}
 use Rattle.board_layout.specs.Valid.{IsBoard}
 use Rattle.board_ledger.specs.Ledger.{ledger_text}
 use Rattle.intent_journal.specs.declared.patch.Patch.{Patch}
-use Rattle.jam_base.specs.Change.{SuitsIntent}
-use Rattle.jam_base.specs.Contents.{Contents}
-use Rattle.jam_base.specs.declared.change.BaseChange.{BaseChange}
+use Rattle.board_layout.specs.jam_base.Change.{SuitsIntent}
+use Rattle.board_layout.specs.jam_base.Contents.{Contents}
+use Rattle.board_layout.specs.jam_base.declared.change.BaseChange.{BaseChange}
 
 -- a change that is another one for each board with the outline
 pub leads_as : (old : Board) (change other : Board → Board) (patches : List Patch) → ((b : Board) → board_outline b ≡ board_outline old → change b ≡ other b) → LeadsEach old change patches → LeadsEach old other patches

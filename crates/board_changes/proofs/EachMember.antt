@@ -24,12 +24,12 @@ use Rattle.board_ledger.specs.Users.{is_member}
 use Rattle.board_ledger.specs.declared.ledger.Ledger.{Ledger}
 use Rattle.board_ledger.specs.declared.user.User.{User}
 use Rattle.intent_journal.specs.declared.patch.Patch.{Patch}
-use Rattle.jam_base.proofs.PatchLaws.{nothing_small, nothing_turns}
-use Rattle.jam_base.specs.Change.{SuitsIntent, Turns}
-use Rattle.jam_base.specs.Contents.{Contents, with_reader}
-use Rattle.jam_base.specs.Outlined.{outlined, TurnsEach}
-use Rattle.jam_layout.specs.Outlines.{outline}
-use Rattle.jam_layout.specs.declared.conference.Conference.{Conference}
+use Rattle.board_layout.proofs.jam_base.PatchLaws.{nothing_small, nothing_turns}
+use Rattle.board_layout.specs.jam_base.Change.{SuitsIntent, Turns}
+use Rattle.board_layout.specs.jam_base.Contents.{Contents, with_reader}
+use Rattle.board_layout.specs.jam_base.Outlined.{outlined, TurnsEach}
+use Rattle.board_layout.specs.jam_layout.Outlines.{outline}
+use Rattle.board_layout.specs.jam_layout.declared.conference.Conference.{Conference}
 
 -- ---- the board
 joined_one : (members place : ℕ) (c : Conference) → outline (joined_in members place c) ≡ joined_in members place (outline c)

@@ -11,18 +11,18 @@ use Rattle.board_changes.proofs.UserSizes.{slots_stay, members_are}
 use Rattle.board_layout.specs.Board.{Board}
 use Rattle.board_layout.specs.Layout.{board_size}
 use Rattle.board_layout.specs.Valid.{IsBoard, board_limit, highs_fit, offers_fit}
-use Rattle.open_offers.specs.Offers.{IsOffer}
+use Rattle.board_ledger.specs.open_offers.Offers.{IsOffer}
 use Rattle.board_ledger.specs.Limits.{user_limit}
 use Rattle.board_ledger.specs.Records.{EachBehind}
 use Rattle.board_ledger.specs.Uploads.{IsUpload}
 use Rattle.board_ledger.specs.Users.{IsUser, is_taken, right_members}
 use Rattle.board_ledger.specs.Valid.{IsLedger}
 use Rattle.board_ledger.specs.declared.ledger.Ledger.{Ledger}
-use Rattle.open_offers.specs.declared.offer.OpenOffer.{OpenOffer}
+use Rattle.board_ledger.specs.open_offers.declared.offer.OpenOffer.{OpenOffer}
 use Rattle.board_ledger.specs.declared.upload.UploadRecord.{UploadRecord}
 use Rattle.board_ledger.specs.declared.user.User.{User}
-use Rattle.jam_layout.specs.declared.conference.Conference.{Conference}
-use Rattle.setup_file.specs.Texts.{is_user_name}
+use Rattle.board_layout.specs.jam_layout.declared.conference.Conference.{Conference}
+use Rattle.board_ledger.specs.setup_file.Texts.{is_user_name}
 
 -- ---- highs
 highs_stay : (members place : ℕ) (conferences : List Conference) (highs : List ℕ) → highs_fit (joined_from members place conferences) highs ≡ highs_fit conferences highs

@@ -5,15 +5,15 @@ use Rattle.std.proofs.lemmas.Bool.{cond-true, cond-false, lt-ltb, le-ltb, ne_eqb
 use Rattle.std.proofs.lemmas.List.{append-nil, take_more}
 use Rattle.std.proofs.lemmas.List.Sums.{sum_by-append, sum_by-cons, sum_by-take-le}
 use Rattle.std.proofs.lemmas.List.Elements.{All-nil, All-cons, All-append}
-use Rattle.door_outside.specs.File.{ledger_file, journal_file, jhr_file, jdt_file, jdx_file, jlr_file}
+use Rattle.intent_journal.specs.door_outside.File.{ledger_file, journal_file, jhr_file, jdt_file, jdx_file, jlr_file}
 use Rattle.intent_journal.specs.Journal.{TakesPatch}
 use Rattle.intent_journal.specs.Patches.{Files, file_of, patched}
 use Rattle.intent_journal.specs.declared.patch.Patch.{Patch}
 use Rattle.intent_journal.specs.declared.patch.Patch.TheVariants.{Whole}
-use Rattle.jam_base.specs.Change.{files_of_place, IsElsewhere, Turns, SuitsIntent}
-use Rattle.jam_base.proofs.PatchLaws.{nothing_turns, nothing_small}
-use Rattle.jam_layout.specs.Layout.{files_size}
-use Rattle.jam_layout.specs.declared.files.BaseFiles.{BaseFiles}
+use Rattle.board_layout.specs.jam_base.Change.{files_of_place, IsElsewhere, Turns, SuitsIntent}
+use Rattle.board_layout.proofs.jam_base.PatchLaws.{nothing_turns, nothing_small}
+use Rattle.board_layout.specs.jam_layout.Layout.{files_size}
+use Rattle.board_layout.specs.jam_layout.declared.files.BaseFiles.{BaseFiles}
 use Rattle.board_layout.specs.Layout.{no_base}
 use Rattle.board_changes.specs.Gathered.{at_place, HasBases, mixed, Gathered, FitJournal, Joins}
 use Rattle.board_changes.proofs.JoinLaws.{patched_append, within_append, text_append, once_append, journal_length}

@@ -6,7 +6,7 @@ use Rattle.std.proofs.Math.Bool.{or_comm}
 use Rattle.std.proofs.lemmas.Bool.{and_parts, and_from, and_right, or_parts, eq-eqb, ne_eqb, not-true, cases_eq}
 use Rattle.std.proofs.lemmas.List.Folds.{list_any-append}
 use Rattle.std.proofs.lemmas.List.Elements.{All-drop}
-use Rattle.door_outside.specs.File.{journal_file}
+use Rattle.intent_journal.specs.door_outside.File.{journal_file}
 use Rattle.intent_journal.specs.Journal.{patch_text, patches_text, journal_text, TakesPatch}
 use Rattle.intent_journal.specs.Patches.{Files, file_of, patch_offset, bytes_of, is_whole, apply, begins_within, patched, are_within, clash, is_once}
 use Rattle.intent_journal.specs.declared.patch.Patch.{Patch}

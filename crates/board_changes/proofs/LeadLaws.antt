@@ -14,9 +14,9 @@ use Rattle.board_layout.specs.Valid.{IsBoard}
 use Rattle.board_ledger.specs.Ledger.{ledger_text}
 use Rattle.board_ledger.specs.declared.ledger.Ledger.{Ledger}
 use Rattle.intent_journal.specs.declared.patch.Patch.{Patch}
-use Rattle.jam_layout.specs.Valid.{IsConference}
-use Rattle.jam_layout.specs.declared.files.BaseFiles.{BaseFiles}
-use Rattle.setup_file.specs.declared.setup.Setup.{Setup}
+use Rattle.board_layout.specs.jam_layout.Valid.{IsConference}
+use Rattle.board_layout.specs.jam_layout.declared.files.BaseFiles.{BaseFiles}
+use Rattle.board_ledger.specs.setup_file.declared.setup.Setup.{Setup}
 
 -- lists that are related item by item are as long
 pub zipped_count : {A B : Type 0} (R : A → B → Type 0) (xs : List A) (ys : List B) → AllZip R xs ys → length xs ≡ length ys

@@ -10,12 +10,12 @@ use Rattle.board_ledger.specs.Users.{user_text, users_text, IsUser}
 use Rattle.board_ledger.specs.Valid.{IsLedger}
 use Rattle.board_ledger.specs.declared.ledger.Ledger.{Ledger}
 use Rattle.board_ledger.specs.declared.user.User.{User}
-use Rattle.open_offers.specs.declared.version.Version.TheVariants.{Second}
+use Rattle.board_ledger.specs.open_offers.declared.version.Version.TheVariants.{Second}
 use Rattle.board_ledger.proofs.SetupBounds.{board_small, user_small, bbsid_small, name_small, zones_few}
 use Rattle.board_ledger.proofs.SizeLaws.{behind_most, ledger_length, setup_length, conference_length, user_length}
-use Rattle.setup_file.specs.Valid.{IsSetup, IsSetupConference}
-use Rattle.setup_file.specs.declared.conference.Conference.{Conference as SetupConference}
-use Rattle.setup_file.specs.declared.setup.Setup.{Setup}
+use Rattle.board_ledger.specs.setup_file.Valid.{IsSetup, IsSetupConference}
+use Rattle.board_ledger.specs.setup_file.declared.conference.Conference.{Conference as SetupConference}
+use Rattle.board_ledger.specs.setup_file.declared.setup.Setup.{Setup}
 
 pub setup_at_most : (s : Setup) → IsSetup s → length (setup_text s) ≤ 400
 setup_at_most s ok = omega (

@@ -17,14 +17,14 @@ use Rattle.board_ledger.specs.UserPuts.{record_in, user_place}
 use Rattle.board_ledger.specs.Valid.{IsLedger}
 use Rattle.board_ledger.specs.declared.ledger.Ledger.{Ledger}
 use Rattle.board_ledger.specs.declared.user.User.{User}
-use Rattle.door_outside.specs.File.{ledger_file, jhr_file, jdt_file, jdx_file, jlr_file}
+use Rattle.intent_journal.specs.door_outside.File.{ledger_file, jhr_file, jdt_file, jdx_file, jlr_file}
 use Rattle.intent_journal.specs.Journal.{patch_text, patches_text}
 use Rattle.intent_journal.specs.Patches.{Files, bytes_of, file_of, is_once, patched, patch_offset}
 use Rattle.intent_journal.specs.declared.patch.Patch.{Patch}
 use Rattle.intent_journal.specs.declared.patch.Patch.TheVariants.{Put}
-use Rattle.jam_base.specs.Change.{files_of_place}
-use Rattle.jam_layout.specs.declared.files.BaseFiles.{BaseFiles}
-use Rattle.record_numbers.specs.Numbers.{u16_text}
+use Rattle.board_layout.specs.jam_base.Change.{files_of_place}
+use Rattle.board_layout.specs.jam_layout.declared.files.BaseFiles.{BaseFiles}
+use Rattle.jam_records.specs.record_numbers.Numbers.{u16_text}
 
 -- they end within the file's next text, and are spelled within it and 11 bytes
 pub record Begins (next : List ℕ) (patches : List Patch) : Type 0 where

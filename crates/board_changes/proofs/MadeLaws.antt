@@ -23,22 +23,22 @@ use Rattle.board_ledger.specs.Valid.{IsLedger}
 use Rattle.board_ledger.specs.declared.ledger.Ledger.{Ledger}
 use Rattle.board_ledger.specs.declared.upload.UploadRecord.{UploadRecord}
 use Rattle.board_ledger.specs.declared.user.User.{User}
-use Rattle.open_offers.specs.declared.version.Version.TheVariants.{Second}
+use Rattle.board_ledger.specs.open_offers.declared.version.Version.TheVariants.{Second}
 use Rattle.board_ledger.proofs.SizeLaws.{ledger_length}
 use Rattle.intent_journal.specs.declared.patch.Patch.{Patch}
-use Rattle.jam_base.specs.Change.{Turns, SuitsIntent}
-use Rattle.jam_base.specs.Contents.{no_slots}
-use Rattle.jam_layout.specs.Layout.{layout, files_size}
-use Rattle.jam_layout.specs.Messages.{IsSlot}
-use Rattle.jam_layout.specs.Valid.{IsConference}
-use Rattle.jam_layout.specs.declared.files.BaseFiles.{BaseFiles}
-use Rattle.jam_layout.specs.declared.shape.Shape.{Shape}
-use Rattle.jam_layout.proofs.SlotSizes.{size_is}
+use Rattle.board_layout.specs.jam_base.Change.{Turns, SuitsIntent}
+use Rattle.board_layout.specs.jam_base.Contents.{no_slots}
+use Rattle.board_layout.specs.jam_layout.Layout.{layout, files_size}
+use Rattle.board_layout.specs.jam_layout.Messages.{IsSlot}
+use Rattle.board_layout.specs.jam_layout.Valid.{IsConference}
+use Rattle.board_layout.specs.jam_layout.declared.files.BaseFiles.{BaseFiles}
+use Rattle.board_layout.specs.jam_layout.declared.shape.Shape.{Shape}
+use Rattle.board_layout.proofs.jam_layout.SlotSizes.{size_is}
 use Rattle.jam_records.specs.declared.message.Kind.{Kind}
-use Rattle.record_numbers.specs.Numbers.{IsU32}
-use Rattle.setup_file.specs.Valid.{IsSetup}
-use Rattle.setup_file.specs.declared.conference.Conference.{Conference as SetupConference}
-use Rattle.setup_file.specs.declared.setup.Setup.{Setup}
+use Rattle.jam_records.specs.record_numbers.Numbers.{IsU32}
+use Rattle.board_ledger.specs.setup_file.Valid.{IsSetup}
+use Rattle.board_ledger.specs.setup_file.declared.conference.Conference.{Conference as SetupConference}
+use Rattle.board_ledger.specs.setup_file.declared.setup.Setup.{Setup}
 
 -- ---- the ledger
 pub new_is_ledger : (setup : Setup) (created : ℕ) → IsSetup setup → IsU32 created → IsLedger (new_ledger setup created)

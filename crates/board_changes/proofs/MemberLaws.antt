@@ -14,17 +14,17 @@ use Rattle.board_layout.specs.Valid.{IsBoard}
 use Rattle.board_layout.proofs.BasePlaces.{shapes_count, layouts_count}
 use Rattle.board_ledger.specs.Ledger.{ledger_text}
 use Rattle.board_ledger.specs.Users.{is_member}
-use Rattle.jam_layout.specs.Layout.{layout}
-use Rattle.jam_layout.specs.declared.files.BaseFiles.{BaseFiles}
-use Rattle.jam_layout.specs.declared.shape.Shape.{Shape}
+use Rattle.board_layout.specs.jam_layout.Layout.{layout}
+use Rattle.board_layout.specs.jam_layout.declared.files.BaseFiles.{BaseFiles}
+use Rattle.board_layout.specs.jam_layout.declared.shape.Shape.{Shape}
 use Rattle.board_layout.specs.Renewed.{contents, contents_of, renewed}
 use Rattle.board_ledger.specs.declared.ledger.Ledger.{Ledger}
 use Rattle.board_ledger.specs.declared.user.User.{User}
-use Rattle.jam_base.specs.Contents.{Contents, with_reader}
-use Rattle.jam_layout.specs.declared.conference.Conference.{Conference}
-use Rattle.jam_layout.specs.declared.reader.Reader.{Reader}
+use Rattle.board_layout.specs.jam_base.Contents.{Contents, with_reader}
+use Rattle.board_layout.specs.jam_layout.declared.conference.Conference.{Conference}
+use Rattle.board_layout.specs.jam_layout.declared.reader.Reader.{Reader}
 use Rattle.jam_records.specs.declared.message.Kind.{Kind}
-use Rattle.setup_file.specs.declared.conference.Conference.{Conference as SetupConference}
+use Rattle.board_ledger.specs.setup_file.declared.conference.Conference.{Conference as SetupConference}
 
 -- ---- readers
 pub readers_more : (place id : ℕ) (users : List User) (u : User) → readers_from place id (users ++ u ∷ []) ≡ readers_from place id users ++ reader_of place (id + length users) u

@@ -10,7 +10,7 @@ use Rattle.std.proofs.lemmas.Option.{get_or_from_slice_get, slice_get_within, no
 use Rattle.board_changes.specs.Change.{ChangesBase, Leads}
 use Rattle.board_changes.specs.Changed.{base_at, with_base}
 use Rattle.board_changes.specs.Gathered.{at_place, Gathered, Joins}
-use Rattle.door_outside.specs.File.{journal_file}
+use Rattle.intent_journal.specs.door_outside.File.{journal_file}
 use Rattle.intent_journal.specs.Journal.{patches_text}
 use Rattle.intent_journal.specs.Patches.{bytes_of, file_of, patch_offset}
 use Rattle.intent_journal.specs.declared.patch.Patch.{Patch}
@@ -26,16 +26,16 @@ use Rattle.board_layout.specs.Layout.{IsLayout, base_files, base_size, board_siz
 use Rattle.board_layout.specs.Renewed.{contents, contents_of, renewed}
 use Rattle.board_layout.specs.Valid.{IsBoard, board_limit, highs_fit, offers_fit}
 use Rattle.board_ledger.specs.Ledger.{ledger_text}
-use Rattle.open_offers.specs.declared.offer.OpenOffer.{OpenOffer}
+use Rattle.board_ledger.specs.open_offers.declared.offer.OpenOffer.{OpenOffer}
 use Rattle.board_ledger.specs.declared.user.User.{User}
-use Rattle.jam_base.specs.Change.{IsOfPlace, SuitsIntent, Turns}
-use Rattle.jam_base.specs.Contents.{Contents}
-use Rattle.jam_base.specs.declared.change.BaseChange.{BaseChange}
-use Rattle.jam_layout.specs.Layout.{files_size}
-use Rattle.jam_layout.specs.Valid.{IsConference}
-use Rattle.jam_layout.specs.declared.conference.Conference.{Conference}
-use Rattle.jam_layout.specs.declared.files.BaseFiles.{BaseFiles}
-use Rattle.jam_layout.specs.declared.shape.Shape.{Shape}
+use Rattle.board_layout.specs.jam_base.Change.{IsOfPlace, SuitsIntent, Turns}
+use Rattle.board_layout.specs.jam_base.Contents.{Contents}
+use Rattle.board_layout.specs.jam_base.declared.change.BaseChange.{BaseChange}
+use Rattle.board_layout.specs.jam_layout.Layout.{files_size}
+use Rattle.board_layout.specs.jam_layout.Valid.{IsConference}
+use Rattle.board_layout.specs.jam_layout.declared.conference.Conference.{Conference}
+use Rattle.board_layout.specs.jam_layout.declared.files.BaseFiles.{BaseFiles}
+use Rattle.board_layout.specs.jam_layout.declared.shape.Shape.{Shape}
 
 -- ---- the conferences and the shapes of which contents are made
 pub conferences_back : (shapes : List Shape) (conferences : List Conference) → AllZip IsConference shapes conferences → conferences_in (contents shapes conferences) ≡ conferences

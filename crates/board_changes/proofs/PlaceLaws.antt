@@ -8,11 +8,11 @@ use Rattle.board_changes.specs.Gathered.{at_place}
 use Rattle.board_layout.specs.Board.{shape_of, shapes_from, shapes_of}
 use Rattle.board_layout.specs.Layout.{layouts}
 use Rattle.board_ledger.specs.declared.ledger.Ledger.{Ledger}
-use Rattle.jam_base.specs.Contents.{no_slots}
-use Rattle.jam_layout.specs.Layout.{layout}
-use Rattle.jam_layout.specs.declared.conference.Conference.{Conference}
-use Rattle.jam_layout.specs.declared.shape.Shape.{Shape}
-use Rattle.setup_file.specs.declared.conference.Conference.{Conference as SetupConference}
+use Rattle.board_layout.specs.jam_base.Contents.{no_slots}
+use Rattle.board_layout.specs.jam_layout.Layout.{layout}
+use Rattle.board_layout.specs.jam_layout.declared.conference.Conference.{Conference}
+use Rattle.board_layout.specs.jam_layout.declared.shape.Shape.{Shape}
+use Rattle.board_ledger.specs.setup_file.declared.conference.Conference.{Conference as SetupConference}
 
 -- ---- shapes
 shapes_from_at : (l : Ledger) (place : ℕ) (conferences : List SetupConference) (k : ℕ) (c : SetupConference) → slice_get conferences k ≡ Some c → slice_get (shapes_from l place conferences) k ≡ Some (shape_of l (place + k) c.kind)

@@ -11,9 +11,9 @@ use Rattle.board_layout.specs.Renewed.{contents_of}
 use Rattle.board_layout.specs.Valid.{IsBoard}
 use Rattle.board_ledger.specs.Ledger.{ledger_text}
 use Rattle.intent_journal.specs.declared.patch.Patch.{Patch}
-use Rattle.jam_base.specs.Change.{SuitsIntent, Turns}
-use Rattle.jam_base.specs.Contents.{Contents}
-use Rattle.jam_layout.specs.declared.files.BaseFiles.{BaseFiles}
+use Rattle.board_layout.specs.jam_base.Change.{SuitsIntent, Turns}
+use Rattle.board_layout.specs.jam_base.Contents.{Contents}
+use Rattle.board_layout.specs.jam_layout.declared.files.BaseFiles.{BaseFiles}
 
 module _ (b next : Board) (place : ℕ) (old new : Contents) (done more : List Patch) (was : IsBoard b) (ok : IsBoard next)
     (here : slice_get (contents_of b) place ≡ Some old) (there : slice_get (contents_of next) place ≡ Some new)

@@ -5,10 +5,10 @@ use Rattle.board_changes.specs.Change.{ChangesBase}
 use Rattle.board_changes.specs.Gathered.{Joins}
 use Rattle.board_layout.specs.Layout.{files_in}
 use Rattle.intent_journal.specs.declared.patch.Patch.{Patch}
-use Rattle.jam_base.proofs.PatchLaws.{nothing_small}
-use Rattle.jam_base.specs.Change.{SuitsIntent}
-use Rattle.jam_base.specs.Contents.{Contents}
-use Rattle.jam_base.specs.declared.change.BaseChange.{BaseChange}
+use Rattle.board_layout.proofs.jam_base.PatchLaws.{nothing_small}
+use Rattle.board_layout.specs.jam_base.Change.{SuitsIntent}
+use Rattle.board_layout.specs.jam_base.Contents.{Contents}
+use Rattle.board_layout.specs.jam_base.declared.change.BaseChange.{BaseChange}
 use Rattle.board_changes.specs.Steps.{base_after, patches_or_none}
 
 pub change_suits : (old new : Contents) (change : Option BaseChange) → IfSome change (ChangesBase old) → base_after old change ≡ new → SuitsIntent old.shape.place (files_in new) (patches_or_none change)

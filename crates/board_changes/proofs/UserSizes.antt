@@ -14,25 +14,25 @@ use Rattle.board_layout.specs.Layout.{board_size, layouts}
 use Rattle.board_layout.specs.Valid.{IsBoard}
 use Rattle.board_ledger.proofs.SizeLaws.{flat_length, ledger_length}
 use Rattle.board_ledger.specs.Ledger.{ledger_text}
-use Rattle.open_offers.specs.Offers.{behind_last, cell_text, cells_for, no_offer}
+use Rattle.board_ledger.specs.open_offers.Offers.{behind_last, cell_text, cells_for, no_offer}
 use Rattle.board_ledger.specs.UserPuts.{record_in}
 use Rattle.board_ledger.specs.Users.{user_text, users_text}
 use Rattle.board_ledger.specs.Valid.{IsLedger}
 use Rattle.board_ledger.specs.declared.ledger.Ledger.{Ledger}
-use Rattle.open_offers.specs.declared.offer.OpenOffer.{OpenOffer}
+use Rattle.board_ledger.specs.open_offers.declared.offer.OpenOffer.{OpenOffer}
 use Rattle.board_ledger.specs.declared.user.User.{User}
-use Rattle.open_offers.specs.declared.version.Version.TheVariants.{Second}
-use Rattle.jam_layout.proofs.SlotSizes.{size_is}
-use Rattle.jam_layout.specs.Layout.{layout, files_size}
-use Rattle.jam_layout.specs.Sizes.{slot_size}
-use Rattle.jam_layout.specs.Valid.{IsConference}
-use Rattle.jam_layout.specs.declared.conference.Conference.{Conference}
-use Rattle.jam_layout.specs.declared.reader.Reader.{Reader}
-use Rattle.jam_layout.specs.declared.shape.Shape.{Shape}
+use Rattle.board_ledger.specs.open_offers.declared.version.Version.TheVariants.{Second}
+use Rattle.board_layout.proofs.jam_layout.SlotSizes.{size_is}
+use Rattle.board_layout.specs.jam_layout.Layout.{layout, files_size}
+use Rattle.board_layout.specs.jam_layout.Sizes.{slot_size}
+use Rattle.board_layout.specs.jam_layout.Valid.{IsConference}
+use Rattle.board_layout.specs.jam_layout.declared.conference.Conference.{Conference}
+use Rattle.board_layout.specs.jam_layout.declared.reader.Reader.{Reader}
+use Rattle.board_layout.specs.jam_layout.declared.shape.Shape.{Shape}
 use Rattle.jam_records.specs.declared.message.Kind.{Kind}
 use Rattle.jam_records.specs.declared.message.Slot.{Slot}
-use Rattle.record_numbers.specs.Numbers.{u32_text}
-use Rattle.setup_file.specs.declared.conference.Conference.{Conference as SetupConference}
+use Rattle.jam_records.specs.record_numbers.Numbers.{u32_text}
+use Rattle.board_ledger.specs.setup_file.declared.conference.Conference.{Conference as SetupConference}
 
 -- ---- the conference of a place
 pub slots_stay : (members place : ℕ) (c : Conference) → (joined_in members place c).slots ≡ c.slots

@@ -6,9 +6,9 @@ use Rattle.board_layout.specs.Board.{Board}
 use Rattle.board_layout.specs.Layout.{IsLayout, files_in}
 use Rattle.board_layout.specs.Renewed.{contents_of, renewed}
 use Rattle.board_changes.specs.declared.change.BoardChange.{BoardChange}
-use Rattle.jam_base.specs.Change.{SuitsIntent}
-use Rattle.jam_base.specs.Contents.{Contents}
-use Rattle.jam_base.specs.declared.change.BaseChange.{BaseChange}
+use Rattle.board_layout.specs.jam_base.Change.{SuitsIntent}
+use Rattle.board_layout.specs.jam_base.Contents.{Contents}
+use Rattle.board_layout.specs.jam_base.declared.change.BaseChange.{BaseChange}
 
 -- The patches may be carried out on files such as P says, and make them the layout of the board.
 pub record Leads (P : Files → Type 0) (next : Board) (patches : List Patch) : Type 0 where

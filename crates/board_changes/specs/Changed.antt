@@ -6,10 +6,10 @@ use Rattle.board_ledger.specs.declared.ledger.Ledger.{Ledger}
 use Rattle.board_ledger.specs.declared.user.User.{User}
 use Rattle.board_layout.specs.Board.{Board, shapes_of, board_with}
 use Rattle.board_layout.specs.Renewed.{contents_of}
-use Rattle.jam_base.specs.Contents.{Contents, no_slots}
-use Rattle.jam_layout.specs.declared.conference.Conference.{Conference}
-use Rattle.jam_layout.specs.declared.shape.Shape.{Shape}
-use Rattle.setup_file.specs.declared.setup.Setup.{Setup}
+use Rattle.board_layout.specs.jam_base.Contents.{Contents, no_slots}
+use Rattle.board_layout.specs.jam_layout.declared.conference.Conference.{Conference}
+use Rattle.board_layout.specs.jam_layout.declared.shape.Shape.{Shape}
+use Rattle.board_ledger.specs.setup_file.declared.setup.Setup.{Setup}
 
 -- ---- a new board
 abbrev pub new_ledger : Setup → ℕ → Ledger

@@ -4,7 +4,7 @@ use Rattle.std.specs.Int.{bit_at}
 use Rattle.board_ledger.specs.Limits.{user_limit}
 use Rattle.board_ledger.specs.Users.{is_taken, right_members}
 use Rattle.board_ledger.specs.declared.ledger.Ledger.{Ledger}
-use Rattle.setup_file.specs.Texts.{is_user_name}
+use Rattle.board_ledger.specs.setup_file.Texts.{is_user_name}
 
 -- there are fewer than 500 users, and none has the name, ignoring ASCII case
 abbrev pub is_free : Ledger → List ℕ → Bool

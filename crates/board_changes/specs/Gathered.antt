@@ -1,12 +1,12 @@
 -- Patches that turn a board's files into those of another, gathered place by place.
 use Rattle.std.specs.Prelude.{◌≡◌, ◌≢◌, ℕ, ◌+◌, ◌*◌, ◌<◌, ◌≤◌, ◌^◌, List, ◌++◌, length, take, slice_index_or, sum_by, All, IsTrue, nat_lt, if◌then◌else◌}
-use Rattle.door_outside.specs.File.{ledger_file, journal_file, jhr_file}
+use Rattle.intent_journal.specs.door_outside.File.{ledger_file, journal_file, jhr_file}
 use Rattle.intent_journal.specs.Journal.{journal_text, patches_text}
 use Rattle.intent_journal.specs.Patches.{Files, file_of, patch_offset, bytes_of, patched, are_within, is_once}
 use Rattle.intent_journal.specs.declared.patch.Patch.{Patch}
-use Rattle.jam_base.specs.Change.{files_of_place}
-use Rattle.jam_layout.specs.Layout.{files_size}
-use Rattle.jam_layout.specs.declared.files.BaseFiles.{BaseFiles}
+use Rattle.board_layout.specs.jam_base.Change.{files_of_place}
+use Rattle.board_layout.specs.jam_layout.Layout.{files_size}
+use Rattle.board_layout.specs.jam_layout.declared.files.BaseFiles.{BaseFiles}
 use Rattle.board_layout.specs.Layout.{no_base}
 
 -- the files of a place, of which there are four for each conference, and none past them

@@ -6,9 +6,9 @@ use Rattle.board_layout.specs.Outlines.{board_outline}
 use Rattle.board_layout.specs.Valid.{IsBoard}
 use Rattle.board_ledger.specs.Ledger.{ledger_text}
 use Rattle.intent_journal.specs.declared.patch.Patch.{Patch}
-use Rattle.jam_base.specs.Contents.{Contents}
-use Rattle.jam_base.specs.Outlined.{outlined, TurnsEach}
-use Rattle.jam_base.specs.declared.change.BaseChange.{BaseChange}
+use Rattle.board_layout.specs.jam_base.Contents.{Contents}
+use Rattle.board_layout.specs.jam_base.Outlined.{outlined, TurnsEach}
+use Rattle.board_layout.specs.jam_base.declared.change.BaseChange.{BaseChange}
 use Rattle.board_changes.specs.Change.{Leads}
 use Rattle.board_changes.specs.Changed.{base_at, with_base}
 use Rattle.board_changes.specs.Gathered.{Gathered}

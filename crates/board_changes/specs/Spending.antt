@@ -5,8 +5,8 @@ use Rattle.board_layout.specs.Board.{Board}
 use Rattle.board_layout.specs.Layout.{board_size}
 use Rattle.intent_journal.specs.Patches.{byte_count}
 use Rattle.intent_journal.specs.declared.patch.Patch.{Patch}
-use Rattle.jam_layout.specs.Layout.{files_size}
-use Rattle.jam_layout.specs.declared.files.BaseFiles.{BaseFiles}
+use Rattle.board_layout.specs.jam_layout.Layout.{files_size}
+use Rattle.board_layout.specs.jam_layout.declared.files.BaseFiles.{BaseFiles}
 
 -- in the files of one place
 pub record SpendsHere (count : ℕ) (old new : BaseFiles) (patches : List Patch) : Type 0 where

@@ -1,8 +1,8 @@
 -- The change of one place, where there is one.
 use Rattle.std.specs.Prelude.{List, [], Option, option_map, unwrap_or}
 use Rattle.intent_journal.specs.declared.patch.Patch.{Patch}
-use Rattle.jam_base.specs.Contents.{Contents}
-use Rattle.jam_base.specs.declared.change.BaseChange.{BaseChange}
+use Rattle.board_layout.specs.jam_base.Contents.{Contents}
+use Rattle.board_layout.specs.jam_base.declared.change.BaseChange.{BaseChange}
 
 -- the base after it, or the old one where there is none
 abbrev pub base_after : Contents → Option BaseChange → Contents

@@ -3,13 +3,12 @@ ghost use Rattle.board_changes.specs.Change.{Becomes, ChangesBase};
 ghost use Rattle.board_changes.specs.Changed.{base_at, with_base as with_base_of};
 ghost use Rattle.board_changes.specs.Outlined.{KeepsEach, LeadsEach, MadeBy, with_changed};
 ghost use Rattle.board_layout.specs.Valid.{IsBoard};
-ghost use Rattle.jam_base.specs.Contents.{Contents};
+ghost use Rattle.board_layout.specs.jam_base.Contents.{Contents};
 
 use crate::change::BoardChange;
 use crate::gathering::intent_with;
-use board_layout::StoredBoard;
-use byte_lists::List;
-use jam_base::{Base, BaseChange};
+use board_layout::{Base, BaseChange, StoredBoard};
+use jam_records::List;
 use std::alloc::{AllocError, Global};
 
 /// New bases by place, of which the last, in this place, is the only one.

@@ -1,7 +1,7 @@
+use board_layout::Base;
 use board_ledger::Ledger;
-use byte_lists::List;
 use intent_journal::Intent;
-use jam_base::Base;
+use jam_records::List;
 
 /// What a change of a board makes new, and the change of its files.
 #[derive(Drop)]

@@ -10,11 +10,10 @@ ghost use Rattle.board_ledger.specs.Valid.{IsLedger};
 use crate::change::BoardChange;
 use crate::copy::copy_of;
 use crate::gathering::{add_all, intent_with};
-use board_layout::StoredBoard;
+use board_layout::{Base, StoredBoard};
 use board_ledger::{Ledger, Offers, User, enroll_patches};
-use byte_lists::{Bytes, Duplicate, List};
 use intent_journal::Intent;
-use jam_base::Base;
+use jam_records::{Bytes, Duplicate, List};
 use std::alloc::{AllocError, Global};
 
 /// A user whom no packet was ever offered.

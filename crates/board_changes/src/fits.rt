@@ -6,8 +6,7 @@ ghost use Rattle.board_ledger.specs.Users.{is_taken as taken};
 
 use crate::size::size_with_user;
 use board_layout::{BOARD_LIMIT, StoredBoard};
-use board_ledger::{Ledger, USER_LIMIT, User, are_members};
-use setup_file::is_user_name;
+use board_ledger::{Ledger, USER_LIMIT, User, are_members, is_user_name};
 
 /// Whether one of the users has the name, ignoring ASCII case.
 fn is_taken(users: &[User], name: &[u8]) -> bool

@@ -3,12 +3,11 @@ ghost use Rattle.board_changes.specs.Gathered.{Joins};
 ghost use Rattle.board_changes.specs.Steps.{patches_or_none};
 ghost use Rattle.board_ledger.specs.Ledger.{ledger_text};
 ghost use Rattle.board_ledger.specs.Valid.{IsLedger};
-ghost use Rattle.door_outside.specs.File.{ledger_file};
+ghost use Rattle.intent_journal.specs.door_outside.File.{ledger_file};
 
+use board_layout::{Base, BaseChange};
 use board_ledger::Ledger;
-use door_outside::FileId;
-use intent_journal::{Intent, Patch, Patches};
-use jam_base::{Base, BaseChange};
+use intent_journal::{FileId, Intent, Patch, Patches};
 use std::alloc::{AllocError, Global};
 
 /// Adds patches at the end of an intent, which may have them all.

@@ -6,14 +6,13 @@ ghost use Rattle.board_layout.specs.Board.{shape_of, shapes_of};
 ghost use Rattle.board_layout.specs.Layout.{AreEmpty, layouts};
 ghost use Rattle.board_ledger.specs.Ledger.{ledger_text};
 ghost use Rattle.board_ledger.specs.Valid.{IsLedger};
-ghost use Rattle.jam_base.specs.Contents.{no_slots};
-ghost use Rattle.setup_file.specs.Valid.{IsSetup};
+ghost use Rattle.board_layout.specs.jam_base.Contents.{no_slots};
+ghost use Rattle.board_ledger.specs.setup_file.Valid.{IsSetup};
 
 use crate::gathering::{add_all, ledger_intent};
-use board_layout::{Bases, StoredBoard, shape_at};
+use board_layout::{Base, Bases, StoredBoard, shape_at};
 use board_ledger::{Ledger, Setup, Uploads, Users};
 use intent_journal::Intent;
-use jam_base::Base;
 use jam_records::Kind;
 use std::alloc::{AllocError, Global};
 

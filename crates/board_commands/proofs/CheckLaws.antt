@@ -10,8 +10,8 @@ use Rattle.door_outside.specs.Disk.{Disk}
 use Rattle.door_outside.specs.Shelf as Shelf
 use Rattle.entry_runs.specs.Door.{World}
 use Rattle.entry_runs.specs.Entry.{Finds, IsAt, Works}
-use Rattle.jam_layout.specs.Outlines.{outline, slot_outline}
-use Rattle.jam_layout.specs.declared.conference.Conference.{Conference}
+use Rattle.board_layout.specs.jam_layout.Outlines.{outline, slot_outline}
+use Rattle.board_layout.specs.jam_layout.declared.conference.Conference.{Conference}
 use Rattle.mail_board.specs.Held.{AreAlike}
 use Rattle.setup_file.specs.declared.conference.Conference.{Conference as SetupConference}
 use Rattle.shelf_files.specs.Halts.{done, refused}

@@ -1,7 +1,7 @@
 -- Boards with one outline enroll a user alike.
 use Rattle.std.proofs.Common.{◌≡◌, ℕ, ◌+◌, Bool, not, List, [], ◌∷◌, length, Option, Some, None, Ok, Err, refl, sym, ap, ◌∙◌, subst}
 use Rattle.std.specs.Prelude.{is_some, nat_le, nat_lt}
-use Rattle.board_changes.specs.Changed.{enrolled}
+use Rattle.mail_board.specs.board_changes.Changed.{enrolled}
 use Rattle.board_layout.proofs.OneOutline.{alike_ledger, alike_size}
 use Rattle.board_layout.specs.Board.{Board}
 use Rattle.board_layout.specs.Outlines.{board_outline}

@@ -7,11 +7,11 @@ use Rattle.std.proofs.lemmas.List.Sums.{fails_before_first}
 use Rattle.std.specs.List.{list_any, list_all, position_or_len}
 use Rattle.std.specs.Option.{option_map}
 use Rattle.std.specs.Str.{str_eq_ignore_ascii_case}
-use Rattle.board_changes.proofs.FitLaws.{board_fits}
-use Rattle.board_changes.proofs.UserSizes.{member_size, new_length, one_at_most}
+use Rattle.mail_board.proofs.board_changes.FitLaws.{board_fits}
+use Rattle.mail_board.proofs.board_changes.UserSizes.{member_size, new_length, one_at_most}
 use Rattle.board_layout.proofs.BoardLookups.{conferences_count}
-use Rattle.board_changes.specs.Changed.{enrolled, new_user}
-use Rattle.board_changes.specs.Enrolling.{is_free, joined_count, may_enroll}
+use Rattle.mail_board.specs.board_changes.Changed.{enrolled, new_user}
+use Rattle.mail_board.specs.board_changes.Enrolling.{is_free, joined_count, may_enroll}
 use Rattle.board_layout.specs.Board.{Board}
 use Rattle.board_layout.specs.Layout.{board_size}
 use Rattle.board_layout.specs.Valid.{IsBoard, board_limit}

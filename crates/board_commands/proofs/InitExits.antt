@@ -7,7 +7,7 @@ use Rattle.entry_runs.specs.Door.{World}
 use Rattle.entry_runs.specs.Entry.{Changes, Finds, IsAt, Works}
 use Rattle.intent_journal.specs.declared.recovery.JournalError.{JournalError}
 use Rattle.intent_journal.specs.declared.recovery.JournalError.TheVariants.{OutOfMemory as Starved}
-use Rattle.board_changes.specs.Changed.{made}
+use Rattle.mail_board.specs.board_changes.Changed.{made}
 use Rattle.board_layout.specs.Board.{Board}
 use Rattle.setup_file.specs.declared.setup.Setup.{Setup}
 use Rattle.shelf_files.specs.Halts.{Comes, done, refused as says_refusal}

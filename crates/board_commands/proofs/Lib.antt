@@ -15,3 +15,5 @@ pub mod CheckLaws
 pub mod EnrollAlike
 pub mod CauseLaws
 pub mod WriteLaws
+pub use Rattle.mail_board.proofs as mail_board
+pub use Rattle.shelf_files.proofs as shelf_files

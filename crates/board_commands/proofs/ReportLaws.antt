@@ -7,8 +7,8 @@ use Rattle.std.specs.Option.{option_map}
 use Rattle.board_layout.proofs.BoardLookups.{conferences_count}
 use Rattle.board_layout.specs.Board.{Board}
 use Rattle.board_layout.specs.Valid.{IsBoard}
-use Rattle.jam_layout.specs.Conference.{live_count}
-use Rattle.jam_layout.specs.declared.conference.Conference.{Conference}
+use Rattle.board_layout.specs.jam_layout.Conference.{live_count}
+use Rattle.board_layout.specs.jam_layout.declared.conference.Conference.{Conference}
 use Rattle.setup_file.specs.declared.conference.Conference.{Conference as SetupConference}
 use Rattle.board_commands.specs.Check.{conference_label, conference_line, checked_lines, slots_text}
 

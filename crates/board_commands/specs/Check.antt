@@ -3,8 +3,8 @@ use Rattle.std.specs.Prelude.{◌≡◌, ℕ, List, [], ◌∷◌, ◌++◌, len
 use Rattle.entry_runs.specs.Door.{Act}
 use Rattle.board_layout.specs.Board.{Board}
 use Rattle.board_layout.specs.Layout.{board_size}
-use Rattle.jam_layout.specs.Conference.{live_count}
-use Rattle.jam_layout.specs.declared.conference.Conference.{Conference}
+use Rattle.board_layout.specs.jam_layout.Conference.{live_count}
+use Rattle.board_layout.specs.jam_layout.declared.conference.Conference.{Conference}
 use Rattle.setup_file.specs.declared.conference.Conference.{Conference as SetupConference}
 use Rattle.shelf_files.specs.Halts.{done}
 use Rattle.shelf_files.specs.declared.refusal.Refusal.TheVariants.{NotMade}

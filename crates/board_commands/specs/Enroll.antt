@@ -3,7 +3,7 @@ use Rattle.std.specs.Prelude.{◌≡◌, ℕ, ◌+◌, List, [], ◌∷◌, ◌+
 use Rattle.std.specs.Str.{bytes_eq}
 use Rattle.board_ledger.specs.Limits.{user_limit}
 use Rattle.entry_runs.specs.Door.{Act}
-use Rattle.board_changes.specs.Changed.{enrolled}
+use Rattle.mail_board.specs.board_changes.Changed.{enrolled}
 use Rattle.board_layout.specs.Board.{Board}
 use Rattle.board_layout.specs.Layout.{board_size}
 use Rattle.board_layout.specs.Valid.{board_limit}

@@ -2,7 +2,7 @@
 use Rattle.std.specs.Prelude.{◌≡◌, ℕ, List, ◌++◌, length, codes, decimal, Option, Some, None, Result, Ok, Err}
 use Rattle.door_outside.specs.Shelf.{Files}
 use Rattle.entry_runs.specs.Door.{Act}
-use Rattle.board_changes.specs.Changed.{made}
+use Rattle.mail_board.specs.board_changes.Changed.{made}
 use Rattle.board_layout.specs.Board.{Board}
 use Rattle.setup_file.specs.Fault.{SetupFault}
 use Rattle.setup_file.specs.Reads.{SetupReads}

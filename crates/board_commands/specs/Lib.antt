@@ -9,3 +9,5 @@ pub mod State
 pub mod Turns
 pub mod WriteBound
 pub mod Causes
+pub use Rattle.mail_board.specs as mail_board
+pub use Rattle.shelf_files.specs as shelf_files

@@ -1,6 +1,6 @@
 // Changes of the board that is kept.
 ghost use Rattle.std.specs.Prelude.{◌≡◌, ◌≢◌, Some, None, IsErrOf, IsTrue};
-ghost use Rattle.board_changes.specs.Changed.{made};
+ghost use Rattle.mail_board.specs.board_changes.Changed.{made};
 ghost use Rattle.board_layout.specs.Board as Boards;
 ghost use Rattle.entry_runs.specs.Entry.{Changes};
 ghost use Rattle.intent_journal.specs.Recovered.{recovered};

@@ -8,8 +8,8 @@ use Rattle.jam_records.specs.declared.message.Message.{Message}
 use Rattle.board_laws.proofs.Readers.{PointerFollows, pointer_more, pointer_other, pointer_own}
 use Rattle.board_laws.proofs.Slots.{SlotsFollow, appended_follow, deleted_follow, packed_follow, received_follow, slots_themselves}
 use Rattle.jam_layout.specs.declared.shape.Shape.{Shape}
-use Rattle.slot_changes.proofs.PackLaws.{packed_pointers, packed_shape, packed_slots}
-use Rattle.slot_changes.specs.Packed.{with_packed}
+use Rattle.post_changes.proofs.slot_changes.PackLaws.{packed_pointers, packed_shape, packed_slots}
+use Rattle.post_changes.specs.slot_changes.Packed.{with_packed}
 
 -- a pointer for each reader
 abbrev pub IsEven : Contents → Type 0

@@ -5,8 +5,8 @@ use Rattle.std.specs.List.{AllZip}
 use Rattle.std.proofs.lemmas.Bool.{cond-false, ltb-true, ne_eqb}
 use Rattle.std.proofs.lemmas.List.{length-map}
 use Rattle.std.proofs.lemmas.Option.{none-some, slice_get-get_or, slice_get_past}
-use Rattle.board_changes.proofs.MemberLaws.{ids_below, readers_at}
-use Rattle.board_changes.specs.Changed.{base_at, joined_from, with_base}
+use Rattle.post_changes.proofs.board_changes.MemberLaws.{ids_below, readers_at}
+use Rattle.post_changes.specs.board_changes.Changed.{base_at, joined_from, with_base}
 use Rattle.board_layout.specs.Board.{Board, conferences_in}
 use Rattle.board_layout.specs.Lookups.{pointer_at, user_of}
 use Rattle.board_layout.specs.Renewed.{contents_of}
@@ -21,12 +21,12 @@ use Rattle.board_ledger.specs.declared.user.User.{User}
 use Rattle.jam_base.specs.Contents.{Contents, with_acknowledged}
 use Rattle.jam_layout.specs.declared.conference.Conference.{Conference}
 use Rattle.jam_layout.specs.declared.reader.Reader.{Reader}
-use Rattle.mail_board.specs.Changes.{changed}
-use Rattle.mail_board.specs.declared.change.Change.{Change}
-use Rattle.mail_board.specs.declared.change.Change.TheVariants.{Enroll, Append, Spread, Kill, Offer, Acknowledge, Upload}
+use Rattle.message_commands.specs.mail_board.Changes.{changed}
+use Rattle.message_commands.specs.mail_board.declared.change.Change.{Change}
+use Rattle.message_commands.specs.mail_board.declared.change.Change.TheVariants.{Enroll, Append, Spread, Kill, Offer, Acknowledge, Upload}
 use Rattle.offer_changes.proofs.ReadLaws.{all_count as read_count}
 use Rattle.offer_changes.specs.Changed.{all_read, for_user, is_high_above, offer_in, offered_to, read_up_to}
-use Rattle.packet_verdicts.specs.Views.{nobody}
+use Rattle.message_commands.specs.packet_verdicts.Views.{nobody}
 use Rattle.post_changes.proofs.PostLaws.{all_count as posted_count}
 use Rattle.post_changes.specs.Posted.{all_posted}
 

@@ -5,8 +5,8 @@ use Rattle.std.specs.List.{AllZip}
 use Rattle.std.specs.Prelude.{option_and_then, slice_get}
 use Rattle.std.proofs.Math.ListN.{length-replicate}
 use Rattle.std.proofs.lemmas.Option.{none-some, same_Some}
-use Rattle.board_changes.proofs.MemberLaws.{readers_at}
-use Rattle.board_changes.specs.Changed.{empty_conferences, made, new_ledger}
+use Rattle.post_changes.proofs.board_changes.MemberLaws.{readers_at}
+use Rattle.post_changes.specs.board_changes.Changed.{empty_conferences, made, new_ledger}
 use Rattle.board_layout.proofs.BasePlaces.{shapes_count}
 use Rattle.board_layout.specs.Board.{Board, shapes_of}
 use Rattle.board_layout.specs.Valid.{IsBoard}

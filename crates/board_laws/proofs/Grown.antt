@@ -5,8 +5,8 @@ use Rattle.std.specs.Int.{bit_at}
 use Rattle.std.specs.List.{AllZip}
 use Rattle.std.proofs.lemmas.List.{append-nil}
 use Rattle.std.proofs.lemmas.Option.{none-some, same_Some}
-use Rattle.board_changes.proofs.MemberLaws.{readers_more}
-use Rattle.board_changes.specs.Changed.{base_at, joined_from, joined_in, new_user, with_base, with_member, with_user as one_more}
+use Rattle.post_changes.proofs.board_changes.MemberLaws.{readers_more}
+use Rattle.post_changes.specs.board_changes.Changed.{base_at, joined_from, joined_in, new_user, with_base, with_member, with_user as one_more}
 use Rattle.board_layout.proofs.BasePlaces.{shapes_count}
 use Rattle.board_layout.proofs.RenewedBases.{contents_are}
 use Rattle.board_layout.specs.Board.{Board, board_with, conferences_in, readers_from, shape_of, shapes_from, shapes_in, shapes_of}
@@ -24,18 +24,18 @@ use Rattle.jam_layout.specs.declared.reader.Reader.{Reader}
 use Rattle.jam_layout.specs.declared.shape.Shape.{Shape}
 use Rattle.jam_records.specs.declared.message.Kind.{Kind}
 use Rattle.jam_records.specs.declared.message.Message.{Message}
-use Rattle.mail_board.specs.Changes.{changed}
-use Rattle.mail_board.specs.declared.change.Change.{Change}
-use Rattle.mail_board.specs.declared.change.Change.TheVariants.{Enroll, Append, Spread, Kill, Offer, Acknowledge, Upload}
+use Rattle.message_commands.specs.mail_board.Changes.{changed}
+use Rattle.message_commands.specs.mail_board.declared.change.Change.{Change}
+use Rattle.message_commands.specs.mail_board.declared.change.Change.TheVariants.{Enroll, Append, Spread, Kill, Offer, Acknowledge, Upload}
 use Rattle.offer_changes.proofs.LedgerLaws.{shapes_stay}
 use Rattle.offer_changes.proofs.ReadLaws.{all_shapes}
 use Rattle.offer_changes.proofs.UserLaws.{user_there}
 use Rattle.offer_changes.specs.Changed.{all_read, for_user, is_high_above, offered_to, read_offer, with_offer, with_user_replaced, without_offer}
 use Rattle.post_changes.specs.Posted.{all_posted, posts_in, upload_record, with_record}
 use Rattle.setup_file.specs.declared.conference.Conference.{Conference as SetupConference}
-use Rattle.slot_changes.proofs.AppendLaws.{shape_stays}
-use Rattle.slot_changes.specs.Changed.{with_identified, with_killed}
-use Rattle.slot_changes.specs.Msgids.{all_identified, msgid_in}
+use Rattle.post_changes.proofs.slot_changes.AppendLaws.{shape_stays}
+use Rattle.post_changes.specs.slot_changes.Changed.{with_identified, with_killed}
+use Rattle.post_changes.specs.slot_changes.Msgids.{all_identified, msgid_in}
 
 -- ---- lists one beside the other
 pub zip_itself : {A : Type 0} (R : A → A → Type 0) → ((x : A) → R x x) → (xs : List A) → AllZip R xs xs

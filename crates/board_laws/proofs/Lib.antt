@@ -17,3 +17,8 @@ pub mod KeptLaws
 pub mod Offers
 pub mod PassedLaws
 pub mod PacketLaws
+pub use Rattle.adopt_commands.proofs as adopt_commands
+pub use Rattle.pack_commands.proofs as pack_commands
+pub use Rattle.toss_commands.proofs as toss_commands
+pub use Rattle.exchange_commands.proofs as exchange_commands
+pub use Rattle.message_commands.proofs as message_commands

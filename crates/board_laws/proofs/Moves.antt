@@ -1,7 +1,7 @@
 -- What a command does to a board: it makes a change, or packs a place.
 use Rattle.std.proofs.Common.{◌≡◌, inl, ℕ, None, sym, ap, subst}
 use Rattle.std.specs.List.{AllZip}
-use Rattle.board_changes.specs.Changed.{base_at}
+use Rattle.post_changes.specs.board_changes.Changed.{base_at}
 use Rattle.board_layout.specs.Board.{Board}
 use Rattle.board_layout.specs.Lookups.{pointer_at, user_of}
 use Rattle.board_layout.specs.Renewed.{contents_of}
@@ -12,10 +12,10 @@ use Rattle.board_laws.proofs.Readers.{PointerFollows}
 use Rattle.board_laws.proofs.Users.{KeepsOffers, OffersTo, UserFollows, offers_stay, same_ledger, same_offers, same_user, same_users, user_follows}
 use Rattle.board_ledger.specs.declared.ledger.Ledger.{Ledger}
 use Rattle.jam_base.specs.Contents.{Contents}
-use Rattle.mail_board.specs.Changes.{changed}
-use Rattle.mail_board.specs.declared.change.Change.{Change}
-use Rattle.slot_changes.proofs.PackLaws.{packed_shape}
-use Rattle.slot_changes.specs.Packed.{packed, with_packed}
+use Rattle.message_commands.specs.mail_board.Changes.{changed}
+use Rattle.message_commands.specs.mail_board.declared.change.Change.{Change}
+use Rattle.post_changes.proofs.slot_changes.PackLaws.{packed_shape}
+use Rattle.post_changes.specs.slot_changes.Packed.{packed, with_packed}
 
 pub data Move : Type 0 where
   Makes : Change → Move

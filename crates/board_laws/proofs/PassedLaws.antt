@@ -3,8 +3,8 @@ use Rattle.std.proofs.Common.{◌≡◌, ◌⊎◌, inl, inr, ⊎_elim, ℕ, suc
 use Rattle.std.specs.Prelude.{Contains, slice_get}
 use Rattle.std.proofs.lemmas.Bool.{cases_eq, cases_lt}
 use Rattle.std.proofs.lemmas.Option.{none-some, same_Some}
-use Rattle.board_changes.specs.Changed.{made}
-use Rattle.board_commands.specs.State.{State, NotMade}
+use Rattle.post_changes.specs.board_changes.Changed.{made}
+use Rattle.message_commands.specs.board_commands.State.{State, NotMade}
 use Rattle.board_layout.specs.Board.{Board}
 use Rattle.board_layout.specs.Lookups.{pointer_at, user_of, slots_in}
 use Rattle.board_laws.proofs.Changing.{Reads, known_user, pointers_read}
@@ -25,7 +25,7 @@ use Rattle.board_laws.specs.Kept.{IsAck}
 use Rattle.board_laws.specs.Passed.{IsAcknowledged, IsExport, IsPassed}
 use Rattle.open_offers.specs.declared.offer.OpenOffer.{OpenOffer}
 use Rattle.board_ledger.specs.declared.user.User.{User}
-use Rattle.mail_board.specs.declared.change.Change.TheVariants.{Enroll, Append, Spread, Kill, Offer, Acknowledge, Upload}
+use Rattle.message_commands.specs.mail_board.declared.change.Change.TheVariants.{Enroll, Append, Spread, Kill, Offer, Acknowledge, Upload}
 use Rattle.offer_changes.proofs.UserLaws.{id_above}
 use Rattle.offered_packets.specs.Offered.{highs, offered}
 use Rattle.offered_packets.specs.Sees.{sees}

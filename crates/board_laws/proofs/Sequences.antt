@@ -2,8 +2,8 @@
 use Rattle.std.proofs.Common.{◌≡◌, ◌⊎◌, inl, inr, ⊎_elim, ℕ, zero, suc, ◌≤◌, List, Option, Some, None, refl, sym, ap, ◌∙◌, subst, arith}
 use Rattle.std.specs.Prelude.{slice_get}
 use Rattle.std.proofs.lemmas.Bool.{cases_eq}
-use Rattle.board_changes.specs.Changed.{made}
-use Rattle.board_commands.specs.State.{State, NotMade, Made, Old, Spoiled, migrated}
+use Rattle.post_changes.specs.board_changes.Changed.{made}
+use Rattle.message_commands.specs.board_commands.State.{State, NotMade, Made, Old, Spoiled, migrated}
 use Rattle.board_layout.specs.Board.{Board}
 use Rattle.board_layout.specs.Valid.{IsBoard}
 use Rattle.door_outside.specs.Shelf.{Files}

@@ -9,7 +9,7 @@ use Rattle.jam_layout.specs.Conference.{is_live}
 use Rattle.jam_records.specs.declared.message.Message.{Message}
 use Rattle.jam_records.specs.declared.message.Slot.{Slot}
 use Rattle.jam_records.specs.declared.message.Slot.TheVariants.{Gone, Held}
-use Rattle.slot_changes.specs.Packed.{slot_packed, slots_packed}
+use Rattle.post_changes.specs.slot_changes.Packed.{slot_packed, slots_packed}
 
 pub record MessageFollows (m n : Message) : Type 0 where
   pub from : n.from ≡ m.from

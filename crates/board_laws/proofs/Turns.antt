@@ -4,11 +4,11 @@ use Rattle.std.proofs.lemmas.Bool.{cond-false, cond-true}
 use Rattle.adopt_commands.specs.Adopt.{adopt_at, base_turn}
 use Rattle.adopt_commands.specs.Adopted.{adopted}
 use Rattle.adopt_commands.specs.BaseFiles.{base_of}
-use Rattle.board_changes.specs.Changed.{made}
-use Rattle.board_commands.specs.Enroll.{enroll_refusals, enrolling, first_refusal, is_net_flag}
-use Rattle.board_commands.specs.Init.{made_of}
-use Rattle.board_commands.specs.State.{State, NotMade, Made, state_of}
-use Rattle.board_commands.specs.Turns.{Turn, refuses}
+use Rattle.post_changes.specs.board_changes.Changed.{made}
+use Rattle.message_commands.specs.board_commands.Enroll.{enroll_refusals, enrolling, first_refusal, is_net_flag}
+use Rattle.message_commands.specs.board_commands.Init.{made_of}
+use Rattle.message_commands.specs.board_commands.State.{State, NotMade, Made, state_of}
+use Rattle.message_commands.specs.board_commands.Turns.{Turn, refuses}
 use Rattle.board_layout.specs.Board.{Board}
 use Rattle.board_layout.specs.Lookups.{user_of, place_of}
 use Rattle.board_laws.proofs.Moves.{Makes, Move, Packs, moved}
@@ -18,9 +18,9 @@ use Rattle.board_laws.specs.BoardCommand as command
 use Rattle.board_ledger.specs.declared.user.User.{User}
 use Rattle.command_words.specs.Choice.{chosen_from}
 use Rattle.command_words.specs.declared.choice.Choice.{Choice}
-use Rattle.door_export.specs.Ack.{AckRefusal, NoPacket, ack_as, ack_of}
-use Rattle.door_export.specs.Ack as why
-use Rattle.door_export.specs.Export.{ExportRefusal, Handout, NoUser, export_as, export_of, export_to, packet_to, handed_unless_refused, user_refusal}
+use Rattle.exchange_commands.specs.door_export.Ack.{AckRefusal, NoPacket, ack_as, ack_of}
+use Rattle.exchange_commands.specs.door_export.Ack as why
+use Rattle.exchange_commands.specs.door_export.Export.{ExportRefusal, Handout, NoUser, export_as, export_of, export_to, packet_to, handed_unless_refused, user_refusal}
 use Rattle.door_outside.specs.Shelf.{Files}
 use Rattle.entry_runs.specs.Door.{World, here}
 use Rattle.entry_runs.specs.Entry.{Reply}
@@ -30,28 +30,28 @@ use Rattle.entry_runs.specs.declared.class.Class.TheVariants.{Done}
 use Rattle.exchange_commands.specs.Ack.{turn_of as ack_turn_of}
 use Rattle.exchange_commands.specs.Export.{handing_of}
 use Rattle.exchange_commands.specs.Handing.{Handing}
-use Rattle.fts_packet.specs.declared.packet.FtsMessage.{FtsMessage}
+use Rattle.toss_commands.specs.fts_packet.declared.packet.FtsMessage.{FtsMessage}
 use Rattle.import_sheet.specs.declared.sheet.Sheet.{Sheet}
 use Rattle.jam_adopt.specs.declared.found.Found.{Found}
 use Rattle.jam_records.specs.declared.message.Message.{Message}
-use Rattle.mail_board.specs.Readers.{is_offered, offer_of, user_id}
-use Rattle.mail_board.specs.declared.change.Change.{Change}
-use Rattle.mail_board.specs.declared.change.Change.TheVariants.{Enroll, Append, Spread, Kill, Offer, Acknowledge}
-use Rattle.mail_board.specs.declared.change.Change.TheVariants as change
+use Rattle.message_commands.specs.mail_board.Readers.{is_offered, offer_of, user_id}
+use Rattle.message_commands.specs.mail_board.declared.change.Change.{Change}
+use Rattle.message_commands.specs.mail_board.declared.change.Change.TheVariants.{Enroll, Append, Spread, Kill, Offer, Acknowledge}
+use Rattle.message_commands.specs.mail_board.declared.change.Change.TheVariants as change
 use Rattle.message_commands.specs.Import.{ImportsAt, appending, import_refusals, imported_messages, sheet_turn}
 use Rattle.message_commands.specs.Kill.{has_message, kill_at, killed_line, killing}
 use Rattle.offer_changes.specs.Changed.{acknowledged}
 use Rattle.offered_packets.specs.Offered.{highs, offered}
 use Rattle.pack_commands.specs.Pack.{pack_at}
-use Rattle.packet_verdicts.specs.Judged.{judged, refused_count}
+use Rattle.message_commands.specs.packet_verdicts.Judged.{judged, refused_count}
 use Rattle.message_commands.specs.Sample.{sample_refusals, sampled_posts, sampling}
 use Rattle.setup_file.specs.declared.setup.Setup.{Setup}
-use Rattle.shelf_files.specs.ShelfFile.{file_within, rep_limit}
-use Rattle.shelf_files.specs.Halts.{done}
-use Rattle.shelf_files.specs.declared.refusal.Refusal.{Refusal}
-use Rattle.shelf_files.specs.declared.refusal.Refusal.TheVariants.{NoMessage}
+use Rattle.message_commands.specs.shelf_files.ShelfFile.{file_within, rep_limit}
+use Rattle.message_commands.specs.shelf_files.Halts.{done}
+use Rattle.message_commands.specs.shelf_files.declared.refusal.Refusal.{Refusal}
+use Rattle.message_commands.specs.shelf_files.declared.refusal.Refusal.TheVariants.{NoMessage}
 use Rattle.sha2.specs.Sha256.{sha256}
-use Rattle.slot_changes.specs.Changed.{deleted}
+use Rattle.post_changes.specs.slot_changes.Changed.{deleted}
 use Rattle.exchange_commands.specs.Upload.{UploadsFile, UploadsRead}
 use Rattle.toss_commands.specs.Toss.{packet_turn}
 use Rattle.toss_commands.specs.Tossed.{tossed}

@@ -1,18 +1,18 @@
 -- What an upload makes of a board: it is refused, or says again what became of the packet, or judges it and records it.
 use Rattle.std.proofs.Common.{◌≡◌, ◌⊎◌, ℕ, ◌-◌, Bool, true, false, cond, List, ◌++◌, length, Option, Some, None, Result, Ok, Err, refl, ap, ◌∙◌, inl, inr, arith}
 use Rattle.std.specs.Prelude.{codes}
-use Rattle.board_commands.specs.State.{State, Made, state_of}
-use Rattle.board_commands.specs.Turns.{Turn}
+use Rattle.message_commands.specs.board_commands.State.{State, Made, state_of}
+use Rattle.message_commands.specs.board_commands.Turns.{Turn}
 use Rattle.board_layout.specs.Board.{Board}
 use Rattle.board_ledger.specs.declared.upload.Counts.{Counts}
-use Rattle.door_upload.specs.Upload.{Again, Broken, NoBoardId, OtherBoard, Upload, UploadRefusal, UploadsFor, is_for, new_upload, record_refusal, upload_once}
-use Rattle.door_upload.specs.declared.answer.Uploaded.TheVariants as answer
+use Rattle.exchange_commands.specs.door_upload.Upload.{Again, Broken, NoBoardId, OtherBoard, Upload, UploadRefusal, UploadsFor, is_for, new_upload, record_refusal, upload_once}
+use Rattle.exchange_commands.specs.door_upload.declared.answer.Uploaded.TheVariants as answer
 use Rattle.entry_runs.specs.Entry.{Reply}
 use Rattle.entry_runs.specs.declared.class.Class.TheVariants as class
-use Rattle.mail_board.specs.Readers.{upload_of}
-use Rattle.mail_intake.specs.Lines.{counts_line}
-use Rattle.packet_verdicts.proofs.Counting.{all_counted, all_told}
-use Rattle.packet_verdicts.specs.Judged.{judged, refused_count}
+use Rattle.message_commands.specs.mail_board.Readers.{upload_of}
+use Rattle.adopt_commands.specs.mail_intake.Lines.{counts_line}
+use Rattle.message_commands.proofs.packet_verdicts.Counting.{all_counted, all_told}
+use Rattle.message_commands.specs.packet_verdicts.Judged.{judged, refused_count}
 use Rattle.post_changes.specs.Posted.{uploaded}
 use Rattle.qwk_blocks.specs.declared.message.QwkMessage.{QwkMessage}
 use Rattle.rep_packet.specs.declared.rep.Rep.{Rep}

@@ -3,7 +3,7 @@ use Rattle.std.proofs.Common.{◌≤◌, ◌≡◌, ◌≢◌, ℕ, zero, suc, �
 use Rattle.std.specs.Prelude.{slice_get}
 use Rattle.std.proofs.lemmas.Option.{none-some, same_Some}
 use Rattle.std.proofs.lemmas.Bool.{cond-false, ne_eqb}
-use Rattle.board_changes.specs.Changed.{new_user, with_base}
+use Rattle.post_changes.specs.board_changes.Changed.{new_user, with_base}
 use Rattle.board_layout.specs.Board.{Board}
 use Rattle.board_layout.specs.Lookups.{user_of}
 use Rattle.board_laws.proofs.Elements.{In}
@@ -12,9 +12,9 @@ use Rattle.board_ledger.specs.declared.ledger.Ledger.{Ledger}
 use Rattle.open_offers.specs.declared.offer.OpenOffer.{OpenOffer}
 use Rattle.board_ledger.specs.declared.user.User.{User}
 use Rattle.jam_base.specs.Contents.{Contents}
-use Rattle.mail_board.specs.Changes.{changed}
-use Rattle.mail_board.specs.declared.change.Change.{Change}
-use Rattle.mail_board.specs.declared.change.Change.TheVariants.{Enroll, Append, Spread, Kill, Offer, Acknowledge, Upload}
+use Rattle.message_commands.specs.mail_board.Changes.{changed}
+use Rattle.message_commands.specs.mail_board.declared.change.Change.{Change}
+use Rattle.message_commands.specs.mail_board.declared.change.Change.TheVariants.{Enroll, Append, Spread, Kill, Offer, Acknowledge, Upload}
 use Rattle.offer_changes.proofs.UserLaws.{id_above, user_there}
 use Rattle.offer_changes.specs.Changed.{for_user, offered_to, read_offer, with_offer, without_offer}
 

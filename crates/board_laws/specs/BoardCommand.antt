@@ -3,10 +3,10 @@ use Rattle.std.specs.Prelude.{◌≡◌, ℕ, List}
 use Rattle.adopt_commands.specs.Adopt.{adopts}
 use Rattle.entry_runs.specs.Door.{World}
 use Rattle.entry_runs.specs.Runs.{Stepped}
-use Rattle.board_commands.specs.Check.{checks}
-use Rattle.board_commands.specs.Enroll.{enrolls}
-use Rattle.board_commands.specs.Init.{inits}
-use Rattle.board_commands.specs.State.{State}
+use Rattle.message_commands.specs.board_commands.Check.{checks}
+use Rattle.message_commands.specs.board_commands.Enroll.{enrolls}
+use Rattle.message_commands.specs.board_commands.Init.{inits}
+use Rattle.message_commands.specs.board_commands.State.{State}
 use Rattle.exchange_commands.specs.Ack.{acknowledges}
 use Rattle.exchange_commands.specs.Export.{exports}
 use Rattle.message_commands.specs.Import.{imports}

@@ -5,7 +5,7 @@ use Rattle.door_outside.specs.Shelf.{Files}
 use Rattle.entry_runs.specs.Door.{World, here}
 use Rattle.entry_runs.specs.Runs.{Stepped}
 use Rattle.entry_runs.specs.declared.class.Class.TheVariants.{Done}
-use Rattle.board_commands.specs.State.{State, NotMade, Made, Old, Spoiled, migrated}
+use Rattle.message_commands.specs.board_commands.State.{State, NotMade, Made, Old, Spoiled, migrated}
 use Rattle.board_layout.specs.Board.{Board}
 use Rattle.board_layout.specs.Valid.{IsBoard}
 

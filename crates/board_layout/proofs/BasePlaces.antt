@@ -4,14 +4,14 @@ use Rattle.std.specs.Prelude.{All}
 use Rattle.std.specs.List.{AllZip}
 use Rattle.std.proofs.lemmas.List.Elements.{All-drop}
 use Rattle.board_ledger.specs.declared.ledger.Ledger.{Ledger}
-use Rattle.intent_journal.specs.Patches.{Files}
+use Rattle.board_ledger.specs.intent_journal.Patches.{Files}
 use Rattle.jam_base.specs.Change.{files_of_place}
 use Rattle.jam_base.specs.Contents.{Contents}
-use Rattle.jam_layout.specs.Valid.{IsConference}
-use Rattle.jam_layout.specs.declared.conference.Conference.{Conference}
-use Rattle.jam_layout.specs.declared.files.BaseFiles.{BaseFiles}
-use Rattle.jam_layout.specs.declared.shape.Shape.{Shape}
-use Rattle.setup_file.specs.declared.conference.Conference.{Conference as SetupConference}
+use Rattle.jam_base.specs.jam_layout.Valid.{IsConference}
+use Rattle.jam_base.specs.jam_layout.declared.conference.Conference.{Conference}
+use Rattle.jam_base.specs.jam_layout.declared.files.BaseFiles.{BaseFiles}
+use Rattle.jam_base.specs.jam_layout.declared.shape.Shape.{Shape}
+use Rattle.board_ledger.specs.setup_file.declared.conference.Conference.{Conference as SetupConference}
 use Rattle.board_layout.specs.Board.{shapes_from, shapes_in, conferences_in}
 use Rattle.board_layout.specs.Layout.{no_base, layouts, files_in, AreAt}
 

@@ -5,7 +5,7 @@ use Rattle.std.specs.List.{AllZip}
 use Rattle.std.proofs.lemmas.Bool.{and_from, and_parts, cases_lt, cases_eq, lt-ltb, le-ltb, ltb-true, ltb-false, ne_eqb, eqb-false, not_from_false, not-true}
 use Rattle.std.proofs.lemmas.List.{get_or_past}
 use Rattle.std.proofs.lemmas.List.Elements.{All-nil}
-use Rattle.byte_lists.specs.Byte.{IsByte}
+use Rattle.jam_records.specs.byte_lists.Byte.{IsByte}
 use Rattle.board_ledger.specs.Ledger.{ledger_of, stored_text}
 use Rattle.board_ledger.specs.Valid.{IsLedger, today}
 use Rattle.board_ledger.specs.declared.ledger.Ledger.{Ledger}
@@ -13,19 +13,19 @@ use Rattle.board_ledger.proofs.LedgerBounds.{fit as ledger_fits}
 use Rattle.board_ledger.proofs.LedgerLaws.{ledger_takes, ledger_again}
 use Rattle.board_ledger.proofs.SizeLaws.{ledger_length}
 use Rattle.board_ledger.proofs.VersionLaws.{today_valid}
-use Rattle.damage_rules.specs.Rules.{Rules, by_rules, damage_of, ◌>>=◌}
-use Rattle.damage_rules.proofs.KeptRules.{bind_ok, kept_rules, ok_is, rules_kept}
+use Rattle.board_ledger.specs.damage_rules.Rules.{Rules, by_rules, damage_of, ◌>>=◌}
+use Rattle.board_ledger.proofs.damage_rules.KeptRules.{bind_ok, kept_rules, ok_is, rules_kept}
 use Rattle.door_outside.specs.File.{is_data_file, ledger_file, jhr_file, jdt_file, jdx_file, jlr_file}
-use Rattle.intent_journal.specs.Patches.{Files}
+use Rattle.board_ledger.specs.intent_journal.Patches.{Files}
 use Rattle.jam_base.specs.Change.{files_of_place}
-use Rattle.jam_layout.specs.Valid.{BaseFilesFit, IsConference}
-use Rattle.jam_layout.specs.declared.conference.Conference.{Conference}
-use Rattle.jam_layout.specs.declared.files.BaseFiles.{BaseFiles}
-use Rattle.jam_layout.specs.declared.shape.Shape.{Shape}
-use Rattle.jam_layout.proofs.LayoutBounds.{layout_fits}
+use Rattle.jam_base.specs.jam_layout.Valid.{BaseFilesFit, IsConference}
+use Rattle.jam_base.specs.jam_layout.declared.conference.Conference.{Conference}
+use Rattle.jam_base.specs.jam_layout.declared.files.BaseFiles.{BaseFiles}
+use Rattle.jam_base.specs.jam_layout.declared.shape.Shape.{Shape}
+use Rattle.jam_base.proofs.jam_layout.LayoutBounds.{layout_fits}
 use Rattle.jam_records.specs.declared.damage.Damage.{Damage}
 use Rattle.jam_records.specs.declared.damage.DamageRule.TheVariants.{Size}
-use Rattle.open_offers.specs.Versions.{version_of}
+use Rattle.board_ledger.specs.open_offers.Versions.{version_of}
 use Rattle.board_layout.specs.Board.{Board, shapes_of}
 use Rattle.board_layout.specs.Damage.{parts_behind, parts_of, size_limit, board_of, board_damage}
 use Rattle.board_layout.specs.Layout.{no_base, layouts, base_files, HasPlaces, IsLayout, AreEmpty, AreAt, AreFileBytes, data_size, board_size}

@@ -3,11 +3,11 @@ use Rattle.std.proofs.Common.{◌≡◌, ◌+◌, ◌-◌, List, length, Option,
 use Rattle.board_ledger.specs.Ledger.{ledger_of}
 use Rattle.board_ledger.specs.Valid.{today}
 use Rattle.board_ledger.specs.declared.ledger.Ledger.{Ledger}
-use Rattle.damage_rules.specs.Rules.{◌>>=◌, Stops}
-use Rattle.damage_rules.proofs.KeptRules.{bind_ok, step_fails}
+use Rattle.board_ledger.specs.damage_rules.Rules.{◌>>=◌, Stops}
+use Rattle.board_ledger.proofs.damage_rules.KeptRules.{bind_ok, step_fails}
 use Rattle.door_outside.specs.File.{ledger_file}
-use Rattle.intent_journal.specs.Patches.{Files}
-use Rattle.jam_layout.specs.declared.conference.Conference.{Conference}
+use Rattle.board_ledger.specs.intent_journal.Patches.{Files}
+use Rattle.jam_base.specs.jam_layout.declared.conference.Conference.{Conference}
 use Rattle.jam_records.specs.declared.damage.Damage.{Damage}
 use Rattle.board_layout.specs.Board.{Board, shapes_of}
 use Rattle.board_layout.specs.Damage.{conferences_of, are_rest, highs_of, parts_behind, parts_of}

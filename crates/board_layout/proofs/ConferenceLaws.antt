@@ -3,16 +3,16 @@ use Rattle.std.proofs.Common.{◌≡◌, ℕ, ◌+◌, ◌≤◌, ◌<◌, List,
 use Rattle.std.specs.List.{AllZip}
 use Rattle.board_ledger.specs.Valid.{IsLedger}
 use Rattle.board_ledger.specs.declared.ledger.Ledger.{Ledger}
-use Rattle.damage_rules.specs.Rules.{◌>>=◌}
-use Rattle.damage_rules.proofs.KeptRules.{bind_ok, ok_is}
-use Rattle.intent_journal.specs.Patches.{Files}
+use Rattle.board_ledger.specs.damage_rules.Rules.{◌>>=◌}
+use Rattle.board_ledger.proofs.damage_rules.KeptRules.{bind_ok, ok_is}
+use Rattle.board_ledger.specs.intent_journal.Patches.{Files}
 use Rattle.jam_base.specs.Change.{files_of_place}
-use Rattle.jam_layout.specs.Layout.{conference_of}
-use Rattle.jam_layout.specs.Valid.{BaseFilesFit, IsConference}
-use Rattle.jam_layout.specs.declared.conference.Conference.{Conference}
-use Rattle.jam_layout.specs.declared.shape.Shape.{Shape}
-use Rattle.jam_layout.proofs.ConferenceLayout.{layout_is, is_layout}
-use Rattle.setup_file.specs.declared.conference.Conference.{Conference as SetupConference}
+use Rattle.jam_base.specs.jam_layout.Layout.{conference_of}
+use Rattle.jam_base.specs.jam_layout.Valid.{BaseFilesFit, IsConference}
+use Rattle.jam_base.specs.jam_layout.declared.conference.Conference.{Conference}
+use Rattle.jam_base.specs.jam_layout.declared.shape.Shape.{Shape}
+use Rattle.jam_base.proofs.jam_layout.ConferenceLayout.{layout_is, is_layout}
+use Rattle.board_ledger.specs.setup_file.declared.conference.Conference.{Conference as SetupConference}
 use Rattle.board_layout.specs.Board.{shape_of, shapes_from}
 use Rattle.board_layout.specs.Damage.{conferences_of}
 use Rattle.board_layout.specs.Layout.{layouts, AreAt}

@@ -4,7 +4,7 @@ use Rattle.std.specs.Str.{bytes_eq}
 use Rattle.std.proofs.lemmas.List.{append-nil, drop_all}
 use Rattle.board_ledger.specs.Opening.{magic}
 use Rattle.door_outside.specs.Disk.{read_into}
-use Rattle.record_numbers.specs.Numbers.{u16_at}
+use Rattle.jam_records.specs.record_numbers.Numbers.{u16_at}
 use Rattle.board_layout.specs.Damage.{is_old_text}
 use Rattle.board_layout.proofs.StoredLedgers.{is_first}
 

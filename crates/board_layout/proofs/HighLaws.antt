@@ -6,12 +6,12 @@ use Rattle.std.proofs.lemmas.Bool.{cases_lt, not-false}
 use Rattle.std.proofs.lemmas.List.{length-map}
 use Rattle.std.proofs.lemmas.List.Elements.{All-nil, All-cons, All-drop}
 use Rattle.board_ledger.specs.declared.user.User.{User}
-use Rattle.damage_rules.specs.Rules.{Rules, by_rules, ◌>>=◌}
-use Rattle.damage_rules.proofs.KeptRules.{bind_ok, rules_kept, kept_rules}
+use Rattle.board_ledger.specs.damage_rules.Rules.{Rules, by_rules, ◌>>=◌}
+use Rattle.board_ledger.proofs.damage_rules.KeptRules.{bind_ok, rules_kept, kept_rules}
 use Rattle.door_outside.specs.File.{ledger_file}
 use Rattle.jam_base.specs.Contents.{Contents}
-use Rattle.jam_layout.specs.Outlines.{outline}
-use Rattle.jam_layout.specs.declared.conference.Conference.{Conference}
+use Rattle.jam_base.specs.jam_layout.Outlines.{outline}
+use Rattle.jam_base.specs.jam_layout.declared.conference.Conference.{Conference}
 use Rattle.board_layout.proofs.OutlineLaws.{highs_outline}
 use Rattle.jam_records.specs.declared.damage.DamageRule.TheVariants.{High}
 use Rattle.board_layout.specs.Board.{conferences_in}

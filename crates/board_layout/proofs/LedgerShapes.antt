@@ -5,16 +5,16 @@ use Rattle.std.specs.List.{list_all}
 use Rattle.std.proofs.lemmas.Bool.{leb-true, and_parts}
 use Rattle.std.proofs.lemmas.List.Elements.{All-nil, All-cons, All-drop}
 use Rattle.std.proofs.lemmas.List.Sums.{AllPass-from_list_all}
-use Rattle.byte_lists.specs.Byte.{IsByte}
+use Rattle.jam_records.specs.byte_lists.Byte.{IsByte}
 use Rattle.board_ledger.specs.Users.{is_member}
 use Rattle.board_ledger.specs.Valid.{IsLedger}
 use Rattle.board_ledger.specs.declared.ledger.Ledger.{Ledger}
 use Rattle.board_ledger.specs.declared.user.User.{User}
-use Rattle.jam_layout.specs.Reader.{IsReader}
-use Rattle.jam_layout.specs.Valid.{Rise, IsShape, ShapeFits}
-use Rattle.jam_layout.specs.declared.reader.Reader.{Reader}
+use Rattle.jam_base.specs.jam_layout.Reader.{IsReader}
+use Rattle.jam_base.specs.jam_layout.Valid.{Rise, IsShape, ShapeFits}
+use Rattle.jam_base.specs.jam_layout.declared.reader.Reader.{Reader}
 use Rattle.jam_records.specs.declared.message.Kind.{Kind}
-use Rattle.setup_file.specs.Texts.{is_printed_byte, is_name_byte, has_bare_ends, is_user_name}
+use Rattle.board_ledger.specs.setup_file.Texts.{is_printed_byte, is_name_byte, has_bare_ends, is_user_name}
 use Rattle.board_layout.specs.Board.{readers_from, shape_of}
 
 -- ---- ids

@@ -16,3 +16,6 @@ pub mod ReadingClauses
 pub mod ReadingBoard
 pub mod OutlineLaws
 pub mod OneOutline
+pub use Rattle.jam_base.proofs as jam_base
+pub use Rattle.jam_base.proofs.jam_layout as jam_layout
+pub use Rattle.jam_base.proofs.jam_writing as jam_writing

@@ -14,11 +14,11 @@ use Rattle.board_layout.specs.Renewed.{contents_of}
 use Rattle.board_layout.specs.Valid.{IsBoard}
 use Rattle.jam_base.specs.Contents.{Contents}
 use Rattle.jam_base.specs.Outlined.{outlined}
-use Rattle.jam_layout.specs.Messages.{AreBytes, IsMessage, IsSlot}
-use Rattle.jam_layout.specs.Outlines.{message_outline, outline, slot_outline}
-use Rattle.jam_layout.specs.Valid.{IsConference, PointersFit}
-use Rattle.jam_layout.specs.declared.conference.Conference.{Conference}
-use Rattle.jam_layout.specs.declared.shape.Shape.{Shape}
+use Rattle.jam_base.specs.jam_layout.Messages.{AreBytes, IsMessage, IsSlot}
+use Rattle.jam_base.specs.jam_layout.Outlines.{message_outline, outline, slot_outline}
+use Rattle.jam_base.specs.jam_layout.Valid.{IsConference, PointersFit}
+use Rattle.jam_base.specs.jam_layout.declared.conference.Conference.{Conference}
+use Rattle.jam_base.specs.jam_layout.declared.shape.Shape.{Shape}
 use Rattle.jam_records.specs.declared.message.Kind.{Kind}
 use Rattle.jam_records.specs.declared.message.Message.{Message}
 use Rattle.jam_records.specs.declared.message.Slot.{Slot}

@@ -17,13 +17,13 @@ use Rattle.board_ledger.specs.Ledger.{ledger_text}
 use Rattle.jam_base.specs.Contents.{Contents, pointer_of}
 use Rattle.jam_base.specs.Outlined.{outlined}
 use Rattle.jam_base.specs.Slots.{has_live, numbered}
-use Rattle.jam_layout.proofs.OutlineLaws.{conference_outline, files_outline, jdt_outline}
-use Rattle.jam_layout.specs.Conference.{is_live, live_count}
-use Rattle.jam_layout.specs.Layout.{layout, files_size}
-use Rattle.jam_layout.specs.Outlines.{line_ends, message_outline, outline, slot_outline}
-use Rattle.jam_layout.specs.Valid.{IsConference}
-use Rattle.jam_layout.specs.declared.conference.Conference.{Conference}
-use Rattle.jam_layout.specs.declared.shape.Shape.{Shape}
+use Rattle.jam_base.proofs.jam_layout.OutlineLaws.{conference_outline, files_outline, jdt_outline}
+use Rattle.jam_base.specs.jam_layout.Conference.{is_live, live_count}
+use Rattle.jam_base.specs.jam_layout.Layout.{layout, files_size}
+use Rattle.jam_base.specs.jam_layout.Outlines.{line_ends, message_outline, outline, slot_outline}
+use Rattle.jam_base.specs.jam_layout.Valid.{IsConference}
+use Rattle.jam_base.specs.jam_layout.declared.conference.Conference.{Conference}
+use Rattle.jam_base.specs.jam_layout.declared.shape.Shape.{Shape}
 use Rattle.jam_records.specs.declared.message.Message.{Message}
 use Rattle.jam_records.specs.declared.message.Slot.{Slot}
 use Rattle.jam_records.specs.declared.message.Slot.TheVariants.{Gone, Held}

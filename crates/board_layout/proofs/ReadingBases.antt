@@ -5,20 +5,20 @@ use Rattle.std.specs.List.{AllZip}
 use Rattle.std.proofs.lemmas.List.{append-nil, map-append, length-map, length_push, drop_more}
 use Rattle.std.proofs.lemmas.List.Elements.{All-push}
 use Rattle.board_ledger.specs.declared.ledger.Ledger.{Ledger}
-use Rattle.damage_rules.specs.Rules.{Stops}
-use Rattle.damage_rules.proofs.KeptRules.{with_front, one_more, one_fails}
-use Rattle.intent_journal.specs.Patches.{Files}
+use Rattle.board_ledger.specs.damage_rules.Rules.{Stops}
+use Rattle.board_ledger.proofs.damage_rules.KeptRules.{with_front, one_more, one_fails}
+use Rattle.board_ledger.specs.intent_journal.Patches.{Files}
 use Rattle.jam_base.specs.Change.{files_of_place}
 use Rattle.jam_base.specs.Contents.{Contents}
 use Rattle.jam_base.specs.Outlined.{outlined}
-use Rattle.jam_layout.specs.Layout.{conference_of}
-use Rattle.jam_layout.specs.Outlines.{outline}
-use Rattle.jam_layout.specs.Valid.{IsConference}
-use Rattle.jam_layout.specs.declared.conference.Conference.{Conference}
-use Rattle.jam_layout.specs.declared.files.BaseFiles.{BaseFiles}
-use Rattle.jam_layout.specs.declared.shape.Shape.{Shape}
+use Rattle.jam_base.specs.jam_layout.Layout.{conference_of}
+use Rattle.jam_base.specs.jam_layout.Outlines.{outline}
+use Rattle.jam_base.specs.jam_layout.Valid.{IsConference}
+use Rattle.jam_base.specs.jam_layout.declared.conference.Conference.{Conference}
+use Rattle.jam_base.specs.jam_layout.declared.files.BaseFiles.{BaseFiles}
+use Rattle.jam_base.specs.jam_layout.declared.shape.Shape.{Shape}
 use Rattle.jam_records.specs.declared.damage.Damage.{Damage}
-use Rattle.setup_file.specs.declared.conference.Conference.{Conference as SetupConference}
+use Rattle.board_ledger.specs.setup_file.declared.conference.Conference.{Conference as SetupConference}
 use Rattle.board_layout.specs.Board.{conferences_in, shape_of, shapes_from, shapes_in, shapes_of}
 use Rattle.board_layout.specs.Damage.{conferences_of}
 use Rattle.board_layout.specs.Layout.{files_in, layouts, AreAt}

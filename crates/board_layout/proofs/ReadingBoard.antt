@@ -1,9 +1,9 @@
 -- What the data files are read as, where they aren't empty.
 use Rattle.std.proofs.Common.{◌≡◌, ◌≤◌, ◌<◌, Bool, ltb, eqb, true, false, [], ◌∷◌, Option, Some, None, Result, Ok, Err, sym, ap, ◌∙◌, subst}
 use Rattle.std.proofs.lemmas.Bool.{cond-false, cond-true, eq-eqb, le-ltb, lt-ltb, ne_eqb}
-use Rattle.damage_rules.specs.Rules.{by_rules, ◌>>=◌, Stops}
+use Rattle.board_ledger.specs.damage_rules.Rules.{by_rules, ◌>>=◌, Stops}
 use Rattle.door_outside.specs.File.{ledger_file}
-use Rattle.intent_journal.specs.Patches.{Files}
+use Rattle.board_ledger.specs.intent_journal.Patches.{Files}
 use Rattle.jam_records.specs.declared.damage.Damage.{Damage}
 use Rattle.jam_records.specs.declared.damage.DamageRule.TheVariants.{Size}
 use Rattle.board_layout.specs.Board.{Board}

@@ -4,12 +4,12 @@ use Rattle.board_ledger.specs.Ledger.{ledger_of, stored_text}
 use Rattle.board_ledger.specs.Valid.{IsStored}
 use Rattle.board_ledger.specs.declared.ledger.Ledger.{Ledger}
 use Rattle.board_ledger.proofs.LedgerLaws.{ledger_again}
-use Rattle.jam_layout.specs.Layout.{layout, conference_of}
-use Rattle.jam_layout.specs.Valid.{ShapeFits, IsConference}
-use Rattle.jam_layout.specs.declared.conference.Conference.{Conference}
-use Rattle.jam_layout.specs.declared.files.BaseFiles.{BaseFiles}
-use Rattle.jam_layout.specs.declared.shape.Shape.{Shape}
-use Rattle.jam_layout.proofs.ConferenceLayout.{is_layout}
+use Rattle.jam_base.specs.jam_layout.Layout.{layout, conference_of}
+use Rattle.jam_base.specs.jam_layout.Valid.{ShapeFits, IsConference}
+use Rattle.jam_base.specs.jam_layout.declared.conference.Conference.{Conference}
+use Rattle.jam_base.specs.jam_layout.declared.files.BaseFiles.{BaseFiles}
+use Rattle.jam_base.specs.jam_layout.declared.shape.Shape.{Shape}
+use Rattle.jam_base.proofs.jam_layout.ConferenceLayout.{is_layout}
 use Rattle.board_layout.specs.Rules.{HasReadCause}
 
 -- read from these files and this shape, which equal those that are asked for

@@ -7,11 +7,11 @@ use Rattle.board_ledger.specs.Valid.{IsLedger, IsStored, today}
 use Rattle.board_ledger.specs.declared.ledger.Ledger.{Ledger}
 use Rattle.board_ledger.proofs.VersionLaws.{today_valid}
 use Rattle.door_outside.specs.File.{ledger_file}
-use Rattle.intent_journal.specs.Patches.{Files}
+use Rattle.board_ledger.specs.intent_journal.Patches.{Files}
 use Rattle.jam_base.specs.Contents.{Contents}
-use Rattle.jam_layout.specs.Valid.{IsConference}
-use Rattle.jam_layout.specs.declared.conference.Conference.{Conference}
-use Rattle.jam_layout.specs.declared.shape.Shape.{Shape}
+use Rattle.jam_base.specs.jam_layout.Valid.{IsConference}
+use Rattle.jam_base.specs.jam_layout.declared.conference.Conference.{Conference}
+use Rattle.jam_base.specs.jam_layout.declared.shape.Shape.{Shape}
 use Rattle.board_layout.specs.Board.{Board, board_with, conferences_in, shapes_in, shapes_of}
 use Rattle.board_layout.specs.Damage.{size_limit}
 use Rattle.board_layout.specs.Layout.{layouts, base_files, HasPlaces, AreAt, data_size, board_size}

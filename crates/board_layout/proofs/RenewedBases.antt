@@ -2,7 +2,7 @@
 use Rattle.std.proofs.Common.{◌≡◌, suc, ◌≤◌, List, [], ◌∷◌, ◌++◌, length, set, Option, Some, None, refl, sym, ap, ◌∙◌, arith}
 use Rattle.board_ledger.specs.declared.ledger.Ledger.{Ledger}
 use Rattle.jam_base.specs.Contents.{Contents}
-use Rattle.jam_layout.specs.declared.shape.Shape.{Shape}
+use Rattle.jam_base.specs.jam_layout.declared.shape.Shape.{Shape}
 use Rattle.board_layout.specs.Board.{board_with, conferences_in, shapes_in, shapes_of}
 use Rattle.board_layout.specs.Renewed.{contents, contents_of, renewed}
 

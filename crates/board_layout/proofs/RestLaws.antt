@@ -2,12 +2,12 @@
 use Rattle.std.proofs.Common.{◌≡◌, ℕ, zero, suc, ◌+◌, ◌-◌, ◌<◌, not, eqb, false, List, [], ◌∷◌, length, Option, Ok, refl, sym, ap, ◌∙◌, subst, arith}
 use Rattle.std.proofs.lemmas.Bool.Decides.{nat_tests}
 use Rattle.std.proofs.lemmas.List.{nil_from_length}
-use Rattle.damage_rules.specs.Rules.{Rules, ◌>>=◌, Stops}
-use Rattle.damage_rules.proofs.KeptRules.{bind_ok, rules_kept, kept_rules, step_fails}
+use Rattle.board_ledger.specs.damage_rules.Rules.{Rules, ◌>>=◌, Stops}
+use Rattle.board_ledger.proofs.damage_rules.KeptRules.{bind_ok, rules_kept, kept_rules, step_fails}
 use Rattle.door_outside.specs.File.{jhr_file, jdt_file, jdx_file, jlr_file}
-use Rattle.intent_journal.specs.Patches.{Files}
+use Rattle.board_ledger.specs.intent_journal.Patches.{Files}
 use Rattle.jam_base.specs.Change.{files_of_place}
-use Rattle.jam_layout.specs.declared.files.BaseFiles.{BaseFiles}
+use Rattle.jam_base.specs.jam_layout.declared.files.BaseFiles.{BaseFiles}
 use Rattle.jam_records.specs.declared.damage.Damage.{Damage}
 use Rattle.jam_records.specs.declared.damage.DamageRule.TheVariants.{Rest}
 use Rattle.board_layout.specs.Damage.{is_rest, is_rest_place, are_rest}

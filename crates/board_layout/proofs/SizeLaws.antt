@@ -6,13 +6,13 @@ use Rattle.std.proofs.lemmas.List.Sums.{sum_by-cons}
 use Rattle.board_ledger.specs.Ledger.{ledger_text, text_in}
 use Rattle.board_ledger.specs.declared.ledger.Ledger.{Ledger}
 use Rattle.door_outside.specs.File.{ledger_file}
-use Rattle.intent_journal.specs.Patches.{Files}
+use Rattle.board_ledger.specs.intent_journal.Patches.{Files}
 use Rattle.jam_base.specs.Change.{files_of_place}
 use Rattle.jam_base.specs.Contents.{Contents}
-use Rattle.jam_layout.specs.Layout.{files_size}
-use Rattle.jam_layout.specs.declared.files.BaseFiles.{BaseFiles}
-use Rattle.jam_layout.specs.declared.shape.Shape.{Shape}
-use Rattle.open_offers.specs.declared.version.Version.TheVariants.{First}
+use Rattle.jam_base.specs.jam_layout.Layout.{files_size}
+use Rattle.jam_base.specs.jam_layout.declared.files.BaseFiles.{BaseFiles}
+use Rattle.jam_base.specs.jam_layout.declared.shape.Shape.{Shape}
+use Rattle.board_ledger.specs.open_offers.declared.version.Version.TheVariants.{First}
 use Rattle.board_layout.specs.Board.{Board, board_with, conferences_in, shapes_in, shapes_of}
 use Rattle.board_layout.specs.Layout.{no_base, layouts, base_files, HasPlaces, IsLayout, AreEmpty, places_size, data_size, board_size, files_in, base_size}
 use Rattle.board_layout.specs.OldLayout.{old_size}

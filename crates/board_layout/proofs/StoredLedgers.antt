@@ -13,10 +13,10 @@ use Rattle.board_ledger.specs.declared.user.User.{User}
 use Rattle.board_ledger.proofs.SizeLaws.{ledger_length, user_length}
 use Rattle.board_ledger.proofs.VersionLaws.{as_today, stored_written, text_stored, text_today}
 use Rattle.door_outside.specs.File.{ledger_file}
-use Rattle.intent_journal.specs.Patches.{Files}
-use Rattle.open_offers.specs.declared.version.Version.{Version}
-use Rattle.open_offers.specs.declared.version.Version.TheVariants.{First, Second}
-use Rattle.record_numbers.specs.Numbers.{u16_at}
+use Rattle.board_ledger.specs.intent_journal.Patches.{Files}
+use Rattle.board_ledger.specs.open_offers.declared.version.Version.{Version}
+use Rattle.board_ledger.specs.open_offers.declared.version.Version.TheVariants.{First, Second}
+use Rattle.jam_records.specs.record_numbers.Numbers.{u16_at}
 use Rattle.board_layout.specs.Board.{Board}
 use Rattle.board_layout.specs.Damage.{is_old_text, size_limit}
 use Rattle.board_layout.specs.Layout.{base_files, HasPlaces, IsLayout, data_size, board_size}

@@ -1,19 +1,19 @@
 -- The board of data files, or their first damage.
 use Rattle.std.specs.Prelude.{ℕ, zero, suc, ◌+◌, ◌-◌, List, [], ◌∷◌, length, take, Bool, Option, Some, None, Result, Ok, Err, not, ◌&&◌, ◌==◌, nat_le, nat_lt, if◌then◌else◌}
 use Rattle.std.specs.Str.{bytes_eq}
-use Rattle.record_numbers.specs.Numbers.{u16_at}
+use Rattle.jam_records.specs.record_numbers.Numbers.{u16_at}
 use Rattle.board_ledger.specs.Ledger.{ledger_of}
 use Rattle.board_ledger.specs.Opening.{magic}
 use Rattle.board_ledger.specs.Valid.{today}
 use Rattle.board_ledger.specs.declared.ledger.Ledger.{Ledger}
 use Rattle.board_ledger.specs.declared.user.User.{User}
-use Rattle.damage_rules.specs.Rules.{by_rules, damage_of, ◌>>=◌}
+use Rattle.board_ledger.specs.damage_rules.Rules.{by_rules, damage_of, ◌>>=◌}
 use Rattle.door_outside.specs.File.{ledger_file, jhr_file, jdt_file, jdx_file, jlr_file}
-use Rattle.intent_journal.specs.Patches.{Files}
+use Rattle.board_ledger.specs.intent_journal.Patches.{Files}
 use Rattle.jam_base.specs.Change.{files_of_place}
-use Rattle.jam_layout.specs.Layout.{conference_of}
-use Rattle.jam_layout.specs.declared.conference.Conference.{Conference}
-use Rattle.jam_layout.specs.declared.shape.Shape.{Shape}
+use Rattle.jam_base.specs.jam_layout.Layout.{conference_of}
+use Rattle.jam_base.specs.jam_layout.declared.conference.Conference.{Conference}
+use Rattle.jam_base.specs.jam_layout.declared.shape.Shape.{Shape}
 use Rattle.jam_records.specs.declared.damage.Damage.{Damage}
 use Rattle.jam_records.specs.declared.damage.DamageRule.TheVariants.{Size, Rest, High}
 use Rattle.board_layout.specs.Board.{Board, shapes_of}

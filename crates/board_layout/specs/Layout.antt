@@ -1,15 +1,15 @@
 -- The 257 data files of a board: the ledger, and the four files of each of the 64 places.
 use Rattle.std.specs.Prelude.{◌≡◌, ℕ, zero, suc, ◌+◌, ◌<◌, List, [], ◌∷◌, length, slice_index_or, sum_by, All, IsTrue}
 use Rattle.board_ledger.specs.Ledger.{ledger_text}
-use Rattle.byte_lists.specs.Byte.{IsByte}
+use Rattle.jam_records.specs.byte_lists.Byte.{IsByte}
 use Rattle.door_outside.specs.File.{is_data_file, ledger_file}
-use Rattle.intent_journal.specs.Patches.{Files}
+use Rattle.board_ledger.specs.intent_journal.Patches.{Files}
 use Rattle.jam_base.specs.Change.{files_of_place}
 use Rattle.jam_base.specs.Contents.{Contents}
-use Rattle.jam_layout.specs.Layout.{layout, files_size}
-use Rattle.jam_layout.specs.declared.conference.Conference.{Conference}
-use Rattle.jam_layout.specs.declared.files.BaseFiles.{BaseFiles}
-use Rattle.jam_layout.specs.declared.shape.Shape.{Shape}
+use Rattle.jam_base.specs.jam_layout.Layout.{layout, files_size}
+use Rattle.jam_base.specs.jam_layout.declared.conference.Conference.{Conference}
+use Rattle.jam_base.specs.jam_layout.declared.files.BaseFiles.{BaseFiles}
+use Rattle.jam_base.specs.jam_layout.declared.shape.Shape.{Shape}
 use Rattle.board_layout.specs.Board.{Board, shapes_of}
 
 -- four empty files

@@ -7,3 +7,6 @@ pub mod Valid
 pub mod Damage
 pub mod Rules
 pub mod Outlines
+pub use Rattle.jam_base.specs as jam_base
+pub use Rattle.jam_base.specs.jam_layout as jam_layout
+pub use Rattle.jam_base.specs.jam_writing as jam_writing

@@ -2,10 +2,10 @@
 use Rattle.std.specs.Prelude.{◌≡◌, ◌⊎◌, ◌≤◌, ℕ, ◌+◌, length, sum_by, All}
 use Rattle.board_ledger.specs.Ledger.{text_in}
 use Rattle.board_ledger.specs.Users.{IsOldUser}
-use Rattle.open_offers.specs.declared.version.Version.TheVariants.{First}
+use Rattle.board_ledger.specs.open_offers.declared.version.Version.TheVariants.{First}
 use Rattle.door_outside.specs.File.{ledger_file}
-use Rattle.intent_journal.specs.Patches.{Files}
-use Rattle.jam_layout.specs.Layout.{files_size}
+use Rattle.board_ledger.specs.intent_journal.Patches.{Files}
+use Rattle.jam_base.specs.jam_layout.Layout.{files_size}
 use Rattle.board_layout.specs.Board.{Board}
 use Rattle.board_layout.specs.Layout.{base_files, HasPlaces, IsLayout}
 

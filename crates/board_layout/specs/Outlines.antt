@@ -1,8 +1,8 @@
 -- The outline of a board: what is left of it where the length of each body is known, and no body.
 use Rattle.std.specs.Prelude.{All, map}
-use Rattle.byte_lists.specs.Byte.{IsByte}
-use Rattle.jam_layout.specs.Messages.{IsBody}
-use Rattle.jam_layout.specs.Outlines.{outline}
+use Rattle.jam_records.specs.byte_lists.Byte.{IsByte}
+use Rattle.jam_base.specs.jam_layout.Messages.{IsBody}
+use Rattle.jam_base.specs.jam_layout.Outlines.{outline}
 use Rattle.jam_records.specs.declared.message.Slot.{Slot}
 use Rattle.jam_records.specs.declared.message.Slot.TheVariants.{Gone, Held}
 use Rattle.board_layout.specs.Board.{Board}

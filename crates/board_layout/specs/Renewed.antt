@@ -1,8 +1,8 @@
 -- The conferences of a board with their shapes, and with some of them anew.
 use Rattle.std.specs.Prelude.{List, [], ◌∷◌, Option, Some, None}
 use Rattle.jam_base.specs.Contents.{Contents}
-use Rattle.jam_layout.specs.declared.conference.Conference.{Conference}
-use Rattle.jam_layout.specs.declared.shape.Shape.{Shape}
+use Rattle.jam_base.specs.jam_layout.declared.conference.Conference.{Conference}
+use Rattle.jam_base.specs.jam_layout.declared.shape.Shape.{Shape}
 use Rattle.board_layout.specs.Board.{Board, shapes_of}
 
 -- each conference with its shape

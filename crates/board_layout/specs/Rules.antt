@@ -5,17 +5,17 @@ use Rattle.door_outside.specs.Cause.{Rose}
 use Rattle.board_ledger.specs.declared.error.LedgerError.{LedgerError}
 use Rattle.board_ledger.specs.declared.error.LedgerError.TheVariants.{Damaged as LedgerDamaged, OutOfMemory as LedgerStarved}
 use Rattle.board_ledger.specs.declared.ledger.Ledger.{Ledger}
-use Rattle.damage_rules.specs.Rules.{Answers, Stops}
-use Rattle.intent_journal.specs.Patches.{Files}
+use Rattle.board_ledger.specs.damage_rules.Rules.{Answers, Stops}
+use Rattle.board_ledger.specs.intent_journal.Patches.{Files}
 use Rattle.jam_base.specs.Contents.{Contents}
-use Rattle.jam_layout.specs.Layout.{layout}
-use Rattle.jam_layout.specs.Outlines.{outline}
-use Rattle.jam_layout.specs.Valid.{IsConference}
-use Rattle.jam_layout.specs.declared.conference.Conference.{Conference}
-use Rattle.jam_layout.specs.declared.error.BaseError.{BaseError}
-use Rattle.jam_layout.specs.declared.error.BaseError.TheVariants.{Damaged as BaseDamaged, OutOfMemory as BaseStarved}
-use Rattle.jam_layout.specs.declared.files.BaseFiles.{BaseFiles}
-use Rattle.jam_layout.specs.declared.shape.Shape.{Shape}
+use Rattle.jam_base.specs.jam_layout.Layout.{layout}
+use Rattle.jam_base.specs.jam_layout.Outlines.{outline}
+use Rattle.jam_base.specs.jam_layout.Valid.{IsConference}
+use Rattle.jam_base.specs.jam_layout.declared.conference.Conference.{Conference}
+use Rattle.jam_base.specs.jam_layout.declared.error.BaseError.{BaseError}
+use Rattle.jam_base.specs.jam_layout.declared.error.BaseError.TheVariants.{Damaged as BaseDamaged, OutOfMemory as BaseStarved}
+use Rattle.jam_base.specs.jam_layout.declared.files.BaseFiles.{BaseFiles}
+use Rattle.jam_base.specs.jam_layout.declared.shape.Shape.{Shape}
 use Rattle.jam_records.specs.declared.damage.Damage.{Damage}
 use Rattle.board_layout.specs.Board.{Board, board_with, conferences_in, shapes_of}
 use Rattle.board_layout.specs.Layout.{AreAt, AreEmpty, HasPlaces, IsLayout, layouts}

@@ -2,9 +2,9 @@
 use Rattle.std.specs.Prelude.{ℕ, ◌≤◌, List, [], ◌∷◌, length, All, Bool, true, IsTrue, ◌&&◌, nat_le}
 use Rattle.std.specs.List.{list_all, AllZip}
 use Rattle.board_ledger.specs.Valid.{IsLedger}
-use Rattle.open_offers.specs.declared.offer.OpenOffer.{OpenOffer}
-use Rattle.jam_layout.specs.Valid.{IsConference}
-use Rattle.jam_layout.specs.declared.conference.Conference.{Conference}
+use Rattle.board_ledger.specs.open_offers.declared.offer.OpenOffer.{OpenOffer}
+use Rattle.jam_base.specs.jam_layout.Valid.{IsConference}
+use Rattle.jam_base.specs.jam_layout.declared.conference.Conference.{Conference}
 use Rattle.board_layout.specs.Board.{Board, shapes_of}
 use Rattle.board_layout.specs.Layout.{board_size}
 

@@ -7,8 +7,8 @@ ghost use Rattle.board_layout.specs.Rules.{AreOutlinesOf, GivesSo, HasReadCause,
 ghost use Rattle.door_outside.specs.Disk.{Unchanged};
 ghost use Rattle.jam_base.specs.Change.{files_of_place};
 ghost use Rattle.jam_base.specs.Outlined.{outlined};
-ghost use Rattle.jam_layout.specs.Layout.{conference_of};
-ghost use Rattle.jam_layout.specs.Valid.{IsConference};
+ghost use Rattle.jam_base.specs.jam_layout.Layout.{conference_of};
+ghost use Rattle.jam_base.specs.jam_layout.Valid.{IsConference};
 
 use crate::board::Bases;
 use crate::error::ReadError;

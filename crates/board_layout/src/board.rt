@@ -6,8 +6,8 @@ ghost use Rattle.board_layout.specs.Renewed.{contents_of, renewed};
 ghost use Rattle.board_layout.specs.Valid.{IsBoard};
 
 use board_ledger::Ledger;
-use byte_lists::List;
 use jam_base::Base;
+use jam_records::List;
 use std::marker::Model;
 
 /// How many bytes the data files may have together.

@@ -5,9 +5,9 @@ ghost use Rattle.door_outside.specs.Disk.{Unchanged};
 ghost use Rattle.jam_base.specs.Change.{files_of_place};
 
 use crate::error::ReadError;
-use byte_lists::Bytes;
 use door_outside::{FileId, Host};
 use jam_base::BaseFiles;
+use jam_records::Bytes;
 use std::alloc::Global;
 
 /// All bytes of a file, as many as the host gives.

@@ -1,6 +1,6 @@
 //! The laws of the data files of a board, the contract of a function that does nothing.
 ghost use Rattle.std.specs.Prelude.{◌≡◌, ◌↔◌, None, Ok};
-ghost use Rattle.intent_journal.specs.Patches.{Files};
+ghost use Rattle.board_ledger.specs.intent_journal.Patches.{Files};
 ghost use Rattle.board_layout.specs.Board.{Board};
 ghost use Rattle.board_layout.specs.Damage.{board_of, board_damage};
 ghost use Rattle.board_layout.specs.Layout.{AreFileBytes, AreEmpty, IsLayout, board_size, data_size};

@@ -19,6 +19,7 @@ mod sizes;
 pub use board::{BOARD_LIMIT, Bases, StoredBoard};
 pub use error::ReadError;
 pub use highs::{highs_fit, offers_fit};
+pub use jam_base::{Base, BaseChange, KillRefusal, SLOT_LIMIT, Span, typed};
 pub use lookups::message_of;
 pub use read::{FoundBoard, read_board};
 pub use shape::shape_at;

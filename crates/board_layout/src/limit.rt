@@ -6,11 +6,11 @@ ghost use Rattle.board_ledger.specs.Opening.{magic};
 ghost use Rattle.door_outside.specs.Cause.{HasCause};
 ghost use Rattle.door_outside.specs.Disk.{Unchanged};
 ghost use Rattle.door_outside.specs.File.{ledger_file};
-ghost use Rattle.record_numbers.specs.Numbers.{u16_at as u16_in};
+ghost use Rattle.jam_records.specs.record_numbers.Numbers.{u16_at as u16_in};
 
 use crate::board::BOARD_LIMIT;
 use door_outside::{DiskFault, FileId, Host};
-use record_numbers::u16_at;
+use jam_records::u16_at;
 
 /// How many bytes the data files may have together where their ledger is of version 1.
 const OLD_LIMIT: u64 = 33_554_432;

@@ -1,19 +1,18 @@
 // What is looked up in a board.
 ghost use Rattle.std.specs.Prelude.{◌≡◌, ◌≤◌, ◌<◌, ◌==◌, [], Some, length, position, slice_get, Contains, IfSome, IfNone, IsSome};
 ghost use Rattle.std.specs.Option.{option_copied, option_map};
-ghost use Rattle.jam_layout.specs.Limits.{slot_limit};
+ghost use Rattle.jam_base.specs.jam_layout.Limits.{slot_limit};
 ghost use Rattle.board_layout.specs.Lookups.{held_in, place_of as place_with_number, slots_in, user_of as user_with_id};
 ghost use Rattle.board_layout.specs.Outlines.{board_outline};
 ghost use Rattle.board_layout.specs.Renewed.{contents_of};
 ghost use Rattle.board_layout.specs.Valid.{IsBoard};
 ghost use Rattle.jam_base.specs.Slots.{numbered};
-ghost use Rattle.jam_layout.specs.Outlines.{slot_bare};
+ghost use Rattle.jam_base.specs.jam_layout.Outlines.{slot_bare};
 
 use crate::board::StoredBoard;
-use board_ledger::User;
+use board_ledger::{Conference, User};
 use jam_base::Base;
 use jam_records::{Message, Slot};
-use setup_file::Conference;
 
 /// The base in a place, or None past the last.
 fn base_in(bases: &[Base], place: u8) -> Option<&Base>

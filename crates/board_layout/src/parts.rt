@@ -6,7 +6,7 @@ ghost use Rattle.board_layout.specs.Valid.{board_limit, offers_fit};
 ghost use Rattle.board_ledger.specs.Ledger.{ledger_text};
 ghost use Rattle.board_ledger.specs.Valid.{IsLedger};
 ghost use Rattle.jam_base.specs.Outlined.{outlined};
-ghost use Rattle.jam_layout.specs.Valid.{IsConference};
+ghost use Rattle.jam_base.specs.jam_layout.Valid.{IsConference};
 
 use crate::board::{BOARD_LIMIT, Bases, StoredBoard};
 use board_ledger::Ledger;

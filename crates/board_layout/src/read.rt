@@ -10,7 +10,7 @@ ghost use Rattle.board_layout.specs.Valid.{offers_fit};
 ghost use Rattle.door_outside.specs.Disk.{Unchanged};
 ghost use Rattle.door_outside.specs.File.{ledger_file};
 ghost use Rattle.jam_base.specs.Outlined.{outlined};
-ghost use Rattle.jam_layout.specs.Valid.{IsConference};
+ghost use Rattle.jam_base.specs.jam_layout.Valid.{IsConference};
 
 use crate::bases::read_bases;
 use crate::board::{Bases, StoredBoard};

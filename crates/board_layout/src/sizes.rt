@@ -4,7 +4,7 @@ ghost use Rattle.board_layout.specs.Layout.{data_size as size_of_data};
 ghost use Rattle.door_outside.specs.Cause.{HasCause};
 ghost use Rattle.door_outside.specs.Disk.{Unchanged};
 ghost use Rattle.jam_base.specs.Change.{files_of_place};
-ghost use Rattle.jam_layout.specs.Layout.{files_size};
+ghost use Rattle.jam_base.specs.jam_layout.Layout.{files_size};
 
 use door_outside::{DiskFault, FileId, Host};
 

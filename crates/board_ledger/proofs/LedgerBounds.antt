@@ -7,9 +7,9 @@ use Rattle.std.proofs.lemmas.Bool.Decides.{nat_tests}
 use Rattle.std.proofs.lemmas.List.Elements.{All-nil, All-cons, All-append, All-drop}
 use Rattle.std.proofs.lemmas.List.Sums.{AllPass-from_list_all}
 use Rattle.byteorder.specs.Endian.{little_bytes}
-use Rattle.byte_lists.specs.Byte.{IsByte}
-use Rattle.record_numbers.proofs.NumberLemmas.{number_bytes}
-use Rattle.record_numbers.specs.Numbers.{u16_text, u32_text, u32s_text}
+use Rattle.jam_records.specs.byte_lists.Byte.{IsByte}
+use Rattle.jam_records.proofs.record_numbers.NumberLemmas.{number_bytes}
+use Rattle.jam_records.specs.record_numbers.Numbers.{u16_text, u32_text, u32s_text}
 use Rattle.jam_records.specs.declared.message.Kind.{Kind}
 use Rattle.jam_records.specs.declared.message.Kind.TheVariants.{Local, Echo, Net}
 use Rattle.setup_file.specs.Texts.{is_printed_byte, is_printed, is_name_byte, has_bare_ends, is_letter_or_digit, is_board_text, is_user_name, is_bbsid, is_conference_name}

@@ -2,7 +2,7 @@
 use Rattle.std.proofs.Common.{◌≡◌, ℕ, ◌≤◌, List, [], ◌∷◌, ◌++◌, length, refl, sym, ap, ◌∙◌, arith, append_assoc, length-append}
 use Rattle.std.specs.List.{flat_map}
 use Rattle.byteorder.specs.Endian.{little_bytes}
-use Rattle.record_numbers.specs.Numbers.{u32s_text}
+use Rattle.jam_records.specs.record_numbers.Numbers.{u32s_text}
 use Rattle.board_ledger.specs.Conferences.{conference_text}
 use Rattle.board_ledger.specs.Ledger.{ledger_text, text_in}
 use Rattle.board_ledger.specs.Opening.{magic, fixed_text, setup_text}

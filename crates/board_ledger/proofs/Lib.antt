@@ -21,3 +21,4 @@ pub mod TwoPuts
 pub mod UploadPutLaws
 pub mod UserPutLaws
 pub mod EnrollPutLaws
+pub use Rattle.damage_rules.proofs as damage_rules

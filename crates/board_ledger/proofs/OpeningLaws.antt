@@ -9,9 +9,9 @@ use Rattle.std.proofs.lemmas.Bool.Decides.{nat_tests}
 use Rattle.std.proofs.lemmas.List.{take-append-drop, drop_at}
 use Rattle.std.proofs.lemmas.List.Elements.{All-cons, All-nil}
 use Rattle.byteorder.specs.Endian.{little_bytes}
-use Rattle.byte_lists.specs.Byte.{IsByte}
-use Rattle.record_numbers.specs.Numbers.{u16_at, u32_at, u32s_text, IsU32}
-use Rattle.record_numbers.proofs.NumberFronts.{u32_small}
+use Rattle.jam_records.specs.byte_lists.Byte.{IsByte}
+use Rattle.jam_records.specs.record_numbers.Numbers.{u16_at, u32_at, u32s_text, IsU32}
+use Rattle.jam_records.proofs.record_numbers.NumberFronts.{u32_small}
 use Rattle.damage_rules.proofs.KeptRules.{Kept, both_kept, kept_both, rules_kept, kept_rules}
 use Rattle.setup_file.specs.Texts.{is_board_text, is_user_name, is_bbsid}
 use Rattle.setup_file.specs.Zones.{are_zones}

@@ -3,7 +3,7 @@ use Rattle.std.proofs.Common.{◌≡◌, ℕ, ◌+◌, ◌*◌, ◌≤◌, ◌<�
 use Rattle.std.proofs.lemmas.Bool.{ltb-false}
 use Rattle.std.proofs.lemmas.Bool.Decides.{nat_tests}
 use Rattle.damage_rules.proofs.BoolTests.{or_false}
-use Rattle.record_numbers.specs.Numbers.{u16_at, u32_at}
+use Rattle.jam_records.specs.record_numbers.Numbers.{u16_at, u32_at}
 use Rattle.jam_records.specs.declared.damage.Damage.{Damage}
 use Rattle.jam_records.specs.declared.damage.DamageRule.{DamageRule}
 use Rattle.damage_rules.specs.Rules.{first_broken, unless_broken, by_rules, ◌>>=◌, Stops}

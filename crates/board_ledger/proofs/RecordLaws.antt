@@ -4,7 +4,7 @@ use Rattle.std.specs.Prelude.{All}
 use Rattle.std.specs.List.{flat_map}
 use Rattle.std.proofs.lemmas.List.{append-nil, drop_at}
 use Rattle.std.proofs.lemmas.List.Elements.{All-drop}
-use Rattle.byte_lists.specs.Byte.{IsByte}
+use Rattle.jam_records.specs.byte_lists.Byte.{IsByte}
 use Rattle.jam_records.specs.declared.damage.Damage.{Damage}
 use Rattle.damage_rules.specs.Rules.{◌>>=◌, Stops}
 use Rattle.damage_rules.proofs.KeptRules.{bind_ok, ok_is, step_fails}

@@ -5,7 +5,7 @@ use Rattle.std.specs.List.{flat_map}
 use Rattle.std.proofs.lemmas.List.{take_more, flat_map_more}
 use Rattle.std.proofs.lemmas.List.Elements.{All-drop, All-head, All-tail}
 use Rattle.byteorder.specs.Endian.{little_bytes}
-use Rattle.record_numbers.specs.Numbers.{u32_text, u32s_text}
+use Rattle.jam_records.specs.record_numbers.Numbers.{u32_text, u32s_text}
 use Rattle.setup_file.specs.declared.conference.Conference.{Conference}
 use Rattle.setup_file.specs.declared.setup.Setup.{Setup}
 use Rattle.open_offers.specs.Offers.{behind_last, behind_size, cell_count, cell_text, cells_for, cells_size}

@@ -5,9 +5,9 @@ use Rattle.std.proofs.lemmas.Bool.{ltb-false, le-ltb}
 use Rattle.std.proofs.lemmas.Bool.Decides.{nat_tests}
 use Rattle.std.proofs.lemmas.List.{take-append-drop, take_at, drop_at, drop-drop, length-take, length-drop}
 use Rattle.std.proofs.lemmas.List.Elements.{All-drop, All-take}
-use Rattle.byte_lists.specs.Byte.{IsByte}
-use Rattle.record_numbers.specs.Numbers.{u16_at, u32_at, u16_text, u32_text}
-use Rattle.record_numbers.proofs.NumberFronts.{u16_front, u32_front}
+use Rattle.jam_records.specs.byte_lists.Byte.{IsByte}
+use Rattle.jam_records.specs.record_numbers.Numbers.{u16_at, u32_at, u16_text, u32_text}
+use Rattle.jam_records.proofs.record_numbers.NumberFronts.{u16_front, u32_front}
 use Rattle.damage_rules.proofs.KeptRules.{Kept, rules_kept, kept_rules}
 use Rattle.board_ledger.specs.Limits.{user_limit, verdict_limit}
 use Rattle.board_ledger.specs.Uploads.{upload_text, upload_in_record, wrong_user, too_many, is_repeated, upload_rules, upload_at, IsUpload, upload_size}

@@ -3,8 +3,8 @@ use Rattle.std.proofs.Common.{◌≡◌, ℕ, ◌+◌, List, [], ◌∷◌, ◌+
 use Rattle.std.specs.List.{flat_map}
 use Rattle.std.proofs.lemmas.List.{get_or_push}
 use Rattle.std.proofs.lemmas.Grind.{flat_map-append}
-use Rattle.door_outside.specs.Disk.{written}
-use Rattle.record_numbers.specs.Numbers.{u32_text}
+use Rattle.intent_journal.specs.door_outside.Disk.{written}
+use Rattle.jam_records.specs.record_numbers.Numbers.{u32_text}
 use Rattle.intent_journal.specs.Patches.{byte_count}
 use Rattle.intent_journal.specs.declared.patch.Patch.TheVariants.{Put}
 use Rattle.board_ledger.specs.Ledger.{ledger_text}

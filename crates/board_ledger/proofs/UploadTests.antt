@@ -7,10 +7,10 @@ use Rattle.std.specs.Cmp.Lexicographic.{bytes_decides}
 use Rattle.std.proofs.lemmas.Bool.{eqb-true, eq-eqb, and_parts}
 use Rattle.std.proofs.lemmas.List.Elements.{All-drop}
 use Rattle.byteorder.specs.Endian.{little_number}
-use Rattle.byte_lists.specs.Byte.{IsByte}
-use Rattle.record_numbers.specs.Numbers.{u16_text}
-use Rattle.record_numbers.proofs.NumberFronts.{u16_front}
-use Rattle.record_numbers.proofs.NumberLemmas.{number_of_bytes}
+use Rattle.jam_records.specs.byte_lists.Byte.{IsByte}
+use Rattle.jam_records.specs.record_numbers.Numbers.{u16_text}
+use Rattle.jam_records.proofs.record_numbers.NumberFronts.{u16_front}
+use Rattle.jam_records.proofs.record_numbers.NumberLemmas.{number_of_bytes}
 use Rattle.jam_records.specs.declared.damage.DamageRule.TheVariants.{Short, User as NoUser, Twice, Counts as WrongCounts}
 use Rattle.damage_rules.specs.Rules.{by_rules}
 use Rattle.board_ledger.specs.Uploads.{upload_in_record, wrong_user, too_many, is_repeated, upload_rules, upload_at, upload_size}

@@ -3,9 +3,9 @@ use Rattle.std.proofs.Common.{◌≡◌, ℕ, zero, suc, ◌+◌, ◌^◌, ◌�
 use Rattle.std.specs.Prelude.{All}
 use Rattle.std.proofs.Math.Nat.{pow-le-pow_right}
 use Rattle.std.proofs.lemmas.Bool.{ltb-false, ltb-true, le-ltb, and_parts}
-use Rattle.byte_lists.specs.Byte.{IsByte}
-use Rattle.record_numbers.specs.Numbers.{u32_at, u32_text, IsU32}
-use Rattle.record_numbers.proofs.NumberFronts.{u32_front, u32_small}
+use Rattle.jam_records.specs.byte_lists.Byte.{IsByte}
+use Rattle.jam_records.specs.record_numbers.Numbers.{u32_at, u32_text, IsU32}
+use Rattle.jam_records.proofs.record_numbers.NumberFronts.{u32_front, u32_small}
 use Rattle.damage_rules.proofs.KeptRules.{Kept, rules_kept, kept_rules}
 use Rattle.setup_file.specs.Texts.{is_user_name}
 use Rattle.open_offers.specs.Offers.{behind_last, behind_size, cell_count, cells_behind, cells_for, members_at, open_in}

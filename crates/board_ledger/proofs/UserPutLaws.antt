@@ -7,8 +7,8 @@ use Rattle.std.proofs.lemmas.List.{drop_all, get_or-set_same, length-set}
 use Rattle.std.proofs.lemmas.List.Sums.{sum_by-cons}
 use Rattle.std.proofs.lemmas.Option.{get_or_from_slice_get, slice_get_within, none-some, same_Some}
 use Rattle.byteorder.specs.Endian.{little_bytes}
-use Rattle.door_outside.specs.Disk.{written}
-use Rattle.record_numbers.specs.Numbers.{u32s_text}
+use Rattle.intent_journal.specs.door_outside.Disk.{written}
+use Rattle.jam_records.specs.record_numbers.Numbers.{u32s_text}
 use Rattle.intent_journal.specs.Patches.{bytes_of, byte_count}
 use Rattle.intent_journal.specs.declared.patch.Patch.{Patch}
 use Rattle.intent_journal.specs.declared.patch.Patch.TheVariants.{Put}

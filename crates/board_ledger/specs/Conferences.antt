@@ -1,6 +1,6 @@
 -- A conference's record: u16 number, u8 kind, u8 rules, text name.
 use Rattle.std.specs.Prelude.{ℕ, ◌+◌, List, [], ◌∷◌, ◌++◌, length, slice_index, Bool, false, Result, not, ◌||◌, ◌==◌, nat_lt, nat_le, if◌then◌else◌}
-use Rattle.record_numbers.specs.Numbers.{u16_at, u16_text}
+use Rattle.jam_records.specs.record_numbers.Numbers.{u16_at, u16_text}
 use Rattle.jam_records.specs.declared.damage.Damage.{Damage}
 use Rattle.jam_records.specs.declared.damage.DamageRule.TheVariants.{Short, Kind as WrongKind, Rules as WrongRules, Name, Order}
 use Rattle.jam_records.specs.declared.message.Kind.{Kind}

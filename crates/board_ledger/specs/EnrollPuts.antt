@@ -3,8 +3,8 @@ use Rattle.std.specs.Prelude.{◌+◌, List, [], ◌∷◌, ◌++◌, length}
 use Rattle.std.specs.List.{flat_map}
 use Rattle.intent_journal.specs.declared.patch.Patch.{Patch}
 use Rattle.intent_journal.specs.declared.patch.Patch.TheVariants.{Put}
-use Rattle.door_outside.specs.File.{ledger_file}
-use Rattle.record_numbers.specs.Numbers.{u16_text}
+use Rattle.intent_journal.specs.door_outside.File.{ledger_file}
+use Rattle.jam_records.specs.record_numbers.Numbers.{u16_text}
 use Rattle.board_ledger.specs.Uploads.{upload_text}
 use Rattle.board_ledger.specs.UserPuts.{record_in, user_place}
 use Rattle.board_ledger.specs.declared.ledger.Ledger.{Ledger}

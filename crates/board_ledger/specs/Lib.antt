@@ -12,3 +12,7 @@ pub mod OneFile
 pub mod UploadPuts
 pub mod UserPuts
 pub mod EnrollPuts
+pub use Rattle.setup_file.specs as setup_file
+pub use Rattle.open_offers.specs as open_offers
+pub use Rattle.intent_journal.specs as intent_journal
+pub use Rattle.damage_rules.specs as damage_rules

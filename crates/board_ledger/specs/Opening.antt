@@ -3,7 +3,7 @@ use Rattle.std.specs.Prelude.{ℕ, ◌+◌, ◌*◌, List, [], ◌∷◌, ◌++�
 use Rattle.std.specs.List.{flat_map}
 use Rattle.std.specs.Str.{bytes_eq}
 use Rattle.byteorder.specs.Endian.{little_bytes}
-use Rattle.record_numbers.specs.Numbers.{u16_at, u32_at, u32s_text}
+use Rattle.jam_records.specs.record_numbers.Numbers.{u16_at, u32_at, u32s_text}
 use Rattle.jam_records.specs.declared.damage.Damage.{Damage}
 use Rattle.jam_records.specs.declared.damage.DamageRule.TheVariants.{Short, Magic, Version as WrongVersion, Count, Number, Text, Id, Zones}
 use Rattle.damage_rules.specs.Rules.{Rules, by_rules}

@@ -3,7 +3,7 @@ use Rattle.std.specs.Prelude.{◌≡◌, ℕ, ◌+◌, List, [], ◌∷◌, leng
 use Rattle.std.specs.List.{flat_map}
 use Rattle.intent_journal.specs.declared.patch.Patch.{Patch}
 use Rattle.intent_journal.specs.declared.patch.Patch.TheVariants.{Put}
-use Rattle.door_outside.specs.File.{ledger_file}
+use Rattle.intent_journal.specs.door_outside.File.{ledger_file}
 use Rattle.board_ledger.specs.Conferences.{conference_text}
 use Rattle.board_ledger.specs.Opening.{opening_text}
 use Rattle.board_ledger.specs.Users.{user_text, users_text}

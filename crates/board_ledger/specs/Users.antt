@@ -6,7 +6,7 @@ use Rattle.std.specs.List.{flat_map, list_any}
 use Rattle.std.specs.Str.{bytes_eq}
 use Rattle.std.specs.Char.{to_ascii_lowercase}
 use Rattle.std.specs.Int.{bit_at}
-use Rattle.record_numbers.specs.Numbers.{u32_at, u32_text, IsU32}
+use Rattle.jam_records.specs.record_numbers.Numbers.{u32_at, u32_text, IsU32}
 use Rattle.jam_records.specs.declared.damage.Damage.{Damage}
 use Rattle.jam_records.specs.declared.damage.DamageRule.TheVariants.{Short, Name, Twice, Flags, Member, Offer}
 use Rattle.damage_rules.specs.Rules.{Rules, by_rules}

@@ -1,7 +1,7 @@
 -- What a valid ledger is: the rules of a board that speak of its setup, its users and its upload records. And which
 -- ledgers a file has.
 use Rattle.std.specs.Prelude.{◌≡◌, ◌≤◌, ◌⊎◌, List, [], length, All, false}
-use Rattle.record_numbers.specs.Numbers.{IsU32}
+use Rattle.jam_records.specs.record_numbers.Numbers.{IsU32}
 use Rattle.setup_file.specs.Valid.{IsSetup}
 use Rattle.board_ledger.specs.Limits.{upload_limit, user_limit}
 use Rattle.board_ledger.specs.Records.{EachBehind}

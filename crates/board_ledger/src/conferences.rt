@@ -7,10 +7,8 @@ ghost use Rattle.setup_file.specs.Valid.{IsSetupConference};
 
 use crate::damaged::damaged;
 use crate::error::LedgerError;
-use byte_lists::Bytes;
-use jam_records::{DamageRule, Kind};
+use jam_records::{Bytes, DamageRule, Kind, u16_at};
 use open_offers::{add_byte, add_text, add_u16, text_at, text_end};
-use record_numbers::u16_at;
 use setup_file::{Conference, Conferences, is_conference_name};
 use std::alloc::{AllocError, Global};
 

@@ -1,9 +1,9 @@
 ghost use Rattle.std.specs.Prelude.{◌≡◌, ◌≤◌, ◌+◌, ◌*◌, ◌<◌, ◌^◌, ◌++◌, length, IfOk};
 ghost use Rattle.std.specs.List.{flat_map};
-ghost use Rattle.record_numbers.specs.Numbers.{u16_text};
+ghost use Rattle.jam_records.specs.record_numbers.Numbers.{u16_text};
 ghost use Rattle.intent_journal.specs.declared.patch.Patch.{Patch};
 ghost use Rattle.intent_journal.specs.Patches.{byte_count};
-ghost use Rattle.door_outside.specs.File.{ledger_file};
+ghost use Rattle.intent_journal.specs.door_outside.File.{ledger_file};
 ghost use Rattle.board_ledger.specs.EnrollPuts.{with_user, enroll_puts as puts_of};
 ghost use Rattle.board_ledger.specs.Ledger.{ledger_text};
 ghost use Rattle.board_ledger.specs.OneFile.{TurnsFile};
@@ -15,9 +15,8 @@ use crate::ledger::Ledger;
 use crate::size::user_place;
 use crate::uploads::add_uploads;
 use crate::user::User;
-use byte_lists::Bytes;
-use door_outside::FileId;
-use intent_journal::{Patch, Patches};
+use intent_journal::{FileId, Patch, Patches};
+use jam_records::Bytes;
 use open_offers::add_u16;
 use std::alloc::{AllocError, Global};
 

@@ -1,6 +1,6 @@
 //! The law of the ledger, the contract of a function that does nothing.
 ghost use Rattle.std.specs.Prelude.{◌≡◌, ◌↔◌, ◌<◌, ◌^◌, ℕ, List, length, All, None};
-ghost use Rattle.byte_lists.specs.Byte.{IsByte};
+ghost use Rattle.jam_records.specs.byte_lists.Byte.{IsByte};
 ghost use Rattle.board_ledger.specs.Ledger.{ledger_text, ledger_damage, stored_text};
 ghost use Rattle.board_ledger.specs.Valid.{IsLedger, IsStored, today};
 ghost use Rattle.board_ledger.specs.declared.ledger.Ledger.{Ledger};

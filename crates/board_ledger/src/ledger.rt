@@ -1,5 +1,5 @@
 ghost use Rattle.std.specs.Prelude.{◌≡◌, length, IfOk, Some, Ok, Err};
-ghost use Rattle.byte_lists.specs.Memory.{UnlessMemory};
+ghost use Rattle.jam_records.specs.byte_lists.Memory.{UnlessMemory};
 ghost use Rattle.jam_records.specs.declared.damage.Damage.{Damage};
 ghost use Rattle.board_ledger.specs.Ledger.{ledger_text, ledger_damage, stored_text};
 ghost use Rattle.board_ledger.specs.Valid.{IsStored};
@@ -10,7 +10,7 @@ use crate::size::ledger_size;
 use crate::upload::Uploads;
 use crate::user::Users;
 use crate::write::ledger_text as text_of;
-use byte_lists::Bytes;
+use jam_records::Bytes;
 use setup_file::Setup;
 use std::alloc::{AllocError, Global};
 

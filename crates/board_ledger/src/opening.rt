@@ -2,7 +2,7 @@ ghost use Rattle.std.specs.Prelude.{◌≡◌, ◌≤◌, ◌<◌, [], ◌∷◌
 ghost use Rattle.damage_rules.specs.Rules.{first_broken, by_rules};
 ghost use Rattle.setup_file.specs.Texts.{is_bbsid as is_bbsid_text};
 ghost use Rattle.setup_file.specs.Zones.{are_zones as are_zone_numbers};
-ghost use Rattle.record_numbers.specs.Numbers.{u16_at as u16_in};
+ghost use Rattle.jam_records.specs.record_numbers.Numbers.{u16_at as u16_in};
 ghost use Rattle.board_ledger.specs.Limits.{upload_limit, user_limit};
 ghost use Rattle.board_ledger.specs.Rules.{LedgerGives};
 ghost use Rattle.open_offers.specs.Versions.{wrong_version as version_wrong};
@@ -11,10 +11,8 @@ ghost use Rattle.board_ledger.specs.Opening.{places_of as places_in, setup_of as
 use crate::damaged::damaged;
 use crate::error::LedgerError;
 use crate::ledger::{UPLOAD_LIMIT, USER_LIMIT};
-use byte_lists::Bytes;
-use jam_records::DamageRule;
+use jam_records::{Bytes, DamageRule, u16_at, u32_at};
 use open_offers::{Version, text_at, text_end, u16s_at};
-use record_numbers::{u16_at, u32_at};
 use setup_file::{Conferences, Setup, are_zones, is_bbsid, is_board_text, is_user_name};
 use std::alloc::{AllocError, Global};
 

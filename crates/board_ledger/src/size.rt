@@ -13,7 +13,7 @@ ghost use Rattle.setup_file.specs.Valid.{IsSetup, IsSetupConference};
 use crate::ledger::Ledger;
 use crate::upload::UPLOAD_SIZE;
 use crate::user::User;
-use byte_lists::Bytes;
+use jam_records::Bytes;
 use open_offers::Version;
 use setup_file::{Conference, Setup};
 

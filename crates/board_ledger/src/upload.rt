@@ -1,9 +1,8 @@
 ghost use Rattle.std.specs.Prelude.{◌≡◌, ◌≤◌, ◌<◌, ◌^◌, ◌++◌, length, OnOk};
 ghost use Rattle.board_ledger.specs.Uploads.{upload_text, upload_in_record as upload_in, wrong_user as user_wrong, too_many as counts_wrong, upload_size};
 
-use byte_lists::{Bytes, Duplicate, List};
+use jam_records::{Bytes, Duplicate, List, u16_at, u32_at};
 use open_offers::{add_u16, add_u32};
-use record_numbers::{u16_at, u32_at};
 use std::alloc::{AllocError, Global};
 
 /// How many bytes an upload record has.

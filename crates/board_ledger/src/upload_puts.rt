@@ -1,9 +1,9 @@
 ghost use Rattle.std.specs.Prelude.{◌≡◌, ◌+◌, ◌<◌, ◌^◌, length, IfOk};
-ghost use Rattle.record_numbers.specs.Numbers.{u32_text};
+ghost use Rattle.jam_records.specs.record_numbers.Numbers.{u32_text};
 ghost use Rattle.board_ledger.specs.Uploads.{upload_text};
 ghost use Rattle.intent_journal.specs.declared.patch.Patch.{Patch};
 ghost use Rattle.intent_journal.specs.Patches.{byte_count};
-ghost use Rattle.door_outside.specs.File.{ledger_file};
+ghost use Rattle.intent_journal.specs.door_outside.File.{ledger_file};
 ghost use Rattle.board_ledger.specs.Ledger.{ledger_text};
 ghost use Rattle.board_ledger.specs.OneFile.{TurnsFile};
 ghost use Rattle.board_ledger.specs.UploadPuts.{with_upload, upload_puts as puts_of};
@@ -12,9 +12,8 @@ ghost use Rattle.board_ledger.specs.Valid.{IsLedger};
 use crate::ledger::Ledger;
 use crate::size::ledger_size;
 use crate::upload::UploadRecord;
-use byte_lists::Bytes;
-use door_outside::FileId;
-use intent_journal::{Patch, Patches};
+use intent_journal::{FileId, Patch, Patches};
+use jam_records::Bytes;
 use open_offers::add_u32;
 use std::alloc::{AllocError, Global};
 

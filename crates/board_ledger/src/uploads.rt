@@ -1,7 +1,7 @@
 ghost use Rattle.std.specs.Prelude.{◌≡◌, ◌≤◌, ◌<◌, ◌+◌, ◌^◌, ◌++◌, ◌||◌, ℕ, List, [], length, All, IfOk, OnOk};
 ghost use Rattle.std.specs.List.{flat_map, list_any};
 ghost use Rattle.std.specs.Str.{bytes_eq};
-ghost use Rattle.record_numbers.specs.Numbers.{u16_text};
+ghost use Rattle.jam_records.specs.record_numbers.Numbers.{u16_text};
 ghost use Rattle.board_ledger.specs.Limits.{upload_limit};
 ghost use Rattle.board_ledger.specs.Rules.{LedgerGives};
 ghost use Rattle.board_ledger.specs.Met.{is_met};
@@ -12,8 +12,7 @@ use crate::damaged::damaged;
 use crate::error::LedgerError;
 use crate::met::Met;
 use crate::upload::{UPLOAD_SIZE, UploadRecord, Uploads};
-use byte_lists::Bytes;
-use jam_records::DamageRule;
+use jam_records::{Bytes, DamageRule};
 use std::alloc::{AllocError, Global};
 
 /// How many bytes of an upload record are its user and its digest.

@@ -3,12 +3,11 @@ ghost use Rattle.open_offers.specs.Texts.{text_end as end_of};
 ghost use Rattle.board_ledger.specs.Users.{user_text, behind_name as size_behind_name, user_record_of as record_in, user_end, right_members as members_right, right_offers as offers_right, is_member as member_at, with_open as with_open_offers};
 ghost use Rattle.open_offers.specs.declared.version.Version.TheVariants.{Second};
 
-use byte_lists::{Bytes, Duplicate, List};
+use jam_records::{Bytes, Duplicate, List, u32_at};
 use open_offers::{
     Offers, Version, add_byte, add_cells, add_text, add_u32, add_u64, cells_behind, is_in_set,
     members_at, open_in, right_cells, size_behind_last, text_at,
 };
-use record_numbers::u32_at;
 use std::alloc::{AllocError, Global};
 
 /// A user of a board. A valid user keeps the rules that the fields name.

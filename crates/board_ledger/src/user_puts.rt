@@ -1,5 +1,5 @@
 ghost use Rattle.std.specs.Prelude.{◌≡◌, ◌≤◌, length, IfOk};
-ghost use Rattle.door_outside.specs.File.{ledger_file};
+ghost use Rattle.intent_journal.specs.door_outside.File.{ledger_file};
 ghost use Rattle.intent_journal.specs.Patches.{byte_count};
 ghost use Rattle.board_ledger.specs.Ledger.{ledger_text};
 ghost use Rattle.board_ledger.specs.OneFile.{TurnsFile};
@@ -9,9 +9,8 @@ ghost use Rattle.board_ledger.specs.Valid.{IsLedger};
 use crate::ledger::Ledger;
 use crate::size::user_place;
 use crate::user::User;
-use byte_lists::Bytes;
-use door_outside::FileId;
-use intent_journal::{Patch, Patches};
+use intent_journal::{FileId, Patch, Patches};
+use jam_records::Bytes;
 use std::alloc::{AllocError, Global};
 
 /// The patches that turn the file of this ledger into that of the ledger with this user in a place, from 0, whose

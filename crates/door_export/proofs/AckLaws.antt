@@ -10,9 +10,9 @@ use Rattle.board_ledger.specs.declared.user.User.{User}
 use Rattle.mail_board.specs.Changes.{Fits}
 use Rattle.mail_board.specs.Readers.{has_open, is_offered, offer_of, user_id}
 use Rattle.mail_board.specs.declared.change.Change.TheVariants.{Acknowledge}
-use Rattle.offer_changes.proofs.AcknowledgeLaws.{acknowledged_board}
-use Rattle.offer_changes.proofs.FitLaws.{offer_kept}
-use Rattle.offer_changes.specs.Changed.{acknowledged, offer_in}
+use Rattle.mail_board.proofs.offer_changes.AcknowledgeLaws.{acknowledged_board}
+use Rattle.mail_board.proofs.offer_changes.FitLaws.{offer_kept}
+use Rattle.mail_board.specs.offer_changes.Changed.{acknowledged, offer_in}
 use Rattle.open_offers.specs.declared.offer.OpenOffer.{OpenOffer}
 use Rattle.door_export.specs.Ack.{NoPacket, ack_as, ack_of, ack_offer, after_ack}
 

@@ -11,7 +11,7 @@ use Rattle.mail_board.specs.Changes.{changed}
 use Rattle.mail_board.specs.Held.{AreAlike}
 use Rattle.mail_board.specs.Readers.{is_offered, offer_of, user_id}
 use Rattle.mail_board.specs.declared.change.Change.TheVariants.{Offer}
-use Rattle.offer_changes.specs.Changed.{acknowledged}
+use Rattle.mail_board.specs.offer_changes.Changed.{acknowledged}
 use Rattle.offered_packets.proofs.OutlineLaws.{outline_highs, outline_offered}
 use Rattle.offered_packets.specs.Control.{control}
 use Rattle.offered_packets.specs.Offered.{highs, offered}

@@ -11,9 +11,9 @@ use Rattle.mail_board.specs.Readers.{user_id}
 use Rattle.mail_board.specs.declared.change.Change.TheVariants.{Offer}
 use Rattle.mail_board.specs.declared.change.ChangeError.{ChangeError}
 use Rattle.mail_board.specs.declared.change.ChangeError.TheVariants as change
-use Rattle.offer_changes.proofs.FitLaws.{offer_fits}
-use Rattle.offer_changes.proofs.LedgerLaws.{user_was}
-use Rattle.offer_changes.proofs.UserLaws.{Alike, user_there}
+use Rattle.mail_board.proofs.offer_changes.FitLaws.{offer_fits}
+use Rattle.mail_board.proofs.offer_changes.LedgerLaws.{user_was}
+use Rattle.mail_board.proofs.offer_changes.UserLaws.{Alike, user_there}
 use Rattle.offered_packets.specs.Offered.{highs, offered}
 use Rattle.door_export.proofs.HighsFit.{offer_may}
 use Rattle.door_export.specs.Export.{ExportRefusal, Limit, Packets, after_export, export_as, export_of, export_to, packet_to, handed_unless_refused, user_refusal}

@@ -15,7 +15,7 @@ use Rattle.board_ledger.specs.declared.user.User.{User}
 use Rattle.jam_base.specs.Slots.{has_live}
 use Rattle.jam_layout.specs.declared.conference.Conference.{Conference}
 use Rattle.jam_records.specs.declared.message.Message.{Message}
-use Rattle.offer_changes.specs.Highs.{may_have}
+use Rattle.mail_board.specs.offer_changes.Highs.{may_have}
 use Rattle.open_offers.specs.Offers.{are_of_member}
 use Rattle.offered_packets.proofs.ShownMessages.{is_there}
 use Rattle.offered_packets.specs.Offered.{all_numbers, high_of, highs, is_above, is_new, offered}

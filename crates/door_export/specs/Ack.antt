@@ -2,7 +2,7 @@
 use Rattle.std.specs.Prelude.{ℕ, List, if◌then◌else◌, Option, Some, None, Result, Ok, Err}
 use Rattle.board_layout.specs.Board.{Board}
 use Rattle.mail_board.specs.Readers.{is_offered, offer_of, user_id}
-use Rattle.offer_changes.specs.Changed.{acknowledged}
+use Rattle.mail_board.specs.offer_changes.Changed.{acknowledged}
 
 -- why the user of a name acknowledges nothing
 pub data AckRefusal : Type 0 where

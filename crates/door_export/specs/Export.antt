@@ -4,7 +4,7 @@ use Rattle.board_layout.specs.Board.{Board}
 use Rattle.board_layout.specs.Lookups.{user_of}
 use Rattle.board_ledger.specs.declared.user.User.{User}
 use Rattle.mail_board.specs.Readers.{user_id}
-use Rattle.offer_changes.specs.Changed as change
+use Rattle.mail_board.specs.offer_changes.Changed as change
 use Rattle.offered_packets.specs.Control.{control}
 use Rattle.offered_packets.specs.Offered.{offered, highs}
 use Rattle.offered_packets.specs.Shown.{notice, packet}

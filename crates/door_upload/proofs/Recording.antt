@@ -16,7 +16,7 @@ use Rattle.board_ledger.specs.declared.user.User.{User}
 use Rattle.door_upload.specs.Upload.{UploadRefusal, Uploads, Size, record_refusal, size_with_record}
 use Rattle.jam_records.specs.declared.message.Message.{Message}
 use Rattle.mail_board.specs.Readers.{upload_of}
-use Rattle.offer_changes.proofs.UserLaws.{id_above, user_there}
+use Rattle.mail_board.proofs.offer_changes.UserLaws.{id_above, user_there}
 use Rattle.post_changes.specs.Posted.{upload_record}
 use Rattle.post_changes.specs.Recorded.{is_new_upload, may_record}
 

@@ -25,7 +25,7 @@ use Rattle.entry_runs.specs.Entry.{Changes, Finds, IsAt, Works}
 use Rattle.intent_journal.specs.Hosts.{IsSettled}
 use Rattle.intent_journal.specs.declared.recovery.JournalError.{JournalError}
 use Rattle.intent_journal.specs.declared.recovery.JournalError.TheVariants as journal
-use Rattle.mail_board.specs.Held.{BeforeOrNext, Rests}
+use Rattle.board_commands.specs.mail_board.Held.{BeforeOrNext, Rests}
 use Rattle.shelf_files.specs.Halts.{refused as says_refusal}
 use Rattle.exchange_commands.specs.Ack.{ack_turn, acknowledged_line, acknowledges, ack_refusal, turn_of}
 use Rattle.exchange_commands.specs.Acknowledging.{ack_halt}

@@ -10,7 +10,7 @@ use Rattle.door_export.specs.declared.exporting.ExportError.TheVariants.{NoUser,
 use Rattle.door_export.specs.declared.exporting.Exported.{Exported}
 use Rattle.entry_runs.specs.Promise.{HasCauses, counts, ended}
 use Rattle.entry_runs.specs.declared.status.Status.TheVariants as status
-use Rattle.mail_board.specs.Causes.{HasFault}
+use Rattle.board_commands.specs.mail_board.Causes.{HasFault}
 use Rattle.exchange_commands.specs.Acknowledging as acknowledging
 use Rattle.exchange_commands.specs.Exporting.{export_halt}
 

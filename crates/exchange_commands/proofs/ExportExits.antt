@@ -27,7 +27,7 @@ use Rattle.intent_journal.specs.Hosts.{IsSettled}
 use Rattle.intent_journal.specs.declared.recovery.JournalError.{JournalError}
 use Rattle.intent_journal.specs.declared.recovery.JournalError.TheVariants as journal
 use Rattle.jam_records.specs.declared.damage.Damage.{Damage}
-use Rattle.mail_board.specs.Held.{BeforeOrNext, Rests}
+use Rattle.board_commands.specs.mail_board.Held.{BeforeOrNext, Rests}
 use Rattle.shelf_files.specs.Halts.{done, refused as says_refusal}
 use Rattle.exchange_commands.proofs.HandingExits.{answered, cut_short, handed, starved, unchanged}
 use Rattle.exchange_commands.specs.Export.{export_handing, exports, handing_of, packet_line, export_refusal}

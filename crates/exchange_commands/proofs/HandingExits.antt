@@ -20,7 +20,7 @@ use Rattle.entry_runs.specs.declared.stop.Stop.TheVariants as stop
 use Rattle.intent_journal.specs.declared.recovery.JournalError.{JournalError}
 use Rattle.intent_journal.specs.declared.recovery.JournalError.TheVariants as journal
 use Rattle.jam_records.specs.declared.damage.Damage.{Damage}
-use Rattle.mail_board.specs.declared.loading.Loaded.{Loaded}
+use Rattle.board_commands.specs.mail_board.declared.loading.Loaded.{Loaded}
 use Rattle.exchange_commands.specs.Handing.{Handing, HandsOnState, on_board_then_shelf}
 
 abbrev stepped_to : World State → Reply → Stepped (World State)

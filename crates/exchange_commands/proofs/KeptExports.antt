@@ -14,8 +14,8 @@ use Rattle.door_export.specs.declared.exporting.ExportError.TheVariants as error
 use Rattle.door_export.specs.declared.exporting.Exported.{Exported}
 use Rattle.door_outside.specs.Disk.{Disk}
 use Rattle.intent_journal.specs.Hosts.{IsSettled}
-use Rattle.mail_board.specs.Held.{Follows, HeldBoard, RestsOn}
-use Rattle.mail_board.specs.declared.loading.Loaded.TheVariants.{Ready}
+use Rattle.board_commands.specs.mail_board.Held.{Follows, HeldBoard, RestsOn}
+use Rattle.board_commands.specs.mail_board.declared.loading.Loaded.TheVariants.{Ready}
 
 -- a board that is in no doubt after an export is the host's
 pub export_kept : (after : HeldBoard) (disk : Disk) → (after.doubtful ≡ false → RestsOn after.board disk) → IsSettled disk → IsKept (unless_doubtful after) disk

@@ -11,7 +11,7 @@ use Rattle.door_upload.specs.declared.answer.UploadError.{UploadError}
 use Rattle.door_upload.specs.declared.answer.UploadError.TheVariants.{NoUser, Broken, NoBoardId, OtherBoard, Uploads, Size, DiskFault, Doubt, Damaged, OutOfMemory}
 use Rattle.door_upload.specs.declared.answer.Uploaded.{Uploaded}
 use Rattle.intent_journal.specs.Hosts.{IsSettled}
-use Rattle.mail_board.specs.Held.{Follows, HeldBoard, RestsOn}
+use Rattle.board_commands.specs.mail_board.Held.{Follows, HeldBoard, RestsOn}
 
 -- an error that isn't a disk fault leaves all
 early_or_fault : (e : UploadError) → UploadLeavesAll (Err e) ⊎ (e ≡ DiskFault)

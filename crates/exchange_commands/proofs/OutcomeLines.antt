@@ -4,7 +4,7 @@ use Rattle.std.proofs.lemmas.List.{append-nil, drop_more}
 use Rattle.door_outside.specs.Disk.{Disk}
 use Rattle.entry_runs.proofs.Voice.{voiced_as, voiced_front, voiced_none, voiced_on}
 use Rattle.entry_runs.specs.Saying.{Voiced}
-use Rattle.packet_verdicts.specs.declared.outcome.Outcome.{Outcome}
+use Rattle.mail_intake.specs.packet_verdicts.declared.outcome.Outcome.{Outcome}
 use Rattle.exchange_commands.specs.Upload.{outcome_line, outcome_lines}
 
 -- The lines before one were said. This is the invariant of saying them all.

@@ -9,7 +9,7 @@ use Rattle.door_upload.proofs.OneUpload.{one_for}
 use Rattle.door_upload.specs.Upload.{Again, Judged, Upload, UploadRefusal}
 use Rattle.door_upload.specs.declared.answer.Uploaded.{Uploaded}
 use Rattle.door_upload.specs.declared.answer.Uploaded.TheVariants as answer
-use Rattle.mail_board.specs.Readers.{user_id}
+use Rattle.board_commands.specs.mail_board.Readers.{user_id}
 use Rattle.shelf_files.specs.ShelfFile.{file_within, rep_limit}
 use Rattle.shelf_files.specs.declared.refusal.Refusal.{Refusal}
 use Rattle.shelf_files.specs.declared.refusal.Refusal.TheVariants.{NotMade, NoUser}

@@ -11,9 +11,9 @@ use Rattle.door_upload.proofs.UploadAlike.{SameUpload, each_upload, id_alike}
 use Rattle.door_upload.specs.Upload.{Again, Judged, Upload, UploadRefusal, UploadsFor, after_upload}
 use Rattle.intent_journal.specs.Journal.{IsClosed}
 use Rattle.intent_journal.specs.Recovered.{recovered}
-use Rattle.mail_board.specs.Held.{AreAlike}
-use Rattle.mail_board.specs.Readers.{user_id}
-use Rattle.mail_board.specs.Written.{KeepsBoundOf}
+use Rattle.board_commands.specs.mail_board.Held.{AreAlike}
+use Rattle.board_commands.specs.mail_board.Readers.{user_id}
+use Rattle.board_commands.specs.mail_board.Written.{KeepsBoundOf}
 use Rattle.shelf_files.specs.ShelfFile.{file_within, rep_limit}
 use Rattle.shelf_files.specs.declared.refusal.Refusal.{Refusal}
 use Rattle.exchange_commands.proofs.UploadActs.{upload_turns}

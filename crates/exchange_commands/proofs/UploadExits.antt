@@ -28,9 +28,9 @@ use Rattle.entry_runs.specs.Entry.{Changes, Finds, IsAt, Works}
 use Rattle.intent_journal.specs.Hosts.{IsSettled}
 use Rattle.intent_journal.specs.declared.recovery.JournalError.{JournalError}
 use Rattle.intent_journal.specs.declared.recovery.JournalError.TheVariants as journal
-use Rattle.mail_board.specs.Held.{BeforeOrNext, Rests}
-use Rattle.mail_board.specs.Readers.{user_id}
-use Rattle.packet_verdicts.specs.declared.outcome.Outcome.{Outcome}
+use Rattle.board_commands.specs.mail_board.Held.{BeforeOrNext, Rests}
+use Rattle.board_commands.specs.mail_board.Readers.{user_id}
+use Rattle.mail_intake.specs.packet_verdicts.declared.outcome.Outcome.{Outcome}
 use Rattle.shelf_files.specs.Halts.{Comes, refused as says_refusal}
 use Rattle.shelf_files.specs.ShelfFile.{file_within, rep_limit}
 use Rattle.shelf_files.specs.declared.halt.Halt.{Halt}

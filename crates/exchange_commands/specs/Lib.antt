@@ -5,3 +5,5 @@ pub mod Exporting
 pub mod Handing
 pub mod Upload
 pub mod Uploading
+pub use Rattle.door_upload.specs as door_upload
+pub use Rattle.door_export.specs as door_export

@@ -9,12 +9,12 @@ use Rattle.door_upload.specs.Upload as upload
 use Rattle.door_upload.specs.declared.answer.Uploaded.{Uploaded}
 use Rattle.door_upload.specs.declared.answer.Uploaded.TheVariants.{Again, Judged}
 use Rattle.entry_runs.specs.Door.{Act}
-use Rattle.mail_board.specs.Readers.{user_id}
+use Rattle.board_commands.specs.mail_board.Readers.{user_id}
 use Rattle.mail_intake.specs.Lines.{posted_line, refused_line, counts_line}
 use Rattle.netmail_rules.specs.RuleWord.{rule_word}
-use Rattle.packet_verdicts.specs.Judged.{refused_count}
-use Rattle.packet_verdicts.specs.declared.outcome.Outcome.{Outcome}
-use Rattle.packet_verdicts.specs.declared.outcome.Outcome.TheVariants.{Posted, Refused}
+use Rattle.mail_intake.specs.packet_verdicts.Judged.{refused_count}
+use Rattle.mail_intake.specs.packet_verdicts.declared.outcome.Outcome.{Outcome}
+use Rattle.mail_intake.specs.packet_verdicts.declared.outcome.Outcome.TheVariants.{Posted, Refused}
 use Rattle.shelf_files.specs.Halts.{done}
 use Rattle.shelf_files.specs.ShelfFile.{file_within, rep_limit}
 use Rattle.shelf_files.specs.declared.refusal.Refusal.{Refusal}

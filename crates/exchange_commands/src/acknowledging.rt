@@ -12,10 +12,9 @@ ghost use Rattle.entry_runs.specs.Promise.{ended};
 ghost use Rattle.exchange_commands.specs.Ack.{acknowledged_line, acknowledges};
 ghost use Rattle.exchange_commands.specs.Acknowledging.{ack_halt};
 
-use board_commands::{BoardHalt, find, keep_board, take_board};
+use board_commands::{BoardHalt, Loaded, find, keep_board, take_board};
 use door_export::{AckError, acknowledge};
 use door_outside::Host;
-use mail_board::Loaded;
 use shelf_files::Refusal;
 use std::alloc::Global;
 

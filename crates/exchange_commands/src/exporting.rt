@@ -12,10 +12,9 @@ ghost use Rattle.entry_runs.specs.Promise.{ended};
 ghost use Rattle.exchange_commands.specs.Export.{exports, packet_line};
 ghost use Rattle.exchange_commands.specs.Exporting.{export_halt};
 
-use board_commands::{BoardHalt, find, keep_board, take_board};
+use board_commands::{BoardHalt, Loaded, find, keep_board, take_board};
 use door_export::{ExportError, Exported};
 use door_outside::{Host, Shelf, ShelfName};
-use mail_board::Loaded;
 use shelf_files::Refusal;
 use std::alloc::Global;
 

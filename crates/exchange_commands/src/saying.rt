@@ -3,7 +3,7 @@ ghost use Rattle.std.specs.Prelude.{◌≡◌, ◌++◌, IsTrue};
 ghost use Rattle.door_outside.specs.Cause.{HasCause};
 ghost use Rattle.entry_runs.specs.Saying.{Voiced};
 ghost use Rattle.mail_intake.specs.Lines.{counts_line};
-ghost use Rattle.packet_verdicts.specs.Judged.{refused_count};
+ghost use Rattle.mail_intake.specs.packet_verdicts.Judged.{refused_count};
 ghost use Rattle.exchange_commands.specs.Upload.{outcome_line, outcome_lines, tally, uploaded_text};
 
 use door_outside::{Host, VoiceFault};

@@ -11,15 +11,14 @@ ghost use Rattle.entry_runs.specs.Door.{World};
 ghost use Rattle.entry_runs.specs.Entry.{IsAt, Works};
 ghost use Rattle.entry_runs.specs.Promise.{ended};
 ghost use Rattle.intent_journal.specs.Journal.{IsClosed};
-ghost use Rattle.mail_board.specs.Readers.{user_id};
+ghost use Rattle.board_commands.specs.mail_board.Readers.{user_id};
 ghost use Rattle.shelf_files.specs.declared.refusal.Refusal.TheVariants as refusal;
 ghost use Rattle.exchange_commands.specs.Upload.{uploaded_text, uploads};
 ghost use Rattle.exchange_commands.specs.Uploading.{upload_halt};
 
-use board_commands::{BoardHalt, board_in, find, keep_board, take_board};
+use board_commands::{Board, BoardHalt, Loaded, board_in, find, keep_board, take_board};
 use door_outside::{Host, Shelf, ShelfName};
 use door_upload::{UploadError, Uploaded};
-use mail_board::{Board, Loaded};
 use shelf_files::{REP_LIMIT, Refusal, file_in};
 use std::alloc::Global;
 

@@ -8,7 +8,7 @@ use Rattle.jam_records.specs.declared.message.Kind.{Kind}
 use Rattle.jam_records.specs.declared.message.Kind.TheVariants.{Local, Echo, Net}
 use Rattle.jam_records.specs.declared.message.Message.{Message}
 use Rattle.jam_layout.proofs.AddressLaws.{is_test}
-use Rattle.damage_rules.proofs.BoolTests.{or_false, not_not}
+use Rattle.netmail_rules.proofs.damage_rules.BoolTests.{or_false, not_not}
 use Rattle.jam_layout.specs.Address.{is_address}
 use Rattle.jam_layout.specs.Fields.{is_text}
 use Rattle.jam_layout.specs.Marks.{is_net}

@@ -8,8 +8,8 @@ ghost use Rattle.intent_journal.specs.Journal.{IsClosed, begins_body};
 use crate::gate::is_open;
 use crate::reading::{BodyHead, JOURNAL_HEADER, body_head};
 use crate::recovery::JournalError;
-use byte_lists::Bytes;
 use door_outside::{DiskFault, FileId, Host};
+use record_numbers::Bytes;
 use std::alloc::Global;
 
 /// What stands in the journal.

@@ -37,6 +37,7 @@ mod recovery;
 mod within;
 
 pub use committing::commit;
+pub use door_outside::FileId;
 pub use intent::Intent;
 pub use patch::{Patch, Patches};
 pub use recovery::{JournalError, recover};

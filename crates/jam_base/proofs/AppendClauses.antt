@@ -5,9 +5,9 @@ use Rattle.std.specs.List.{flat_map}
 use Rattle.intent_journal.specs.declared.patch.Patch.{Patch}
 use Rattle.jam_records.specs.declared.message.Message.{Message}
 use Rattle.jam_records.specs.declared.message.Slot.{Slot}
-use Rattle.jam_layout.specs.Layout.{layout}
-use Rattle.jam_layout.specs.Outlines.{message_outline, slot_outline}
-use Rattle.jam_layout.specs.declared.files.BaseFiles.{BaseFiles}
+use Rattle.jam_writing.specs.jam_layout.Layout.{layout}
+use Rattle.jam_writing.specs.jam_layout.Outlines.{message_outline, slot_outline}
+use Rattle.jam_writing.specs.jam_layout.declared.files.BaseFiles.{BaseFiles}
 use Rattle.jam_base.specs.Bodies.{Lengthens}
 use Rattle.jam_base.specs.Change.{Turns, SuitsIntent}
 use Rattle.jam_base.specs.Contents.{Contents, counter_after, with_messages, with_slots}

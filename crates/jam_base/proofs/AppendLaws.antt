@@ -12,14 +12,14 @@ use Rattle.jam_threads.specs.Links.{link_of}
 use Rattle.jam_threads.specs.declared.link.Link.{Link}
 use Rattle.jam_threads.specs.declared.link.LinkPatch.{LinkPatch}
 use Rattle.jam_threads.proofs.ChangeLemmas.{is_change}
-use Rattle.jam_layout.specs.Conference.{live_count}
-use Rattle.jam_layout.specs.Headers.{entry_text, headers_text}
-use Rattle.jam_layout.specs.Index.{pair_of}
-use Rattle.jam_layout.specs.Layout.{layout, base_header, entries_of}
-use Rattle.jam_layout.specs.Sizes.{slot_header}
-use Rattle.jam_layout.specs.declared.conference.Conference.{Conference}
-use Rattle.jam_layout.specs.declared.shape.Shape.{Shape}
-use Rattle.jam_layout.proofs.BaseLaws.{base_length}
+use Rattle.jam_writing.specs.jam_layout.Conference.{live_count}
+use Rattle.jam_writing.specs.jam_layout.Headers.{entry_text, headers_text}
+use Rattle.jam_writing.specs.jam_layout.Index.{pair_of}
+use Rattle.jam_writing.specs.jam_layout.Layout.{layout, base_header, entries_of}
+use Rattle.jam_writing.specs.jam_layout.Sizes.{slot_header}
+use Rattle.jam_writing.specs.jam_layout.declared.conference.Conference.{Conference}
+use Rattle.jam_writing.specs.jam_layout.declared.shape.Shape.{Shape}
+use Rattle.jam_writing.proofs.jam_layout.BaseLaws.{base_length}
 use Rattle.jam_writing.specs.Pieces.{entry_with, body_size}
 use Rattle.jam_writing.proofs.PieceLaws.{bodies_are, bodies_length, headers_length}
 use Rattle.jam_writing.proofs.SlotShapes.{jhr_more, jdt_more, jdx_more}

@@ -5,11 +5,11 @@ use Rattle.std.specs.List.{slice_get, flat_map}
 use Rattle.std.proofs.Math.Seq.{take-append_seam, drop-append_seam}
 use Rattle.std.proofs.lemmas.Bool.{cases_Bool, leb-true, leb-false, cond-true, cond-false, ne_eqb}
 use Rattle.std.proofs.lemmas.Grind.{flat_map-append}
-use Rattle.door_outside.specs.Disk.{written}
-use Rattle.record_numbers.specs.Numbers.{u32_text, u32s_text}
+use Rattle.intent_journal.specs.door_outside.Disk.{written}
+use Rattle.jam_records.specs.record_numbers.Numbers.{u32_text, u32s_text}
 use Rattle.intent_journal.specs.declared.patch.Patch.{Patch}
 use Rattle.intent_journal.specs.declared.patch.Patch.TheVariants.{Put}
-use Rattle.door_outside.specs.File.{jhr_file, jdt_file, jdx_file}
+use Rattle.intent_journal.specs.door_outside.File.{jhr_file, jdt_file, jdx_file}
 use Rattle.jam_records.specs.BaseHeaders.{base_text}
 use Rattle.jam_records.specs.declared.base_header.BaseHeader.{BaseHeader}
 use Rattle.jam_records.specs.declared.message.Kind.{Kind}
@@ -24,16 +24,16 @@ use Rattle.jam_threads.specs.declared.link.LinkField.TheVariants.{First, Next}
 use Rattle.jam_threads.specs.declared.link.LinkPatch.{LinkPatch}
 use Rattle.jam_threads.proofs.ChangeLemmas.{is_change}
 use Rattle.jam_threads.proofs.ChildrenLemmas.{slice_get_front}
-use Rattle.jam_layout.specs.Bodies.{bodies_text}
-use Rattle.jam_layout.specs.Conference.{live_count}
-use Rattle.jam_layout.specs.Headers.{headers_text}
-use Rattle.jam_layout.specs.Index.{index_records}
-use Rattle.jam_layout.specs.Layout.{layout, base_header, entries_of}
-use Rattle.jam_layout.specs.Sizes.{slot_header}
-use Rattle.jam_layout.specs.declared.conference.Conference.{Conference}
-use Rattle.jam_layout.specs.declared.shape.Shape.{Shape}
-use Rattle.jam_layout.proofs.BaseLaws.{base_length}
-use Rattle.jam_layout.proofs.SlotLaws.{index_length}
+use Rattle.jam_writing.specs.jam_layout.Bodies.{bodies_text}
+use Rattle.jam_writing.specs.jam_layout.Conference.{live_count}
+use Rattle.jam_writing.specs.jam_layout.Headers.{headers_text}
+use Rattle.jam_writing.specs.jam_layout.Index.{index_records}
+use Rattle.jam_writing.specs.jam_layout.Layout.{layout, base_header, entries_of}
+use Rattle.jam_writing.specs.jam_layout.Sizes.{slot_header}
+use Rattle.jam_writing.specs.jam_layout.declared.conference.Conference.{Conference}
+use Rattle.jam_writing.specs.jam_layout.declared.shape.Shape.{Shape}
+use Rattle.jam_writing.proofs.jam_layout.BaseLaws.{base_length}
+use Rattle.jam_writing.proofs.jam_layout.SlotLaws.{index_length}
 use Rattle.jam_writing.specs.Pieces.{body_piece, body_size}
 use Rattle.jam_writing.proofs.PieceLaws.{bodies_are, bodies_length, headers_length}
 use Rattle.jam_writing.proofs.SlotShapes.{headers-append, index-append}

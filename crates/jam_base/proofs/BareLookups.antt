@@ -5,10 +5,10 @@ use Rattle.std.proofs.lemmas.Bool.{cond-false, ne_eqb}
 use Rattle.jam_records.specs.declared.message.Slot.{Slot}
 use Rattle.jam_records.specs.declared.message.Slot.TheVariants.{Gone, Held}
 use Rattle.jam_records.specs.declared.message.Kind.{Kind}
-use Rattle.jam_layout.specs.Conference.{is_live}
-use Rattle.jam_layout.specs.Outlines.{slot_bare}
-use Rattle.shared_slots.specs.Kept.{slot_as_long}
-use Rattle.shared_slots.proofs.BareSlots.{whole_again}
+use Rattle.jam_writing.specs.jam_layout.Conference.{is_live}
+use Rattle.jam_writing.specs.jam_layout.Outlines.{slot_bare}
+use Rattle.jam_writing.specs.shared_slots.Kept.{slot_as_long}
+use Rattle.jam_writing.proofs.shared_slots.BareSlots.{whole_again}
 use Rattle.jam_base.specs.Bodies.{body_begin, span_at, body_span}
 use Rattle.jam_base.specs.MarkPuts.{delete_put, receive_put}
 use Rattle.jam_base.specs.Slots.{has_due, has_live, is_due, numbered, slot_deleted, slot_received}

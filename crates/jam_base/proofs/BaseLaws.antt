@@ -10,13 +10,13 @@ use Rattle.jam_threads.specs.Chains.{last_in}
 use Rattle.jam_threads.specs.Threading.{AreThreads}
 use Rattle.jam_threads.specs.declared.link.Link.{Link}
 use Rattle.jam_threads.specs.declared.threads.Threads.{Threads}
-use Rattle.jam_layout.specs.Layout.{layout, files_size}
-use Rattle.jam_layout.specs.Sizes.{slot_header, slot_size}
-use Rattle.jam_layout.specs.Valid.{IsShape, IsConference}
-use Rattle.jam_layout.specs.declared.conference.Conference.{Conference}
-use Rattle.jam_layout.specs.declared.shape.Shape.{Shape}
-use Rattle.jam_layout.proofs.SlotSizes.{size_is}
-use Rattle.jam_layout.specs.Bodies.{body_size}
+use Rattle.jam_writing.specs.jam_layout.Layout.{layout, files_size}
+use Rattle.jam_writing.specs.jam_layout.Sizes.{slot_header, slot_size}
+use Rattle.jam_writing.specs.jam_layout.Valid.{IsShape, IsConference}
+use Rattle.jam_writing.specs.jam_layout.declared.conference.Conference.{Conference}
+use Rattle.jam_writing.specs.jam_layout.declared.shape.Shape.{Shape}
+use Rattle.jam_writing.proofs.jam_layout.SlotSizes.{size_is}
+use Rattle.jam_writing.specs.jam_layout.Bodies.{body_size}
 use Rattle.jam_base.specs.Contents.{Contents, with_messages, with_slots}
 use Rattle.jam_base.specs.Slots.{slot_deleted, slots_deleted, slots_received, slots_with_all}
 use Rattle.jam_base.specs.declared.receipt.Receipt.{Receipt}

@@ -7,9 +7,9 @@ use Rattle.std.proofs.lemmas.Bool.{cond-true, cond-false, eq-eqb, ne_eqb}
 use Rattle.std.proofs.lemmas.Grind.{flat_map-append}
 use Rattle.std.proofs.lemmas.List.{drop_all}
 use Rattle.std.proofs.lemmas.List.Elements.{All-append, All-cons, All-head, All-nil, All-tail}
-use Rattle.door_outside.specs.Disk.{written}
-use Rattle.door_outside.specs.File.{jhr_file, jdt_file, jlr_file}
-use Rattle.record_numbers.specs.Numbers.{u32_text, u32s_text}
+use Rattle.intent_journal.specs.door_outside.Disk.{written}
+use Rattle.intent_journal.specs.door_outside.File.{jhr_file, jdt_file, jlr_file}
+use Rattle.jam_records.specs.record_numbers.Numbers.{u32_text, u32s_text}
 use Rattle.intent_journal.specs.Patches.{Files, apply, file_of, patched}
 use Rattle.intent_journal.specs.declared.patch.Patch.{Patch}
 use Rattle.intent_journal.specs.declared.patch.Patch.TheVariants.{Put, Whole}
@@ -20,11 +20,11 @@ use Rattle.jam_records.specs.declared.message.Slot.TheVariants.{Gone, Held}
 use Rattle.jam_threads.specs.LinkChanges.{link_change}
 use Rattle.jam_threads.specs.Links.{link_of}
 use Rattle.jam_threads.specs.declared.link.LinkPatch.{LinkPatch}
-use Rattle.jam_layout.specs.Layout.{layout}
-use Rattle.jam_layout.specs.Sizes.{slot_header}
-use Rattle.jam_layout.specs.declared.conference.Conference.{Conference}
-use Rattle.jam_layout.specs.declared.files.BaseFiles.{BaseFiles}
-use Rattle.jam_layout.specs.declared.shape.Shape.{Shape}
+use Rattle.jam_writing.specs.jam_layout.Layout.{layout}
+use Rattle.jam_writing.specs.jam_layout.Sizes.{slot_header}
+use Rattle.jam_writing.specs.jam_layout.declared.conference.Conference.{Conference}
+use Rattle.jam_writing.specs.jam_layout.declared.files.BaseFiles.{BaseFiles}
+use Rattle.jam_writing.specs.jam_layout.declared.shape.Shape.{Shape}
 use Rattle.jam_writing.specs.Pieces.{body_piece, body_size}
 use Rattle.jam_writing.proofs.PieceLaws.{bodies_are, bodies_length}
 use Rattle.jam_base.specs.Bodies.{Lengthens}

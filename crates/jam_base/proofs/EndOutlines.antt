@@ -5,11 +5,11 @@ use Rattle.std.specs.List.{flat_map}
 use Rattle.std.proofs.Math.Seq.{drop-append_seam}
 use Rattle.std.proofs.lemmas.List.{take-map}
 use Rattle.std.proofs.lemmas.List.Sums.{sum_by-cons}
-use Rattle.door_outside.specs.File.{jhr_file, jdt_file, jdx_file}
+use Rattle.intent_journal.specs.door_outside.File.{jhr_file, jdt_file, jdx_file}
 use Rattle.intent_journal.specs.Patches.{bytes_of, patch_offset}
 use Rattle.intent_journal.specs.declared.patch.Patch.{Patch}
 use Rattle.intent_journal.specs.declared.patch.Patch.TheVariants.{Put}
-use Rattle.record_numbers.specs.Numbers.{u32s_text}
+use Rattle.jam_records.specs.record_numbers.Numbers.{u32s_text}
 use Rattle.jam_records.specs.IndexRecords.{index_text}
 use Rattle.jam_records.specs.declared.message.Kind.{Kind}
 use Rattle.jam_records.specs.declared.message.Message.{Message}
@@ -19,21 +19,21 @@ use Rattle.jam_threads.specs.Links.{link_of}
 use Rattle.jam_threads.specs.Threading.{AreThreads}
 use Rattle.jam_threads.specs.declared.link.Link.{Link}
 use Rattle.jam_threads.specs.declared.threads.Threads.{Threads}
-use Rattle.jam_layout.specs.Bare.{filled_slots, first_length, other_lengths}
-use Rattle.jam_layout.specs.Bodies.{body_piece, body_size}
-use Rattle.jam_layout.specs.Headers.{entry_text, headers_text}
-use Rattle.jam_layout.specs.Index.{index_records, no_pair, pair_of}
-use Rattle.jam_layout.specs.Layout.{entries_of, files_size, layout}
-use Rattle.jam_layout.specs.Outlines.{line_ends, outline, slot_outline, slot_with}
-use Rattle.jam_layout.specs.Sizes.{slot_header}
-use Rattle.jam_layout.specs.declared.conference.Conference.{Conference}
-use Rattle.jam_layout.specs.declared.files.BaseFiles.{BaseFiles}
-use Rattle.jam_layout.specs.declared.shape.Shape.{Shape}
-use Rattle.jam_layout.proofs.OutlineLaws.{files_outline, jdt_outline}
+use Rattle.jam_writing.specs.jam_layout.Bare.{filled_slots, first_length, other_lengths}
+use Rattle.jam_writing.specs.jam_layout.Bodies.{body_piece, body_size}
+use Rattle.jam_writing.specs.jam_layout.Headers.{entry_text, headers_text}
+use Rattle.jam_writing.specs.jam_layout.Index.{index_records, no_pair, pair_of}
+use Rattle.jam_writing.specs.jam_layout.Layout.{entries_of, files_size, layout}
+use Rattle.jam_writing.specs.jam_layout.Outlines.{line_ends, outline, slot_outline, slot_with}
+use Rattle.jam_writing.specs.jam_layout.Sizes.{slot_header}
+use Rattle.jam_writing.specs.jam_layout.declared.conference.Conference.{Conference}
+use Rattle.jam_writing.specs.jam_layout.declared.files.BaseFiles.{BaseFiles}
+use Rattle.jam_writing.specs.jam_layout.declared.shape.Shape.{Shape}
+use Rattle.jam_writing.proofs.jam_layout.OutlineLaws.{files_outline, jdt_outline}
 use Rattle.jam_writing.specs.Pieces.{entry_with}
 use Rattle.jam_writing.proofs.EntryTexts.{entry_as_long}
-use Rattle.shared_slots.specs.Kept.{one_live}
-use Rattle.shared_slots.proofs.KeptLaws.{body_outline, header_outline, live_outline}
+use Rattle.jam_writing.specs.shared_slots.Kept.{one_live}
+use Rattle.jam_writing.proofs.shared_slots.KeptLaws.{body_outline, header_outline, live_outline}
 use Rattle.jam_base.specs.Change.{SuitsIntent}
 use Rattle.jam_base.specs.Puts.{counts_put, end_puts, last_headers, last_puts, last_records, Costs}
 use Rattle.jam_base.specs.Slots.{slots_with_all}

@@ -4,8 +4,8 @@ use Rattle.std.specs.Prelude.{sum_by}
 use Rattle.std.specs.List.{slice_get}
 use Rattle.std.proofs.lemmas.Bool.{cond-true, cond-false, eq-eqb, ne_eqb}
 use Rattle.std.proofs.lemmas.Option.{slice_get_within}
-use Rattle.door_outside.specs.Disk.{written}
-use Rattle.record_numbers.specs.Numbers.{u32_text, u32s_text}
+use Rattle.intent_journal.specs.door_outside.Disk.{written}
+use Rattle.jam_records.specs.record_numbers.Numbers.{u32_text, u32s_text}
 use Rattle.jam_records.specs.BaseHeaders.{base_text}
 use Rattle.jam_records.specs.MessageHeaders.{header_text}
 use Rattle.jam_records.specs.Subfields.{subfields_text}
@@ -19,14 +19,14 @@ use Rattle.jam_threads.specs.LinkChanges.{link_with, link_after}
 use Rattle.jam_threads.specs.declared.link.Link.{Link}
 use Rattle.jam_threads.specs.declared.link.LinkField.{LinkField}
 use Rattle.jam_threads.specs.declared.link.LinkField.TheVariants.{First, Next}
-use Rattle.jam_layout.specs.Fields.{subfields_of}
-use Rattle.jam_layout.specs.Headers.{entry_text, headers_text, message_header}
-use Rattle.jam_layout.specs.Conference.{live_count}
-use Rattle.jam_layout.specs.Layout.{entries_of, base_header}
-use Rattle.jam_layout.specs.declared.conference.Conference.{Conference}
-use Rattle.jam_layout.specs.declared.shape.Shape.{Shape}
-use Rattle.jam_layout.proofs.BaseLaws.{base_length}
-use Rattle.jam_layout.specs.declared.entry.Entry.{Entry}
+use Rattle.jam_writing.specs.jam_layout.Fields.{subfields_of}
+use Rattle.jam_writing.specs.jam_layout.Headers.{entry_text, headers_text, message_header}
+use Rattle.jam_writing.specs.jam_layout.Conference.{live_count}
+use Rattle.jam_writing.specs.jam_layout.Layout.{entries_of, base_header}
+use Rattle.jam_writing.specs.jam_layout.declared.conference.Conference.{Conference}
+use Rattle.jam_writing.specs.jam_layout.declared.shape.Shape.{Shape}
+use Rattle.jam_writing.proofs.jam_layout.BaseLaws.{base_length}
+use Rattle.jam_writing.specs.jam_layout.declared.entry.Entry.{Entry}
 use Rattle.jam_writing.specs.Pieces.{entry_with, header_piece, body_size}
 use Rattle.jam_writing.proofs.PieceLaws.{headers_more, headers_length}
 use Rattle.jam_writing.proofs.SlotShapes.{headers-append}

@@ -27,3 +27,5 @@ pub mod OutlineChanges
 pub mod EndOutlines
 pub mod BareLookups
 pub mod ReplacedBases
+pub use Rattle.jam_writing.proofs.jam_layout as jam_layout
+pub use Rattle.jam_writing.proofs as jam_writing

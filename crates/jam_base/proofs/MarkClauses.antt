@@ -9,11 +9,11 @@ use Rattle.jam_records.specs.BaseHeaders.{base_text}
 use Rattle.jam_records.specs.declared.message.Slot.{Slot}
 use Rattle.jam_threads.specs.Links.{link_of}
 use Rattle.jam_threads.specs.declared.link.Link.{Link}
-use Rattle.jam_layout.specs.Headers.{headers_text}
-use Rattle.jam_layout.specs.Layout.{layout, base_header, entries_of, files_size}
-use Rattle.jam_layout.specs.Sizes.{slot_header}
-use Rattle.jam_layout.specs.declared.files.BaseFiles.{BaseFiles}
-use Rattle.jam_layout.proofs.BaseLaws.{base_length}
+use Rattle.jam_writing.specs.jam_layout.Headers.{headers_text}
+use Rattle.jam_writing.specs.jam_layout.Layout.{layout, base_header, entries_of, files_size}
+use Rattle.jam_writing.specs.jam_layout.Sizes.{slot_header}
+use Rattle.jam_writing.specs.jam_layout.declared.files.BaseFiles.{BaseFiles}
+use Rattle.jam_writing.proofs.jam_layout.BaseLaws.{base_length}
 use Rattle.jam_writing.proofs.PieceLaws.{headers_length}
 use Rattle.jam_base.specs.Bodies.{Lengthens}
 use Rattle.jam_base.specs.Change.{Turns, SuitsIntent}
@@ -28,10 +28,10 @@ use Rattle.jam_base.proofs.PutLaws.{four, jhr_put, turns_after}
 use Rattle.std.specs.List.{slice_get}
 use Rattle.std.proofs.lemmas.List.{set_split}
 use Rattle.std.proofs.lemmas.Option.{slice_get-get_or, slice_get_within}
-use Rattle.door_outside.specs.Disk.{written}
+use Rattle.intent_journal.specs.door_outside.Disk.{written}
 use Rattle.jam_records.specs.declared.message.Message.{Message}
 use Rattle.jam_records.specs.declared.message.Slot.TheVariants.{Gone, Held}
-use Rattle.jam_layout.specs.Conference.{is_live}
+use Rattle.jam_writing.specs.jam_layout.Conference.{is_live}
 use Rattle.jam_base.specs.MarkPuts.{marks_text, marks_put, delete_puts, receive_puts}
 use Rattle.jam_base.specs.Places.{header_place}
 use Rattle.jam_base.specs.Slots.{has_live, numbered, slot_deleted, slots_deleted, slots_received}

@@ -6,14 +6,14 @@ use Rattle.std.proofs.lemmas.List.Sums.{sum_by-cons}
 use Rattle.intent_journal.specs.declared.patch.Patch.{Patch}
 use Rattle.jam_records.specs.declared.message.Kind.{Kind}
 use Rattle.jam_records.specs.declared.message.Slot.{Slot}
-use Rattle.jam_layout.specs.Sizes.{slot_header}
+use Rattle.jam_writing.specs.jam_layout.Sizes.{slot_header}
 use Rattle.std.proofs.Common.{true}
 use Rattle.std.proofs.lemmas.Bool.{cond-true}
 use Rattle.jam_records.specs.declared.message.Message.{Message}
 use Rattle.jam_records.specs.declared.message.Slot.TheVariants.{Gone, Held}
-use Rattle.jam_layout.specs.Outlines.{slot_bare}
-use Rattle.shared_slots.proofs.BareSlots.{bare_is, header_is}
-use Rattle.shared_slots.proofs.KeptLaws.{same_item}
+use Rattle.jam_writing.specs.jam_layout.Outlines.{slot_bare}
+use Rattle.jam_writing.proofs.shared_slots.BareSlots.{bare_is, header_is}
+use Rattle.jam_writing.proofs.shared_slots.KeptLaws.{same_item}
 use Rattle.jam_base.specs.Slots.{is_due}
 use Rattle.jam_base.specs.MarkPuts.{marks_put, receive_put, receive_puts}
 use Rattle.jam_base.specs.declared.receipt.Receipt.{Receipt}

@@ -3,9 +3,9 @@ use Rattle.std.proofs.Common.{◌≡◌, ◌≢◌, ℕ, ◌+◌, ◌*◌, ◌�
 use Rattle.std.specs.Prelude.{sum_by, All}
 use Rattle.std.proofs.lemmas.List.Sums.{sum_by-cons}
 use Rattle.std.proofs.lemmas.List.Elements.{All-cons, All-nil, All-append}
-use Rattle.door_outside.specs.Disk.{written}
-use Rattle.door_outside.specs.File.{jlr_file}
-use Rattle.record_numbers.specs.Numbers.{u32s_text}
+use Rattle.intent_journal.specs.door_outside.Disk.{written}
+use Rattle.intent_journal.specs.door_outside.File.{jlr_file}
+use Rattle.jam_records.specs.record_numbers.Numbers.{u32s_text}
 use Rattle.intent_journal.specs.Patches.{byte_count, file_of}
 use Rattle.intent_journal.specs.declared.patch.Patch.{Patch}
 use Rattle.jam_records.specs.MessageHeaders.{header_text}
@@ -16,12 +16,12 @@ use Rattle.jam_records.specs.declared.message.Slot.{Slot}
 use Rattle.jam_records.specs.declared.message.Slot.TheVariants.{Gone, Held}
 use Rattle.jam_records.specs.declared.message_header.MessageHeader.{MessageHeader}
 use Rattle.jam_threads.specs.declared.link.Link.{Link}
-use Rattle.jam_layout.specs.Fields.{subfields_of}
-use Rattle.jam_layout.specs.Headers.{entry_text, headers_text, message_header, marks_in, header_size}
-use Rattle.jam_layout.specs.Layout.{entries_of}
-use Rattle.jam_layout.specs.Marks.{attribute_of}
-use Rattle.jam_layout.specs.Sizes.{slot_header}
-use Rattle.jam_layout.proofs.EntryLaws.{entry_length}
+use Rattle.jam_writing.specs.jam_layout.Fields.{subfields_of}
+use Rattle.jam_writing.specs.jam_layout.Headers.{entry_text, headers_text, message_header, marks_in, header_size}
+use Rattle.jam_writing.specs.jam_layout.Layout.{entries_of}
+use Rattle.jam_writing.specs.jam_layout.Marks.{attribute_of}
+use Rattle.jam_writing.specs.jam_layout.Sizes.{slot_header}
+use Rattle.jam_writing.proofs.jam_layout.EntryLaws.{entry_length}
 use Rattle.jam_writing.specs.Pieces.{entry_with, body_size}
 use Rattle.jam_writing.proofs.PieceLaws.{headers_length}
 use Rattle.jam_writing.proofs.SlotShapes.{header_changed}

@@ -8,13 +8,13 @@ use Rattle.jam_records.specs.declared.message.Message.{Message}
 use Rattle.jam_records.specs.declared.message.Slot.{Slot}
 use Rattle.jam_records.specs.declared.message.Slot.TheVariants.{Gone, Held}
 use Rattle.jam_threads.specs.Links.{link_of}
-use Rattle.jam_layout.specs.Fields.{subfields_of}
-use Rattle.jam_layout.specs.Headers.{header_size}
-use Rattle.jam_layout.specs.Bodies.{bodies_text}
-use Rattle.jam_layout.specs.Index.{index_records}
-use Rattle.jam_layout.specs.Layout.{layout, entries_of}
-use Rattle.jam_layout.specs.Sizes.{slot_header}
-use Rattle.jam_layout.specs.declared.files.BaseFiles.{BaseFiles}
+use Rattle.jam_writing.specs.jam_layout.Fields.{subfields_of}
+use Rattle.jam_writing.specs.jam_layout.Headers.{header_size}
+use Rattle.jam_writing.specs.jam_layout.Bodies.{bodies_text}
+use Rattle.jam_writing.specs.jam_layout.Index.{index_records}
+use Rattle.jam_writing.specs.jam_layout.Layout.{layout, entries_of}
+use Rattle.jam_writing.specs.jam_layout.Sizes.{slot_header}
+use Rattle.jam_writing.specs.jam_layout.declared.files.BaseFiles.{BaseFiles}
 use Rattle.jam_writing.specs.Pieces.{body_piece, index_piece}
 use Rattle.jam_writing.proofs.PieceLaws.{bodies_are, index_more}
 use Rattle.jam_base.specs.Contents.{Contents, with_slots}

@@ -4,14 +4,14 @@ use Rattle.std.specs.Prelude.{IsTrue, IfOk, ◌&&◌, ◌==◌, nat_le}
 use Rattle.std.proofs.Math.Seq.{drop-append_seam}
 use Rattle.std.proofs.lemmas.List.{length-replicate}
 use Rattle.std.proofs.lemmas.Bool.{eqb-true, eq-eqb, ne_eqb, cond-true, cond-false}
-use Rattle.door_outside.specs.Disk.{written}
-use Rattle.door_outside.specs.File.{jhr_file, jdt_file, jdx_file, jlr_file}
+use Rattle.intent_journal.specs.door_outside.Disk.{written}
+use Rattle.intent_journal.specs.door_outside.File.{jhr_file, jdt_file, jdx_file, jlr_file}
 use Rattle.intent_journal.specs.Patches.{Files, file_of, patched_file, apply, patched, begins_within, are_within}
 use Rattle.intent_journal.specs.declared.patch.Patch.{Patch}
 use Rattle.intent_journal.specs.declared.patch.Patch.TheVariants.{Whole, Put}
-use Rattle.jam_layout.specs.Layout.{layout}
-use Rattle.jam_layout.specs.declared.files.BaseFiles.{BaseFiles}
-use Rattle.jam_layout.proofs.OutlineLaws.{files_outline, jdt_outline}
+use Rattle.jam_writing.specs.jam_layout.Layout.{layout}
+use Rattle.jam_writing.specs.jam_layout.declared.files.BaseFiles.{BaseFiles}
+use Rattle.jam_writing.proofs.jam_layout.OutlineLaws.{files_outline, jdt_outline}
 use Rattle.jam_base.specs.Bodies.{Lengthens}
 use Rattle.jam_base.specs.Change.{files_of_place, Turns}
 use Rattle.jam_base.specs.Contents.{Contents}

@@ -7,10 +7,10 @@ use Rattle.intent_journal.specs.Patches.{Files, file_of, patch_offset, bytes_of,
 use Rattle.intent_journal.specs.Journal.{patch_text, patches_text}
 use Rattle.intent_journal.specs.declared.patch.Patch.{Patch}
 use Rattle.intent_journal.specs.declared.patch.Patch.TheVariants.{Whole}
-use Rattle.door_outside.specs.File.{jhr_file, jdt_file, jdx_file, jlr_file}
+use Rattle.intent_journal.specs.door_outside.File.{jhr_file, jdt_file, jdx_file, jlr_file}
 use Rattle.jam_base.specs.Change.{message_files, whole_files, IsOfPlace, IsElsewhere, Turns, SuitsIntent}
-use Rattle.jam_layout.specs.Layout.{files_size}
-use Rattle.jam_layout.specs.declared.files.BaseFiles.{BaseFiles}
+use Rattle.jam_writing.specs.jam_layout.Layout.{files_size}
+use Rattle.jam_writing.specs.jam_layout.declared.files.BaseFiles.{BaseFiles}
 
 -- ---- one patch
 here : (file : ℕ) (bytes : List ℕ) (files : Files) → apply (Whole file bytes) files file ≡ bytes

@@ -4,9 +4,9 @@ use Rattle.std.specs.Prelude.{IfOk, All, sum_by, nat_lt}
 use Rattle.std.proofs.Math.ListN.{set, length-set}
 use Rattle.std.proofs.lemmas.List.Elements.{All-cons, All-nil, All-append}
 use Rattle.std.proofs.lemmas.List.Quantifiers.{position-Some}
-use Rattle.door_outside.specs.Disk.{written}
-use Rattle.door_outside.specs.File.{jlr_file}
-use Rattle.record_numbers.specs.Numbers.{u32s_text}
+use Rattle.intent_journal.specs.door_outside.Disk.{written}
+use Rattle.intent_journal.specs.door_outside.File.{jlr_file}
+use Rattle.jam_records.specs.record_numbers.Numbers.{u32s_text}
 use Rattle.intent_journal.specs.Patches.{file_of, bytes_of, byte_count}
 use Rattle.intent_journal.specs.declared.patch.Patch.{Patch}
 use Rattle.intent_journal.specs.declared.patch.Patch.TheVariants.{Whole}
@@ -15,14 +15,14 @@ use Rattle.jam_records.specs.LastReads.{last_text}
 use Rattle.jam_records.specs.declared.last_read.LastRead.{LastRead}
 use Rattle.jam_records.specs.declared.message.Slot.{Slot}
 use Rattle.jam_threads.specs.Links.{link_of}
-use Rattle.jam_layout.specs.Headers.{headers_text}
-use Rattle.jam_layout.specs.Layout.{layout, base_header, entries_of, files_size}
-use Rattle.jam_layout.specs.Readers.{last_read, last_reads}
-use Rattle.jam_layout.specs.Sizes.{slot_header}
-use Rattle.jam_layout.specs.declared.files.BaseFiles.{BaseFiles}
-use Rattle.jam_layout.specs.declared.reader.Reader.{Reader}
-use Rattle.jam_layout.proofs.BaseLaws.{base_length}
-use Rattle.jam_layout.proofs.SlotSizes.{last_length}
+use Rattle.jam_writing.specs.jam_layout.Headers.{headers_text}
+use Rattle.jam_writing.specs.jam_layout.Layout.{layout, base_header, entries_of, files_size}
+use Rattle.jam_writing.specs.jam_layout.Readers.{last_read, last_reads}
+use Rattle.jam_writing.specs.jam_layout.Sizes.{slot_header}
+use Rattle.jam_writing.specs.jam_layout.declared.files.BaseFiles.{BaseFiles}
+use Rattle.jam_writing.specs.jam_layout.declared.reader.Reader.{Reader}
+use Rattle.jam_writing.proofs.jam_layout.BaseLaws.{base_length}
+use Rattle.jam_writing.proofs.jam_layout.SlotSizes.{last_length}
 use Rattle.jam_writing.proofs.PieceLaws.{headers_length}
 use Rattle.jam_base.specs.Bodies.{Lengthens}
 use Rattle.jam_base.specs.Change.{Turns, SuitsIntent}

@@ -9,10 +9,10 @@ use Rattle.intent_journal.specs.Journal.{patch_text, patches_text}
 use Rattle.intent_journal.specs.Patches.{file_of, patch_offset, bytes_of, is_whole, clash, is_once, byte_count}
 use Rattle.intent_journal.specs.declared.patch.Patch.{Patch}
 use Rattle.intent_journal.specs.declared.patch.Patch.TheVariants.{Whole, Put}
-use Rattle.door_outside.specs.File.{jlr_file}
+use Rattle.intent_journal.specs.door_outside.File.{jlr_file}
 use Rattle.jam_base.specs.Change.{IsOfPlace, SuitsIntent}
-use Rattle.jam_layout.specs.Layout.{files_size}
-use Rattle.jam_layout.specs.declared.files.BaseFiles.{BaseFiles}
+use Rattle.jam_writing.specs.jam_layout.Layout.{files_size}
+use Rattle.jam_writing.specs.jam_layout.declared.files.BaseFiles.{BaseFiles}
 
 -- ---- lengths
 patch_length : (p : Patch) → length (patch_text p) ≡ 11 + length (bytes_of p)

@@ -2,13 +2,13 @@
 use Rattle.std.proofs.Common.{◌≡◌, ◌≢◌, inl, inr, true, ℕ, ◌≤◌, List, [], ◌∷◌, ◌++◌, length, refl, ap, ◌∙◌, arith}
 use Rattle.std.specs.Prelude.{IsTrue, ◌==◌, nat_le}
 use Rattle.std.proofs.lemmas.Bool.{and_parts, and_from, eq-eqb, ne_eqb, le-leb, cond-true, cond-false}
-use Rattle.door_outside.specs.Disk.{written}
-use Rattle.door_outside.specs.File.{jhr_file, jdt_file, jdx_file, jlr_file}
+use Rattle.intent_journal.specs.door_outside.Disk.{written}
+use Rattle.intent_journal.specs.door_outside.File.{jhr_file, jdt_file, jdx_file, jlr_file}
 use Rattle.intent_journal.specs.Patches.{Files, apply, patched, begins_within, are_within}
 use Rattle.intent_journal.specs.declared.patch.Patch.{Patch}
 use Rattle.intent_journal.specs.declared.patch.Patch.TheVariants.{Put}
 use Rattle.jam_base.specs.Change.{IsElsewhere, Turns, files_of_place}
-use Rattle.jam_layout.specs.declared.files.BaseFiles.{BaseFiles}
+use Rattle.jam_writing.specs.jam_layout.declared.files.BaseFiles.{BaseFiles}
 
 -- four files
 abbrev pub four : List ℕ → List ℕ → List ℕ → List ℕ → BaseFiles

@@ -6,12 +6,12 @@ use Rattle.std.proofs.lemmas.List.{get_or-replicate}
 use Rattle.std.proofs.lemmas.List.Elements.{All-drop, All-append, All-cons, All-nil}
 use Rattle.jam_records.specs.declared.message.Slot.{Slot}
 use Rattle.jam_base.specs.Contents.{Contents, no_slots, with_reader}
-use Rattle.jam_layout.specs.Bare.{filled_slots}
-use Rattle.jam_layout.specs.Messages.{IsSlot}
-use Rattle.jam_layout.specs.Valid.{Rise, IsShape, IsConference}
-use Rattle.jam_layout.specs.declared.conference.Conference.{Conference}
-use Rattle.jam_layout.specs.declared.reader.Reader.{Reader}
-use Rattle.jam_layout.specs.declared.shape.Shape.{Shape}
+use Rattle.jam_writing.specs.jam_layout.Bare.{filled_slots}
+use Rattle.jam_writing.specs.jam_layout.Messages.{IsSlot}
+use Rattle.jam_writing.specs.jam_layout.Valid.{Rise, IsShape, IsConference}
+use Rattle.jam_writing.specs.jam_layout.declared.conference.Conference.{Conference}
+use Rattle.jam_writing.specs.jam_layout.declared.reader.Reader.{Reader}
+use Rattle.jam_writing.specs.jam_layout.declared.shape.Shape.{Shape}
 
 -- ---- rising ids
 rise_more : (readers : List Reader) (user : ℕ) (name : List ℕ) → Rise readers → All (λ r. r.id < user) readers → Rise (readers ++ record { id = user; name = name } ∷ [])

@@ -2,15 +2,15 @@
 use Rattle.std.proofs.Common.{◌≡◌, Bool, true, false, cond, ℕ, ◌+◌, ◌*◌, List, [], ◌∷◌, ◌++◌, length, Result, refl, sym, ap, ◌∙◌, subst, arith, append_assoc, append-nil, length-append}
 use Rattle.std.specs.Prelude.{IfOk, nat_lt}
 use Rattle.std.proofs.lemmas.List.Elements.{All-cons, All-nil}
-use Rattle.door_outside.specs.File.{jlr_file}
+use Rattle.intent_journal.specs.door_outside.File.{jlr_file}
 use Rattle.intent_journal.specs.declared.patch.Patch.{Patch}
 use Rattle.intent_journal.specs.declared.patch.Patch.TheVariants.{Whole}
 use Rattle.jam_records.specs.LastReads.{last_text}
-use Rattle.jam_layout.specs.Layout.{layout, files_size}
-use Rattle.jam_layout.specs.Readers.{last_read, last_reads}
-use Rattle.jam_layout.specs.declared.files.BaseFiles.{BaseFiles}
-use Rattle.jam_layout.specs.declared.reader.Reader.{Reader}
-use Rattle.jam_layout.proofs.SlotSizes.{last_length, readers_length}
+use Rattle.jam_writing.specs.jam_layout.Layout.{layout, files_size}
+use Rattle.jam_writing.specs.jam_layout.Readers.{last_read, last_reads}
+use Rattle.jam_writing.specs.jam_layout.declared.files.BaseFiles.{BaseFiles}
+use Rattle.jam_writing.specs.jam_layout.declared.reader.Reader.{Reader}
+use Rattle.jam_writing.proofs.jam_layout.SlotSizes.{last_length, readers_length}
 use Rattle.jam_base.specs.Bodies.{Lengthens}
 use Rattle.jam_base.specs.Change.{Turns, SuitsIntent}
 use Rattle.jam_base.specs.Contents.{Contents, with_reader}

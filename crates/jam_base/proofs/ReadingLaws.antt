@@ -4,10 +4,10 @@ use Rattle.std.proofs.Math.ListN.{set, length-set}
 use Rattle.std.proofs.lemmas.Bool.{cond-true, cond-false}
 use Rattle.std.proofs.lemmas.List.Elements.{All-set}
 use Rattle.jam_records.specs.declared.message.Slot.{Slot}
-use Rattle.jam_layout.specs.Layout.{layout}
-use Rattle.jam_layout.specs.Valid.{IsConference}
-use Rattle.jam_layout.specs.declared.files.BaseFiles.{BaseFiles}
-use Rattle.jam_layout.specs.declared.shape.Shape.{Shape}
+use Rattle.jam_writing.specs.jam_layout.Layout.{layout}
+use Rattle.jam_writing.specs.jam_layout.Valid.{IsConference}
+use Rattle.jam_writing.specs.jam_layout.declared.files.BaseFiles.{BaseFiles}
+use Rattle.jam_writing.specs.jam_layout.declared.shape.Shape.{Shape}
 use Rattle.jam_base.specs.Contents.{Contents, pointers_with, reader_place, receipt_to, with_acknowledged, with_pointer, with_slots}
 use Rattle.jam_base.specs.Slots.{any_due, slots_received}
 use Rattle.jam_base.proofs.MarkedSlots.{received_files}

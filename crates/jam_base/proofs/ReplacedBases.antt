@@ -2,14 +2,14 @@
 use Rattle.std.proofs.Common.{◌≡◌, ℕ, ◌+◌, ◌<◌, ◌^◌, List, length, map, sym, ap, subst, arith}
 use Rattle.std.specs.Prelude.{All, sum_by}
 use Rattle.intent_journal.specs.declared.patch.Patch.{Patch}
-use Rattle.jam_layout.proofs.OutlineLaws.{conference_outline}
-use Rattle.jam_layout.specs.Bodies.{body_size}
-use Rattle.jam_layout.specs.Layout.{layout}
-use Rattle.jam_layout.specs.Messages.{IsSlot}
-use Rattle.jam_layout.specs.Outlines.{slot_outline}
-use Rattle.jam_layout.specs.Sizes.{slot_header}
-use Rattle.jam_layout.specs.Valid.{IsConference, PointersFit}
-use Rattle.jam_layout.specs.declared.files.BaseFiles.{BaseFiles}
+use Rattle.jam_writing.proofs.jam_layout.OutlineLaws.{conference_outline}
+use Rattle.jam_writing.specs.jam_layout.Bodies.{body_size}
+use Rattle.jam_writing.specs.jam_layout.Layout.{layout}
+use Rattle.jam_writing.specs.jam_layout.Messages.{IsSlot}
+use Rattle.jam_writing.specs.jam_layout.Outlines.{slot_outline}
+use Rattle.jam_writing.specs.jam_layout.Sizes.{slot_header}
+use Rattle.jam_writing.specs.jam_layout.Valid.{IsConference, PointersFit}
+use Rattle.jam_writing.specs.jam_layout.declared.files.BaseFiles.{BaseFiles}
 use Rattle.jam_records.specs.declared.message.Slot.{Slot}
 use Rattle.jam_writing.proofs.PieceLaws.{bodies_small, headers_small}
 use Rattle.jam_base.proofs.EndOutlines.{suits_alike}

@@ -9,11 +9,11 @@ use Rattle.jam_records.specs.declared.message.Kind.{Kind}
 use Rattle.jam_records.specs.declared.message.Message.{Message}
 use Rattle.jam_records.specs.declared.message.Slot.{Slot}
 use Rattle.jam_records.specs.declared.message.Slot.TheVariants.{Gone, Held}
-use Rattle.jam_layout.specs.Limits.{slot_limit}
-use Rattle.jam_layout.specs.Messages.{AreBytes, IsMessage, IsSlot}
-use Rattle.jam_layout.specs.Valid.{IsConference}
+use Rattle.jam_writing.specs.jam_layout.Limits.{slot_limit}
+use Rattle.jam_writing.specs.jam_layout.Messages.{AreBytes, IsMessage, IsSlot}
+use Rattle.jam_writing.specs.jam_layout.Valid.{IsConference}
 use Rattle.jam_base.specs.Contents.{Contents, with_slots}
-use Rattle.jam_layout.specs.Conference.{is_live}
+use Rattle.jam_writing.specs.jam_layout.Conference.{is_live}
 use Rattle.jam_base.specs.Slots.{numbered, has_live, slots_with_all, slot_deleted, slots_deleted, is_due, slot_received, slots_received}
 use Rattle.jam_base.specs.declared.receipt.Receipt.{Receipt}
 

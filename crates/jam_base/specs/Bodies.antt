@@ -2,9 +2,9 @@
 use Rattle.std.specs.Prelude.{◌≡◌, ℕ, ◌-◌, List, ◌++◌, length, take, drop, sum_by, Option, Some, None}
 use Rattle.intent_journal.specs.Patches.{Files, patched}
 use Rattle.intent_journal.specs.declared.patch.Patch.{Patch}
-use Rattle.door_outside.specs.File.{jdt_file}
-use Rattle.jam_layout.specs.Bodies.{body_size}
-use Rattle.jam_layout.specs.declared.files.BaseFiles.{BaseFiles}
+use Rattle.intent_journal.specs.door_outside.File.{jdt_file}
+use Rattle.jam_writing.specs.jam_layout.Bodies.{body_size}
+use Rattle.jam_writing.specs.jam_layout.declared.files.BaseFiles.{BaseFiles}
 use Rattle.jam_records.specs.declared.message.Slot.{Slot}
 use Rattle.jam_records.specs.declared.message.Slot.TheVariants.{Gone, Held}
 use Rattle.jam_base.specs.Slots.{numbered}

@@ -4,9 +4,9 @@ use Rattle.intent_journal.specs.Patches.{Files, file_of, patch_offset, bytes_of,
 use Rattle.intent_journal.specs.Journal.{patches_text}
 use Rattle.intent_journal.specs.declared.patch.Patch.{Patch}
 use Rattle.intent_journal.specs.declared.patch.Patch.TheVariants.{Whole}
-use Rattle.door_outside.specs.File.{jhr_file, jdt_file, jdx_file, jlr_file}
-use Rattle.jam_layout.specs.Layout.{files_size}
-use Rattle.jam_layout.specs.declared.files.BaseFiles.{BaseFiles}
+use Rattle.intent_journal.specs.door_outside.File.{jhr_file, jdt_file, jdx_file, jlr_file}
+use Rattle.jam_writing.specs.jam_layout.Layout.{files_size}
+use Rattle.jam_writing.specs.jam_layout.declared.files.BaseFiles.{BaseFiles}
 
 -- the four files of a place
 abbrev pub files_of_place : ℕ → Files → BaseFiles

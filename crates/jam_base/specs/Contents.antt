@@ -4,9 +4,9 @@ use Rattle.jam_records.specs.declared.message.Message.{Message}
 use Rattle.jam_records.specs.declared.message.Slot.{Slot}
 use Rattle.jam_base.specs.Slots.{slots_with_all, slots_deleted, any_due, slots_received}
 use Rattle.jam_base.specs.declared.receipt.Receipt.{Receipt}
-use Rattle.jam_layout.specs.declared.conference.Conference.{Conference}
-use Rattle.jam_layout.specs.declared.reader.Reader.{Reader}
-use Rattle.jam_layout.specs.declared.shape.Shape.{Shape}
+use Rattle.jam_writing.specs.jam_layout.declared.conference.Conference.{Conference}
+use Rattle.jam_writing.specs.jam_layout.declared.reader.Reader.{Reader}
+use Rattle.jam_writing.specs.jam_layout.declared.shape.Shape.{Shape}
 
 -- a conference and its shape
 pub record Contents : Type 0 where

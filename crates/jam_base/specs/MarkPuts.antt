@@ -2,16 +2,16 @@
 use Rattle.std.specs.Prelude.{ℕ, ◌+◌, ◌*◌, List, [], ◌∷◌, ◌++◌, true, nat_lt, if◌then◌else◌}
 use Rattle.intent_journal.specs.declared.patch.Patch.{Patch}
 use Rattle.intent_journal.specs.declared.patch.Patch.TheVariants.{Put, Whole}
-use Rattle.door_outside.specs.File.{jhr_file, jlr_file}
-use Rattle.record_numbers.specs.Numbers.{u32s_text}
+use Rattle.intent_journal.specs.door_outside.File.{jhr_file, jlr_file}
+use Rattle.jam_records.specs.record_numbers.Numbers.{u32s_text}
 use Rattle.jam_records.specs.declared.message.Kind.{Kind}
 use Rattle.jam_records.specs.declared.message.Message.{Message}
 use Rattle.jam_records.specs.declared.message.Slot.{Slot}
 use Rattle.jam_records.specs.declared.message.Slot.TheVariants.{Gone, Held}
-use Rattle.jam_layout.specs.Headers.{marks_in}
-use Rattle.jam_layout.specs.Layout.{layout}
-use Rattle.jam_layout.specs.Marks.{attribute_of}
-use Rattle.jam_layout.specs.Sizes.{slot_header}
+use Rattle.jam_writing.specs.jam_layout.Headers.{marks_in}
+use Rattle.jam_writing.specs.jam_layout.Layout.{layout}
+use Rattle.jam_writing.specs.jam_layout.Marks.{attribute_of}
+use Rattle.jam_writing.specs.jam_layout.Sizes.{slot_header}
 use Rattle.jam_base.specs.Contents.{Contents}
 use Rattle.jam_base.specs.Places.{header_place}
 use Rattle.jam_base.specs.Slots.{is_due}

@@ -7,12 +7,12 @@ use Rattle.jam_records.specs.declared.message.Slot.TheVariants.{Held}
 use Rattle.jam_threads.specs.Children.{original_behind}
 use Rattle.jam_threads.specs.LinkChanges.{link_change}
 use Rattle.jam_threads.specs.declared.link.LinkPatch.{LinkPatch}
-use Rattle.jam_layout.specs.Conference.{live_count}
-use Rattle.jam_layout.specs.Headers.{entry_text}
-use Rattle.jam_layout.specs.Index.{pair_of}
-use Rattle.jam_layout.specs.Layout.{layout}
-use Rattle.jam_layout.specs.declared.conference.Conference.{Conference}
-use Rattle.jam_layout.specs.declared.shape.Shape.{Shape}
+use Rattle.jam_writing.specs.jam_layout.Conference.{live_count}
+use Rattle.jam_writing.specs.jam_layout.Headers.{entry_text}
+use Rattle.jam_writing.specs.jam_layout.Index.{pair_of}
+use Rattle.jam_writing.specs.jam_layout.Layout.{layout}
+use Rattle.jam_writing.specs.jam_layout.declared.conference.Conference.{Conference}
+use Rattle.jam_writing.specs.jam_layout.declared.shape.Shape.{Shape}
 use Rattle.jam_base.specs.Places.{header_place, field_place, with_number}
 
 -- the conference with the message at the end; ModCounter is replaced once for a whole change

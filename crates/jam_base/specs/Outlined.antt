@@ -2,12 +2,12 @@
 -- whatever the bodies are.
 use Rattle.std.specs.Prelude.{◌≡◌, List}
 use Rattle.intent_journal.specs.declared.patch.Patch.{Patch}
-use Rattle.jam_layout.specs.Layout.{layout}
-use Rattle.jam_layout.specs.Outlines.{outline}
-use Rattle.jam_layout.specs.Valid.{IsConference}
-use Rattle.jam_layout.specs.declared.conference.Conference.{Conference}
-use Rattle.jam_layout.specs.declared.files.BaseFiles.{BaseFiles}
-use Rattle.jam_layout.specs.declared.shape.Shape.{Shape}
+use Rattle.jam_writing.specs.jam_layout.Layout.{layout}
+use Rattle.jam_writing.specs.jam_layout.Outlines.{outline}
+use Rattle.jam_writing.specs.jam_layout.Valid.{IsConference}
+use Rattle.jam_writing.specs.jam_layout.declared.conference.Conference.{Conference}
+use Rattle.jam_writing.specs.jam_layout.declared.files.BaseFiles.{BaseFiles}
+use Rattle.jam_writing.specs.jam_layout.declared.shape.Shape.{Shape}
 use Rattle.jam_base.specs.Change.{Turns}
 use Rattle.jam_base.specs.Contents.{Contents}
 

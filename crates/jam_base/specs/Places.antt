@@ -1,12 +1,12 @@
 -- Where in .JHR stands what changes in place (JAM message base proposal, revision 1): ModCounter and ActiveMsgs in the
 -- header of the base, Reply1st and ReplyNext in that of a message, and from DateReceived on to its Attribute.
 use Rattle.std.specs.Prelude.{ℕ, ◌+◌, ◌-◌, List, take, sum_by}
-use Rattle.door_outside.specs.Disk.{written}
-use Rattle.record_numbers.specs.Numbers.{u32_text}
+use Rattle.intent_journal.specs.door_outside.Disk.{written}
+use Rattle.jam_records.specs.record_numbers.Numbers.{u32_text}
 use Rattle.jam_records.specs.declared.message.Slot.{Slot}
 use Rattle.jam_threads.specs.declared.link.LinkField.{LinkField}
 use Rattle.jam_threads.specs.declared.link.LinkField.TheVariants.{First, Next}
-use Rattle.jam_layout.specs.Sizes.{slot_header}
+use Rattle.jam_writing.specs.jam_layout.Sizes.{slot_header}
 
 -- the header of the message of a number, behind that of the base and those of the messages before it
 abbrev pub header_place : List Slot → ℕ → ℕ

@@ -4,23 +4,23 @@ use Rattle.std.specs.List.{flat_map}
 use Rattle.intent_journal.specs.Patches.{byte_count}
 use Rattle.intent_journal.specs.declared.patch.Patch.{Patch}
 use Rattle.intent_journal.specs.declared.patch.Patch.TheVariants.{Put}
-use Rattle.door_outside.specs.File.{jhr_file, jdt_file, jdx_file}
-use Rattle.record_numbers.specs.Numbers.{u32_text, u32s_text}
+use Rattle.intent_journal.specs.door_outside.File.{jhr_file, jdt_file, jdx_file}
+use Rattle.jam_records.specs.record_numbers.Numbers.{u32_text, u32s_text}
 use Rattle.jam_records.specs.declared.message.Message.{Message}
 use Rattle.jam_records.specs.declared.message.Slot.{Slot}
 use Rattle.jam_records.specs.declared.message.Slot.TheVariants.{Held}
 use Rattle.jam_threads.specs.LinkChanges.{link_change}
 use Rattle.jam_threads.specs.Links.{link_of}
 use Rattle.jam_threads.specs.declared.link.LinkPatch.{LinkPatch}
-use Rattle.jam_layout.specs.Conference.{live_count}
-use Rattle.jam_layout.specs.Headers.{headers_text}
-use Rattle.jam_layout.specs.Index.{index_records}
-use Rattle.jam_layout.specs.Layout.{entries_of, files_size}
-use Rattle.jam_layout.specs.Sizes.{slot_header}
-use Rattle.jam_layout.specs.declared.conference.Conference.{Conference}
-use Rattle.jam_layout.specs.declared.entry.Entry.{Entry}
-use Rattle.jam_layout.specs.declared.files.BaseFiles.{BaseFiles}
-use Rattle.jam_layout.specs.declared.shape.Shape.{Shape}
+use Rattle.jam_writing.specs.jam_layout.Conference.{live_count}
+use Rattle.jam_writing.specs.jam_layout.Headers.{headers_text}
+use Rattle.jam_writing.specs.jam_layout.Index.{index_records}
+use Rattle.jam_writing.specs.jam_layout.Layout.{entries_of, files_size}
+use Rattle.jam_writing.specs.jam_layout.Sizes.{slot_header}
+use Rattle.jam_writing.specs.jam_layout.declared.conference.Conference.{Conference}
+use Rattle.jam_writing.specs.jam_layout.declared.entry.Entry.{Entry}
+use Rattle.jam_writing.specs.jam_layout.declared.files.BaseFiles.{BaseFiles}
+use Rattle.jam_writing.specs.jam_layout.declared.shape.Shape.{Shape}
 use Rattle.jam_writing.specs.Pieces.{body_piece, body_size}
 use Rattle.jam_base.specs.Places.{header_place, field_place}
 

@@ -4,7 +4,7 @@ use Rattle.std.specs.Str.{str_eq_ignore_ascii_case}
 use Rattle.jam_records.specs.declared.message.Message.{Message}
 use Rattle.jam_records.specs.declared.message.Slot.{Slot}
 use Rattle.jam_records.specs.declared.message.Slot.TheVariants.{Gone, Held}
-use Rattle.jam_layout.specs.Conference.{is_live}
+use Rattle.jam_writing.specs.jam_layout.Conference.{is_live}
 use Rattle.jam_base.specs.declared.receipt.Receipt.{Receipt}
 
 -- what a message number stands for, where it has a slot, and else Gone

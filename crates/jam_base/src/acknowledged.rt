@@ -4,7 +4,7 @@ ghost use Rattle.jam_base.specs.Bodies.{Lengthens};
 ghost use Rattle.jam_base.specs.Change.{Turns, SuitsIntent};
 ghost use Rattle.jam_base.specs.Contents.{reader_place, with_acknowledged};
 ghost use Rattle.jam_base.specs.Outlined.{TurnsEach};
-ghost use Rattle.jam_layout.specs.Layout.{layout};
+ghost use Rattle.jam_writing.specs.jam_layout.Layout.{layout};
 
 use crate::base::Base;
 use crate::change::BaseChange;

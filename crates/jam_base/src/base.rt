@@ -1,7 +1,7 @@
 ghost use Rattle.std.specs.Prelude.{◌≡◌, ◌↔◌, ◌+◌, ◌-◌, ◌*◌, ◌^◌, ◌≤◌, ◌<◌, ◌==◌, ℕ, [], length, map, take, slice_get, slice_index_or, slice_set, sum_by, All, None, IfOk, IsSome, IsTrue, if◌then◌else◌};
 ghost use Rattle.std.specs.Option.{option_copied};
 ghost use Rattle.jam_threads.specs.Children.{original};
-ghost use Rattle.jam_layout.specs.Layout.{layout, files_size};
+ghost use Rattle.jam_writing.specs.jam_layout.Layout.{layout, files_size};
 ghost use Rattle.jam_base.specs.Bodies.{body_span as span_of, Lengthens};
 ghost use Rattle.jam_base.specs.Change.{Turns, SuitsIntent};
 ghost use Rattle.jam_base.specs.Outlined.{outlined, TurnsEach};
@@ -12,14 +12,14 @@ ghost use Rattle.jam_base.specs.MarkPuts.{delete_puts, receive_puts};
 ghost use Rattle.intent_journal.specs.Patches.{byte_count};
 ghost use Rattle.jam_threads.specs.Threading.{AreThreads};
 ghost use Rattle.jam_threads.specs.declared.threads.Threads.{Threads as ThreadsOf};
-ghost use Rattle.jam_layout.specs.Limits.{slot_limit};
-ghost use Rattle.jam_layout.specs.Messages.{IsMessage};
-ghost use Rattle.jam_layout.specs.Bare.{filled};
-ghost use Rattle.jam_layout.specs.Outlines.{slot_bare};
-ghost use Rattle.jam_layout.specs.Bodies.{body_size};
-ghost use Rattle.jam_layout.specs.Conference.{live_count};
-ghost use Rattle.jam_layout.specs.Valid.{IsShape, IsConference};
-ghost use Rattle.jam_layout.specs.declared.files.BaseFiles.{BaseFiles};
+ghost use Rattle.jam_writing.specs.jam_layout.Limits.{slot_limit};
+ghost use Rattle.jam_writing.specs.jam_layout.Messages.{IsMessage};
+ghost use Rattle.jam_writing.specs.jam_layout.Bare.{filled};
+ghost use Rattle.jam_writing.specs.jam_layout.Outlines.{slot_bare};
+ghost use Rattle.jam_writing.specs.jam_layout.Bodies.{body_size};
+ghost use Rattle.jam_writing.specs.jam_layout.Conference.{live_count};
+ghost use Rattle.jam_writing.specs.jam_layout.Valid.{IsShape, IsConference};
+ghost use Rattle.jam_writing.specs.jam_layout.declared.files.BaseFiles.{BaseFiles};
 
 use crate::change::BaseChange;
 use crate::linked::add_messages;
@@ -30,17 +30,13 @@ use crate::receipt::{Receipt, any_due, slots_received};
 use crate::refusal::{AppendRefusal, KillRefusal};
 use crate::slots::{has_live, with_deleted, with_messages};
 use crate::span::Span;
-use byte_lists::{Bytes, Duplicate, List};
-use door_outside::FileId;
-use intent_journal::{Patch, Patches};
-use jam_layout::{BareConference, Conference, Reader, SLOT_LIMIT, Shape};
-use jam_records::{Message, Messages, Slot, Slots};
-use jam_threads::Threads;
+use intent_journal::{FileId, Patch, Patches};
+use jam_records::{Bytes, Duplicate, List, Message, Messages, Slot, Slots};
+use jam_threads::{Shared, SharedList, Threads};
 use jam_writing::{
-    write_bodies, write_first, write_jlr, write_last_headers, write_last_records, write_reader,
+    BareConference, Conference, Reader, SLOT_LIMIT, Shape, SharedSlots, write_bodies, write_first,
+    write_jlr, write_last_headers, write_last_records, write_reader,
 };
-use shared_lists::{Shared, SharedList};
-use shared_slots::SharedSlots;
 use std::alloc::{AllocError, Global};
 use std::marker::Model;
 
@@ -59,7 +55,7 @@ pub struct Base {
 
 impl Model for Base {
     ghost use Rattle.jam_base.specs.Contents.{Contents};
-    ghost use Rattle.jam_layout.specs.Valid.{IsShape, IsConference};
+    ghost use Rattle.jam_writing.specs.jam_layout.Valid.{IsShape, IsConference};
     ghost use Rattle.jam_threads.specs.Threading.{AreThreads};
 
     ghost Value = { Contents };

@@ -1,15 +1,14 @@
 ghost use Rattle.std.specs.Prelude.{◌≡◌, ℕ, ◌≤◌, List, [], ◌∷◌, ◌++◌, ◌<◌, length, IfOk};
-ghost use Rattle.jam_layout.specs.Layout.{layout};
+ghost use Rattle.jam_writing.specs.jam_layout.Layout.{layout};
 ghost use Rattle.jam_base.specs.Change.{message_files, whole_files};
 ghost use Rattle.jam_base.specs.MarkPuts.{pointer_patch as pointer_patch_of, record_patch as record_patch_of};
 ghost use Rattle.jam_base.specs.Puts.{counts_put, end_puts};
 
 use crate::base::Base;
 use crate::pointers::{pointer_patch, record_patch};
-use byte_lists::Bytes;
-use door_outside::FileId;
-use intent_journal::{Patch, Patches};
-use jam_layout::BaseFiles;
+use intent_journal::{FileId, Patch, Patches};
+use jam_records::Bytes;
+use jam_writing::BaseFiles;
 use std::alloc::{AllocError, Global};
 
 /// A base after a change, and the change of its files.

@@ -1,10 +1,10 @@
 //! Laws of a conference's files, each the contract of a function that does nothing.
 ghost use Rattle.jam_records.specs.declared.message.Message.{Message};
-ghost use Rattle.jam_layout.specs.declared.conference.Conference.{Conference};
-ghost use Rattle.jam_layout.specs.declared.shape.Shape.{Shape};
+ghost use Rattle.jam_writing.specs.jam_layout.declared.conference.Conference.{Conference};
+ghost use Rattle.jam_writing.specs.jam_layout.declared.shape.Shape.{Shape};
 ghost use Rattle.jam_base.specs.OneAppend.{OneAppend};
 
-pub use jam_layout::laws::{outlines, rising_subfields, unique_conference};
+pub use jam_writing::laws::{outlines, rising_subfields, unique_conference};
 
 /// With one message more, .JHR is the old one with ActiveMsgs and at most one link number of an older header
 /// replaced, and the new header with its subfields at the end. .JDT and .JDX have the new body and the new

@@ -18,7 +18,9 @@ mod span;
 
 pub use base::Base;
 pub use change::BaseChange;
-pub use jam_layout::{BaseError, BaseFiles, Conference, Reader, Readers, Shape};
+pub use jam_writing::{
+    BaseError, BaseFiles, Conference, Reader, Readers, SLOT_LIMIT, Shape, typed,
+};
 pub use read::read_base;
 pub use refusal::{AppendRefusal, KillRefusal};
 pub use span::Span;

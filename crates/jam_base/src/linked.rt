@@ -1,9 +1,9 @@
 // The links that messages at the end of a conference change in the headers of older ones.
 ghost use Rattle.std.specs.Prelude.{◌≡◌, ◌+◌, ◌≤◌, ◌<◌, List, [], ◌∷◌, ◌++◌, ◌^◌, length, Some, IfOk, OnOk};
 ghost use Rattle.intent_journal.specs.declared.patch.Patch.{Patch};
-ghost use Rattle.door_outside.specs.File.{jhr_file};
-ghost use Rattle.jam_layout.specs.Limits.{slot_limit};
-ghost use Rattle.record_numbers.specs.Numbers.{u32_text};
+ghost use Rattle.intent_journal.specs.door_outside.File.{jhr_file};
+ghost use Rattle.jam_writing.specs.jam_layout.Limits.{slot_limit};
+ghost use Rattle.jam_records.specs.record_numbers.Numbers.{u32_text};
 ghost use Rattle.jam_records.specs.declared.message.Slot.{Slot as SlotOf};
 ghost use Rattle.jam_records.specs.declared.message.Slot.TheVariants.{Held};
 ghost use Rattle.jam_threads.specs.LinkChanges.{link_change};
@@ -13,12 +13,10 @@ ghost use Rattle.jam_base.specs.Puts.{link_put, link_puts};
 ghost use Rattle.jam_base.specs.Slots.{slots_with_all};
 
 use crate::numbers::one_number;
-use byte_lists::Bytes;
-use door_outside::FileId;
-use intent_journal::{Patch, Patches};
-use jam_records::Message;
+use intent_journal::{FileId, Patch, Patches};
+use jam_records::{Bytes, Message};
 use jam_threads::{LinkField, LinkPatch, Threads};
-use shared_slots::SharedSlots;
+use jam_writing::SharedSlots;
 use std::alloc::{AllocError, Global};
 
 /// Where a link number stands in a header (JAM message base proposal, revision 1).

@@ -5,12 +5,9 @@ ghost use Rattle.jam_base.specs.Slots.{numbered};
 
 use crate::numbers::four_numbers;
 use crate::receipt::{Receipt, is_due};
-use byte_lists::Bytes;
-use door_outside::FileId;
-use intent_journal::{Patch, Patches};
-use jam_layout::Marks;
-use jam_records::{Kind, Message, Slot};
-use shared_slots::{SharedSlots, header_length};
+use intent_journal::{FileId, Patch, Patches};
+use jam_records::{Bytes, Kind, Message, Slot};
+use jam_writing::{Marks, SharedSlots, header_length};
 use std::alloc::{AllocError, Global};
 
 /// What changes of a message in place.

@@ -1,6 +1,6 @@
 // Numbers of four bytes, as they stand in the files.
 ghost use Rattle.std.specs.Prelude.{◌≡◌, [], ◌∷◌};
-ghost use Rattle.record_numbers.specs.Numbers.{u32_text, u32s_text};
+ghost use Rattle.jam_records.specs.record_numbers.Numbers.{u32_text, u32s_text};
 
 use byteorder::{ByteOrder, LittleEndian};
 

@@ -4,10 +4,9 @@ ghost use Rattle.jam_base.specs.MarkPuts.{pointer_patch as pointer_patch_of, rec
 
 use crate::base::Base;
 use crate::numbers::two_numbers;
-use byte_lists::{Bytes, List};
-use door_outside::FileId;
-use intent_journal::Patch;
-use shared_lists::SharedList;
+use intent_journal::{FileId, Patch};
+use jam_records::{Bytes, List};
+use jam_threads::SharedList;
 use std::alloc::{AllocError, Global};
 
 /// How many readers have records that end below 2^31, as a patch does.

@@ -1,14 +1,14 @@
 ghost use Rattle.std.specs.Prelude.{◌≡◌, ◌<◌, ◌^◌, length, IfOk, Some, Err, Ok};
-ghost use Rattle.byte_lists.specs.Memory.{UnlessMemory};
+ghost use Rattle.jam_records.specs.byte_lists.Memory.{UnlessMemory};
 ghost use Rattle.jam_records.specs.declared.damage.Damage.{Damage};
-ghost use Rattle.jam_layout.specs.Layout.{layout, base_damage};
-ghost use Rattle.jam_layout.specs.Outlines.{outline};
-ghost use Rattle.jam_layout.specs.Valid.{IsShape, IsConference};
-ghost use Rattle.jam_layout.specs.declared.conference.Conference.{Conference};
+ghost use Rattle.jam_writing.specs.jam_layout.Layout.{layout, base_damage};
+ghost use Rattle.jam_writing.specs.jam_layout.Outlines.{outline};
+ghost use Rattle.jam_writing.specs.jam_layout.Valid.{IsShape, IsConference};
+ghost use Rattle.jam_writing.specs.jam_layout.declared.conference.Conference.{Conference};
 ghost use Rattle.jam_base.specs.Outlined.{IsReadOf};
 
 use crate::base::Base;
-use jam_layout::{BaseError, BaseFiles, Shape, read_bare};
+use jam_writing::{BaseError, BaseFiles, Shape, read_bare};
 use std::alloc::Global;
 
 /// The outline of the conference whose layout the files are (JAM message base proposal, revision 1). Each file has fewer

@@ -1,10 +1,9 @@
 ghost use Rattle.std.specs.Prelude.{◌≡◌, ◌+◌, ◌<◌, ◌≤◌, min, length, slice_index_or, slice_set, unwrap_or, IfOk};
-ghost use Rattle.jam_layout.specs.Limits.{slot_limit};
+ghost use Rattle.jam_writing.specs.jam_layout.Limits.{slot_limit};
 ghost use Rattle.jam_base.specs.Slots.{is_due as is_due_of, has_due as has_due_of, any_due as any_due_of, slot_received, slots_received as received_of};
 
-use byte_lists::Duplicate;
-use jam_records::{Message, Slot};
-use shared_slots::SharedSlots;
+use jam_records::{Duplicate, Message, Slot};
+use jam_writing::SharedSlots;
 use std::alloc::{AllocError, Global};
 
 /// Which messages to a name are received, and when.

@@ -3,22 +3,19 @@ ghost use Rattle.std.specs.Prelude.{◌≡◌, ◌+◌, ◌≤◌, ◌<◌, ◌^
 ghost use Rattle.jam_base.specs.Change.{message_files, SuitsIntent};
 ghost use Rattle.jam_base.specs.Contents.{with_slots};
 ghost use Rattle.jam_base.specs.Outlined.{outlined, TurnsEach};
-ghost use Rattle.jam_layout.specs.Bodies.{body_size};
-ghost use Rattle.jam_layout.specs.Layout.{layout};
-ghost use Rattle.jam_layout.specs.Limits.{slot_limit};
-ghost use Rattle.jam_layout.specs.Messages.{IsSlot};
-ghost use Rattle.jam_layout.specs.Outlines.{slot_outline};
-ghost use Rattle.jam_layout.specs.Sizes.{slot_header};
+ghost use Rattle.jam_writing.specs.jam_layout.Bodies.{body_size};
+ghost use Rattle.jam_writing.specs.jam_layout.Layout.{layout};
+ghost use Rattle.jam_writing.specs.jam_layout.Limits.{slot_limit};
+ghost use Rattle.jam_writing.specs.jam_layout.Messages.{IsSlot};
+ghost use Rattle.jam_writing.specs.jam_layout.Outlines.{slot_outline};
+ghost use Rattle.jam_writing.specs.jam_layout.Sizes.{slot_header};
 
 use crate::base::Base;
 use crate::change::{BaseChange, messages_of};
-use byte_lists::Duplicate;
 use intent_journal::Patches;
-use jam_records::{Slot, Slots};
-use jam_threads::Threads;
-use jam_writing::{write_whole_bodies, write_whole_headers, write_whole_records};
-use shared_lists::Shared;
-use shared_slots::SharedSlots;
+use jam_records::{Duplicate, Slot, Slots};
+use jam_threads::{Shared, Threads};
+use jam_writing::{SharedSlots, write_whole_bodies, write_whole_headers, write_whole_records};
 use std::alloc::{AllocError, Global};
 
 /// What is kept of these slots, of which one at a time is copied.

@@ -1,15 +1,14 @@
 // The slots of a conference after a change of them.
 ghost use Rattle.std.specs.Prelude.{◌≡◌, ◌+◌, ◌≤◌, ◌<◌, ◌==◌, ◌^◌, length, map, sum_by, IfOk};
-ghost use Rattle.jam_layout.specs.Conference.{is_live as is_live_of};
-ghost use Rattle.jam_layout.specs.Limits.{slot_limit};
-ghost use Rattle.jam_layout.specs.Sizes.{slot_header};
-ghost use Rattle.jam_layout.specs.Bodies.{body_size};
-ghost use Rattle.jam_layout.specs.Outlines.{message_outline};
+ghost use Rattle.jam_writing.specs.jam_layout.Conference.{is_live as is_live_of};
+ghost use Rattle.jam_writing.specs.jam_layout.Limits.{slot_limit};
+ghost use Rattle.jam_writing.specs.jam_layout.Sizes.{slot_header};
+ghost use Rattle.jam_writing.specs.jam_layout.Bodies.{body_size};
+ghost use Rattle.jam_writing.specs.jam_layout.Outlines.{message_outline};
 ghost use Rattle.jam_base.specs.Slots.{slots_with_all, has_live as has_live_of, slot_deleted, slots_deleted};
 
-use byte_lists::Duplicate;
-use jam_records::{Messages, Slot};
-use shared_slots::SharedSlots;
+use jam_records::{Duplicate, Messages, Slot};
+use jam_writing::SharedSlots;
 use std::alloc::{AllocError, Global};
 
 /// The slots with the outlines of these messages at the end.

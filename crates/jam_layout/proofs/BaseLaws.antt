@@ -7,8 +7,8 @@ use Rattle.std.proofs.lemmas.Bool.{ltb-false, le-ltb, eqb-true, and_parts}
 use Rattle.std.proofs.lemmas.Slice.Eq.{bytes_eq-Decides}
 use Rattle.std.proofs.lemmas.List.{take_at, drop_at, take-append-drop, drop-drop, length-take, length-drop}
 use Rattle.std.proofs.lemmas.List.Elements.{All-cons, All-nil}
-use Rattle.byte_lists.specs.Byte.{IsByte}
-use Rattle.record_numbers.specs.Numbers.{u32_at, u32s_text, IsU32}
+use Rattle.jam_records.specs.byte_lists.Byte.{IsByte}
+use Rattle.jam_records.specs.record_numbers.Numbers.{u32_at, u32s_text, IsU32}
 use Rattle.jam_records.specs.Signature.{signature}
 use Rattle.jam_records.specs.BaseHeaders.{base_header_at, base_fields, base_text, IsBaseHeader, BaseHeaderStands}
 use Rattle.jam_records.specs.declared.base_header.BaseHeader.{BaseHeader}
@@ -16,7 +16,7 @@ use Rattle.jam_records.proofs.HeaderLemmas.{base_stands}
 use Rattle.jam_layout.specs.Layout.{wrong_base, base_rules}
 use Rattle.jam_layout.specs.declared.shape.Shape.{Shape}
 use Rattle.damage_rules.proofs.KeptRules.{Kept}
-use Rattle.record_numbers.proofs.NumberFronts.{numbers_front}
+use Rattle.jam_records.proofs.record_numbers.NumberFronts.{numbers_front}
 use Rattle.damage_rules.proofs.BoolTests.{or_false, not_not, both_false, equal, unequal}
 
 -- ---- zeros

@@ -6,9 +6,9 @@ use Rattle.std.proofs.lemmas.Bool.Decides.{nat_tests}
 use Rattle.std.proofs.lemmas.List.{nil_from_length, length-map, length-drop}
 use Rattle.std.proofs.lemmas.List.Elements.{All-drop}
 use Rattle.std.proofs.lemmas.List.Sums.{count_by-le-length}
-use Rattle.byte_lists.specs.Byte.{IsByte}
+use Rattle.jam_records.specs.byte_lists.Byte.{IsByte}
 use Rattle.jam_records.specs.BaseHeaders.{base_text}
-use Rattle.record_numbers.specs.Numbers.{u32_at}
+use Rattle.jam_records.specs.record_numbers.Numbers.{u32_at}
 use Rattle.jam_records.specs.declared.damage.Damage.{Damage}
 use Rattle.jam_records.specs.declared.damage.DamageRule.TheVariants.{Active, Count, Missing}
 use Rattle.jam_records.specs.declared.message.Kind.{Kind}
@@ -33,7 +33,7 @@ use Rattle.jam_layout.specs.declared.entry.Entry.{Entry}
 use Rattle.jam_layout.specs.declared.files.BaseFiles.{BaseFiles}
 use Rattle.jam_layout.specs.declared.shape.Shape.{Shape}
 use Rattle.damage_rules.proofs.KeptRules.{rules_kept, kept_rules, bind_ok, ok_is}
-use Rattle.record_numbers.proofs.NumberFronts.{u32_small}
+use Rattle.jam_records.proofs.record_numbers.NumberFronts.{u32_small}
 use Rattle.jam_layout.proofs.EntryLaws.{HeadersFit, headers_take, headers_again}
 use Rattle.jam_layout.proofs.BodyLaws.{bare, BodiesFit, bodies_take, bodies_again}
 use Rattle.jam_layout.proofs.PointerLaws.{pointers_take, pointers_again}

@@ -3,7 +3,7 @@ use Rattle.std.proofs.Common.{ℕ, suc, ◌+◌, ◌/◌, ◌%◌, ◌^◌, ◌<
 use Rattle.std.specs.Prelude.{All, fold, bit_xor}
 use Rattle.std.specs.Char.{to_ascii_lowercase}
 use Rattle.std.proofs.lemmas.Nat.{xor_lt}
-use Rattle.byte_lists.specs.Byte.{IsByte}
+use Rattle.jam_records.specs.byte_lists.Byte.{IsByte}
 use Rattle.name_crc.specs.JamCrc.{polynomial, halved, eight_times, after_byte, jam_crc}
 
 either : (b : Bool) (x y k : ℕ) → x < k → y < k → cond b x y < k

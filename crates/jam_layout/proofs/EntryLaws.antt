@@ -3,9 +3,9 @@ use Rattle.std.proofs.Common.{◌≡◌, ℕ, zero, suc, ◌+◌, ◌-◌, ◌*�
 use Rattle.std.specs.Prelude.{All, IsTrue}
 use Rattle.std.proofs.lemmas.List.{take_at, drop_at, take-append-drop, drop-drop, length-take, length-drop}
 use Rattle.std.proofs.lemmas.List.Elements.{All-drop, All-take, All-cons, All-nil}
-use Rattle.byte_lists.specs.Byte.{IsByte}
+use Rattle.jam_records.specs.byte_lists.Byte.{IsByte}
 use Rattle.name_crc.specs.JamCrc.{jam_crc}
-use Rattle.record_numbers.specs.Numbers.{u16_at, IsU32}
+use Rattle.jam_records.specs.record_numbers.Numbers.{u16_at, IsU32}
 use Rattle.jam_records.specs.MessageHeaders.{message_header_at, header_text, IsMessageHeader, MessageHeaderStands}
 use Rattle.jam_records.specs.Subfields.{subfields_text}
 use Rattle.jam_records.specs.declared.message.Kind.{Kind}
@@ -24,7 +24,7 @@ use Rattle.jam_layout.specs.declared.entry.Front.{Front}
 use Rattle.jam_layout.specs.declared.fields.Values.{Values}
 use Rattle.damage_rules.proofs.KeptRules.{Kept, rules_kept, kept_rules, bind_ok, ok_is}
 use Rattle.damage_rules.proofs.RecordWalks.{walk_more, walk_done, behind_first, drop_one}
-use Rattle.record_numbers.proofs.NumberFronts.{u32_small}
+use Rattle.jam_records.proofs.record_numbers.NumberFronts.{u32_small}
 use Rattle.jam_layout.proofs.RecordFronts.{header_front}
 use Rattle.jam_layout.proofs.ValueLaws.{HasValues, RightTexts, right_texts, values_take, values_again, message_values, maybe_back, right_by_texts}
 use Rattle.jam_layout.proofs.HeaderLaws.{HeaderKept, keep, keeps}

@@ -4,12 +4,12 @@ use Rattle.std.specs.Prelude.{All}
 use Rattle.std.proofs.lemmas.Bool.Decides.{nat_tests}
 use Rattle.std.proofs.lemmas.List.{take_at, drop_at, take-append-drop, drop-drop, length-take, length-drop}
 use Rattle.std.proofs.lemmas.List.Elements.{All-drop, All-nil, All-cons, All-head}
-use Rattle.byte_lists.specs.Byte.{IsByte}
-use Rattle.record_numbers.specs.Numbers.{u16_at, u32_at, u16_text, u32_text}
+use Rattle.jam_records.specs.byte_lists.Byte.{IsByte}
+use Rattle.jam_records.specs.record_numbers.Numbers.{u16_at, u32_at, u16_text, u32_text}
 use Rattle.jam_records.specs.Subfields.{subfield_text, subfields_text}
 use Rattle.jam_records.specs.declared.subfield.Subfield.{Subfield}
 use Rattle.jam_records.proofs.SubfieldLemmas.{lo_is, hi_is, size_is, behind_head, text_length}
-use Rattle.record_numbers.proofs.NumberFronts.{u16_front, u32_front, u32_small}
+use Rattle.jam_records.proofs.record_numbers.NumberFronts.{u16_front, u32_front, u32_small}
 use Rattle.jam_layout.specs.Fields.{has_field, field_at}
 use Rattle.jam_layout.specs.InOrder.{FieldsFit}
 

@@ -4,7 +4,7 @@ use Rattle.std.proofs.lemmas.Bool.{ltb-false, le-ltb}
 use Rattle.std.proofs.lemmas.Bool.Decides.{nat_tests}
 use Rattle.std.proofs.lemmas.Slice.Eq.{bytes_eq-Decides}
 use Rattle.name_crc.specs.JamCrc.{jam_crc}
-use Rattle.record_numbers.specs.Numbers.{u16_at}
+use Rattle.jam_records.specs.record_numbers.Numbers.{u16_at}
 use Rattle.jam_records.specs.Signature.{signature}
 use Rattle.jam_records.specs.MessageHeaders.{message_header_at}
 use Rattle.jam_records.specs.declared.message.Kind.{Kind}

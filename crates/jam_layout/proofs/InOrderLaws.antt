@@ -9,7 +9,7 @@ use Rattle.std.proofs.lemmas.List.{nil_from_length}
 use Rattle.std.proofs.lemmas.List.Elements.{All-nil, All-cons, All-head, All-tail, All-append}
 use Rattle.std.proofs.lemmas.List.Folds.{length-flat_map-take}
 use Rattle.std.proofs.lemmas.Grind.{flat_map-append}
-use Rattle.byte_lists.specs.Byte.{IsByte}
+use Rattle.jam_records.specs.byte_lists.Byte.{IsByte}
 use Rattle.jam_records.specs.Subfields.{subfield_text, subfields_text}
 use Rattle.jam_records.specs.declared.subfield.Subfield.{Subfield}
 use Rattle.jam_layout.specs.Fields.{field_at, values_at}

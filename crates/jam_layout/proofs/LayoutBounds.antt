@@ -4,9 +4,9 @@ use Rattle.std.specs.Prelude.{All, IsTrue, replicate, decimal, ◌&&◌, nat_le}
 use Rattle.std.proofs.lemmas.Bool.{and_parts, leb-true}
 use Rattle.std.proofs.lemmas.Fmt.{length-decimal-le}
 use Rattle.std.proofs.lemmas.List.Elements.{All-nil, All-cons, All-append, All-drop, All-replicate}
-use Rattle.byte_lists.specs.Byte.{IsByte}
-use Rattle.record_numbers.proofs.NumberLemmas.{number_bytes}
-use Rattle.record_numbers.specs.Numbers.{u16_text, u32_text, u32s_text}
+use Rattle.jam_records.specs.byte_lists.Byte.{IsByte}
+use Rattle.jam_records.proofs.record_numbers.NumberLemmas.{number_bytes}
+use Rattle.jam_records.specs.record_numbers.Numbers.{u16_text, u32_text, u32s_text}
 use Rattle.jam_records.specs.Addresses.{IsPart, point_text}
 use Rattle.jam_records.specs.BaseHeaders.{base_fields, base_text}
 use Rattle.jam_records.specs.IndexRecords.{index_fields, index_text}

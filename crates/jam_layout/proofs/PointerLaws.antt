@@ -5,9 +5,9 @@ use Rattle.std.proofs.lemmas.Bool.{ltb-false, le-ltb}
 use Rattle.std.proofs.lemmas.Bool.Decides.{nat_tests}
 use Rattle.std.proofs.lemmas.List.{nil_from_length}
 use Rattle.std.proofs.lemmas.List.Elements.{All-drop, All-cons, All-nil, All-tail}
-use Rattle.byte_lists.specs.Byte.{IsByte}
+use Rattle.jam_records.specs.byte_lists.Byte.{IsByte}
 use Rattle.name_crc.specs.JamCrc.{jam_crc}
-use Rattle.record_numbers.specs.Numbers.{u32_at, IsU32}
+use Rattle.jam_records.specs.record_numbers.Numbers.{u32_at, IsU32}
 use Rattle.jam_records.specs.LastReads.{last_read_at, last_text, IsLastRead}
 use Rattle.jam_records.specs.declared.damage.DamageRule.TheVariants.{Rest}
 use Rattle.jam_records.specs.declared.last_read.LastRead.{LastRead}

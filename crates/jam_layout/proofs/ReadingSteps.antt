@@ -4,8 +4,8 @@ use Rattle.std.specs.Prelude.{All, sum_by}
 use Rattle.std.proofs.lemmas.List.{length-drop, take_rest}
 use Rattle.std.proofs.lemmas.List.Sums.{sum_by-cons}
 use Rattle.std.proofs.lemmas.List.Elements.{All-drop}
-use Rattle.byte_lists.specs.Byte.{IsByte}
-use Rattle.record_numbers.specs.Numbers.{u32_at}
+use Rattle.jam_records.specs.byte_lists.Byte.{IsByte}
+use Rattle.jam_records.specs.record_numbers.Numbers.{u32_at}
 use Rattle.jam_records.specs.declared.damage.Damage.{Damage}
 use Rattle.jam_records.specs.declared.message.Kind.{Kind}
 use Rattle.jam_records.specs.declared.message.Slot.{Slot}

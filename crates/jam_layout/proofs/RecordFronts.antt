@@ -2,9 +2,9 @@
 use Rattle.std.proofs.Common.{◌≡◌, ℕ, ◌≤◌, List, ◌++◌, length, take, drop, sym, ap, ◌∙◌, arith}
 use Rattle.std.specs.Prelude.{All}
 use Rattle.std.proofs.lemmas.List.{take-append-drop}
-use Rattle.byte_lists.specs.Byte.{IsByte}
-use Rattle.record_numbers.specs.Numbers.{u16_at, u16_text, u32s_text}
-use Rattle.record_numbers.proofs.NumberFronts.{u16_front, numbers_front}
+use Rattle.jam_records.specs.byte_lists.Byte.{IsByte}
+use Rattle.jam_records.specs.record_numbers.Numbers.{u16_at, u16_text, u32s_text}
+use Rattle.jam_records.proofs.record_numbers.NumberFronts.{u16_front, numbers_front}
 use Rattle.jam_records.specs.Signature.{signature}
 use Rattle.jam_records.specs.MessageHeaders.{message_header_at, message_fields, header_text}
 use Rattle.jam_records.specs.IndexRecords.{index_at, index_text}

@@ -3,7 +3,7 @@ use Rattle.std.proofs.Common.{◌≡◌, ℕ, suc, ◌+◌, ◌*◌, ◌^◌, �
 use Rattle.std.specs.Prelude.{All}
 use Rattle.std.proofs.lemmas.List.{take_at, drop_at}
 use Rattle.std.proofs.lemmas.List.Elements.{All-drop, All-take, All-cons, All-nil}
-use Rattle.byte_lists.specs.Byte.{IsByte}
+use Rattle.jam_records.specs.byte_lists.Byte.{IsByte}
 use Rattle.jam_records.specs.MessageHeaders.{header_text}
 use Rattle.jam_records.specs.Subfields.{subfield_text, subfields_text}
 use Rattle.jam_records.specs.declared.message.Kind.{Kind}

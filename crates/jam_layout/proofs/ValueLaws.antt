@@ -3,7 +3,7 @@ use Rattle.std.proofs.Common.{◌≡◌, ℕ, ◌^◌, ◌<◌, Bool, true, fals
 use Rattle.std.proofs.lemmas.Bool.{and_from, and_parts}
 use Rattle.std.specs.Prelude.{All, IsTrue}
 use Rattle.std.proofs.lemmas.Grind.{flat_map-append}
-use Rattle.byte_lists.specs.Byte.{IsByte}
+use Rattle.jam_records.specs.byte_lists.Byte.{IsByte}
 use Rattle.jam_records.specs.Subfields.{subfield_text, subfields_text}
 use Rattle.jam_records.specs.declared.subfield.Subfield.{Subfield}
 use Rattle.jam_records.specs.declared.message.Message.{Message}

@@ -1,7 +1,7 @@
 -- The values in the subfields of a header (JAM message base proposal, revision 1, the subfields' LoIDs).
 use Rattle.std.specs.Prelude.{ℕ, ◌+◌, List, [], ◌∷◌, ◌++◌, length, take, drop, Option, Some, None, Bool, true, false, ◌&&◌, ◌==◌, nat_le, if◌then◌else◌}
 use Rattle.std.specs.List.{list_all}
-use Rattle.record_numbers.specs.Numbers.{u16_at, u32_at}
+use Rattle.jam_records.specs.record_numbers.Numbers.{u16_at, u32_at}
 use Rattle.jam_records.specs.declared.subfield.Subfield.{Subfield}
 use Rattle.jam_records.specs.declared.message.Message.{Message}
 use Rattle.jam_layout.specs.Address.{is_address}

@@ -2,7 +2,7 @@
 use Rattle.std.specs.Prelude.{ℕ, ◌+◌, List, [], ◌∷◌, ◌++◌, length, take, drop, unwrap_or, Bool, Result, Ok, not, ◌||◌, ◌==◌, nat_lt, nat_le}
 use Rattle.std.specs.Str.{bytes_eq}
 use Rattle.name_crc.specs.JamCrc.{jam_crc}
-use Rattle.record_numbers.specs.Numbers.{u16_at}
+use Rattle.jam_records.specs.record_numbers.Numbers.{u16_at}
 use Rattle.jam_records.specs.Signature.{signature}
 use Rattle.jam_records.specs.MessageHeaders.{message_header_at, header_text}
 use Rattle.jam_records.specs.Subfields.{subfields_text}

@@ -1,7 +1,7 @@
 -- .JDX: one record for each slot.
 use Rattle.std.specs.Prelude.{ℕ, ◌+◌, ◌/◌, List, [], ◌∷◌, ◌++◌, length, Result, Bool, false, not, ◌||◌, ◌==◌, nat_lt, if◌then◌else◌}
 use Rattle.name_crc.specs.JamCrc.{jam_crc}
-use Rattle.record_numbers.specs.Numbers.{u32_at}
+use Rattle.jam_records.specs.record_numbers.Numbers.{u32_at}
 use Rattle.jam_records.specs.IndexRecords.{index_text}
 use Rattle.jam_records.specs.declared.index_record.IndexRecord.{IndexRecord}
 use Rattle.jam_records.specs.declared.damage.Damage.{Damage}

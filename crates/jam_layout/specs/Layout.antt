@@ -2,7 +2,7 @@
 use Rattle.std.specs.Prelude.{ℕ, ◌+◌, List, [], ◌∷◌, ◌++◌, length, take, drop, Option, Bool, Result, Ok, not, ◌||◌, ◌==◌, nat_lt}
 use Rattle.std.specs.List.{list_all}
 use Rattle.std.specs.Str.{bytes_eq}
-use Rattle.record_numbers.specs.Numbers.{u32_at}
+use Rattle.jam_records.specs.record_numbers.Numbers.{u32_at}
 use Rattle.jam_records.specs.Signature.{signature}
 use Rattle.jam_records.specs.BaseHeaders.{base_text}
 use Rattle.jam_records.specs.declared.base_header.BaseHeader.{BaseHeader}

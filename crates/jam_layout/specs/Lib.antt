@@ -17,3 +17,4 @@ pub mod Rules
 pub mod SecondPass
 pub mod Sizes
 pub mod Valid
+pub use Rattle.jam_threads.specs as jam_threads

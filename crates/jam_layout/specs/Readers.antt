@@ -1,7 +1,7 @@
 -- .JLR: one record for each reader, in rising id.
 use Rattle.std.specs.Prelude.{ℕ, ◌+◌, List, [], ◌∷◌, ◌++◌, length, drop, Result, Ok, not, ◌||◌, ◌==◌, nat_lt}
 use Rattle.name_crc.specs.JamCrc.{jam_crc}
-use Rattle.record_numbers.specs.Numbers.{u32_at}
+use Rattle.jam_records.specs.record_numbers.Numbers.{u32_at}
 use Rattle.jam_records.specs.LastReads.{last_text}
 use Rattle.jam_records.specs.declared.last_read.LastRead.{LastRead}
 use Rattle.jam_records.specs.declared.damage.Damage.{Damage}

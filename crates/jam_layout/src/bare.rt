@@ -1,5 +1,5 @@
 use crate::conference::Conference;
-use byte_lists::List;
+use jam_records::List;
 
 /// A conference without the bodies of its messages.
 #[derive(Debug, Drop)]

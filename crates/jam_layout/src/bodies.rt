@@ -7,9 +7,8 @@ ghost use Rattle.jam_layout.specs.Bodies.{body_rules, lengths_at};
 use crate::entry::Entry;
 use crate::error::BaseError;
 use crate::places::damaged;
-use byte_lists::List;
 use door_outside::FileId;
-use jam_records::DamageRule;
+use jam_records::{DamageRule, List};
 use std::alloc::Global;
 
 /// Tests the body of this length at the front.

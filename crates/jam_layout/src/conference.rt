@@ -1,8 +1,7 @@
 ghost use Rattle.std.specs.Prelude.{◌≡◌};
 ghost use Rattle.jam_layout.specs.Conference.{is_live as is_live_slot, live_count};
 
-use byte_lists::{Duplicate, List};
-use jam_records::{Slot, Slots};
+use jam_records::{Duplicate, List, Slot, Slots};
 use std::alloc::{AllocError, Global};
 
 /// How many slots a conference may have.

@@ -3,9 +3,7 @@ ghost use Rattle.std.specs.List.{list_all};
 ghost use Rattle.jam_layout.specs.Address.{is_address};
 ghost use Rattle.jam_layout.specs.Fields.{has_field as has_field_of, field_at, values_at, is_text as is_text_of, there, may_miss, right_values as are_right};
 
-use byte_lists::Bytes;
-use jam_records::address_text;
-use record_numbers::{u16_at, u32_at};
+use jam_records::{Bytes, address_text, u16_at, u32_at};
 use std::alloc::{AllocError, Global};
 
 /// The values of the subfields of a header.

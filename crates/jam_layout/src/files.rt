@@ -1,4 +1,4 @@
-use byte_lists::Bytes;
+use jam_records::Bytes;
 
 /// The four files of a conference (JAM message base proposal, revision 1).
 #[derive(Debug, Drop)]

@@ -13,12 +13,12 @@ use crate::error::BaseError;
 use crate::fields::{Values, read_values, right_values};
 use crate::marks::{Marks, wrong_attribute};
 use crate::places::damaged;
-use byte_lists::{Bytes, List};
 use door_outside::FileId;
-use jam_records::{DamageRule, Kind, Message, MessageHeader, RecordError, read_message_header};
+use jam_records::{
+    Bytes, DamageRule, Kind, List, Message, MessageHeader, RecordError, read_message_header, u16_at,
+};
 use jam_threads::Link;
 use name_crc::name_crc;
-use record_numbers::u16_at;
 use std::alloc::Global;
 
 /// The length of the fixed part of a header in bytes.

@@ -11,11 +11,9 @@ use crate::entry::Entry;
 use crate::error::BaseError;
 use crate::places::damaged;
 use crate::sizes::header_size;
-use byte_lists::List;
 use door_outside::FileId;
-use jam_records::{DamageRule, IndexRecord, Message, Slot, Slots};
+use jam_records::{DamageRule, IndexRecord, List, Message, Slot, Slots, u32_at};
 use name_crc::name_crc;
-use record_numbers::u32_at;
 use std::alloc::Global;
 use std::collections::VecDeque;
 

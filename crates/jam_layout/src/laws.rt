@@ -1,6 +1,6 @@
 //! Laws of the files of a conference, each the contract of a function that does nothing.
 ghost use Rattle.std.specs.Prelude.{◌≡◌, ◌↔◌, ◌<◌, ◌^◌, ℕ, List, length, All, None};
-ghost use Rattle.byte_lists.specs.Byte.{IsByte};
+ghost use Rattle.jam_records.specs.byte_lists.Byte.{IsByte};
 ghost use Rattle.jam_records.specs.Subfields.{subfields_text};
 ghost use Rattle.jam_records.specs.declared.subfield.Subfield.{Subfield};
 ghost use Rattle.jam_layout.specs.Layout.{layout, base_damage};

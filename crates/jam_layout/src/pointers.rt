@@ -1,5 +1,5 @@
 ghost use Rattle.std.specs.Prelude.{◌≤◌, ◌<◌, ◌^◌, length, IfOk};
-ghost use Rattle.record_numbers.specs.Numbers.{u32_at as u32_of};
+ghost use Rattle.jam_records.specs.record_numbers.Numbers.{u32_at as u32_of};
 ghost use Rattle.damage_rules.specs.Rules.{by_rules};
 ghost use Rattle.jam_layout.specs.Rules.{BaseGives};
 ghost use Rattle.door_outside.specs.File.{jlr_file};
@@ -9,11 +9,9 @@ use crate::error::BaseError;
 use crate::places::damaged;
 use crate::reader::Reader;
 use crate::reader_list::Readers;
-use byte_lists::List;
 use door_outside::FileId;
-use jam_records::DamageRule;
+use jam_records::{DamageRule, List, u32_at};
 use name_crc::name_crc;
-use record_numbers::u32_at;
 use std::alloc::Global;
 
 /// The pointer of a reader, whose record is at the front.

@@ -1,7 +1,7 @@
 ghost use Rattle.std.specs.Prelude.{◌≡◌, ◌≤◌, ◌<◌, ◌^◌, ◌==◌, length, IfOk, Some, Err, Ok};
 ghost use Rattle.std.specs.List.{list_all};
-ghost use Rattle.byte_lists.specs.Memory.{UnlessMemory};
-ghost use Rattle.record_numbers.specs.Numbers.{u32_at as u32_of};
+ghost use Rattle.jam_records.specs.byte_lists.Memory.{UnlessMemory};
+ghost use Rattle.jam_records.specs.record_numbers.Numbers.{u32_at as u32_of};
 ghost use Rattle.jam_records.specs.declared.damage.Damage.{Damage};
 ghost use Rattle.damage_rules.specs.Rules.{by_rules};
 ghost use Rattle.jam_layout.specs.Rules.{BaseGives};
@@ -23,8 +23,7 @@ use crate::pointers::pointers_of;
 use crate::second_pass::check;
 use crate::shape::Shape;
 use door_outside::FileId;
-use jam_records::DamageRule;
-use record_numbers::u32_at;
+use jam_records::{DamageRule, u32_at};
 use std::alloc::Global;
 
 /// The length of the base header in bytes.

@@ -1,4 +1,4 @@
-use byte_lists::{Bytes, Duplicate};
+use jam_records::{Bytes, Duplicate};
 use std::alloc::{AllocError, Global};
 
 /// A reader of a conference.

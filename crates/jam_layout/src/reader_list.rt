@@ -3,7 +3,7 @@ ghost use Rattle.std.specs.Option.{option_copied};
 ghost use Rattle.jam_layout.specs.Reader.{IsReader};
 
 use crate::reader::Reader;
-use shared_lists::{Shared, SharedList};
+use jam_threads::{Shared, SharedList};
 use std::alloc::{AllocError, Global};
 use std::marker::Model;
 

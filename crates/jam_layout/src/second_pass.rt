@@ -8,9 +8,8 @@ ghost use Rattle.jam_layout.specs.SecondPass.{slots_of, active_in, same_link as 
 use crate::entry::Entry;
 use crate::error::BaseError;
 use crate::places::damaged;
-use byte_lists::Duplicate;
 use door_outside::FileId;
-use jam_records::{DamageRule, Slot, Slots};
+use jam_records::{DamageRule, Duplicate, Slot, Slots};
 use jam_threads::{Link, Links, links};
 use std::alloc::{AllocError, Global};
 

@@ -2,8 +2,7 @@ ghost use Rattle.std.specs.Prelude.{◌≡◌};
 ghost use Rattle.jam_layout.specs.Valid.{ShapeFits};
 
 use crate::reader_list::Readers;
-use byte_lists::Duplicate;
-use jam_records::Kind;
+use jam_records::{Duplicate, Kind};
 use std::alloc::{AllocError, Global};
 
 /// What the board says of a conference.

@@ -5,8 +5,7 @@ ghost use Rattle.jam_layout.specs.Fields.{field};
 ghost use Rattle.jam_layout.specs.Headers.{header_size as size_of_header};
 ghost use Rattle.jam_layout.specs.Sizes.{slot_size as size_of_slot};
 
-use byte_lists::Bytes;
-use jam_records::Message;
+use jam_records::{Bytes, Message};
 
 /// The length of the subfield of a value with so many bytes. An empty value has none.
 fn field_size(len: u64) -> u128

@@ -1,7 +1,7 @@
 // What is said of the types of a message.
 ghost use Rattle.std.specs.Prelude.{◌≡◌};
 ghost use Rattle.jam_layout.specs.Messages.{AreBytes, IsTyped};
-ghost use Rattle.record_numbers.specs.Numbers.{IsU32};
+ghost use Rattle.jam_records.specs.record_numbers.Numbers.{IsU32};
 
 use jam_records::Message;
 

@@ -7,8 +7,8 @@ use Rattle.board_layout.proofs.OutlineLaws.{outline_numbered}
 use Rattle.board_layout.specs.Board.{Board}
 use Rattle.board_layout.specs.Lookups.{held_in, slots_in}
 use Rattle.board_layout.specs.Outlines.{board_outline}
-use Rattle.jam_base.proofs.SlotChanges.{numbered_is}
-use Rattle.jam_base.specs.Slots.{numbered}
+use Rattle.board_layout.proofs.jam_base.SlotChanges.{numbered_is}
+use Rattle.board_layout.specs.jam_base.Slots.{numbered}
 use Rattle.jam_layout.specs.Bodies.{message_with}
 use Rattle.jam_layout.specs.Outlines.{message_outline, slot_bare, slot_outline}
 use Rattle.jam_records.specs.declared.message.Message.{Message}

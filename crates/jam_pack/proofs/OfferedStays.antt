@@ -4,16 +4,16 @@ use Rattle.std.specs.Prelude.{filter, flat_map, option_and_then, option_map, sli
 use Rattle.std.specs.List.{AllZip, range_with_len}
 use Rattle.std.proofs.lemmas.List.{length-map, length-set}
 use Rattle.std.proofs.lemmas.Option.{same_Some}
-use Rattle.board_changes.proofs.OneBase.{conferences_back, contents_next}
-use Rattle.board_changes.specs.Changed.{base_at, with_base}
+use Rattle.slot_changes.proofs.board_changes.OneBase.{conferences_back, contents_next}
+use Rattle.slot_changes.specs.board_changes.Changed.{base_at, with_base}
 use Rattle.board_layout.specs.Board.{Board, conferences_in, shapes_of}
 use Rattle.board_layout.specs.Lookups.{held_in, pointer_at, user_of, slots_in}
 use Rattle.board_layout.specs.Renewed.{contents_of}
 use Rattle.board_layout.specs.Valid.{IsBoard}
 use Rattle.board_ledger.specs.declared.ledger.Ledger.{Ledger}
 use Rattle.board_ledger.specs.declared.user.User.{User}
-use Rattle.jam_base.specs.Contents.{Contents, pointer_of}
-use Rattle.jam_base.specs.Slots.{numbered}
+use Rattle.board_layout.specs.jam_base.Contents.{Contents, pointer_of}
+use Rattle.board_layout.specs.jam_base.Slots.{numbered}
 use Rattle.jam_layout.specs.Conference.{is_live}
 use Rattle.jam_layout.specs.declared.conference.Conference.{Conference}
 use Rattle.jam_records.specs.declared.message.Slot.{Slot}

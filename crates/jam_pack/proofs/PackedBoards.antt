@@ -6,15 +6,15 @@ use Rattle.std.proofs.lemmas.Bool.{cond-true, eq-eqb}
 use Rattle.std.proofs.lemmas.List.{length-map, set-get_or}
 use Rattle.std.proofs.lemmas.List.Sums.{sum_by-cons}
 use Rattle.std.proofs.lemmas.Option.{get_or_from_slice_get}
-use Rattle.board_changes.proofs.OneBase.{base_was, conferences_back}
-use Rattle.board_changes.specs.Changed.{base_at, with_base}
+use Rattle.slot_changes.proofs.board_changes.OneBase.{base_was, conferences_back}
+use Rattle.slot_changes.specs.board_changes.Changed.{base_at, with_base}
 use Rattle.board_layout.proofs.OneOutline.{alike_base_size, conference_back}
 use Rattle.board_layout.specs.Board.{Board, conferences_in, shapes_of}
 use Rattle.board_layout.specs.Outlines.{HasBody, board_outline}
 use Rattle.board_layout.specs.Renewed.{contents_of}
 use Rattle.board_layout.specs.Valid.{IsBoard}
-use Rattle.jam_base.specs.Contents.{Contents, with_slots}
-use Rattle.jam_base.specs.Outlined.{outlined}
+use Rattle.board_layout.specs.jam_base.Contents.{Contents, with_slots}
+use Rattle.board_layout.specs.jam_base.Outlined.{outlined}
 use Rattle.jam_layout.proofs.OutlineLaws.{conference_outline}
 use Rattle.jam_layout.specs.Outlines.{slot_outline}
 use Rattle.jam_layout.specs.Valid.{IsConference}

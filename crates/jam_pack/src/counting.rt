@@ -1,10 +1,9 @@
 // Which messages give their room back.
 ghost use Rattle.std.specs.Prelude.{◌≡◌, if◌then◌else◌};
-ghost use Rattle.jam_base.specs.Slots.{numbered};
+ghost use Rattle.board_layout.specs.jam_base.Slots.{numbered};
 ghost use Rattle.slot_changes.specs.Packed.{deleted_count as count_of, is_deleted as deleted_in, packed_count as packed_count_of};
 
-use board_layout::{StoredBoard, message_of};
-use jam_base::Base;
+use board_layout::{Base, StoredBoard, message_of};
 
 /// Whether the slot of a number holds a deleted message.
 pub(crate) fn is_deleted(base: &Base, number: u32) -> bool

@@ -4,7 +4,7 @@ ghost use Rattle.board_layout.specs.Board as Boards;
 ghost use Rattle.board_layout.specs.Outlines.{HasBody};
 ghost use Rattle.board_layout.specs.Rules.{HasReadCause};
 ghost use Rattle.door_outside.specs.Disk.{Unchanged};
-ghost use Rattle.jam_base.specs.Slots.{numbered};
+ghost use Rattle.board_layout.specs.jam_base.Slots.{numbered};
 ghost use Rattle.jam_layout.specs.Outlines.{slot_outline};
 ghost use Rattle.jam_records.specs.declared.damage.Damage.{Damage};
 ghost use Rattle.mail_board.specs.Held.{Holds, RestsOn};
@@ -12,8 +12,8 @@ ghost use Rattle.board_layout.specs.Lookups.{slots_in};
 ghost use Rattle.slot_changes.specs.Packed.{slot_packed, slots_packed};
 
 use crate::counting::is_deleted;
+use board_layout::Base;
 use door_outside::Host;
-use jam_base::Base;
 use jam_records::{Slot, Slots};
 use mail_board::{Board, ReadError};
 use std::alloc::Global;

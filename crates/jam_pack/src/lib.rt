@@ -8,4 +8,5 @@ pub mod laws;
 mod packing;
 
 pub use error::PackError;
+pub use mail_board::Loaded;
 pub use packing::pack;

@@ -6,7 +6,7 @@ use Rattle.std.proofs.lemmas.List.Elements.{All-drop}
 use Rattle.std.proofs.lemmas.List.Folds.{length-flat_map-take}
 use Rattle.std.proofs.lemmas.Grind.{flat_map-append, common_steps}
 use Rattle.byteorder.specs.Endian.{little_number, little_bytes}
-use Rattle.byte_lists.specs.Byte.{IsByte}
+use Rattle.record_numbers.specs.byte_lists.Byte.{IsByte}
 use Rattle.record_numbers.specs.Numbers.{u16_at, u32_at, u16_text}
 use Rattle.jam_records.specs.Subfields.{subfield_text, subfields_text, IsSubfield, SubfieldsRead, PassesEnd}
 use Rattle.jam_records.specs.declared.subfield.Subfield.{Subfield}

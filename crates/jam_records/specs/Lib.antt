@@ -5,3 +5,5 @@ pub mod LastReads
 pub mod MessageHeaders
 pub mod Signature
 pub mod Subfields
+pub use Rattle.record_numbers.specs.byte_lists as byte_lists
+pub use Rattle.record_numbers.specs as record_numbers

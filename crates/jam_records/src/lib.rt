@@ -23,5 +23,6 @@ pub use index_record::{IndexRecord, read_index, write_index};
 pub use last_read::{LastRead, read_last, write_last};
 pub use message::{Kind, Message, Messages, Slot, Slots};
 pub use message_header::{MessageHeader, read_message_header, write_message_header};
+pub use record_numbers::{Bytes, Duplicate, List, u16_at, u32_at};
 pub use subfield::{Subfield, Subfields, add_subfield, write_subfields};
 pub use subfield_reader::read_subfields;

@@ -1,4 +1,4 @@
-use byte_lists::{Bytes, Duplicate, List};
+use record_numbers::{Bytes, Duplicate, List};
 use std::alloc::{AllocError, Global};
 
 /// A message of a conference.

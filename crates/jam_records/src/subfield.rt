@@ -1,8 +1,8 @@
 ghost use Rattle.std.specs.Prelude.{◌≡◌, ◌++◌, ◌<◌, ◌^◌, length, IfOk, OnOk};
 ghost use Rattle.jam_records.specs.Subfields.{subfield_text, subfields_text};
 
-use byte_lists::{Bytes, Duplicate, List};
 use byteorder::{ByteOrder, LittleEndian};
+use record_numbers::{Bytes, Duplicate, List};
 use std::alloc::{AllocError, Global};
 
 /// A subfield of a message header.

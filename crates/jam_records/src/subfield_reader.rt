@@ -4,8 +4,7 @@ ghost use Rattle.jam_records.specs.Subfields.{subfield_text, IsSubfield, IsCutSh
 
 use crate::error::SubfieldError;
 use crate::subfield::{Subfield, Subfields};
-use byte_lists::Bytes;
-use record_numbers::{u16_at, u32_at};
+use record_numbers::{Bytes, u16_at, u32_at};
 use std::alloc::{AllocError, Global};
 
 /// The length of the subfield at the front, or None where it passes the end.

@@ -4,7 +4,7 @@ ghost use Rattle.jam_threads.specs.FirstNumbers.{kept_number, number_or, older_n
 ghost use Rattle.jam_threads.specs.IdNumbers.{mapped_number};
 
 use crate::id_numbers::IdNumbers;
-use byte_lists::{Bytes, Duplicate, List as Items};
+use jam_records::{Bytes, Duplicate, List as Items};
 use shared_lists::Shared;
 use std::alloc::{AllocError, Global};
 use std::mem;

@@ -13,4 +13,5 @@ mod threads;
 pub use link::{Link, LinkField, LinkPatch, Links};
 pub use linking::links;
 pub use original::original_of;
+pub use shared_lists::{Shared, SharedList};
 pub use threads::Threads;

@@ -3,7 +3,7 @@ ghost use Rattle.jam_records.specs.declared.message.Slot.{Slot};
 ghost use Rattle.jam_threads.specs.Children.{original};
 ghost use Rattle.jam_threads.specs.Links.{AreLinks};
 
-use byte_lists::Duplicate;
+use jam_records::Duplicate;
 use std::alloc::{AllocError, Global};
 use std::marker::Model;
 

@@ -5,7 +5,7 @@ use Rattle.jam_records.specs.declared.message.Kind.{Kind}
 use Rattle.jam_records.specs.declared.message.Message.{Message}
 use Rattle.jam_records.specs.declared.message.Slot.{Slot}
 use Rattle.jam_records.specs.declared.message.Slot.TheVariants.{Held}
-use Rattle.jam_threads.specs.declared.link.Link.{Link}
+use Rattle.jam_layout.specs.jam_threads.declared.link.Link.{Link}
 use Rattle.jam_layout.specs.Bodies.{message_with}
 use Rattle.jam_layout.specs.Fields.{subfields_of}
 use Rattle.jam_layout.specs.Headers.{entry_text, message_header}

@@ -11,8 +11,8 @@ use Rattle.jam_records.specs.declared.message.Kind.{Kind}
 use Rattle.jam_records.specs.declared.message.Message.{Message}
 use Rattle.jam_records.specs.declared.message.Slot.{Slot}
 use Rattle.jam_records.specs.declared.message.Slot.TheVariants.{Held}
-use Rattle.jam_threads.specs.Links.{link_of}
-use Rattle.jam_threads.specs.declared.link.Link.{Link}
+use Rattle.jam_layout.specs.jam_threads.Links.{link_of}
+use Rattle.jam_layout.specs.jam_threads.declared.link.Link.{Link}
 use Rattle.jam_layout.specs.Headers.{headers_text, entry_text}
 use Rattle.jam_layout.specs.Index.{index_records, pair_of}
 use Rattle.jam_layout.specs.Layout.{base_header, entries_of, layout}

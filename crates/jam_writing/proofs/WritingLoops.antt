@@ -7,7 +7,7 @@ use Rattle.std.proofs.lemmas.List.Sums.{sum_by-cons, sum_by-append, get_or-le-su
 use Rattle.jam_records.specs.declared.message.Kind.{Kind}
 use Rattle.jam_records.specs.declared.message.Slot.{Slot}
 use Rattle.jam_records.specs.declared.message.Slot.TheVariants.{Gone, Held}
-use Rattle.jam_threads.specs.Links.{link_of}
+use Rattle.jam_layout.specs.jam_threads.Links.{link_of}
 use Rattle.jam_layout.specs.Headers.{headers_text}
 use Rattle.jam_layout.specs.Index.{index_records}
 use Rattle.jam_layout.specs.Layout.{entries_of}

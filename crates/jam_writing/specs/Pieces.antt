@@ -5,7 +5,7 @@ use Rattle.jam_records.specs.declared.message.Kind.{Kind}
 use Rattle.jam_records.specs.declared.message.Message.{Message}
 use Rattle.jam_records.specs.declared.message.Slot.{Slot}
 use Rattle.jam_records.specs.declared.message.Slot.TheVariants.{Gone, Held}
-use Rattle.jam_threads.specs.declared.link.Link.{Link}
+use Rattle.jam_layout.specs.jam_threads.declared.link.Link.{Link}
 use Rattle.jam_layout.specs.Headers.{entry_text}
 use Rattle.jam_layout.specs.Index.{no_pair, pair_of}
 use Rattle.jam_layout.specs.declared.entry.Entry.{Entry}

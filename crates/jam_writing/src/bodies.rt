@@ -1,8 +1,7 @@
 ghost use Rattle.std.specs.Prelude.{◌≡◌, IfOk};
 ghost use Rattle.std.specs.List.{flat_map};
 
-use byte_lists::Bytes;
-use jam_records::Message;
+use jam_records::{Bytes, Message};
 use std::alloc::{AllocError, Global};
 
 /// What messages give to .JDT: their bodies, one after the other.

@@ -2,9 +2,8 @@ ghost use Rattle.std.specs.Prelude.{◌≡◌, [], IfOk};
 ghost use Rattle.jam_layout.specs.Layout.{layout};
 
 use crate::jlr::write_jlr;
-use byte_lists::Bytes;
 use jam_layout::{BaseFiles, Shape};
-use jam_records::{BaseHeader, write_base_header};
+use jam_records::{BaseHeader, Bytes, write_base_header};
 use std::alloc::{AllocError, Global};
 
 /// The header of a base without messages that never changed.

@@ -4,11 +4,8 @@ ghost use Rattle.jam_layout.specs.Fields.{subfields_of};
 ghost use Rattle.jam_layout.specs.Headers.{entry_text, header_size, marks_in, message_header};
 
 use crate::message_subfields::add_subfields;
-use byte_lists::Bytes;
-use jam_layout::{Marks, header_size as size_of_header};
-use jam_records::{Kind, Message, MessageHeader, write_message_header};
-use jam_threads::Link;
-use name_crc::name_crc;
+use jam_layout::{Link, Marks, header_size as size_of_header, name_crc};
+use jam_records::{Bytes, Kind, Message, MessageHeader, write_message_header};
 use std::alloc::AllocError;
 
 /// PasswordCRC without a password.

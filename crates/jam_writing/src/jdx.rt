@@ -3,10 +3,8 @@ ghost use Rattle.jam_layout.specs.Index.{pair_of};
 ghost use Rattle.jam_layout.specs.Sizes.{slot_header};
 ghost use Rattle.jam_writing.specs.Pieces.{index_piece};
 
-use byte_lists::Bytes;
-use jam_layout::header_size;
-use jam_records::{IndexRecord, Message, Slot, write_index};
-use name_crc::name_crc;
+use jam_layout::{header_size, name_crc};
+use jam_records::{Bytes, IndexRecord, Message, Slot, write_index};
 use std::alloc::AllocError;
 
 /// The record of a number that no message has.

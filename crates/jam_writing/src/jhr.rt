@@ -4,9 +4,8 @@ ghost use Rattle.jam_layout.specs.Sizes.{slot_header};
 ghost use Rattle.jam_writing.specs.Pieces.{header_piece, body_size};
 
 use crate::header::add_header;
-use byte_lists::Bytes;
-use jam_records::{Kind, Slot};
-use jam_threads::Link;
+use jam_layout::Link;
+use jam_records::{Bytes, Kind, Slot};
 use std::alloc::AllocError;
 
 /// Adds the header of what a slot holds, whose body has so many bytes, and answers where the next body begins.

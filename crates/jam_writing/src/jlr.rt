@@ -2,10 +2,8 @@ ghost use Rattle.std.specs.Prelude.{◌≡◌, IfOk};
 ghost use Rattle.jam_records.specs.LastReads.{last_text};
 ghost use Rattle.jam_layout.specs.Readers.{last_read as record_of, last_reads};
 
-use byte_lists::Bytes;
-use jam_layout::{Reader, Readers};
-use jam_records::{LastRead, write_last};
-use name_crc::name_crc;
+use jam_layout::{Reader, Readers, name_crc};
+use jam_records::{Bytes, LastRead, write_last};
 use std::alloc::{AllocError, Global};
 
 /// The last-read record of a reader with this pointer.

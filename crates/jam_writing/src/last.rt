@@ -1,7 +1,7 @@
 // What the slots from a place on, from 0, give to the files of their conference.
 ghost use Rattle.std.specs.Prelude.{◌≡◌, ◌+◌, ◌≤◌, ◌<◌, ◌^◌, length, take, drop, sum_by, IfOk};
-ghost use Rattle.jam_threads.specs.Links.{link_of};
-ghost use Rattle.jam_threads.specs.Threading.{AreThreads};
+ghost use Rattle.jam_layout.specs.jam_threads.Links.{link_of};
+ghost use Rattle.jam_layout.specs.jam_threads.Threading.{AreThreads};
 ghost use Rattle.jam_layout.specs.Headers.{headers_text};
 ghost use Rattle.jam_layout.specs.Index.{index_records};
 ghost use Rattle.jam_layout.specs.Layout.{entries_of};
@@ -11,9 +11,8 @@ ghost use Rattle.jam_writing.specs.Pieces.{body_size};
 
 use crate::jdx::add_slot as add_record;
 use crate::jhr::add_slot as add_slot_header;
-use byte_lists::Bytes;
-use jam_records::Kind;
-use jam_threads::Threads;
+use jam_layout::Threads;
+use jam_records::{Bytes, Kind};
 use shared_slots::SharedSlots;
 use std::alloc::{AllocError, Global};
 

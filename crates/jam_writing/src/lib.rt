@@ -14,6 +14,11 @@ mod whole;
 pub use bodies::write_bodies;
 pub use files::write_first;
 pub use header::add_header;
+pub use jam_layout::{
+    BareConference, BaseError, BaseFiles, Conference, Marks, Reader, Readers, SLOT_LIMIT, Shape,
+    laws, read_bare, typed,
+};
 pub use jlr::{write_jlr, write_reader};
 pub use last::{write_last_headers, write_last_records};
+pub use shared_slots::{SharedSlots, header_length};
 pub use whole::{write_whole_bodies, write_whole_headers, write_whole_records};

@@ -2,8 +2,7 @@ ghost use Rattle.std.specs.Prelude.{◌≡◌, ◌++◌, ◌<◌, ◌^◌, lengt
 ghost use Rattle.jam_records.specs.Subfields.{subfields_text};
 ghost use Rattle.jam_layout.specs.Fields.{field, subfields_of};
 
-use byte_lists::Bytes;
-use jam_records::{Message, add_subfield};
+use jam_records::{Bytes, Message, add_subfield};
 use std::alloc::AllocError;
 
 /// Adds the subfield of a value. A value that is empty has none.

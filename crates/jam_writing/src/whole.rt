@@ -3,14 +3,12 @@ ghost use Rattle.std.specs.Prelude.{◌≡◌, ℕ, ◌++◌, List, IfOk, OnOk};
 ghost use Rattle.std.specs.List.{flat_map};
 ghost use Rattle.jam_layout.specs.Index.{index_records};
 ghost use Rattle.jam_layout.specs.Layout.{base_header, layout};
-ghost use Rattle.jam_threads.specs.Threading.{AreThreads};
+ghost use Rattle.jam_layout.specs.jam_threads.Threading.{AreThreads};
 ghost use Rattle.jam_writing.specs.Pieces.{body_piece};
 
 use crate::last::{write_last_headers, write_last_records};
-use byte_lists::Bytes;
-use jam_layout::Shape;
-use jam_records::{BaseHeader, Slot, write_base_header};
-use jam_threads::Threads;
+use jam_layout::{Shape, Threads};
+use jam_records::{BaseHeader, Bytes, Slot, write_base_header};
 use shared_slots::SharedSlots;
 use std::alloc::{AllocError, Global};
 

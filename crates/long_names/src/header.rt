@@ -2,9 +2,9 @@
 ghost use Rattle.std.specs.Prelude.{◌≡◌, ◌++◌, IfOk, OnOk};
 ghost use Rattle.long_names.specs.Plain.{with_names as with_names_of};
 
-use byte_lists::{Bytes, Lines};
 use qwk_blocks::Header;
 use std::alloc::{AllocError, Global};
+use text_fields::{Bytes, Lines};
 
 /// A copy of a header with other names and another subject.
 pub(crate) fn with_names(

@@ -5,8 +5,8 @@ ghost use Rattle.long_names.specs.Lead.{given as given_of, lead as lead_in, begi
 
 use crate::line_field::LineField;
 use crate::value::{is_long, short_form};
-use byte_lists::Bytes;
 use qwk_blocks::Header;
+use text_fields::Bytes;
 
 /// The long value that a line gives to a field, which stands short in the header; or None where it gives none.
 #[tactic(auto, unfolding(crate::specs::Value::gives))]

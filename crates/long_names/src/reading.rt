@@ -3,9 +3,9 @@ ghost use Rattle.long_names.specs.Plain.{is_empty, past_empty as past_empty_of, 
 
 use crate::header::{add_lines, with_names};
 use crate::lead::{Lead, begins_empty, taken, takes};
-use byte_lists::{Bytes, Duplicate, Lines};
 use qwk_blocks::{Header, QwkMessage};
 use std::alloc::{AllocError, Global};
+use text_fields::{Bytes, Duplicate, Lines};
 
 /// The lines behind the empty ones at the front.
 pub(crate) fn past_empty(lines: &[Bytes]) -> &[Bytes]

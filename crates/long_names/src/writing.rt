@@ -6,9 +6,9 @@ use crate::lead::takes;
 use crate::line_field::LineField;
 use crate::reading::past_empty;
 use crate::value::{is_long, short_form};
-use byte_lists::{Bytes, Lines};
 use qwk_blocks::{Header, QwkMessage};
 use std::alloc::{AllocError, Global};
+use text_fields::{Bytes, Lines};
 
 /// A value as it stands in its field.
 fn in_field(field: LineField, value: &[u8]) -> &[u8]

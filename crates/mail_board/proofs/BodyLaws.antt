@@ -8,18 +8,18 @@ use Rattle.std.proofs.lemmas.List.{drop_all, length-replicate}
 use Rattle.std.proofs.lemmas.List.Sums.{sum_by-cons, sum_by_more, sum_by_more_le}
 use Rattle.std.proofs.lemmas.Option.{slice_get_within, none-some, same_Some}
 use Rattle.std.proofs.Math.Seq.{drop-append-add, take-append_seam}
-use Rattle.board_changes.proofs.OneBase.{all_at}
+use Rattle.post_changes.proofs.board_changes.OneBase.{all_at}
 use Rattle.board_layout.proofs.OutlineLaws.{held_outline, outline_numbered}
 use Rattle.board_layout.specs.Layout.{files_in}
 use Rattle.board_layout.specs.Lookups.{held_in}
 use Rattle.door_outside.specs.Disk.{read_into}
-use Rattle.jam_base.proofs.BareLookups.{bare_at, found_or_gone, is_gone, looked_up}
-use Rattle.jam_base.proofs.SlotChanges.{numbered_is}
-use Rattle.jam_base.specs.Bodies.{body_begin, body_span, span_at}
-use Rattle.jam_base.specs.Contents.{Contents}
-use Rattle.jam_base.specs.Outlined.{outlined}
-use Rattle.jam_base.specs.Slots.{numbered}
-use Rattle.jam_base.specs.declared.span.Span.{Span}
+use Rattle.board_layout.proofs.jam_base.BareLookups.{bare_at, found_or_gone, is_gone, looked_up}
+use Rattle.board_layout.proofs.jam_base.SlotChanges.{numbered_is}
+use Rattle.board_layout.specs.jam_base.Bodies.{body_begin, body_span, span_at}
+use Rattle.board_layout.specs.jam_base.Contents.{Contents}
+use Rattle.board_layout.specs.jam_base.Outlined.{outlined}
+use Rattle.board_layout.specs.jam_base.Slots.{numbered}
+use Rattle.board_layout.specs.jam_base.declared.span.Span.{Span}
 use Rattle.jam_layout.specs.Bodies.{body_piece, body_size, message_with}
 use Rattle.jam_layout.specs.Messages.{IsBody, IsSlot}
 use Rattle.jam_layout.specs.Outlines.{line_ends, message_outline, slot_bare, slot_outline}
@@ -27,8 +27,8 @@ use Rattle.jam_layout.specs.Valid.{IsConference}
 use Rattle.jam_records.specs.declared.message.Message.{Message}
 use Rattle.jam_records.specs.declared.message.Slot.{Slot}
 use Rattle.jam_records.specs.declared.message.Slot.TheVariants.{Gone, Held}
-use Rattle.jam_threads.specs.Links.{link_of}
-use Rattle.jam_writing.proofs.PieceLaws.{bodies_are}
+use Rattle.jam_layout.specs.jam_threads.Links.{link_of}
+use Rattle.board_layout.proofs.jam_writing.PieceLaws.{bodies_are}
 use Rattle.mail_board.specs.Bodies.{one_held, span_text, HasBodies}
 
 -- ---- sums over the slots before one

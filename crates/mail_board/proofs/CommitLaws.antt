@@ -1,6 +1,6 @@
 -- What a commit of a change of the board's files leaves.
 use Rattle.std.proofs.Common.{◌≡◌, inl, inr, ⊎_elim, List, sym, ◌∙◌}
-use Rattle.board_changes.specs.Change.{Leads}
+use Rattle.post_changes.specs.board_changes.Change.{Leads}
 use Rattle.board_layout.specs.Board.{Board}
 use Rattle.door_outside.specs.Disk.{Disk, Image, AllNow, Between}
 use Rattle.door_outside.proofs.Moments.{weaker}

@@ -7,7 +7,7 @@ use Rattle.board_layout.specs.Layout.{IsLayout, AreEmpty}
 use Rattle.board_layout.specs.OldLayout.{IsOldLayout}
 use Rattle.door_outside.specs.File.{ledger_file, jhr_file, jdt_file, jdx_file, jlr_file, is_data_file}
 use Rattle.intent_journal.specs.Patches.{Files, data_files}
-use Rattle.jam_base.specs.Change.{files_of_place}
+use Rattle.board_layout.specs.jam_base.Change.{files_of_place}
 
 pub at_file : (f g : Files) (file : ℕ) → data_files f ≡ data_files g → is_data_file file ≡ true → f file ≡ g file
 at_file f g file same is = sym (cond-true (is_data_file file) (f file) [] is) ∙ (ap (λ (h : Files). h file) same ∙ cond-true (is_data_file file) (g file) [] is)

@@ -12,8 +12,8 @@ use Rattle.board_ledger.proofs.ReadingSteps.{ledger_parts}
 use Rattle.board_layout.specs.Board.{shape_of, shapes_from}
 use Rattle.board_layout.specs.Damage.{conferences_of, is_rest, is_rest_place, are_rest, highs_of, parts_behind, parts_of, size_limit, board_of, some_board, board_in}
 use Rattle.board_layout.specs.Layout.{places_size, data_size}
-use Rattle.damage_rules.specs.Rules.{by_rules, ◌>>=◌}
-use Rattle.damage_rules.proofs.KeptRules.{bind_ok, both_kept, kept_none, ok_is, rules_kept}
+use Rattle.board_ledger.specs.damage_rules.Rules.{by_rules, ◌>>=◌}
+use Rattle.board_ledger.proofs.damage_rules.KeptRules.{bind_ok, both_kept, kept_none, ok_is, rules_kept}
 use Rattle.door_outside.specs.File.{ledger_file, jhr_file, jdt_file, jdx_file, jlr_file}
 use Rattle.intent_journal.specs.Journal.{intent_of}
 use Rattle.intent_journal.specs.Patches.{Files, data_files, patched}
@@ -22,7 +22,7 @@ use Rattle.jam_layout.specs.Layout.{conference_of, files_size}
 use Rattle.jam_layout.specs.declared.conference.Conference.{Conference}
 use Rattle.jam_records.specs.declared.damage.Damage.{Damage}
 use Rattle.jam_records.specs.declared.damage.DamageRule.TheVariants.{Rest, Size}
-use Rattle.setup_file.specs.declared.conference.Conference.{Conference as SetupConference}
+use Rattle.board_ledger.specs.setup_file.declared.conference.Conference.{Conference as SetupConference}
 use Rattle.mail_board.proofs.DataLaws.{at_file, is_data, place_moves, data_twice}
 
 -- ---- at most 64 conferences

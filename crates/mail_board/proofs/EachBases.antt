@@ -2,14 +2,14 @@
 use Rattle.std.proofs.Common.{◌≡◌, ℕ, List, map, set, Option, Some, None, sym, ap, ◌∙◌}
 use Rattle.std.specs.Prelude.{option_map, slice_get, unwrap_or}
 use Rattle.std.proofs.lemmas.List.{map-set}
-use Rattle.board_changes.proofs.BaseOutlines.{conferences_outlined}
-use Rattle.board_changes.specs.Changed.{base_at, with_base}
+use Rattle.post_changes.proofs.board_changes.BaseOutlines.{conferences_outlined}
+use Rattle.post_changes.specs.board_changes.Changed.{base_at, with_base}
 use Rattle.board_layout.proofs.OneOutline.{alike_ledger}
 use Rattle.board_layout.proofs.OutlineLaws.{outline_base, outline_contents}
 use Rattle.board_layout.specs.Board.{Board, conferences_in}
 use Rattle.board_layout.specs.Renewed.{contents_of}
-use Rattle.jam_base.specs.Contents.{Contents}
-use Rattle.jam_base.specs.Outlined.{outlined}
+use Rattle.board_layout.specs.jam_base.Contents.{Contents}
+use Rattle.board_layout.specs.jam_base.Outlined.{outlined}
 use Rattle.jam_layout.specs.Outlines.{outline}
 use Rattle.mail_board.specs.Held.{AreAlike}
 

@@ -5,9 +5,9 @@ use Rattle.std.specs.List.{AllZip}
 use Rattle.std.proofs.lemmas.Bool.{cond-false}
 use Rattle.std.proofs.lemmas.List.{length-map}
 use Rattle.std.proofs.lemmas.Option.{slice_get_cases}
-use Rattle.board_changes.proofs.EachMember.{member_keeps, member_outline}
-use Rattle.board_changes.proofs.OneBase.{conferences_back}
-use Rattle.board_changes.specs.Changed.{base_at, new_user, with_member}
+use Rattle.post_changes.proofs.board_changes.EachMember.{member_keeps, member_outline}
+use Rattle.post_changes.proofs.board_changes.OneBase.{conferences_back}
+use Rattle.post_changes.specs.board_changes.Changed.{base_at, new_user, with_member}
 use Rattle.board_layout.proofs.OneOutline.{alike_base, alike_ledger, alike_places, alike_user, alike_valid}
 use Rattle.board_layout.proofs.OutlineLaws.{outline_has_live}
 use Rattle.board_layout.specs.Board.{Board, shapes_of}
@@ -17,10 +17,10 @@ use Rattle.board_layout.specs.Renewed.{contents_of}
 use Rattle.board_layout.specs.Valid.{IsBoard}
 use Rattle.board_ledger.specs.declared.ledger.Ledger.{Ledger}
 use Rattle.board_ledger.specs.declared.user.User.{User}
-use Rattle.jam_base.proofs.OutlineChanges.{killed_blind}
-use Rattle.jam_base.specs.Contents.{Contents, with_deleted}
-use Rattle.jam_base.specs.Outlined.{outlined}
-use Rattle.jam_base.specs.Slots.{has_live}
+use Rattle.board_layout.proofs.jam_base.OutlineChanges.{killed_blind}
+use Rattle.board_layout.specs.jam_base.Contents.{Contents, with_deleted}
+use Rattle.board_layout.specs.jam_base.Outlined.{outlined}
+use Rattle.board_layout.specs.jam_base.Slots.{has_live}
 use Rattle.jam_layout.specs.Valid.{IsConference}
 use Rattle.jam_layout.specs.declared.conference.Conference.{Conference}
 use Rattle.jam_layout.specs.declared.shape.Shape.{Shape}
@@ -31,10 +31,10 @@ use Rattle.offer_changes.specs.Changed.{for_user, offer_in, offer_made, offered_
 use Rattle.post_changes.proofs.EachPost.{posted_keeps, posted_outline}
 use Rattle.post_changes.proofs.RecordLaws.{record_shapes}
 use Rattle.post_changes.specs.Posted.{posted_with, upload_record, with_record}
-use Rattle.slot_changes.proofs.DeleteLaws.{killed_is}
-use Rattle.slot_changes.proofs.EachSlots.{appended_keeps, deleted_keeps, identified_same, msgids_alike}
-use Rattle.slot_changes.specs.Changed.{HasMessage, deleted, with_identified, with_killed}
-use Rattle.slot_changes.specs.Msgids.{msgid_in}
+use Rattle.post_changes.proofs.slot_changes.DeleteLaws.{killed_is}
+use Rattle.post_changes.proofs.slot_changes.EachSlots.{appended_keeps, deleted_keeps, identified_same, msgids_alike}
+use Rattle.post_changes.specs.slot_changes.Changed.{HasMessage, deleted, with_identified, with_killed}
+use Rattle.post_changes.specs.slot_changes.Msgids.{msgid_in}
 use Rattle.mail_board.proofs.EachBases.{changed_base}
 use Rattle.mail_board.proofs.EachRead.{acknowledged_alike, acknowledged_valid}
 use Rattle.mail_board.specs.Changes.{changed, Fits}

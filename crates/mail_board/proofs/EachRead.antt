@@ -4,8 +4,8 @@ use Rattle.std.proofs.Common.{◌≡◌, ℕ, ◌+◌, Bool, true, false, cond, 
 use Rattle.std.specs.Prelude.{All, option_map, unwrap_or}
 use Rattle.std.specs.List.{AllZip}
 use Rattle.std.proofs.lemmas.List.Elements.{All-nil, All-cons, All-head, All-tail}
-use Rattle.board_changes.proofs.BaseOutlines.{conferences_outlined, own_bases}
-use Rattle.board_changes.proofs.OneBase.{are_bases, shapes_back}
+use Rattle.post_changes.proofs.board_changes.BaseOutlines.{conferences_outlined, own_bases}
+use Rattle.post_changes.proofs.board_changes.OneBase.{are_bases, shapes_back}
 use Rattle.board_layout.proofs.BasePlaces.{IsBase, zipped}
 use Rattle.board_layout.proofs.OneOutline.{alike_ledger, alike_user, alike_valid, conference_back}
 use Rattle.board_layout.specs.Board.{Board, conferences_in, shapes_in, shapes_of}
@@ -14,11 +14,11 @@ use Rattle.board_layout.specs.Outlines.{HasBody, board_outline}
 use Rattle.board_layout.specs.Renewed.{contents_of}
 use Rattle.board_layout.specs.Valid.{IsBoard}
 use Rattle.board_ledger.specs.declared.user.User.{User}
-use Rattle.jam_base.proofs.OutlineChanges.{acknowledged_blind}
-use Rattle.jam_base.specs.Contents.{Contents, pointer_of, receipt_to, with_acknowledged, with_slots}
-use Rattle.jam_base.specs.Outlined.{outlined}
-use Rattle.jam_base.specs.Slots.{any_due, is_due, slot_received, slots_received}
-use Rattle.jam_base.specs.declared.receipt.Receipt.{Receipt}
+use Rattle.board_layout.proofs.jam_base.OutlineChanges.{acknowledged_blind}
+use Rattle.board_layout.specs.jam_base.Contents.{Contents, pointer_of, receipt_to, with_acknowledged, with_slots}
+use Rattle.board_layout.specs.jam_base.Outlined.{outlined}
+use Rattle.board_layout.specs.jam_base.Slots.{any_due, is_due, slot_received, slots_received}
+use Rattle.board_layout.specs.jam_base.declared.receipt.Receipt.{Receipt}
 use Rattle.jam_layout.proofs.OutlineLaws.{conference_outline}
 use Rattle.jam_layout.specs.Messages.{IsSlot}
 use Rattle.jam_layout.specs.Outlines.{outline}

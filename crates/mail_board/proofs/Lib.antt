@@ -17,3 +17,5 @@ pub mod MigrationLaws
 pub mod MsgidTests
 pub mod ReplacedSlots
 pub mod FetchedHosts
+pub use Rattle.offer_changes.proofs as offer_changes
+pub use Rattle.post_changes.proofs.board_changes as board_changes

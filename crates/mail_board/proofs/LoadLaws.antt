@@ -9,7 +9,7 @@ use Rattle.board_layout.specs.Outlines.{board_outline}
 use Rattle.board_layout.specs.Rules.{AreFoundOf, IsFoundOf, ReadSo}
 use Rattle.board_layout.specs.Valid.{IsBoard}
 use Rattle.board_layout.specs.declared.read.FoundBoard.{FoundBoard}
-use Rattle.damage_rules.specs.Rules.{Stops}
+use Rattle.board_ledger.specs.damage_rules.Rules.{Stops}
 use Rattle.intent_journal.specs.Patches.{Files}
 use Rattle.jam_records.specs.declared.damage.Damage.{Damage}
 use Rattle.mail_board.specs.Held.{AreAlike, StandsFor}

@@ -2,10 +2,10 @@
 use Rattle.std.proofs.Common.{◌≡◌, ℕ, zero, suc, ◌<◌, ◌≤◌, Bool, true, false, cond, List, [], ◌∷◌, length, Option, Some, None, refl, sym, ap, ◌∙◌, arith}
 use Rattle.std.specs.Prelude.{get_or, option_and_then, option_map, slice_get, ◌==◌}
 use Rattle.std.proofs.lemmas.Option.{slice_get-get_or}
-use Rattle.board_changes.proofs.MemberLaws.{files_at}
-use Rattle.board_changes.proofs.OneBase.{all_at, are_bases, conferences_back}
+use Rattle.post_changes.proofs.board_changes.MemberLaws.{files_at}
+use Rattle.post_changes.proofs.board_changes.OneBase.{all_at, are_bases, conferences_back}
 use Rattle.board_layout.proofs.BoardLookups.{base_slots, conferences_count, no_slots}
-use Rattle.board_changes.specs.Changed.{base_at}
+use Rattle.post_changes.specs.board_changes.Changed.{base_at}
 use Rattle.board_layout.proofs.BasePlaces.{IsBase}
 use Rattle.board_layout.proofs.OneOutline.{alike_base}
 use Rattle.board_layout.specs.Board.{Board, shapes_of}
@@ -15,9 +15,9 @@ use Rattle.board_layout.specs.Renewed.{contents_of}
 use Rattle.board_layout.specs.Valid.{IsBoard}
 use Rattle.door_outside.specs.File.{jdt_file}
 use Rattle.intent_journal.specs.Patches.{Files}
-use Rattle.jam_base.specs.Contents.{Contents}
-use Rattle.jam_base.specs.Outlined.{outlined}
-use Rattle.jam_base.specs.Slots.{numbered}
+use Rattle.board_layout.specs.jam_base.Contents.{Contents}
+use Rattle.board_layout.specs.jam_base.Outlined.{outlined}
+use Rattle.board_layout.specs.jam_base.Slots.{numbered}
 use Rattle.jam_layout.specs.declared.files.BaseFiles.{BaseFiles}
 use Rattle.jam_records.specs.declared.message.Message.{Message}
 use Rattle.jam_records.specs.declared.message.Slot.{Slot}

@@ -21,7 +21,7 @@ use Rattle.intent_journal.specs.Recovered.{recovered, Back, OldOrPatched}
 use Rattle.intent_journal.specs.declared.patch.Patch.{Patch}
 use Rattle.intent_journal.specs.declared.patch.Patch.TheVariants.{Whole}
 use Rattle.intent_journal.proofs.Hosts.{calm_recovers}
-use Rattle.jam_base.specs.Change.{files_of_place}
+use Rattle.board_layout.specs.jam_base.Change.{files_of_place}
 use Rattle.mail_board.specs.Held.{RestsOn, StandsFor}
 use Rattle.mail_board.specs.Loading.{AreOld, AreOpened, Opens, StandsFound, StandsOld}
 use Rattle.mail_board.proofs.DataLaws.{data_twice, layout_moves, old_layout_moves}

@@ -2,8 +2,8 @@
 use Rattle.std.proofs.Common.{◌≡◌, ℕ, ◌+◌, ◌-◌, ◌<◌, ◌≤◌, Bool, true, false, ◌||◌, List, length, get_or, take, sym, ap, ◌∙◌, arith, take_all}
 use Rattle.std.proofs.lemmas.List.Folds.{list_any_at, list_any_more}
 use Rattle.std.specs.List.{list_any}
-use Rattle.jam_base.proofs.SlotChanges.{numbered_is}
-use Rattle.jam_base.specs.Slots.{numbered}
+use Rattle.board_layout.proofs.jam_base.SlotChanges.{numbered_is}
+use Rattle.board_layout.specs.jam_base.Slots.{numbered}
 use Rattle.jam_records.specs.declared.message.Slot.{Slot}
 use Rattle.jam_records.specs.declared.message.Slot.TheVariants.{Gone}
 

@@ -1,7 +1,7 @@
 -- What a host holds whose files are those of a board with an outline: one board, which a change leads on.
 use Rattle.std.proofs.Common.{◌≡◌, inl, List, sym, ap, ◌∙◌, subst}
-use Rattle.board_changes.specs.Change.{Leads}
-use Rattle.board_changes.specs.Outlined.{LeadsEach}
+use Rattle.post_changes.specs.board_changes.Change.{Leads}
+use Rattle.post_changes.specs.board_changes.Outlined.{LeadsEach}
 use Rattle.board_layout.proofs.BoardLaws.{unique}
 use Rattle.board_layout.specs.Board.{Board}
 use Rattle.board_layout.specs.Layout.{IsLayout}

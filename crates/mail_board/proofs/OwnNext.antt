@@ -1,21 +1,21 @@
 -- A change of a board that is its own outline, which adds no body, gives a board that is its own outline.
 use Rattle.std.proofs.Common.{◌≡◌, ℕ, Bool, true, false, cond, List, Option, Some, None, Result, refl, sym, ap, ◌∙◌, subst}
 use Rattle.std.specs.Prelude.{IfOk, option_map}
-use Rattle.board_changes.proofs.BaseOutlines.{outline_with, own_base}
-use Rattle.board_changes.proofs.EachMember.{member_outline}
-use Rattle.board_changes.specs.Change.{Becomes}
-use Rattle.board_changes.specs.Changed.{base_at, with_base, with_member}
-use Rattle.board_changes.specs.declared.change.BoardChange.{BoardChange}
+use Rattle.post_changes.proofs.board_changes.BaseOutlines.{outline_with, own_base}
+use Rattle.post_changes.proofs.board_changes.EachMember.{member_outline}
+use Rattle.post_changes.specs.board_changes.Change.{Becomes}
+use Rattle.post_changes.specs.board_changes.Changed.{base_at, with_base, with_member}
+use Rattle.post_changes.specs.board_changes.declared.change.BoardChange.{BoardChange}
 use Rattle.board_layout.specs.Board.{Board}
 use Rattle.board_layout.specs.Lookups.{user_of}
 use Rattle.board_layout.specs.Outlines.{board_outline}
 use Rattle.board_ledger.specs.declared.user.User.{User}
-use Rattle.jam_base.proofs.OutlineChanges.{killed_blind}
-use Rattle.jam_base.specs.Contents.{Contents, with_deleted}
-use Rattle.jam_base.specs.Outlined.{outlined}
-use Rattle.jam_base.specs.Slots.{has_live}
+use Rattle.board_layout.proofs.jam_base.OutlineChanges.{killed_blind}
+use Rattle.board_layout.specs.jam_base.Contents.{Contents, with_deleted}
+use Rattle.board_layout.specs.jam_base.Outlined.{outlined}
+use Rattle.board_layout.specs.jam_base.Slots.{has_live}
 use Rattle.offer_changes.specs.Changed.{for_user, offer_made, offered_to}
-use Rattle.slot_changes.specs.Changed.{deleted, with_killed}
+use Rattle.post_changes.specs.slot_changes.Changed.{deleted, with_killed}
 use Rattle.mail_board.proofs.EachNext.{offer_outline}
 
 killed_own : (number : ℕ) (base : Contents) → outlined base ≡ base → outlined (with_killed number base) ≡ with_killed number base

@@ -6,21 +6,21 @@ use Rattle.std.proofs.lemmas.List.{get_or-map, length-map, map-set}
 use Rattle.std.proofs.lemmas.List.Elements.{All-head, All-tail}
 use Rattle.std.proofs.lemmas.List.Sums.{sum_by-cons, sum_by-set}
 use Rattle.std.proofs.lemmas.Option.{get_or_from_slice_get, slice_get_cases}
-use Rattle.board_changes.proofs.OneBase.{conferences_back}
-use Rattle.board_changes.specs.Changed.{base_at}
+use Rattle.post_changes.proofs.board_changes.OneBase.{conferences_back}
+use Rattle.post_changes.specs.board_changes.Changed.{base_at}
 use Rattle.board_layout.specs.Board.{Board, conferences_in, shapes_of}
 use Rattle.board_layout.specs.Renewed.{contents_of}
 use Rattle.board_layout.specs.Valid.{IsBoard}
 use Rattle.board_ledger.specs.declared.ledger.Ledger.{Ledger}
-use Rattle.jam_base.specs.Contents.{Contents, with_messages}
+use Rattle.board_layout.specs.jam_base.Contents.{Contents, with_messages}
 use Rattle.jam_layout.specs.declared.conference.Conference.{Conference}
 use Rattle.jam_records.specs.declared.message.Message.{Message}
 use Rattle.post_changes.proofs.PlacePosts.{elsewhere, here, posted_slots}
 use Rattle.post_changes.specs.Posted.{ArePlaced, all_posted, posted_in, posted_with, posts_in, upload_record, with_record}
-use Rattle.slot_changes.proofs.AppendLaws.{appended_there, more_slots}
-use Rattle.slot_changes.proofs.MsgidLaws.{identified_count}
-use Rattle.slot_changes.specs.Changed.{appended}
-use Rattle.slot_changes.specs.Msgids.{all_identified, msgid_in}
+use Rattle.post_changes.proofs.slot_changes.AppendLaws.{appended_there, more_slots}
+use Rattle.post_changes.proofs.slot_changes.MsgidLaws.{identified_count}
+use Rattle.post_changes.specs.slot_changes.Changed.{appended}
+use Rattle.post_changes.specs.slot_changes.Msgids.{all_identified, msgid_in}
 use Rattle.mail_board.specs.Changes.{changed, Fits}
 use Rattle.mail_board.specs.Written.{IsPosting, KeepsBound, KeepsBoundOf, WritesFew, growth, slot_total}
 use Rattle.mail_board.specs.declared.change.Change.{Change}

@@ -1,20 +1,20 @@
 -- Other slots in a place of boards with one outline, and of the board that a host holds.
 use Rattle.std.proofs.Common.{◌≡◌, ℕ, List, length, Option, Some, None, refl, sym, ap, ◌∙◌}
 use Rattle.std.specs.Prelude.{IsSomeAnd}
-use Rattle.board_changes.specs.Change.{Leads}
-use Rattle.board_changes.specs.Changed.{base_at}
-use Rattle.board_changes.specs.Outlined.{LeadsEach}
+use Rattle.post_changes.specs.board_changes.Change.{Leads}
+use Rattle.post_changes.specs.board_changes.Changed.{base_at}
+use Rattle.post_changes.specs.board_changes.Outlined.{LeadsEach}
 use Rattle.board_layout.specs.Board.{Board}
 use Rattle.board_layout.specs.Layout.{IsLayout}
 use Rattle.board_layout.specs.Outlines.{board_outline}
 use Rattle.board_layout.specs.Valid.{IsBoard}
 use Rattle.door_outside.specs.Disk.{Disk}
 use Rattle.intent_journal.specs.declared.patch.Patch.{Patch}
-use Rattle.jam_base.specs.Contents.{Contents, with_slots}
-use Rattle.jam_base.specs.Outlined.{outlined}
+use Rattle.board_layout.specs.jam_base.Contents.{Contents, with_slots}
+use Rattle.board_layout.specs.jam_base.Outlined.{outlined}
 use Rattle.jam_records.specs.declared.message.Slot.{Slot}
-use Rattle.slot_changes.proofs.ReplaceLaws.{replaced_keeps, same_base}
-use Rattle.slot_changes.specs.Packed.{FitsSlots, replaced}
+use Rattle.post_changes.proofs.slot_changes.ReplaceLaws.{replaced_keeps, same_base}
+use Rattle.post_changes.specs.slot_changes.Packed.{FitsSlots, replaced}
 use Rattle.mail_board.proofs.EachBases.{changed_base}
 use Rattle.mail_board.proofs.OneHost.{alike_held}
 use Rattle.mail_board.specs.Held.{AreAlike, Holds, Rests, RestsOn}

@@ -1,7 +1,7 @@
 -- What a commit of a change's patches writes is no more than the change may.
 use Rattle.std.proofs.Common.{ℕ, ◌+◌, ◌*◌, ◌≤◌, List, length, Result, Ok, Err, arith}
 use Rattle.std.specs.Prelude.{IfOk}
-use Rattle.board_changes.specs.Spending.{Spends}
+use Rattle.post_changes.specs.board_changes.Spending.{Spends}
 use Rattle.board_layout.specs.Board.{Board}
 use Rattle.intent_journal.specs.Patches.{byte_count}
 use Rattle.intent_journal.specs.declared.patch.Patch.{Patch}

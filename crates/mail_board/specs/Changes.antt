@@ -1,13 +1,13 @@
 -- What a change makes of a board, and where it may be made.
 use Rattle.std.specs.Prelude.{◌≡◌, ◌^◌, ◌<◌, length}
-use Rattle.board_changes.specs.Changed.{enrolled}
+use Rattle.post_changes.specs.board_changes.Changed.{enrolled}
 use Rattle.board_layout.specs.Board.{Board}
 use Rattle.board_layout.specs.Valid.{IsBoard}
 use Rattle.mail_board.specs.declared.change.Change.{Change}
 use Rattle.mail_board.specs.declared.change.Change.TheVariants.{Enroll, Append, Spread, Kill, Offer, Acknowledge, Upload}
 use Rattle.offer_changes.specs.Changed.{acknowledged, offer_made, HasOffer, HasUser, MayOffer}
 use Rattle.post_changes.specs.Posted.{ArePlaced, spread, uploaded}
-use Rattle.slot_changes.specs.Changed.{appended, deleted, HasMessage}
+use Rattle.post_changes.specs.slot_changes.Changed.{appended, deleted, HasMessage}
 
 -- the board after it
 abbrev pub changed : Change → Board → Board

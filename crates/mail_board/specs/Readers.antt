@@ -8,7 +8,7 @@ use Rattle.board_ledger.specs.declared.upload.Counts.{Counts}
 use Rattle.board_ledger.specs.declared.user.User.{User}
 use Rattle.board_layout.specs.Board.{Board}
 use Rattle.board_layout.specs.Lookups.{user_of}
-use Rattle.jam_threads.specs.Children.{has_msgid}
+use Rattle.jam_layout.specs.jam_threads.Children.{has_msgid}
 
 -- a slot of a place holds a message with this msgid
 abbrev pub has_msgid_in : ℕ → List ℕ → Board → Bool

@@ -1,6 +1,6 @@
 -- How much a change of a board writes.
 use Rattle.std.specs.Prelude.{ℕ, ◌+◌, ◌-◌, ◌*◌, ◌<◌, ◌≤◌, List, length, sum_by}
-use Rattle.board_changes.specs.Spending.{Spends}
+use Rattle.post_changes.specs.board_changes.Spending.{Spends}
 use Rattle.board_layout.specs.Board.{Board}
 use Rattle.board_layout.specs.Layout.{board_size}
 use Rattle.intent_journal.specs.Patches.{byte_count}

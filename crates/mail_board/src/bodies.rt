@@ -5,8 +5,8 @@ ghost use Rattle.board_layout.specs.Outlines.{HasBody};
 ghost use Rattle.board_layout.specs.Rules.{HasReadCause};
 ghost use Rattle.door_outside.specs.Disk.{Unchanged};
 ghost use Rattle.door_outside.specs.File.{jdt_file};
-ghost use Rattle.jam_base.specs.Contents.{Contents};
-ghost use Rattle.jam_base.specs.Slots.{numbered};
+ghost use Rattle.board_layout.specs.jam_base.Contents.{Contents};
+ghost use Rattle.board_layout.specs.jam_base.Slots.{numbered};
 ghost use Rattle.jam_layout.specs.Bodies.{message_with};
 ghost use Rattle.jam_layout.specs.Limits.{slot_limit};
 ghost use Rattle.jam_layout.specs.Messages.{IsBody};
@@ -16,10 +16,9 @@ ghost use Rattle.jam_records.specs.declared.damage.Damage as Damages;
 ghost use Rattle.jam_records.specs.declared.message.Slot.TheVariants.{Held};
 ghost use Rattle.mail_board.specs.Bodies.{one_held, record_number as record_of, span_text, HasBodies};
 
-use board_layout::ReadError;
+use board_layout::{Base, ReadError, Span};
 use byte_lists::{Bytes, Duplicate};
 use door_outside::{FileId, Host};
-use jam_base::{Base, Span};
 use jam_records::{Damage, DamageRule, Message, Slot};
 use std::alloc::{AllocError, Global};
 

@@ -1,6 +1,6 @@
 ghost use Rattle.std.specs.Prelude.{◌≡◌, ◌↔◌, true, Err, IfOk, OnOk, IsErrOf, IsTrue, IsFalse};
-ghost use Rattle.board_changes.specs.Change.{Becomes};
-ghost use Rattle.board_changes.specs.Outlined.{LeadsEach};
+ghost use Rattle.post_changes.specs.board_changes.Change.{Becomes};
+ghost use Rattle.post_changes.specs.board_changes.Outlined.{LeadsEach};
 ghost use Rattle.board_layout.specs.Board as Boards;
 ghost use Rattle.board_layout.specs.Layout.{IsLayout};
 ghost use Rattle.board_layout.specs.Outlines.{board_outline};
@@ -14,7 +14,6 @@ ghost use Rattle.mail_board.specs.Written.{PutsFew, WritesFew};
 ghost use Rattle.mail_board.specs.declared.change.ChangeError.TheVariants.{DiskFault as DiskFails, OutOfMemory};
 
 use crate::board::Board;
-use board_changes::{BoardChange, enrolled};
 use board_layout::StoredBoard;
 use board_ledger::Highs;
 use byte_lists::Bytes;
@@ -22,8 +21,7 @@ use door_outside::{DiskFault, Host};
 use intent_journal::commit;
 use jam_records::Messages;
 use offer_changes::{acknowledged, offered};
-use post_changes::{Posts, spread, uploaded};
-use slot_changes::{appended, deleted};
+use post_changes::{BoardChange, Posts, appended, deleted, enrolled, spread, uploaded};
 use std::alloc::{AllocError, Global};
 use thiserror::Error;
 

@@ -7,11 +7,12 @@ ghost use Rattle.post_changes.specs.Posted.{ArePlaced, uploaded};
 
 use crate::board::Board;
 use crate::change::Change;
-use board_changes::{fits_user, size_with_user};
 use board_layout::StoredBoard;
 use offer_changes::{fits_acknowledgement, fits_offer};
-use post_changes::{Posts, fits_posts, fits_upload, size_with_posts, size_with_upload};
-use slot_changes::{fits_deletion, fits_messages, size_with_messages};
+use post_changes::{
+    Posts, fits_deletion, fits_messages, fits_posts, fits_upload, fits_user, size_with_messages,
+    size_with_posts, size_with_upload, size_with_user,
+};
 
 /// How many bytes the data files of a valid board have.
 fn size_of(stored: &StoredBoard) -> u64

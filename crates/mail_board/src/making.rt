@@ -1,17 +1,17 @@
 ghost use Rattle.std.specs.Prelude.{◌≡◌, IfOk, IsErrOf, OnOk, IsTrue};
-ghost use Rattle.board_changes.specs.Changed.{made as made_of};
+ghost use Rattle.post_changes.specs.board_changes.Changed.{made as made_of};
 ghost use Rattle.board_layout.specs.Layout.{AreEmpty};
 ghost use Rattle.door_outside.specs.Disk.{AllNow, Between};
 ghost use Rattle.intent_journal.specs.Hosts.{IsCalm, IsSettled};
 ghost use Rattle.mail_board.specs.Held.{BeforeOrNext, Rests, sure};
 ghost use Rattle.mail_board.specs.Causes.{HasFault};
-ghost use Rattle.setup_file.specs.Valid.{IsSetup};
+ghost use Rattle.board_ledger.specs.setup_file.Valid.{IsSetup};
 
 use crate::board::Board;
-use board_changes::made;
 use board_ledger::Setup;
 use door_outside::Host;
 use intent_journal::{JournalError, commit};
+use post_changes::made;
 use std::alloc::Global;
 
 impl Board {

@@ -9,7 +9,7 @@ ghost use Rattle.jam_layout.specs.Outlines.{message_outline};
 ghost use Rattle.jam_records.specs.declared.damage.Damage.{Damage};
 ghost use Rattle.jam_records.specs.declared.message.Slot.TheVariants.{Held};
 ghost use Rattle.mail_board.specs.Held.{Holds, RestsOn};
-ghost use Rattle.slot_changes.specs.Msgids.{msgid_in};
+ghost use Rattle.post_changes.specs.slot_changes.Msgids.{msgid_in};
 
 use crate::board::Board;
 use crate::bodies::fetched;
@@ -17,7 +17,7 @@ use board_layout::{ReadError, message_of};
 use byte_lists::Bytes;
 use door_outside::Host;
 use jam_records::Message;
-use slot_changes::msgid_of;
+use post_changes::msgid_of;
 use std::alloc::{AllocError, Global};
 
 impl Board {

@@ -6,10 +6,10 @@ ghost use Rattle.mail_board.specs.Causes.{HasFault};
 ghost use Rattle.mail_board.specs.Held.{RestsOn};
 ghost use Rattle.mail_board.specs.Loading.{Opens, StandsFound, StandsOld};
 
-use board_changes::ledger_intent;
 use board_layout::{FoundBoard, StoredBoard};
 use door_outside::Host;
 use intent_journal::{JournalError, commit};
+use post_changes::ledger_intent;
 use std::alloc::Global;
 
 /// Writes the ledger of a board in version 2, whole or not at all, where the files are those of a board with its outline.

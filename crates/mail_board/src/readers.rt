@@ -5,17 +5,16 @@ ghost use Rattle.std.specs.Option.{option_copied, option_map};
 ghost use Rattle.std.specs.Str.{str_eq_ignore_ascii_case};
 ghost use Rattle.board_layout.specs.Layout.{board_size};
 ghost use Rattle.board_layout.specs.Valid.{IsBoard};
-ghost use Rattle.jam_base.specs.Slots.{numbered};
+ghost use Rattle.board_layout.specs.jam_base.Slots.{numbered};
 ghost use Rattle.jam_layout.specs.Conference.{live_count as live_in};
-ghost use Rattle.jam_threads.specs.Children.{has_msgid, original};
+ghost use Rattle.jam_layout.specs.jam_threads.Children.{has_msgid, original};
 ghost use Rattle.offered_packets.specs.Sees.{sees as is_seen};
 ghost use Rattle.board_layout.specs.Lookups.{user_of, pointer_at, place_of};
 ghost use Rattle.mail_board.specs.Readers.{user_id as id_of, offer_of, is_offered, upload_of as counts_of, has_msgid_in};
 
 use crate::board::Board;
-use board_layout::StoredBoard;
+use board_layout::{Base, StoredBoard};
 use board_ledger::{Counts, OpenOffer, Setup, User};
-use jam_base::Base;
 use jam_records::Slot;
 use offered_packets::sees;
 

@@ -6,14 +6,14 @@ ghost use Rattle.door_outside.specs.Disk.{AllNow, Between};
 ghost use Rattle.intent_journal.specs.Hosts.{IsSettled};
 ghost use Rattle.mail_board.specs.Causes.{HasFault};
 ghost use Rattle.mail_board.specs.Held.{BeforeOrNext, Follows, Holds, Rests, RestsOn};
-ghost use Rattle.slot_changes.specs.Packed.{replaced as replaced_of, FitsSlots};
+ghost use Rattle.post_changes.specs.slot_changes.Packed.{replaced as replaced_of, FitsSlots};
 
 use crate::board::Board;
 use crate::change::ChangeError;
 use door_outside::Host;
 use intent_journal::commit;
 use jam_records::Slots;
-use slot_changes::{fits_slots, replaced};
+use post_changes::{fits_slots, replaced};
 use std::alloc::Global;
 
 impl Board {

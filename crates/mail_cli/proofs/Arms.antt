@@ -11,12 +11,12 @@ use Rattle.entry_runs.specs.Saying.{Spoken, Voiced}
 use Rattle.entry_runs.specs.declared.class.Class.{Class}
 use Rattle.entry_runs.specs.declared.class.Class.TheVariants.{Damaged}
 use Rattle.entry_runs.specs.declared.stop.Stop.{Stop}
-use Rattle.mail_board.specs.Held.{StandsFor}
-use Rattle.mail_board.specs.declared.loading.Loaded.{Loaded}
-use Rattle.mail_board.specs.declared.loading.Loaded.TheVariants.{NotMade, Ready}
-use Rattle.shelf_files.specs.Halts.{ShelfCauses, served}
-use Rattle.shelf_files.specs.declared.halt.Halt.{Halt}
-use Rattle.shelf_files.specs.declared.halt.Halt.TheVariants.{Refused, ShelfFault, OutOfMemory}
+use Rattle.board_commands.specs.mail_board.Held.{StandsFor}
+use Rattle.board_commands.specs.mail_board.declared.loading.Loaded.{Loaded}
+use Rattle.board_commands.specs.mail_board.declared.loading.Loaded.TheVariants.{NotMade, Ready}
+use Rattle.board_commands.specs.shelf_files.Halts.{ShelfCauses, served}
+use Rattle.board_commands.specs.shelf_files.declared.halt.Halt.{Halt}
+use Rattle.board_commands.specs.shelf_files.declared.halt.Halt.TheVariants.{Refused, ShelfFault, OutOfMemory}
 
 -- a command over the shelf leaves the other counts
 pub shelf_causes : {T : Type 0} (text : T → List ℕ) (disk voice : ℕ) {old new : ℕ} (result : Result T Halt) → ShelfCauses old new result

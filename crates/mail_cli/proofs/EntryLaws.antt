@@ -2,7 +2,7 @@
 use Rattle.std.proofs.Common.{◌≡◌, ◌≢◌, ℕ, [], Option, refl, sym, subst}
 use Rattle.std.specs.Prelude.{IsTrue}
 use Rattle.std.proofs.lemmas.Bool.{true≢false}
-use Rattle.adopt_commands.proofs.AdoptActs.{adopt_turns}
+use Rattle.board_laws.proofs.adopt_commands.AdoptActs.{adopt_turns}
 use Rattle.board_layout.specs.Board.{Board}
 use Rattle.door_outside.specs.Shelf as Shelf
 use Rattle.entry_runs.specs.Door.{Act, World, AreLawful, IsLawful}
@@ -10,9 +10,9 @@ use Rattle.entry_runs.specs.Runs.{Stepped}
 use Rattle.entry_runs.specs.declared.class.Class.TheVariants.{Damaged}
 use Rattle.entry_runs.proofs.ShelfLaws.{IsLawfulOnShelf, lawful_look, lawful_on_shelf, lawful_saying}
 use Rattle.entry_runs.specs.Entry.{ShelfAct, on_shelf}
-use Rattle.exchange_commands.proofs.ExportActs.{ack_turns, keeps_exports, lawful_exports}
-use Rattle.message_commands.proofs.MessageActs.{import_turns, kill_turns}
-use Rattle.pack_commands.proofs.PackActs.{pack_turns}
+use Rattle.board_laws.proofs.exchange_commands.ExportActs.{ack_turns, keeps_exports, lawful_exports}
+use Rattle.board_laws.proofs.message_commands.MessageActs.{import_turns, kill_turns}
+use Rattle.board_laws.proofs.pack_commands.PackActs.{pack_turns}
 use Rattle.packet_commands.proofs.PacketLaws.{lawful_lists, lawful_reads, lawful_scans, lawful_shows}
 use Rattle.packet_commands.specs.List.{lists}
 use Rattle.packet_commands.specs.Read.{reads, shows}
@@ -20,11 +20,11 @@ use Rattle.packet_commands.specs.Scan.{scans}
 use Rattle.reply_commands.proofs.ReplyLaws.{lawful_composes, lawful_replies}
 use Rattle.reply_commands.specs.Compose.{composes}
 use Rattle.reply_commands.specs.Reply.{replies}
-use Rattle.message_commands.proofs.SampleActs.{sample_turns}
-use Rattle.shelf_files.proofs.Replies.{some_refusal}
-use Rattle.shelf_files.specs.Halts.{refused}
-use Rattle.exchange_commands.proofs.UploadActs.{upload_turns}
-use Rattle.toss_commands.proofs.TossActs.{toss_turns}
+use Rattle.board_laws.proofs.message_commands.SampleActs.{sample_turns}
+use Rattle.board_commands.proofs.shelf_files.Replies.{some_refusal}
+use Rattle.board_commands.specs.shelf_files.Halts.{refused}
+use Rattle.board_laws.proofs.exchange_commands.UploadActs.{upload_turns}
+use Rattle.board_laws.proofs.toss_commands.TossActs.{toss_turns}
 use Rattle.door_commands.specs.Answers.{usage, usage_line}
 use Rattle.board_commands.proofs.BoardActs.{AreTurns, KeepsState, check_turns, enroll_turns, init_turns, keeps_state, lawful_on_board}
 use Rattle.board_commands.specs.State.{State, IsSpoiled, migrated}

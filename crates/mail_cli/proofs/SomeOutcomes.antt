@@ -5,7 +5,7 @@ use Rattle.std.proofs.lemmas.List.Elements.{All-nil, All-cons}
 use Rattle.std.specs.List.{All}
 use Rattle.std.specs.Prelude.{Result, Ok, Err, IsTrue, true, false}
 use Rattle.std.specs.Str.Lines.{lines}
-use Rattle.adopt_commands.specs.Adopt.{adopt_turn}
+use Rattle.board_laws.specs.adopt_commands.Adopt.{adopt_turn}
 use Rattle.board_commands.specs.Check.{checked}
 use Rattle.board_commands.specs.Damages.{damaged}
 use Rattle.board_commands.specs.Enroll.{Enrolls, enroll_turn, is_net_flag}
@@ -24,19 +24,19 @@ use Rattle.door_commands.specs.Entries.{EntryCanRun}
 use Rattle.door_commands.specs.declared.command.Command.TheVariants as command
 use Rattle.door_commands.specs.declared.entry.Entry.{Entry}
 use Rattle.door_commands.specs.declared.entry.Entry.TheVariants.{Run, Wrong, Refuse}
-use Rattle.door_export.specs.Folder.{folder_names}
+use Rattle.board_laws.specs.door_export.Folder.{folder_names}
 use Rattle.door_outside.specs.Shelf as Shelf
 use Rattle.door_outside.specs.Shelf.{fetched, held}
 use Rattle.door_outside.specs.declared.fetch.Fetched.{Fetched}
 use Rattle.door_outside.specs.declared.fetch.Fetched.TheVariants as fetch
-use Rattle.door_upload.specs.Upload.{Upload, UploadRefusal, UploadsFor, Broken, NoBoardId}
+use Rattle.board_laws.specs.door_upload.Upload.{Upload, UploadRefusal, UploadsFor, Broken, NoBoardId}
 use Rattle.entry_runs.specs.Door.{Act, World, here}
 use Rattle.entry_runs.specs.Entry.{Reply, looks, on_shelf}
 use Rattle.entry_runs.specs.Runs.{Stepped}
-use Rattle.exchange_commands.specs.Ack.{ack_turn}
-use Rattle.exchange_commands.specs.Export.{export_handing}
-use Rattle.exchange_commands.specs.Handing.{Handing, on_board_then_shelf}
-use Rattle.exchange_commands.specs.Upload.{Uploads, UploadsFile, UploadsRead}
+use Rattle.board_laws.specs.exchange_commands.Ack.{ack_turn}
+use Rattle.board_laws.specs.exchange_commands.Export.{export_handing}
+use Rattle.board_laws.specs.exchange_commands.Handing.{Handing, on_board_then_shelf}
+use Rattle.board_laws.specs.exchange_commands.Upload.{Uploads, UploadsFile, UploadsRead}
 use Rattle.fts_packet.specs.Packet.{FtsReads}
 use Rattle.fts_packet.specs.declared.fault.FtsError.{FtsError}
 use Rattle.fts_packet.specs.declared.fault.FtsError.TheVariants as fts
@@ -47,13 +47,13 @@ use Rattle.import_sheet.specs.declared.fault.SheetError.TheVariants.{Line}
 use Rattle.import_sheet.specs.declared.sheet.Sheet.{Sheet}
 use Rattle.intent_journal.specs.Patches.{Files, data_files}
 use Rattle.jam_records.specs.declared.damage.Damage.{Damage}
-use Rattle.mail_board.proofs.DataLaws.{data_twice, layout_moves, old_layout_moves}
-use Rattle.mail_board.specs.Readers.{user_id}
+use Rattle.board_commands.proofs.mail_board.DataLaws.{data_twice, layout_moves, old_layout_moves}
+use Rattle.board_commands.specs.mail_board.Readers.{user_id}
 use Rattle.mail_cli.specs.Step.{act}
-use Rattle.message_commands.specs.Import.{Imports, ImportsAt}
-use Rattle.message_commands.specs.Kill.{kill_turn}
-use Rattle.pack_commands.specs.Pack.{pack_turn}
-use Rattle.message_commands.specs.Sample.{sample_turn}
+use Rattle.board_laws.specs.message_commands.Import.{Imports, ImportsAt}
+use Rattle.board_laws.specs.message_commands.Kill.{kill_turn}
+use Rattle.board_laws.specs.pack_commands.Pack.{pack_turn}
+use Rattle.board_laws.specs.message_commands.Sample.{sample_turn}
 use Rattle.offline_reader.specs.Listing.{folder_listing, listing}
 use Rattle.offline_writer.specs.Drafts.{entry_drafts, reply_draft}
 use Rattle.long_names.specs.Value.{is_long, most_of}
@@ -92,14 +92,14 @@ use Rattle.setup_file.proofs.Single.{reads_or_fault}
 use Rattle.setup_file.specs.Reads.{SetupReads}
 use Rattle.setup_file.specs.declared.error.SetupRule.{SetupRule}
 use Rattle.setup_file.specs.declared.setup.Setup.{Setup}
-use Rattle.shelf_files.specs.Halts.{refused, replied}
-use Rattle.shelf_files.specs.ShelfFile.{ReadAs, file_limit, file_within, packet_limit, rep_limit}
-use Rattle.shelf_files.specs.Sheets.{SheetBreaks, SheetOf, sheet_refusal}
-use Rattle.shelf_files.specs.declared.refusal.Refusal.{Refusal}
-use Rattle.shelf_files.specs.declared.refusal.Refusal.TheVariants as refusal
+use Rattle.board_commands.specs.shelf_files.Halts.{refused, replied}
+use Rattle.board_commands.specs.shelf_files.ShelfFile.{ReadAs, file_limit, file_within, packet_limit, rep_limit}
+use Rattle.board_commands.specs.shelf_files.Sheets.{SheetBreaks, SheetOf, sheet_refusal}
+use Rattle.board_commands.specs.shelf_files.declared.refusal.Refusal.{Refusal}
+use Rattle.board_commands.specs.shelf_files.declared.refusal.Refusal.TheVariants as refusal
 use Rattle.text_fields.specs.Split.{Lacks}
-use Rattle.toss_commands.specs.PacketFiles.{FtsBreaks, FtsPacketOf, fts_refusal}
-use Rattle.toss_commands.specs.Toss.{Tosses}
+use Rattle.board_laws.specs.toss_commands.PacketFiles.{FtsBreaks, FtsPacketOf, fts_refusal}
+use Rattle.board_laws.specs.toss_commands.Toss.{Tosses}
 
 -- ---- what the shelf's files are read as
 module _ {Value Fault : Type 0} (Reads : List ℕ → Value → Type 0) (Breaks : List ℕ → Fault → Type 0) (refuses : Fault → Refusal)

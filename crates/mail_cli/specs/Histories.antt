@@ -14,9 +14,9 @@ use Rattle.entry_runs.specs.Door.{World, here, Step}
 use Rattle.entry_runs.specs.Runs.{Outcome, Runs}
 use Rattle.intent_journal.specs.Patches.{Files}
 use Rattle.intent_journal.specs.Recovered.{recovered}
-use Rattle.mail_board.specs.Written.{slot_total}
-use Rattle.offered_packets.specs.Offered.{offered}
-use Rattle.offered_packets.specs.declared.offered_message.OfferedMessage.{OfferedMessage}
+use Rattle.board_commands.specs.mail_board.Written.{slot_total}
+use Rattle.board_laws.specs.offered_packets.Offered.{offered}
+use Rattle.board_laws.specs.offered_packets.declared.offered_message.OfferedMessage.{OfferedMessage}
 use Rattle.mail_cli.specs.BoardEntry.{board_command, steps}
 use Rattle.mail_cli.specs.Step.{door}
 

@@ -1,27 +1,27 @@
 -- What an entry does.
 use Rattle.std.specs.Prelude.{◌≡◌, ℕ, Bool, true, false, List}
 use Rattle.std.specs.List.{list_any}
-use Rattle.adopt_commands.specs.Adopt.{adopts}
+use Rattle.board_laws.specs.adopt_commands.Adopt.{adopts}
 use Rattle.entry_runs.specs.Door.{Act, Door}
 use Rattle.entry_runs.specs.Entry.{Reply, ShelfAct, on_shelf, looks}
 use Rattle.board_commands.specs.Check.{checks}
 use Rattle.board_commands.specs.Enroll.{enrolls}
 use Rattle.board_commands.specs.Init.{inits}
 use Rattle.board_commands.specs.State.{State, Stores}
-use Rattle.exchange_commands.specs.Ack.{acknowledges}
-use Rattle.exchange_commands.specs.Export.{exports}
-use Rattle.message_commands.specs.Import.{imports}
-use Rattle.message_commands.specs.Kill.{kills}
-use Rattle.pack_commands.specs.Pack.{packs}
+use Rattle.board_laws.specs.exchange_commands.Ack.{acknowledges}
+use Rattle.board_laws.specs.exchange_commands.Export.{exports}
+use Rattle.board_laws.specs.message_commands.Import.{imports}
+use Rattle.board_laws.specs.message_commands.Kill.{kills}
+use Rattle.board_laws.specs.pack_commands.Pack.{packs}
 use Rattle.packet_commands.specs.List.{lists}
 use Rattle.packet_commands.specs.Read.{reads, shows}
 use Rattle.packet_commands.specs.Scan.{scans}
 use Rattle.reply_commands.specs.Compose.{composes}
 use Rattle.reply_commands.specs.Reply.{replies}
-use Rattle.message_commands.specs.Sample.{samples}
-use Rattle.shelf_files.specs.Halts.{refused}
-use Rattle.toss_commands.specs.Toss.{tosses}
-use Rattle.exchange_commands.specs.Upload.{uploads}
+use Rattle.board_laws.specs.message_commands.Sample.{samples}
+use Rattle.board_commands.specs.shelf_files.Halts.{refused}
+use Rattle.board_laws.specs.toss_commands.Toss.{tosses}
+use Rattle.board_laws.specs.exchange_commands.Upload.{uploads}
 use Rattle.door_commands.specs.Answers.{usage}
 use Rattle.door_commands.specs.declared.command.Command.{Command}
 use Rattle.door_commands.specs.declared.command.Command.TheVariants as command

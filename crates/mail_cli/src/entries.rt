@@ -10,10 +10,10 @@ ghost use Rattle.mail_cli.specs.Run.{EntriesLeave, EntriesSurvive, DamagedOnlyIf
 ghost use Rattle.mail_cli.specs.Step.{any_uses_shelf, door};
 
 use crate::perform::perform;
+use board_commands::Loaded;
 use door_commands::Entry;
 use door_outside::{Host, Shelf};
 use entry_runs::Status;
-use mail_board::Loaded;
 use std::alloc::Global;
 
 /// Carries out entries in order, and says their replies, with the board as it was kept, up to and with the first that

@@ -6,7 +6,7 @@ pub mod laws;
 mod perform;
 mod running;
 
+pub use board_commands::Refusal;
 pub use door_commands::{Command, Entry, Usage, Words};
 pub use entry_runs::{Class, Status};
 pub use running::run;
-pub use shelf_files::Refusal;

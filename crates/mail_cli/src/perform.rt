@@ -10,20 +10,17 @@ ghost use Rattle.mail_cli.specs.Run.{LeavesFiles, PerformsEntry};
 ghost use Rattle.mail_cli.specs.Step.{does, door, entry_uses_shelf, uses_shelf};
 ghost use Rattle.door_commands.specs.declared.entry.Entry.TheVariants.{Run};
 
-use adopt_commands::adopt;
-use board_commands::{EnrolledLine, MadeLine, check, enroll, init, say_told};
+use board_commands::{EnrolledLine, Loaded, MadeLine, check, enroll, init, say_served, say_told};
+use board_laws::{
+    AcknowledgedLine, ImportedLine, KilledLine, PackedLine, PacketLine, SampledLine, UploadedText,
+    ack, adopt, export, import, kill, pack, sample, toss, upload,
+};
 use door_commands::{Command, Entry};
 use door_outside::{Host, Shelf};
 use entry_runs::{AsText, Class, Stop};
-use exchange_commands::{AcknowledgedLine, PacketLine, UploadedText, ack, export, upload};
-use mail_board::Loaded;
-use message_commands::{ImportedLine, KilledLine, SampledLine, import, kill, sample};
-use pack_commands::{PackedLine, pack};
 use packet_commands::{CountLine, list, read, scan, show};
 use reply_commands::{ComposedLine, RepliedLine, compose, reply};
-use shelf_files::say_served;
 use std::alloc::Global;
-use toss_commands::toss;
 
 /// Carries out a command and says its reply.
 fn perform_command<H: Host, S: Shelf>(

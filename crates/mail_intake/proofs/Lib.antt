@@ -1,2 +1,3 @@
 pub mod TallyLaws
 pub mod RoomAlike
+pub use Rattle.packet_verdicts.proofs.offered_packets as offered_packets

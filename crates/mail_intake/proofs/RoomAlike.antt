@@ -6,10 +6,10 @@ use Rattle.board_layout.specs.Board.{Board}
 use Rattle.board_layout.specs.Outlines.{board_outline}
 use Rattle.board_layout.specs.Valid.{board_limit}
 use Rattle.board_ledger.specs.declared.ledger.Ledger.{Ledger}
-use Rattle.jam_layout.specs.Limits.{slot_limit}
+use Rattle.board_layout.specs.jam_layout.Limits.{slot_limit}
 use Rattle.jam_records.specs.declared.message.Message.{Message}
 use Rattle.mail_intake.specs.Room.{is_full}
-use Rattle.offered_packets.proofs.OutlineLaws.{outline_count}
+use Rattle.packet_verdicts.proofs.offered_packets.OutlineLaws.{outline_count}
 use Rattle.board_layout.specs.Lookups.{slots_in}
 use Rattle.post_changes.proofs.EachPost.{posted_outline}
 use Rattle.post_changes.specs.Posted.{posted_with, spread}

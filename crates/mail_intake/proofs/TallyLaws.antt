@@ -12,9 +12,9 @@ use Rattle.board_layout.specs.Layout.{board_size}
 use Rattle.board_layout.specs.Renewed.{contents_of}
 use Rattle.board_layout.specs.Valid.{IsBoard, board_limit}
 use Rattle.board_ledger.specs.declared.ledger.Ledger.{Ledger}
-use Rattle.jam_base.specs.Contents.{Contents}
-use Rattle.jam_layout.specs.Limits.{slot_limit}
-use Rattle.jam_layout.specs.declared.conference.Conference.{Conference}
+use Rattle.board_layout.specs.jam_base.Contents.{Contents}
+use Rattle.board_layout.specs.jam_layout.Limits.{slot_limit}
+use Rattle.board_layout.specs.jam_layout.declared.conference.Conference.{Conference}
 use Rattle.jam_records.specs.declared.message.Message.{Message}
 use Rattle.mail_intake.specs.Room.{is_full}
 use Rattle.mail_intake.specs.Tallies.{IsTally, MayTake}
@@ -31,10 +31,10 @@ use Rattle.post_changes.proofs.PlacePosts.{place_there}
 use Rattle.post_changes.proofs.PostLaws.{all_count, posted_there}
 use Rattle.post_changes.specs.Posted.{ArePlaced, all_posted, posts_in, spread}
 use Rattle.setup_file.specs.declared.conference.Conference.{Conference as SetupConference}
-use Rattle.slot_changes.proofs.AppendLaws.{named}
-use Rattle.slot_changes.proofs.SlotBytes.{message_size}
-use Rattle.slot_changes.specs.Msgids.{generated, identified, msgid_in}
-use Rattle.slot_changes.specs.Values.{MayHold}
+use Rattle.post_changes.proofs.slot_changes.AppendLaws.{named}
+use Rattle.post_changes.proofs.slot_changes.SlotBytes.{message_size}
+use Rattle.post_changes.specs.slot_changes.Msgids.{generated, identified, msgid_in}
+use Rattle.post_changes.specs.slot_changes.Values.{MayHold}
 
 -- ---- no posts
 -- how many slots each conference has

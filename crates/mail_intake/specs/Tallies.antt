@@ -8,7 +8,7 @@ use Rattle.mail_intake.specs.declared.tally.Tally.{Tally}
 use Rattle.board_layout.specs.Lookups.{slots_in}
 use Rattle.post_changes.specs.Posted.{ArePlaced, spread}
 use Rattle.setup_file.specs.declared.conference.Conference.{Conference as SetupConference}
-use Rattle.slot_changes.specs.Values.{MayHold}
+use Rattle.post_changes.specs.slot_changes.Values.{MayHold}
 
 -- The board with the posts is valid, each place is there, and what is counted of that board is right: the slots of each
 -- conference, one count for each place, and the bytes of the data files.

@@ -7,12 +7,10 @@ ghost use Rattle.mail_intake.specs.Tallies.{IsTally, MayTake};
 ghost use Rattle.packet_verdicts.specs.Views.{next_number};
 ghost use Rattle.post_changes.specs.Posted.{spread};
 
-use board_layout::{BOARD_LIMIT, StoredBoard};
+use board_layout::{BOARD_LIMIT, SLOT_LIMIT, StoredBoard};
 use byte_lists::List;
-use jam_layout::SLOT_LIMIT;
 use jam_records::Message;
-use post_changes::Posts;
-use slot_changes::{generated_len, message_size};
+use post_changes::{Posts, generated_len, message_size};
 use std::alloc::{AllocError, Global};
 
 /// Posts so far, each of which a board has room for behind those before it, and what they take of it.

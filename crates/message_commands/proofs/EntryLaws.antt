@@ -19,9 +19,9 @@ use Rattle.jam_layout.specs.Marks.{is_net}
 use Rattle.jam_layout.specs.Messages.{IsTyped}
 use Rattle.jam_records.specs.declared.message.Kind.{Kind}
 use Rattle.jam_records.specs.declared.message.Message.{Message}
-use Rattle.shelf_files.specs.Sheets.{AreSheets}
-use Rattle.slot_changes.proofs.ValueLaws.{tested_holds}
-use Rattle.slot_changes.specs.Values.{MayHold, has_right_texts, is_empty_or, is_right_body}
+use Rattle.board_commands.specs.shelf_files.Sheets.{AreSheets}
+use Rattle.post_changes.proofs.slot_changes.ValueLaws.{tested_holds}
+use Rattle.post_changes.specs.slot_changes.Values.{MayHold, has_right_texts, is_empty_or, is_right_body}
 use Rattle.message_commands.specs.Import.{imported_message}
 
 -- ---- texts

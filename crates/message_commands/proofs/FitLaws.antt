@@ -4,14 +4,14 @@ use Rattle.std.proofs.Common.{◌≡◌, ℕ, zero, suc, ◌+◌, ◌^◌, ◌<�
 use Rattle.std.specs.Option.{option_map_or}
 use Rattle.std.specs.Prelude.{All, slice_get}
 use Rattle.std.specs.List.{AllZip}
-use Rattle.board_changes.proofs.OneBase.{all_at, base_was, size_next}
+use Rattle.post_changes.proofs.board_changes.OneBase.{all_at, base_was, size_next}
 use Rattle.board_layout.proofs.BoardLookups.{conferences_count}
-use Rattle.board_changes.specs.Changed.{base_at}
+use Rattle.post_changes.specs.board_changes.Changed.{base_at}
 use Rattle.board_layout.specs.Board.{Board, shapes_of}
 use Rattle.board_layout.specs.Layout.{board_size}
 use Rattle.board_layout.specs.Renewed.{contents}
 use Rattle.board_layout.specs.Valid.{IsBoard, board_limit}
-use Rattle.jam_base.specs.Contents.{Contents, with_messages}
+use Rattle.board_layout.specs.jam_base.Contents.{Contents, with_messages}
 use Rattle.jam_layout.proofs.SlotSizes.{size_is, slots_small}
 use Rattle.jam_layout.specs.Limits.{slot_limit}
 use Rattle.jam_layout.specs.Messages.{IsMessage}
@@ -23,14 +23,14 @@ use Rattle.jam_records.specs.declared.message.Kind.TheVariants.{Local}
 use Rattle.jam_records.specs.declared.message.Message.{Message}
 use Rattle.setup_file.specs.Valid.{IsSetupConference}
 use Rattle.setup_file.specs.declared.conference.Conference.{Conference as SetupConference}
-use Rattle.slot_changes.proofs.AppendLaws.{appended_there, base_is, named, shape_stays}
-use Rattle.slot_changes.proofs.FitLaws.{fits_then}
-use Rattle.slot_changes.proofs.MsgidLaws.{generated_is, identified_count}
-use Rattle.slot_changes.proofs.PlaceKinds.{kind_at}
-use Rattle.slot_changes.proofs.ValueLaws.{all_hold}
-use Rattle.slot_changes.specs.Changed.{appended}
-use Rattle.slot_changes.specs.Msgids.{IsMsgid, all_identified, msgid_in}
-use Rattle.slot_changes.specs.Values.{MayHold}
+use Rattle.post_changes.proofs.slot_changes.AppendLaws.{appended_there, base_is, named, shape_stays}
+use Rattle.post_changes.proofs.slot_changes.FitLaws.{fits_then}
+use Rattle.post_changes.proofs.slot_changes.MsgidLaws.{generated_is, identified_count}
+use Rattle.post_changes.proofs.slot_changes.PlaceKinds.{kind_at}
+use Rattle.post_changes.proofs.slot_changes.ValueLaws.{all_hold}
+use Rattle.post_changes.specs.slot_changes.Changed.{appended}
+use Rattle.post_changes.specs.slot_changes.Msgids.{IsMsgid, all_identified, msgid_in}
+use Rattle.post_changes.specs.slot_changes.Values.{MayHold}
 use Rattle.message_commands.specs.Import.{kind_of_place, slot_count}
 
 -- ---- what stands in a place

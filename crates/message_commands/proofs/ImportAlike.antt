@@ -11,14 +11,14 @@ use Rattle.import_sheet.specs.declared.sheet.Sheet.{Sheet}
 use Rattle.jam_layout.specs.Limits.{slot_limit}
 use Rattle.jam_records.specs.declared.message.Kind.{Kind}
 use Rattle.jam_records.specs.declared.message.Message.{Message}
-use Rattle.mail_board.proofs.EachNext.{changed_alike}
-use Rattle.mail_board.specs.Changes.{changed}
-use Rattle.mail_board.specs.Held.{AreAlike}
-use Rattle.mail_board.specs.declared.change.Change.{Change}
-use Rattle.mail_board.specs.declared.change.Change.TheVariants.{Append}
-use Rattle.shelf_files.specs.declared.refusal.Refusal.{Refusal}
-use Rattle.shelf_files.specs.declared.refusal.Refusal.TheVariants.{Slots, Size}
-use Rattle.slot_changes.specs.Changed.{appended}
+use Rattle.board_commands.proofs.mail_board.EachNext.{changed_alike}
+use Rattle.board_commands.specs.mail_board.Changes.{changed}
+use Rattle.board_commands.specs.mail_board.Held.{AreAlike}
+use Rattle.board_commands.specs.mail_board.declared.change.Change.{Change}
+use Rattle.board_commands.specs.mail_board.declared.change.Change.TheVariants.{Append}
+use Rattle.board_commands.specs.shelf_files.declared.refusal.Refusal.{Refusal}
+use Rattle.board_commands.specs.shelf_files.declared.refusal.Refusal.TheVariants.{Slots, Size}
+use Rattle.post_changes.specs.slot_changes.Changed.{appended}
 use Rattle.message_commands.proofs.Exits.{carried}
 use Rattle.message_commands.proofs.PlaceAlike.{count_alike, kind_alike}
 use Rattle.message_commands.specs.Import.{append_turn, appending, import_refusals, imported_line, imported_message, imported_messages, sheet_turn}

@@ -20,14 +20,14 @@ use Rattle.import_sheet.specs.declared.sheet.Sheet.{Sheet}
 use Rattle.intent_journal.specs.Recovered.{recovered}
 use Rattle.intent_journal.specs.declared.recovery.JournalError.{JournalError}
 use Rattle.intent_journal.specs.declared.recovery.JournalError.TheVariants.{OutOfMemory as Starved}
-use Rattle.mail_board.specs.Changes.{changed}
-use Rattle.mail_board.specs.Held.{AreAlike}
-use Rattle.shelf_files.specs.Halts.{Comes, done}
-use Rattle.shelf_files.specs.Sheets.{SheetOf}
-use Rattle.shelf_files.specs.declared.halt.Halt.{Halt}
-use Rattle.shelf_files.specs.declared.halt.Halt.TheVariants.{Refused, ShelfFault, OutOfMemory}
-use Rattle.shelf_files.specs.declared.refusal.Refusal.{Refusal}
-use Rattle.shelf_files.specs.declared.refusal.Refusal.TheVariants.{NoConference}
+use Rattle.board_commands.specs.mail_board.Changes.{changed}
+use Rattle.board_commands.specs.mail_board.Held.{AreAlike}
+use Rattle.board_commands.specs.shelf_files.Halts.{Comes, done}
+use Rattle.board_commands.specs.shelf_files.Sheets.{SheetOf}
+use Rattle.board_commands.specs.shelf_files.declared.halt.Halt.{Halt}
+use Rattle.board_commands.specs.shelf_files.declared.halt.Halt.TheVariants.{Refused, ShelfFault, OutOfMemory}
+use Rattle.board_commands.specs.shelf_files.declared.refusal.Refusal.{Refusal}
+use Rattle.board_commands.specs.shelf_files.declared.refusal.Refusal.TheVariants.{NoConference}
 use Rattle.message_commands.proofs.Exits.{carried, changed_by, refused_on, unchanged_by}
 use Rattle.message_commands.proofs.ImportAlike.{sheet_refused, sheet_taken}
 use Rattle.message_commands.proofs.PlaceAlike.{place_alike}

@@ -9,15 +9,15 @@ use Rattle.board_layout.specs.Layout.{board_size}
 use Rattle.board_layout.specs.Valid.{IsBoard, board_limit}
 use Rattle.import_sheet.specs.declared.sheet.Sheet.{Sheet}
 use Rattle.jam_records.specs.declared.message.Message.{Message}
-use Rattle.mail_board.specs.Changes.{Fits}
-use Rattle.mail_board.specs.declared.change.Change.TheVariants.{Append}
-use Rattle.shelf_files.specs.Sheets.{AreSheets}
-use Rattle.shelf_files.specs.declared.refusal.Refusal.{Refusal}
-use Rattle.shelf_files.specs.declared.refusal.Refusal.TheVariants.{Slots, Size}
-use Rattle.slot_changes.specs.Changed.{appended}
+use Rattle.board_commands.specs.mail_board.Changes.{Fits}
+use Rattle.board_commands.specs.mail_board.declared.change.Change.TheVariants.{Append}
+use Rattle.board_commands.specs.shelf_files.Sheets.{AreSheets}
+use Rattle.board_commands.specs.shelf_files.declared.refusal.Refusal.{Refusal}
+use Rattle.board_commands.specs.shelf_files.declared.refusal.Refusal.TheVariants.{Slots, Size}
+use Rattle.post_changes.specs.slot_changes.Changed.{appended}
 use Rattle.jam_layout.specs.Limits.{slot_limit}
 use Rattle.jam_layout.specs.Messages.{IsTyped}
-use Rattle.slot_changes.specs.Values.{MayHold}
+use Rattle.post_changes.specs.slot_changes.Values.{MayHold}
 use Rattle.message_commands.proofs.EntryLaws.{entries_hold}
 use Rattle.message_commands.proofs.Exits.{carried}
 use Rattle.message_commands.proofs.FitLaws.{append_fits, append_short}

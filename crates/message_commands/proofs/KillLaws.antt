@@ -3,23 +3,23 @@ use Rattle.std.proofs.Common.{◌≡◌, ℕ, Bool, true, false, Option, Some, N
 use Rattle.std.proofs.lemmas.Bool.{cond-false, cond-true, true≢false}
 use Rattle.std.specs.Option.{option_map_or}
 use Rattle.std.specs.Prelude.{IsSomeAnd, IsTrue, option_map, unwrap_or, ◌↔◌}
-use Rattle.board_changes.specs.Changed.{base_at}
+use Rattle.post_changes.specs.board_changes.Changed.{base_at}
 use Rattle.board_commands.specs.Turns.{refuses}
 use Rattle.board_layout.proofs.OutlineLaws.{outline_has_live}
 use Rattle.board_layout.specs.Board.{Board}
 use Rattle.board_layout.specs.Valid.{IsBoard}
 use Rattle.board_layout.specs.Lookups.{place_of}
-use Rattle.jam_base.specs.Contents.{Contents}
-use Rattle.jam_base.specs.Outlined.{outlined}
-use Rattle.jam_base.specs.Slots.{has_live}
-use Rattle.mail_board.proofs.EachBases.{places_alike}
-use Rattle.mail_board.specs.Changes.{Fits}
-use Rattle.mail_board.specs.Held.{AreAlike}
-use Rattle.mail_board.specs.declared.change.Change.{Change}
-use Rattle.mail_board.specs.declared.change.Change.TheVariants.{Kill}
-use Rattle.shelf_files.specs.declared.refusal.Refusal.TheVariants.{NoConference, NoMessage}
-use Rattle.slot_changes.proofs.DeleteLaws.{deleted_board}
-use Rattle.slot_changes.specs.Changed.{HasMessage, deleted}
+use Rattle.board_layout.specs.jam_base.Contents.{Contents}
+use Rattle.board_layout.specs.jam_base.Outlined.{outlined}
+use Rattle.board_layout.specs.jam_base.Slots.{has_live}
+use Rattle.board_commands.proofs.mail_board.EachBases.{places_alike}
+use Rattle.board_commands.specs.mail_board.Changes.{Fits}
+use Rattle.board_commands.specs.mail_board.Held.{AreAlike}
+use Rattle.board_commands.specs.mail_board.declared.change.Change.{Change}
+use Rattle.board_commands.specs.mail_board.declared.change.Change.TheVariants.{Kill}
+use Rattle.board_commands.specs.shelf_files.declared.refusal.Refusal.TheVariants.{NoConference, NoMessage}
+use Rattle.post_changes.proofs.slot_changes.DeleteLaws.{deleted_board}
+use Rattle.post_changes.specs.slot_changes.Changed.{HasMessage, deleted}
 use Rattle.message_commands.proofs.Exits.{carried}
 use Rattle.message_commands.proofs.PlaceAlike.{place_alike}
 use Rattle.message_commands.specs.Kill.{has_message, kill_at, kill_turn, killed_line}

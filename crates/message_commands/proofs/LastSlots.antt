@@ -9,7 +9,7 @@ use Rattle.std.proofs.lemmas.List.Elements.{All-cons, All-head, All-nil, All-tai
 use Rattle.board_layout.specs.Board.{Board}
 use Rattle.board_layout.specs.Lookups.{held_in, slots_in}
 use Rattle.board_layout.specs.Valid.{IsBoard}
-use Rattle.jam_base.specs.Slots.{numbered}
+use Rattle.board_layout.specs.jam_base.Slots.{numbered}
 use Rattle.jam_records.specs.declared.message.Message.{Message}
 use Rattle.jam_records.specs.declared.message.Slot.{Slot}
 use Rattle.jam_records.specs.declared.message.Slot.TheVariants.{Gone, Held}
@@ -17,7 +17,7 @@ use Rattle.packet_verdicts.proofs.PostLists.{identified_more}
 use Rattle.packet_verdicts.proofs.Spreading.{spread_slots}
 use Rattle.post_changes.specs.Posted.{posts_in, spread}
 use Rattle.message_commands.specs.Sample.{last_msgid}
-use Rattle.slot_changes.specs.Msgids.{all_identified, identified, msgid_in, or_else}
+use Rattle.post_changes.specs.slot_changes.Msgids.{all_identified, identified, msgid_in, or_else}
 
 -- ---- slots
 -- the msgid of the message that a slot holds, nothing where it holds none

@@ -20,3 +20,6 @@ pub mod PlaceAlike
 pub mod ImportAlike
 pub mod SampleAlike
 pub mod PostBounds
+pub use Rattle.packet_verdicts.proofs as packet_verdicts
+pub use Rattle.board_commands.proofs.mail_board as mail_board
+pub use Rattle.board_commands.proofs as board_commands

@@ -9,11 +9,11 @@ use Rattle.board_layout.specs.Lookups.{place_of}
 use Rattle.door_outside.specs.Shelf.{Files}
 use Rattle.import_sheet.specs.declared.sheet.Sheet.{Sheet}
 use Rattle.jam_records.specs.declared.message.Message.{Message}
-use Rattle.shelf_files.proofs.SheetLaws.{sheet_unique}
-use Rattle.shelf_files.specs.Halts.{done}
-use Rattle.shelf_files.specs.declared.refusal.Refusal.{Refusal}
-use Rattle.shelf_files.specs.declared.refusal.Refusal.TheVariants.{NotMade, NoConference, NoMessage}
-use Rattle.slot_changes.specs.Changed.{appended, deleted}
+use Rattle.board_commands.proofs.shelf_files.SheetLaws.{sheet_unique}
+use Rattle.board_commands.specs.shelf_files.Halts.{done}
+use Rattle.board_commands.specs.shelf_files.declared.refusal.Refusal.{Refusal}
+use Rattle.board_commands.specs.shelf_files.declared.refusal.Refusal.TheVariants.{NotMade, NoConference, NoMessage}
+use Rattle.post_changes.specs.slot_changes.Changed.{appended, deleted}
 use Rattle.message_commands.specs.Import.{Imports, ImportsAt, appending, import_refusals, imported_line, imported_messages, sheet_turn}
 use Rattle.message_commands.specs.Kill.{has_message, kill_at, kill_turn, killed_line}
 

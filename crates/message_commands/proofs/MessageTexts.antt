@@ -7,7 +7,7 @@ use Rattle.std.proofs.Math.Seq.{get_or-append_right}
 use Rattle.std.proofs.lemmas.Bool.{and_from, and_parts, cases_lt, eq-eqb, leb-true, le-leb, or_left, or_right}
 use Rattle.std.proofs.lemmas.Fmt.{decimal_by_steps, length-decimal-le}
 use Rattle.std.proofs.lemmas.List.Elements.{All-cons, All-head, All-nil, All-push, All-tail}
-use Rattle.board_changes.proofs.OneBase.{all_at}
+use Rattle.post_changes.proofs.board_changes.OneBase.{all_at}
 use Rattle.board_layout.specs.Board.{Board}
 use Rattle.board_layout.specs.Valid.{IsBoard}
 use Rattle.board_ledger.specs.Users.{IsUser}
@@ -18,7 +18,7 @@ use Rattle.jam_layout.specs.Marks.{is_net}
 use Rattle.jam_layout.specs.Messages.{EmptyOr, IsTyped}
 use Rattle.jam_records.specs.declared.message.Message.{Message}
 use Rattle.message_commands.specs.Import.{kind_of_place}
-use Rattle.offered_packets.proofs.ShownMessages.{is_there}
+use Rattle.packet_verdicts.proofs.offered_packets.ShownMessages.{is_there}
 use Rattle.board_layout.specs.Lookups.{slots_in, message_at}
 use Rattle.board_layout.proofs.BoardLookups.{few_in_place}
 use Rattle.packet_verdicts.proofs.PostLists.{few_in}
@@ -31,8 +31,8 @@ use Rattle.message_commands.specs.Draws.{draws_of}
 use Rattle.message_commands.specs.Sample.{last_msgid, numbered_line, recipient_name, repeated, sampled_posts, subject_of}
 use Rattle.setup_file.specs.Texts.{has_bare_ends, is_name_byte, is_user_name}
 use Rattle.setup_file.specs.declared.conference.Conference.{Conference as SetupConference}
-use Rattle.slot_changes.proofs.ValueLaws.{tested_holds}
-use Rattle.slot_changes.specs.Values.{MayHold, has_right_texts, is_empty_or, is_right_body}
+use Rattle.post_changes.proofs.slot_changes.ValueLaws.{tested_holds}
+use Rattle.post_changes.specs.slot_changes.Values.{MayHold, has_right_texts, is_empty_or, is_right_body}
 use Rattle.std.proofs.lemmas.Option.{slice_get-get_or}
 
 -- ---- texts

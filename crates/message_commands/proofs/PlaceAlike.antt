@@ -11,7 +11,7 @@ use Rattle.board_layout.specs.Lookups.{place_of}
 use Rattle.board_ledger.specs.declared.ledger.Ledger.{Ledger}
 use Rattle.jam_layout.specs.Outlines.{outline, slot_outline}
 use Rattle.jam_layout.specs.declared.conference.Conference.{Conference}
-use Rattle.mail_board.specs.Held.{AreAlike}
+use Rattle.board_commands.specs.mail_board.Held.{AreAlike}
 use Rattle.message_commands.specs.Import.{kind_of_place, slot_count}
 
 -- the board of a ledger alone

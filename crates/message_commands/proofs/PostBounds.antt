@@ -12,11 +12,11 @@ use Rattle.door_outside.specs.Shelf as Shelf
 use Rattle.import_sheet.specs.declared.sheet.Sheet.{Sheet}
 use Rattle.intent_journal.specs.Journal.{IsClosed}
 use Rattle.intent_journal.specs.Recovered.{recovered}
-use Rattle.mail_board.proofs.EachNext.{changed_alike}
-use Rattle.mail_board.proofs.PostedSlots.{posting_keeps}
-use Rattle.mail_board.specs.Changes.{changed}
-use Rattle.mail_board.specs.Written.{WritesFew}
-use Rattle.mail_board.specs.declared.change.Change.{Change}
+use Rattle.board_commands.proofs.mail_board.EachNext.{changed_alike}
+use Rattle.board_commands.proofs.mail_board.PostedSlots.{posting_keeps}
+use Rattle.board_commands.specs.mail_board.Changes.{changed}
+use Rattle.board_commands.specs.mail_board.Written.{WritesFew}
+use Rattle.board_commands.specs.mail_board.declared.change.Change.{Change}
 use Rattle.message_commands.proofs.Exits.{carried}
 use Rattle.message_commands.proofs.ImportAlike.{sheet_taken}
 use Rattle.message_commands.proofs.ImportExits.{placed}
@@ -29,7 +29,7 @@ use Rattle.message_commands.specs.Importing.{MayImport}
 use Rattle.message_commands.specs.Sample.{sample_turn, sampled_line, samples}
 use Rattle.message_commands.specs.Sampling.{MaySample}
 use Rattle.message_commands.specs.declared.importing.Importing.{Importing}
-use Rattle.shelf_files.specs.Sheets.{SheetOf}
+use Rattle.board_commands.specs.shelf_files.Sheets.{SheetOf}
 
 module _ (old mid new : Disk) (shelf : Shelf.Files) (closed : IsClosed (old.files 1)) (found : WritesFound old mid.wrote) (kept : Option Board)
     (stands : (state : State) → Stores state (recovered old.files) → IsOutlined (migrated state) kept) (b : Board) (kept_is : kept ≡ Some b) (ok : IsBoard b) where

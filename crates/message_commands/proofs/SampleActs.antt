@@ -5,8 +5,8 @@ use Rattle.board_commands.proofs.TurnLaws.{IsTurn, refuses_is, turns_of}
 use Rattle.board_commands.specs.Enroll.{first_refusal}
 use Rattle.board_layout.specs.Board.{Board}
 use Rattle.message_commands.specs.Sample.{sample_refusals, sample_turn, sampled_line, sampling}
-use Rattle.shelf_files.specs.declared.refusal.Refusal.{Refusal}
-use Rattle.shelf_files.specs.declared.refusal.Refusal.TheVariants.{NotMade}
+use Rattle.board_commands.specs.shelf_files.declared.refusal.Refusal.{Refusal}
+use Rattle.board_commands.specs.shelf_files.declared.refusal.Refusal.TheVariants.{NotMade}
 
 line_some : (count : ℕ) → sampled_line count ≢ []
 line_some count is = absurd (cc is)

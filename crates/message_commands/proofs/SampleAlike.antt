@@ -14,17 +14,17 @@ use Rattle.jam_layout.specs.Marks.{is_net}
 use Rattle.jam_layout.specs.Outlines.{message_outline, outline, slot_outline}
 use Rattle.jam_layout.specs.declared.conference.Conference.{Conference}
 use Rattle.jam_records.specs.declared.message.Message.{Message}
-use Rattle.mail_board.proofs.EachNext.{changed_alike}
-use Rattle.mail_board.specs.Changes.{changed}
-use Rattle.mail_board.specs.Held.{AreAlike}
-use Rattle.mail_board.specs.declared.change.Change.{Change}
-use Rattle.mail_board.specs.declared.change.Change.TheVariants.{Spread}
-use Rattle.offered_packets.proofs.OutlineLaws.{outline_count, outline_message}
+use Rattle.board_commands.proofs.mail_board.EachNext.{changed_alike}
+use Rattle.board_commands.specs.mail_board.Changes.{changed}
+use Rattle.board_commands.specs.mail_board.Held.{AreAlike}
+use Rattle.board_commands.specs.mail_board.declared.change.Change.{Change}
+use Rattle.board_commands.specs.mail_board.declared.change.Change.TheVariants.{Spread}
+use Rattle.packet_verdicts.proofs.offered_packets.OutlineLaws.{outline_count, outline_message}
 use Rattle.board_layout.specs.Lookups.{slots_in, message_at}
 use Rattle.packet_verdicts.specs.Views.{msgid_at}
 use Rattle.post_changes.specs.Posted.{spread}
-use Rattle.shelf_files.specs.declared.refusal.Refusal.{Refusal}
-use Rattle.shelf_files.specs.declared.refusal.Refusal.TheVariants.{Count, Size}
+use Rattle.board_commands.specs.shelf_files.declared.refusal.Refusal.{Refusal}
+use Rattle.board_commands.specs.shelf_files.declared.refusal.Refusal.TheVariants.{Count, Size}
 use Rattle.message_commands.proofs.Exits.{carried}
 use Rattle.message_commands.proofs.PlaceAlike.{bare, kind_alike}
 use Rattle.message_commands.specs.Draws.{draws_of}

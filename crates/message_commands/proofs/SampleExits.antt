@@ -17,14 +17,14 @@ use Rattle.entry_runs.specs.Entry.{Changes, Finds, IsAt, Works}
 use Rattle.intent_journal.specs.Recovered.{recovered}
 use Rattle.intent_journal.specs.declared.recovery.JournalError.{JournalError}
 use Rattle.intent_journal.specs.declared.recovery.JournalError.TheVariants.{OutOfMemory as Starved}
-use Rattle.mail_board.specs.Changes.{changed}
-use Rattle.mail_board.specs.Held.{AreAlike}
-use Rattle.mail_board.specs.declared.change.Change.{Change}
+use Rattle.board_commands.specs.mail_board.Changes.{changed}
+use Rattle.board_commands.specs.mail_board.Held.{AreAlike}
+use Rattle.board_commands.specs.mail_board.declared.change.Change.{Change}
 use Rattle.message_commands.proofs.Exits.{carried, changed_by, refused_on, unchanged_by}
 use Rattle.message_commands.proofs.SampleAlike.{sample_refused, sample_taken}
 use Rattle.message_commands.specs.Sample.{sample_turn, sampled_line, samples}
 use Rattle.message_commands.specs.Sampling.{MaySample}
-use Rattle.shelf_files.specs.Halts.{done}
+use Rattle.board_commands.specs.shelf_files.Halts.{done}
 
 -- the turns of a sample, whatever the shelf has
 abbrev pub Turns : ℕ → ℕ → ℕ → Shelf.Files → Option Board → Turn → Type 0

@@ -14,8 +14,8 @@ use Rattle.jam_layout.specs.Messages.{IsMessage}
 use Rattle.jam_records.specs.declared.message.Kind.{Kind}
 use Rattle.jam_records.specs.declared.message.Kind.TheVariants.{Local}
 use Rattle.jam_records.specs.declared.message.Message.{Message}
-use Rattle.mail_board.specs.Changes.{Fits}
-use Rattle.mail_board.specs.declared.change.Change.TheVariants.{Spread}
+use Rattle.board_commands.specs.mail_board.Changes.{Fits}
+use Rattle.board_commands.specs.mail_board.declared.change.Change.TheVariants.{Spread}
 use Rattle.message_commands.specs.Import.{kind_of_place}
 use Rattle.board_layout.specs.Lookups.{slots_in}
 use Rattle.board_layout.proofs.BoardLookups.{few_in_place}
@@ -32,9 +32,9 @@ use Rattle.message_commands.proofs.SampleLists.{are_placed, next_post, place_wit
 use Rattle.message_commands.specs.Sample.{sampled_posts}
 use Rattle.packet_verdicts.specs.Typed.{IsTypedPost}
 use Rattle.setup_file.specs.declared.conference.Conference.{Conference as SetupConference}
-use Rattle.slot_changes.proofs.SlotBytes.{message_size}
-use Rattle.slot_changes.specs.Msgids.{identified, msgid_in}
-use Rattle.slot_changes.specs.Values.{MayHold}
+use Rattle.post_changes.proofs.slot_changes.SlotBytes.{message_size}
+use Rattle.post_changes.specs.slot_changes.Msgids.{identified, msgid_in}
+use Rattle.post_changes.specs.slot_changes.Values.{MayHold}
 
 front_of_all : {A : Type 0} (P : A → Type 0) (xs : List A) (x : A) → All P (xs ++ x ∷ []) → All P xs
 front_of_all P [] x all = All-nil P

@@ -3,13 +3,13 @@ use Rattle.std.proofs.Common.{◌≡◌, ℕ, zero, suc, ◌+◌, ◌<◌, ◌�
 use Rattle.std.specs.Prelude.{Some, None}
 use Rattle.std.proofs.lemmas.Bool.{cond-false, cond-true, le-ltb, lt-ltb, ltb-false}
 use Rattle.std.proofs.lemmas.List.{drop_all, drop_more, length-map}
-use Rattle.board_changes.proofs.OneBase.{conferences_back}
-use Rattle.board_changes.specs.Changed.{base_at}
+use Rattle.post_changes.proofs.board_changes.OneBase.{conferences_back}
+use Rattle.post_changes.specs.board_changes.Changed.{base_at}
 use Rattle.board_commands.specs.Enroll.{first_refusal}
 use Rattle.board_layout.specs.Board.{Board, conferences_in, shapes_of}
 use Rattle.board_layout.specs.Renewed.{contents_of}
 use Rattle.board_layout.specs.Valid.{IsBoard}
-use Rattle.jam_base.specs.Contents.{Contents}
+use Rattle.board_layout.specs.jam_base.Contents.{Contents}
 use Rattle.jam_layout.specs.Limits.{slot_limit}
 use Rattle.jam_layout.specs.declared.conference.Conference.{Conference}
 use Rattle.jam_records.specs.declared.message.Message.{Message}
@@ -18,7 +18,7 @@ use Rattle.board_layout.specs.Lookups.{slots_in}
 use Rattle.packet_verdicts.proofs.Spreading.{as_many, slots_at, spread_count}
 use Rattle.post_changes.specs.Posted.{all_posted, posts_in, spread}
 use Rattle.message_commands.specs.Sample.{slot_counts, slots_case}
-use Rattle.shelf_files.specs.declared.refusal.Refusal.TheVariants.{Slots}
+use Rattle.board_commands.specs.shelf_files.declared.refusal.Refusal.TheVariants.{Slots}
 
 -- ---- counts
 count_at : (conferences : List Conference) (place : ℕ) → place < length conferences → get_or (map (λ (c : Conference). length c.slots) conferences) place 0 ≡ length (slots_at conferences place)

@@ -8,12 +8,12 @@ use Rattle.board_layout.specs.Board.{Board}
 use Rattle.board_layout.specs.Layout.{board_size}
 use Rattle.board_layout.specs.Valid.{board_limit}
 use Rattle.jam_records.specs.declared.message.Message.{Message}
-use Rattle.mail_board.specs.declared.change.Change.TheVariants.{Spread}
+use Rattle.board_commands.specs.mail_board.declared.change.Change.TheVariants.{Spread}
 use Rattle.message_commands.proofs.Exits.{carried}
 use Rattle.post_changes.specs.Posted.{spread}
 use Rattle.message_commands.specs.Sample.{sample_refusals, sample_turn, sampled, sampled_line, sampled_posts, sampling, slot_counts, slots_case}
-use Rattle.shelf_files.specs.declared.refusal.Refusal.{Refusal}
-use Rattle.shelf_files.specs.declared.refusal.Refusal.TheVariants.{Count, Size}
+use Rattle.board_commands.specs.shelf_files.declared.refusal.Refusal.{Refusal}
+use Rattle.board_commands.specs.shelf_files.declared.refusal.Refusal.TheVariants.{Count, Size}
 
 -- ---- refusals one behind the other
 none_before : (first later : List (Bool × Refusal)) → first_refusal first ≡ None → first_refusal (first ++ later) ≡ first_refusal later

@@ -16,11 +16,11 @@ use Rattle.jam_layout.specs.Marks.{is_net}
 use Rattle.jam_records.specs.declared.message.Kind.{Kind}
 use Rattle.jam_records.specs.declared.message.Kind.TheVariants.{Local}
 use Rattle.jam_records.specs.declared.message.Message.{Message}
-use Rattle.shelf_files.specs.Halts.{done}
-use Rattle.shelf_files.specs.Sheets.{SheetOf}
-use Rattle.shelf_files.specs.declared.refusal.Refusal.{Refusal}
-use Rattle.shelf_files.specs.declared.refusal.Refusal.TheVariants.{NotMade, NoConference, Slots, Size}
-use Rattle.slot_changes.specs.Changed.{appended}
+use Rattle.board_commands.specs.shelf_files.Halts.{done}
+use Rattle.board_commands.specs.shelf_files.Sheets.{SheetOf}
+use Rattle.board_commands.specs.shelf_files.declared.refusal.Refusal.{Refusal}
+use Rattle.board_commands.specs.shelf_files.declared.refusal.Refusal.TheVariants.{NotMade, NoConference, Slots, Size}
+use Rattle.post_changes.specs.slot_changes.Changed.{appended}
 
 -- the message that an entry becomes, imported at a moment into a conference of a kind: written then, where the entry
 -- has no date, and always private in a net conference

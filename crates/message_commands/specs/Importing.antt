@@ -5,10 +5,10 @@ use Rattle.board_commands.specs.Turns.{refuses}
 use Rattle.board_commands.specs.declared.halt.BoardHalt.{BoardHalt}
 use Rattle.board_layout.specs.Board.{Board}
 use Rattle.import_sheet.specs.declared.sheet.Sheet.{Sheet}
-use Rattle.mail_board.specs.Changes.{changed, Fits}
-use Rattle.mail_board.specs.Written.{IsPosting}
-use Rattle.mail_board.specs.declared.change.Change.TheVariants.{Append}
-use Rattle.shelf_files.specs.Halts.{done}
+use Rattle.board_commands.specs.mail_board.Changes.{changed, Fits}
+use Rattle.board_commands.specs.mail_board.Written.{IsPosting}
+use Rattle.board_commands.specs.mail_board.declared.change.Change.TheVariants.{Append}
+use Rattle.board_commands.specs.shelf_files.Halts.{done}
 use Rattle.message_commands.specs.Import.{imported_line, imported_messages, sheet_turn}
 use Rattle.message_commands.specs.declared.importing.Importing.{Importing}
 

@@ -1,16 +1,16 @@
 -- The command `kill`.
 use Rattle.std.specs.Prelude.{◌≡◌, ℕ, List, ◌++◌, codes, decimal, Bool, false, if◌then◌else◌, Option, Some, None}
 use Rattle.std.specs.Option.{option_map_or}
-use Rattle.board_changes.specs.Changed.{base_at}
+use Rattle.post_changes.specs.board_changes.Changed.{base_at}
 use Rattle.board_commands.specs.State.{State}
 use Rattle.board_commands.specs.Turns.{Turn, refuses, on_board}
 use Rattle.board_layout.specs.Board.{Board}
 use Rattle.board_layout.specs.Lookups.{place_of}
 use Rattle.entry_runs.specs.Door.{Act}
-use Rattle.jam_base.specs.Slots.{has_live}
-use Rattle.shelf_files.specs.Halts.{done}
-use Rattle.shelf_files.specs.declared.refusal.Refusal.TheVariants.{NotMade, NoConference, NoMessage}
-use Rattle.slot_changes.specs.Changed.{deleted}
+use Rattle.board_layout.specs.jam_base.Slots.{has_live}
+use Rattle.board_commands.specs.shelf_files.Halts.{done}
+use Rattle.board_commands.specs.shelf_files.declared.refusal.Refusal.TheVariants.{NotMade, NoConference, NoMessage}
+use Rattle.post_changes.specs.slot_changes.Changed.{deleted}
 
 -- the conference in a place has a message of the number that isn't deleted
 abbrev pub has_message : ℕ → ℕ → Board → Bool

@@ -4,3 +4,7 @@ pub mod Importing
 pub mod Kill
 pub mod Sample
 pub mod Sampling
+pub use Rattle.packet_verdicts.specs as packet_verdicts
+pub use Rattle.board_commands.specs.mail_board as mail_board
+pub use Rattle.board_commands.specs as board_commands
+pub use Rattle.board_commands.specs.shelf_files as shelf_files

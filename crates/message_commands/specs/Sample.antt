@@ -17,9 +17,9 @@ use Rattle.packet_verdicts.specs.Views.{msgid_at}
 use Rattle.post_changes.specs.Posted.{spread}
 use Rattle.message_commands.specs.Draws.{draws_of}
 use Rattle.message_commands.specs.declared.draws.Draws.{Draws}
-use Rattle.shelf_files.specs.Halts.{done}
-use Rattle.shelf_files.specs.declared.refusal.Refusal.{Refusal}
-use Rattle.shelf_files.specs.declared.refusal.Refusal.TheVariants.{NotMade, Count, Slots, Size}
+use Rattle.board_commands.specs.shelf_files.Halts.{done}
+use Rattle.board_commands.specs.shelf_files.declared.refusal.Refusal.{Refusal}
+use Rattle.board_commands.specs.shelf_files.declared.refusal.Refusal.TheVariants.{NotMade, Count, Slots, Size}
 
 -- ---- one message
 -- the name of the user of an id, and `All` for 0

@@ -4,16 +4,16 @@ use Rattle.board_commands.specs.Halts.{StopsBy}
 use Rattle.board_commands.specs.Turns.{refuses}
 use Rattle.board_commands.specs.declared.halt.BoardHalt.{BoardHalt}
 use Rattle.board_layout.specs.Board.{Board}
-use Rattle.mail_board.specs.Changes.{changed, Fits}
-use Rattle.mail_board.specs.Written.{IsPosting}
-use Rattle.mail_board.specs.declared.change.Change.{Change}
-use Rattle.mail_board.specs.declared.change.Change.TheVariants.{Spread}
+use Rattle.board_commands.specs.mail_board.Changes.{changed, Fits}
+use Rattle.board_commands.specs.mail_board.Written.{IsPosting}
+use Rattle.board_commands.specs.mail_board.declared.change.Change.{Change}
+use Rattle.board_commands.specs.mail_board.declared.change.Change.TheVariants.{Spread}
 use Rattle.packet_verdicts.specs.Typed.{IsTypedPost}
 use Rattle.post_changes.specs.Posted.{posts_in}
 use Rattle.message_commands.specs.Draws.{drawn_number}
 use Rattle.message_commands.specs.Sample.{sample_turn, sampled_line, sampled_posts}
 use Rattle.message_commands.specs.declared.posts.Sampling.{Sampling}
-use Rattle.shelf_files.specs.Halts.{done}
+use Rattle.board_commands.specs.shelf_files.Halts.{done}
 
 -- the posts are the first ones of the sample, the last number is that of the last of them, and the posts of each place
 -- are counted

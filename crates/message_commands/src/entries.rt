@@ -7,7 +7,7 @@ use byte_lists::Bytes;
 use import_sheet::{Sheet, Sheets};
 use jam_layout::typed;
 use jam_records::{Kind, Message, Messages};
-use slot_changes::is_net;
+use post_changes::is_net;
 use std::alloc::{AllocError, Global};
 
 /// The message that an entry becomes, imported at a moment into a conference of a kind. Its texts are moved.

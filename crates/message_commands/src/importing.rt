@@ -12,20 +12,20 @@ ghost use Rattle.entry_runs.specs.Entry.{IsAt, Works};
 ghost use Rattle.entry_runs.specs.Promise.{ended};
 ghost use Rattle.intent_journal.specs.Journal.{IsClosed};
 ghost use Rattle.jam_layout.specs.Limits.{slot_limit};
-ghost use Rattle.shelf_files.specs.Sheets.{AreSheets};
-ghost use Rattle.shelf_files.specs.declared.refusal.Refusal.TheVariants.{Slots};
+ghost use Rattle.board_commands.specs.shelf_files.Sheets.{AreSheets};
+ghost use Rattle.board_commands.specs.shelf_files.declared.refusal.Refusal.TheVariants.{Slots};
 ghost use Rattle.message_commands.specs.Import.{imported_line, imports, slot_count};
 ghost use Rattle.message_commands.specs.Importing.{MayImport};
 
 use crate::entries::messages_of;
 use crate::placing::{kind_in, place_in};
-use board_commands::{BoardHalt, board_in, find, make_change, size_refusal};
+use board_commands::{
+    Board, BoardHalt, Change, Loaded, Refusal, board_in, find, make_change, sheet_in, size_refusal,
+};
 use door_outside::{Host, Shelf, ShelfName};
 use import_sheet::Sheets;
 use jam_layout::SLOT_LIMIT;
 use jam_records::Messages;
-use mail_board::{Board, Change, Loaded};
-use shelf_files::{Refusal, sheet_in};
 use std::alloc::Global;
 
 /// Why the conference in a place would have too many slots with more messages, where it would.

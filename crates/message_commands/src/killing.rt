@@ -10,16 +10,14 @@ ghost use Rattle.door_outside.specs.Shelf.{Files};
 ghost use Rattle.entry_runs.specs.Door.{World};
 ghost use Rattle.entry_runs.specs.Entry.{IsAt, Works};
 ghost use Rattle.entry_runs.specs.Promise.{ended};
-ghost use Rattle.mail_board.specs.Changes.{Fits};
-ghost use Rattle.mail_board.specs.declared.change.Change.TheVariants.{Kill};
-ghost use Rattle.shelf_files.specs.declared.refusal.Refusal.TheVariants.{NoMessage};
+ghost use Rattle.board_commands.specs.mail_board.Changes.{Fits};
+ghost use Rattle.board_commands.specs.mail_board.declared.change.Change.TheVariants.{Kill};
+ghost use Rattle.board_commands.specs.shelf_files.declared.refusal.Refusal.TheVariants.{NoMessage};
 ghost use Rattle.message_commands.specs.Kill.{has_message, killed_line, kills};
 
 use crate::placing::place_in;
-use board_commands::{BoardHalt, board_in, find, make_change};
+use board_commands::{Board, BoardHalt, Change, Loaded, Refusal, board_in, find, make_change};
 use door_outside::Host;
-use mail_board::{Board, Change, Loaded};
-use shelf_files::Refusal;
 use std::alloc::Global;
 
 /// The change by which the message of a number in a place is deleted, refused where there is none that isn't deleted.

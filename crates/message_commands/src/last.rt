@@ -7,7 +7,7 @@ ghost use Rattle.message_commands.specs.Sample.{last_msgid as last_msgid_of};
 
 use board_layout::{StoredBoard, message_of};
 use byte_lists::Bytes;
-use slot_changes::msgid_of;
+use post_changes::msgid_of;
 use std::alloc::{AllocError, Global};
 
 /// The msgid of the message of a number in a place of the board, nothing where no slot of it holds one.

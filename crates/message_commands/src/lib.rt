@@ -14,6 +14,9 @@ mod sampling;
 mod saying;
 mod texts;
 
+pub use board_commands::{
+    Board, BoardHalt, Change, Loaded, board_in, find, keep_board, make_change, take_board,
+};
 pub use importing::import;
 pub use killing::kill;
 pub use placing::place_in;

@@ -4,12 +4,10 @@ ghost use Rattle.board_commands.specs.declared.halt.BoardHalt.TheVariants.{Refus
 ghost use Rattle.board_layout.specs.Valid.{IsBoard};
 ghost use Rattle.board_layout.specs.Lookups.{place_of};
 ghost use Rattle.message_commands.specs.Import.{kind_of_place};
-ghost use Rattle.shelf_files.specs.declared.refusal.Refusal.TheVariants as refusal;
+ghost use Rattle.board_commands.specs.shelf_files.declared.refusal.Refusal.TheVariants as refusal;
 
-use board_commands::BoardHalt;
+use board_commands::{Board, BoardHalt, Refusal};
 use jam_records::Kind;
-use mail_board::Board;
-use shelf_files::Refusal;
 
 /// The place of the conference of a number, or None where no conference has it.
 fn place_numbered(board: &Board, conference: u32) -> Option<u8>

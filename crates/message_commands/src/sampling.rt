@@ -17,12 +17,12 @@ ghost use Rattle.message_commands.specs.Sample.{sampled_line, samples, slot_coun
 ghost use Rattle.message_commands.specs.Sampling.{IsSampling, MaySample};
 
 use crate::posts::{Sampling, sampling_of};
-use board_commands::{BoardHalt, board_in, find, make_change, size_refusal};
+use board_commands::{
+    Board, BoardHalt, Change, Loaded, Refusal, board_in, find, make_change, size_refusal,
+};
 use board_layout::StoredBoard;
 use door_outside::Host;
 use jam_layout::SLOT_LIMIT;
-use mail_board::{Board, Change, Loaded};
-use shelf_files::Refusal;
 use std::alloc::Global;
 
 /// How many messages a sample may have.

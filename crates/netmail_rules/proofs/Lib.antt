@@ -5,3 +5,4 @@ pub mod RuleLists
 pub mod Verdicts
 pub mod PostedNames
 pub mod PostedDrafts
+pub use Rattle.damage_rules.proofs as damage_rules

@@ -24,11 +24,11 @@ use Rattle.board_ledger.specs.UserPuts.{user_puts}
 use Rattle.open_offers.specs.declared.offer.OpenOffer.{OpenOffer}
 use Rattle.board_ledger.specs.declared.user.User.{User}
 use Rattle.intent_journal.specs.declared.patch.Patch.{Patch}
-use Rattle.jam_base.proofs.OutlineChanges.{acknowledged_blind}
-use Rattle.jam_base.specs.Change.{SuitsIntent}
-use Rattle.jam_base.specs.Contents.{Contents, pointer_of, with_acknowledged}
-use Rattle.jam_base.specs.Outlined.{outlined, TurnsEach}
-use Rattle.jam_base.specs.declared.change.BaseChange.{BaseChange}
+use Rattle.board_layout.proofs.jam_base.OutlineChanges.{acknowledged_blind}
+use Rattle.board_layout.specs.jam_base.Change.{SuitsIntent}
+use Rattle.board_layout.specs.jam_base.Contents.{Contents, pointer_of, with_acknowledged}
+use Rattle.board_layout.specs.jam_base.Outlined.{outlined, TurnsEach}
+use Rattle.board_layout.specs.jam_base.declared.change.BaseChange.{BaseChange}
 use Rattle.jam_layout.specs.Valid.{IsConference}
 use Rattle.jam_layout.specs.declared.files.BaseFiles.{BaseFiles}
 use Rattle.jam_layout.specs.declared.shape.Shape.{Shape}

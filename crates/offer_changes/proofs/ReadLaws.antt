@@ -11,10 +11,10 @@ use Rattle.board_layout.specs.Board.{conferences_in, shapes_in}
 use Rattle.board_layout.specs.Layout.{base_size}
 use Rattle.board_layout.specs.Valid.{highs_fit, offers_fit}
 use Rattle.open_offers.specs.declared.offer.OpenOffer.{OpenOffer}
-use Rattle.jam_base.proofs.ReadingLaws.{acknowledged_count, acknowledged_is, acknowledged_shape, either, reading_files, received_to}
-use Rattle.jam_base.specs.Contents.{Contents, pointer_of, pointers_with, reader_place, receipt_to, with_acknowledged, with_pointer}
-use Rattle.jam_base.specs.Slots.{is_due, slot_received, slots_received}
-use Rattle.jam_base.specs.declared.receipt.Receipt.{Receipt}
+use Rattle.board_layout.proofs.jam_base.ReadingLaws.{acknowledged_count, acknowledged_is, acknowledged_shape, either, reading_files, received_to}
+use Rattle.board_layout.specs.jam_base.Contents.{Contents, pointer_of, pointers_with, reader_place, receipt_to, with_acknowledged, with_pointer}
+use Rattle.board_layout.specs.jam_base.Slots.{is_due, slot_received, slots_received}
+use Rattle.board_layout.specs.jam_base.declared.receipt.Receipt.{Receipt}
 use Rattle.jam_layout.proofs.BaseLaws.{base_length}
 use Rattle.jam_layout.proofs.EntryLaws.{entry_length}
 use Rattle.jam_layout.specs.Fields.{subfields_of}
@@ -34,8 +34,8 @@ use Rattle.jam_records.specs.declared.message.Kind.{Kind}
 use Rattle.jam_records.specs.declared.message.Message.{Message}
 use Rattle.jam_records.specs.declared.message.Slot.{Slot}
 use Rattle.jam_records.specs.declared.message.Slot.TheVariants.{Gone, Held}
-use Rattle.jam_threads.specs.Links.{link_of}
-use Rattle.jam_threads.specs.declared.link.Link.{Link}
+use Rattle.jam_layout.specs.jam_threads.Links.{link_of}
+use Rattle.jam_layout.specs.jam_threads.declared.link.Link.{Link}
 use Rattle.offer_changes.specs.Changed.{all_read, is_high_above, read_up_to}
 
 -- ---- marks take no byte

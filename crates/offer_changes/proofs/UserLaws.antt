@@ -19,7 +19,7 @@ use Rattle.open_offers.specs.declared.offer.OpenOffer.{OpenOffer}
 use Rattle.board_ledger.specs.declared.user.User.{User}
 use Rattle.open_offers.specs.declared.version.Version.TheVariants.{Second}
 use Rattle.board_layout.specs.Lookups.{user_of}
-use Rattle.setup_file.specs.declared.conference.Conference.{Conference as SetupConference}
+use Rattle.board_ledger.specs.setup_file.declared.conference.Conference.{Conference as SetupConference}
 
 -- ---- the user of an id
 pub id_above : (b : Board) (id : ℕ) (u : User) → user_of id b ≡ Some u → 0 < id

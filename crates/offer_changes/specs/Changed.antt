@@ -8,7 +8,7 @@ use Rattle.board_ledger.specs.UserPuts.{with_user_at}
 use Rattle.board_ledger.specs.declared.ledger.Ledger.{Ledger}
 use Rattle.open_offers.specs.declared.offer.OpenOffer.{OpenOffer}
 use Rattle.board_ledger.specs.declared.user.User.{User}
-use Rattle.jam_base.specs.Contents.{Contents, pointer_of, with_acknowledged}
+use Rattle.board_layout.specs.jam_base.Contents.{Contents, pointer_of, with_acknowledged}
 
 -- ---- the users of a board
 -- there is a user of an id, from 1

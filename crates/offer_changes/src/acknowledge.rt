@@ -8,11 +8,10 @@ ghost use Rattle.board_changes.specs.Steps.{base_after, patches_or_none};
 
 use crate::user::{open_offer, user_intent, with_user};
 use board_changes::{BoardChange, gather};
-use board_layout::StoredBoard;
+use board_layout::{Base, BaseChange, StoredBoard};
 use board_ledger::{Highs, Offers, OpenOffer, User};
 use byte_lists::{Duplicate, List};
 use intent_journal::Intent;
-use jam_base::{Base, BaseChange};
 use std::alloc::{AllocError, Global};
 
 /// The open offers but that of a number.

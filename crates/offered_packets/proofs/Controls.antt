@@ -23,9 +23,9 @@ use Rattle.qwk_control.specs.Line.{IsId}
 use Rattle.qwk_control.specs.Written.{IsText, ConferenceFits, ConferencesFit, FilesFit, WritableControl, control_text}
 use Rattle.qwk_control.specs.declared.control.Control.{Control}
 use Rattle.qwk_moments.specs.Moments.{stamp_text}
-use Rattle.setup_file.specs.Texts.{is_printed_byte, is_printed, is_board_text, is_name_byte, has_bare_ends, is_user_name, is_letter_or_digit, is_bbsid, is_conference_name}
-use Rattle.setup_file.specs.Valid.{IsSetupConference, AreSetupConferences}
-use Rattle.setup_file.specs.declared.conference.Conference.{Conference}
+use Rattle.board_ledger.specs.setup_file.Texts.{is_printed_byte, is_printed, is_board_text, is_name_byte, has_bare_ends, is_user_name, is_letter_or_digit, is_bbsid, is_conference_name}
+use Rattle.board_ledger.specs.setup_file.Valid.{IsSetupConference, AreSetupConferences}
+use Rattle.board_ledger.specs.setup_file.declared.conference.Conference.{Conference}
 use Rattle.offered_packets.specs.Control.{five_digits, listed, control}
 use Rattle.offered_packets.proofs.Listings.{is_joined, entry}
 use Rattle.offered_packets.proofs.PlainTexts.{IsPlain, upper_plain}

@@ -8,7 +8,7 @@ use Rattle.std.proofs.lemmas.List.Elements.{All-head, All-tail, All-take, filter
 use Rattle.board_layout.specs.Board.{Board}
 use Rattle.board_ledger.specs.declared.ledger.Ledger.{Ledger}
 use Rattle.board_ledger.specs.declared.user.User.{User}
-use Rattle.jam_base.specs.Slots.{has_live}
+use Rattle.board_layout.specs.jam_base.Slots.{has_live}
 use Rattle.jam_records.specs.declared.message.Message.{Message}
 use Rattle.qwk_blocks.specs.declared.message.QwkMessage.{QwkMessage}
 use Rattle.board_layout.specs.Lookups.{pointer_at, user_of, slots_in, message_at}

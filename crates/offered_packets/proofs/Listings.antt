@@ -6,7 +6,7 @@ use Rattle.std.proofs.lemmas.List.{map-append, append-nil}
 use Rattle.std.proofs.lemmas.List.Elements.{filter-append}
 use Rattle.board_ledger.specs.Users.{is_member}
 use Rattle.board_ledger.specs.declared.user.User.{User}
-use Rattle.setup_file.specs.declared.conference.Conference.{Conference}
+use Rattle.board_ledger.specs.setup_file.declared.conference.Conference.{Conference}
 use Rattle.offered_packets.specs.Control.{listed}
 use Rattle.offered_packets.proofs.Packets.{enumerate_next}
 

@@ -4,7 +4,7 @@ use Rattle.std.specs.Prelude.{Option, Some, None, option_and_then, slice_get}
 use Rattle.std.proofs.lemmas.Bool.{and_from, and_left, and_right, lt-ltb, le-ltb}
 use Rattle.board_layout.specs.Board.{Board}
 use Rattle.board_layout.specs.Renewed.{contents_of}
-use Rattle.jam_base.specs.Contents.{Contents, pointer_of}
+use Rattle.board_layout.specs.jam_base.Contents.{Contents, pointer_of}
 use Rattle.board_layout.specs.Lookups.{pointer_at}
 use Rattle.offered_packets.specs.Offered.{is_above, is_new}
 use Rattle.offered_packets.specs.Sees.{sees}

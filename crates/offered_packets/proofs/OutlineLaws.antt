@@ -10,12 +10,12 @@ use Rattle.board_layout.specs.Outlines.{board_outline}
 use Rattle.board_layout.proofs.OutlineLaws.{base_again, held_outline, outline_has_live, outline_numbered, outline_pointer}
 use Rattle.board_ledger.specs.declared.ledger.Ledger.{Ledger}
 use Rattle.board_ledger.specs.declared.user.User.{User}
-use Rattle.jam_base.specs.Contents.{Contents}
-use Rattle.jam_base.specs.Slots.{has_live, numbered}
-use Rattle.jam_layout.specs.Outlines.{message_outline, outline, slot_bare, slot_outline}
-use Rattle.jam_layout.specs.declared.conference.Conference.{Conference}
-use Rattle.jam_layout.proofs.LinkLaws.{link_bare}
-use Rattle.jam_layout.proofs.OutlineLaws.{one_outline}
+use Rattle.board_layout.specs.jam_base.Contents.{Contents}
+use Rattle.board_layout.specs.jam_base.Slots.{has_live, numbered}
+use Rattle.board_layout.specs.jam_layout.Outlines.{message_outline, outline, slot_bare, slot_outline}
+use Rattle.board_layout.specs.jam_layout.declared.conference.Conference.{Conference}
+use Rattle.board_layout.proofs.jam_layout.LinkLaws.{link_bare}
+use Rattle.board_layout.proofs.jam_layout.OutlineLaws.{one_outline}
 use Rattle.jam_records.specs.declared.message.Kind.TheVariants.{Local}
 use Rattle.jam_records.specs.declared.message.Message.{Message}
 use Rattle.jam_records.specs.declared.message.Slot.{Slot}

@@ -7,7 +7,7 @@ use Rattle.std.proofs.lemmas.List.Elements.{All-nil, All-cons, All-head, All-tai
 use Rattle.board_layout.specs.Board.{Board}
 use Rattle.board_layout.specs.Valid.{IsBoard}
 use Rattle.board_layout.specs.Lookups.{message_at}
-use Rattle.jam_layout.specs.Outlines.{message_outline}
+use Rattle.board_layout.specs.jam_layout.Outlines.{message_outline}
 use Rattle.jam_records.specs.declared.message.Message.{Message}
 use Rattle.qwk_blocks.specs.Text.{joined_lines}
 use Rattle.qwk_blocks.specs.Written.{message_text, header_block, padded, blocks_of, spelling, Writable}

@@ -11,14 +11,14 @@ use Rattle.board_layout.specs.Board.{Board, shapes_of}
 use Rattle.board_layout.specs.Outlines.{board_outline}
 use Rattle.board_layout.specs.Valid.{IsBoard}
 use Rattle.board_layout.proofs.OutlineLaws.{outline_valid}
-use Rattle.jam_base.specs.Slots.{numbered}
-use Rattle.jam_layout.specs.Fields.{is_text}
-use Rattle.jam_layout.specs.Limits.{slot_limit}
-use Rattle.jam_layout.specs.Messages.{EmptyOr, IsMessage, IsSlot}
-use Rattle.jam_layout.specs.Outlines.{message_outline}
-use Rattle.jam_layout.specs.Valid.{IsConference}
-use Rattle.jam_layout.specs.declared.conference.Conference.{Conference}
-use Rattle.jam_layout.specs.declared.shape.Shape.{Shape}
+use Rattle.board_layout.specs.jam_base.Slots.{numbered}
+use Rattle.board_layout.specs.jam_layout.Fields.{is_text}
+use Rattle.board_layout.specs.jam_layout.Limits.{slot_limit}
+use Rattle.board_layout.specs.jam_layout.Messages.{EmptyOr, IsMessage, IsSlot}
+use Rattle.board_layout.specs.jam_layout.Outlines.{message_outline}
+use Rattle.board_layout.specs.jam_layout.Valid.{IsConference}
+use Rattle.board_layout.specs.jam_layout.declared.conference.Conference.{Conference}
+use Rattle.board_layout.specs.jam_layout.declared.shape.Shape.{Shape}
 use Rattle.jam_records.specs.declared.message.Kind.{Kind}
 use Rattle.jam_records.specs.declared.message.Kind.TheVariants.{Local}
 use Rattle.jam_records.specs.declared.message.Message.{Message}
@@ -38,8 +38,8 @@ use Rattle.long_names.specs.declared.line_field.LineField.{LineField}
 use Rattle.long_names.specs.declared.line_field.LineField.TheVariants.{To, From, Subject}
 use Rattle.long_names.proofs.Shortening.{ends_from, bare_len, bare_end}
 use Rattle.long_names.proofs.WithLong.{long_fits, long_text_size, capitals_writable}
-use Rattle.setup_file.specs.Valid.{IsSetupConference, numbers_of}
-use Rattle.setup_file.specs.declared.conference.Conference.{Conference as SetupConference}
+use Rattle.board_ledger.specs.setup_file.Valid.{IsSetupConference, numbers_of}
+use Rattle.board_ledger.specs.setup_file.declared.conference.Conference.{Conference as SetupConference}
 use Rattle.text_fields.proofs.Trimming.{nothing_ends}
 use Rattle.board_layout.specs.Lookups.{held_in, slots_in, message_at}
 use Rattle.offered_packets.specs.Shown.{shown_text, shown_lines, whole_message, shown_message, IsShort}

@@ -7,7 +7,7 @@ use Rattle.board_ledger.specs.declared.user.User.{User}
 use Rattle.board_layout.specs.Board.{Board}
 use Rattle.qwk_control.specs.declared.control.Control.{Control}
 use Rattle.qwk_moments.specs.Moments.{stamp_text}
-use Rattle.setup_file.specs.declared.conference.Conference.{Conference}
+use Rattle.board_ledger.specs.setup_file.declared.conference.Conference.{Conference}
 
 -- the last five decimal digits of a number
 abbrev pub five_digits : ℕ → List ℕ

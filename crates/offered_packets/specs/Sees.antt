@@ -6,7 +6,7 @@ use Rattle.board_ledger.specs.declared.ledger.Ledger.{Ledger}
 use Rattle.board_ledger.specs.declared.user.User.{User}
 use Rattle.board_layout.specs.Board.{Board}
 use Rattle.board_layout.specs.Lookups.{user_of, slots_in, message_at}
-use Rattle.jam_base.specs.Slots.{has_live}
+use Rattle.board_layout.specs.jam_base.Slots.{has_live}
 use Rattle.jam_records.specs.declared.message.Message.{Message}
 
 -- the user's name is the sysop's, ignoring ASCII case

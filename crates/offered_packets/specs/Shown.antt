@@ -13,7 +13,7 @@ use Rattle.qwk_blocks.specs.Written.{Writable}
 use Rattle.qwk_blocks.specs.declared.message.Header.{Header}
 use Rattle.qwk_blocks.specs.declared.message.QwkMessage.{QwkMessage}
 use Rattle.qwk_moments.specs.Moments.{date_text, time_text}
-use Rattle.setup_file.specs.Valid.{numbers_of}
+use Rattle.board_ledger.specs.setup_file.Valid.{numbers_of}
 use Rattle.offered_packets.specs.Offered.{offered}
 use Rattle.board_layout.specs.Lookups.{slots_in, message_at}
 use Rattle.offered_packets.specs.declared.offered_message.OfferedMessage.{OfferedMessage}

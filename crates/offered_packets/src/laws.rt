@@ -5,7 +5,7 @@ ghost use Rattle.board_layout.specs.Outlines.{board_outline};
 ghost use Rattle.board_layout.specs.Valid.{IsBoard};
 ghost use Rattle.board_layout.specs.Lookups.{message_at};
 ghost use Rattle.board_ledger.specs.declared.user.User.{User};
-ghost use Rattle.jam_layout.specs.Outlines.{message_outline};
+ghost use Rattle.board_layout.specs.jam_layout.Outlines.{message_outline};
 ghost use Rattle.jam_records.specs.declared.message.Message.{Message};
 ghost use Rattle.long_names.specs.Plain.{plain};
 ghost use Rattle.qwk_blocks.specs.Written.{spelling, Writable as IsWritable};

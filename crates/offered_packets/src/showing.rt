@@ -1,7 +1,7 @@
 ghost use Rattle.std.specs.Prelude.{◌≡◌, IfOk, Some};
 ghost use Rattle.std.specs.Str.{str_to_ascii_uppercase};
 ghost use Rattle.board_layout.specs.Outlines.{board_outline};
-ghost use Rattle.jam_layout.specs.Outlines.{message_outline};
+ghost use Rattle.board_layout.specs.jam_layout.Outlines.{message_outline};
 ghost use Rattle.jam_threads.specs.Children.{original};
 ghost use Rattle.long_names.specs.Plain.{with_long as with_long_of, in_capitals as in_capitals_of};
 ghost use Rattle.board_layout.specs.Lookups.{slots_in, message_at};

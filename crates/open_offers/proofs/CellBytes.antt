@@ -3,7 +3,7 @@ use Rattle.std.proofs.Common.{◌≡◌, ℕ, zero, suc, ◌+◌, ◌*◌, ◌^�
 use Rattle.std.specs.Prelude.{All}
 use Rattle.std.specs.List.{flat_map}
 use Rattle.std.proofs.lemmas.List.Elements.{All-nil, All-cons, All-head, All-tail}
-use Rattle.byte_lists.specs.Byte.{IsByte}
+use Rattle.record_numbers.specs.byte_lists.Byte.{IsByte}
 use Rattle.record_numbers.specs.Numbers.{u32_at, u32_text, u32s_text, IsU32}
 use Rattle.record_numbers.proofs.NumberFronts.{u32_front, u32_small}
 use Rattle.open_offers.specs.Offers.{behind_last, behind_size, cell_size, cell_text, cells_at, cells_behind, cells_size, members_at, offer_at}

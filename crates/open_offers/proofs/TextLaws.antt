@@ -6,7 +6,7 @@ use Rattle.std.proofs.lemmas.List.{take-append-drop, length-take, length-drop, d
 use Rattle.std.proofs.lemmas.List.Elements.{All-drop}
 use Rattle.byteorder.specs.Endian.{little_number, little_bytes}
 use Rattle.byteorder.specs.Numbers.{little_from-lt}
-use Rattle.byte_lists.specs.Byte.{IsByte}
+use Rattle.record_numbers.specs.byte_lists.Byte.{IsByte}
 use Rattle.record_numbers.specs.Numbers.{u16_at, u32_at, u16_text, u32_text, u32s_text}
 use Rattle.record_numbers.proofs.NumberFronts.{byte_small, u16_front, u32_front}
 use Rattle.record_numbers.proofs.NumberLemmas.{bytes_of_number, number_of_bytes}

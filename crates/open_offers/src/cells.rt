@@ -9,7 +9,7 @@ ghost use Rattle.open_offers.specs.declared.version.Version.TheVariants.{First};
 use crate::offer::{Offers, OpenOffer};
 use crate::texts::{add_u32, u64_at};
 use crate::version::Version;
-use byte_lists::{Bytes, List};
+use record_numbers::{Bytes, List};
 use std::alloc::{AllocError, Global};
 
 /// How many cells a record of version 2 has.

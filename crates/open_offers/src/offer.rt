@@ -4,8 +4,7 @@ ghost use Rattle.record_numbers.specs.Numbers.{u32s_text};
 ghost use Rattle.open_offers.specs.Offers.{cell_size, cell_text, is_nothing as nothing_in, offer_at};
 
 use crate::texts::{add_u32, u32s_at};
-use byte_lists::{Bytes, Duplicate, List};
-use record_numbers::u32_at;
+use record_numbers::{Bytes, Duplicate, List, u32_at};
 use std::alloc::{AllocError, Global};
 
 /// A packet that was handed out to a user, and that he may acknowledge.

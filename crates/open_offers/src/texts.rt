@@ -2,9 +2,8 @@ ghost use Rattle.std.specs.Prelude.{◌≡◌, ◌≤◌, ◌<◌, ◌+◌, ◌*
 ghost use Rattle.record_numbers.specs.Numbers.{u16_text, u32_text};
 ghost use Rattle.open_offers.specs.Texts.{sized_text, text_at as text_of, text_end as end_of, u16s_at as u16s_of, u32s_at as u32s_of, u64_at as u64_of, u64_text};
 
-use byte_lists::{Bytes, List};
 use byteorder::{ByteOrder, LittleEndian};
-use record_numbers::{u16_at, u32_at};
+use record_numbers::{Bytes, List, u16_at, u32_at};
 use std::alloc::{AllocError, Global};
 
 /// Where the text at a place ends, or None where it passes the end of the bytes.

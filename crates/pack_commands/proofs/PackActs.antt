@@ -1,11 +1,11 @@
 -- The turns of `pack` give what a lawful act asks.
 use Rattle.std.proofs.Common.{◌≡◌, ◌≢◌, ℕ, [], Option, Some, None}
-use Rattle.board_commands.proofs.BoardActs.{AreTurns}
-use Rattle.board_commands.proofs.TurnLaws.{IsTurn, done_is, refuses_is, turns_of}
+use Rattle.message_commands.proofs.board_commands.BoardActs.{AreTurns}
+use Rattle.message_commands.proofs.board_commands.TurnLaws.{IsTurn, done_is, refuses_is, turns_of}
 use Rattle.board_layout.specs.Board.{Board}
 use Rattle.board_layout.specs.Lookups.{place_of}
-use Rattle.shelf_files.specs.declared.refusal.Refusal.TheVariants.{NotMade, NoConference}
-use Rattle.slot_changes.specs.Packed.{packed, packed_count}
+use Rattle.message_commands.specs.shelf_files.declared.refusal.Refusal.TheVariants.{NotMade, NoConference}
+use Rattle.jam_pack.specs.slot_changes.Packed.{packed, packed_count}
 use Rattle.pack_commands.specs.Pack.{pack_at, pack_turn, packed_line}
 
 packed_some : (conference count : ℕ) → packed_line conference count ≢ []

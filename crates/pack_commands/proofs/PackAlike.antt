@@ -1,14 +1,14 @@
 -- Boards with one outline take the turn of `pack` alike.
 use Rattle.std.proofs.Common.{◌≡◌, ℕ, Some, None, sym, ap, ◌∙◌}
-use Rattle.board_commands.specs.Turns.{Turn, refuses}
+use Rattle.message_commands.specs.board_commands.Turns.{Turn, refuses}
 use Rattle.board_layout.specs.Board.{Board}
 use Rattle.board_layout.specs.Lookups.{place_of}
 use Rattle.jam_pack.proofs.PackedBoards.{count_alike}
-use Rattle.mail_board.specs.Held.{AreAlike}
+use Rattle.jam_pack.specs.mail_board.Held.{AreAlike}
 use Rattle.message_commands.proofs.PlaceAlike.{place_alike}
-use Rattle.shelf_files.specs.Halts.{done}
-use Rattle.shelf_files.specs.declared.refusal.Refusal.TheVariants.{NoConference}
-use Rattle.slot_changes.specs.Packed.{packed, packed_count}
+use Rattle.message_commands.specs.shelf_files.Halts.{done}
+use Rattle.message_commands.specs.shelf_files.declared.refusal.Refusal.TheVariants.{NoConference}
+use Rattle.jam_pack.specs.slot_changes.Packed.{packed, packed_count}
 use Rattle.pack_commands.specs.Pack.{pack_at, pack_turn, packed_line}
 
 -- a place is packed, and the reply counts so many

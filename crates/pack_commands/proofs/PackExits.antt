@@ -1,14 +1,14 @@
 -- The command `pack`, once the conference was found: from what the pack gave to what the command's contract gives.
 use Rattle.std.proofs.Common.{◌≡◌, ◌≢◌, ◌⊎◌, inl, inr, Bool, true, false, cond, ℕ, List, Option, Some, None, Ok, Err, refl, sym, ◌∙◌, subst}
 use Rattle.std.specs.Prelude.{Result, IfOk, IsErrOf, OnOk}
-use Rattle.board_commands.proofs.CauseLaws.{disk_fails, quiet, unraised}
-use Rattle.board_commands.proofs.ChangeLaws.{changes_to}
-use Rattle.board_commands.proofs.Exits.{starved, turned, unturned}
-use Rattle.board_commands.proofs.KeptLaws.{doubted, next_sure, none_sure, same_sure}
-use Rattle.board_commands.specs.Halts.{halted, told}
-use Rattle.board_commands.specs.Kept.{AreSure, IsKept, unless_doubtful, unread}
-use Rattle.board_commands.specs.State.{State, Made, Stores, migrated}
-use Rattle.board_commands.specs.Turns.{Turn}
+use Rattle.message_commands.proofs.board_commands.CauseLaws.{disk_fails, quiet, unraised}
+use Rattle.message_commands.proofs.board_commands.ChangeLaws.{changes_to}
+use Rattle.message_commands.proofs.board_commands.Exits.{starved, turned, unturned}
+use Rattle.message_commands.proofs.board_commands.KeptLaws.{doubted, next_sure, none_sure, same_sure}
+use Rattle.message_commands.specs.board_commands.Halts.{halted, told}
+use Rattle.message_commands.specs.board_commands.Kept.{AreSure, IsKept, unless_doubtful, unread}
+use Rattle.message_commands.specs.board_commands.State.{State, Made, Stores, migrated}
+use Rattle.message_commands.specs.board_commands.Turns.{Turn}
 use Rattle.board_layout.specs.Board.{Board}
 use Rattle.board_layout.specs.Layout.{IsLayout}
 use Rattle.board_layout.specs.Valid.{IsBoard}
@@ -26,11 +26,11 @@ use Rattle.jam_pack.specs.Packing.{PackLeavesAll}
 use Rattle.jam_pack.specs.declared.error.PackError.{PackError}
 use Rattle.jam_pack.specs.declared.error.PackError.TheVariants.{DiskFault, Doubt, Damaged, OutOfMemory}
 use Rattle.jam_records.specs.declared.damage.Damage.{Damage}
-use Rattle.mail_board.specs.Causes.{HasFault}
-use Rattle.mail_board.specs.Held.{BeforeOrNext, Follows, HeldBoard, Rests, RestsOn}
-use Rattle.mail_board.specs.declared.loading.Loaded.TheVariants.{Ready}
-use Rattle.slot_changes.proofs.PackLaws.{packed_board}
-use Rattle.slot_changes.specs.Packed.{packed}
+use Rattle.jam_pack.specs.mail_board.Causes.{HasFault}
+use Rattle.jam_pack.specs.mail_board.Held.{BeforeOrNext, Follows, HeldBoard, Rests, RestsOn}
+use Rattle.jam_pack.specs.mail_board.declared.loading.Loaded.TheVariants.{Ready}
+use Rattle.jam_pack.proofs.slot_changes.PackLaws.{packed_board}
+use Rattle.jam_pack.specs.slot_changes.Packed.{packed}
 use Rattle.pack_commands.proofs.PackAlike.{packing}
 use Rattle.pack_commands.specs.Pack.{pack_turn, packed_line, packs}
 use Rattle.pack_commands.specs.Packing.{pack_halt}

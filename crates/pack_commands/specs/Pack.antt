@@ -1,13 +1,13 @@
 -- The command `pack`.
 use Rattle.std.specs.Prelude.{◌≡◌, ℕ, List, ◌++◌, codes, decimal, Option, Some, None}
-use Rattle.board_commands.specs.State.{State}
-use Rattle.board_commands.specs.Turns.{Turn, refuses, on_board}
+use Rattle.message_commands.specs.board_commands.State.{State}
+use Rattle.message_commands.specs.board_commands.Turns.{Turn, refuses, on_board}
 use Rattle.board_layout.specs.Board.{Board}
 use Rattle.board_layout.specs.Lookups.{place_of}
 use Rattle.entry_runs.specs.Door.{Act}
-use Rattle.shelf_files.specs.Halts.{done}
-use Rattle.shelf_files.specs.declared.refusal.Refusal.TheVariants.{NotMade, NoConference}
-use Rattle.slot_changes.specs.Packed.{packed, packed_count}
+use Rattle.message_commands.specs.shelf_files.Halts.{done}
+use Rattle.message_commands.specs.shelf_files.declared.refusal.Refusal.TheVariants.{NotMade, NoConference}
+use Rattle.jam_pack.specs.slot_changes.Packed.{packed, packed_count}
 
 -- the conference, and how many of its slots became Gone
 abbrev pub packed_line : ℕ → ℕ → List ℕ

@@ -1,6 +1,6 @@
 -- How the command `pack` ends, by what the pack answered.
-use Rattle.board_commands.specs.declared.halt.BoardHalt.{BoardHalt}
-use Rattle.board_commands.specs.declared.halt.BoardHalt.TheVariants.{Damaged, DiskFault, OutOfMemory}
+use Rattle.message_commands.specs.board_commands.declared.halt.BoardHalt.{BoardHalt}
+use Rattle.message_commands.specs.board_commands.declared.halt.BoardHalt.TheVariants.{Damaged, DiskFault, OutOfMemory}
 use Rattle.jam_pack.specs.declared.error.PackError.{PackError}
 use Rattle.jam_pack.specs.declared.error.PackError.TheVariants as error
 

@@ -1,9 +1,9 @@
 //! The command `pack`.
 ghost use Rattle.std.specs.Prelude.{◌≡◌, ◌≢◌, Err, IsTrue};
-ghost use Rattle.board_commands.specs.Causes.{HostHasCauses};
-ghost use Rattle.board_commands.specs.Halts.{halted, told};
-ghost use Rattle.board_commands.specs.Kept.{AreSure, IsKept, unread};
-ghost use Rattle.board_commands.specs.State.{State, Stores};
+ghost use Rattle.message_commands.specs.board_commands.Causes.{HostHasCauses};
+ghost use Rattle.message_commands.specs.board_commands.Halts.{halted, told};
+ghost use Rattle.message_commands.specs.board_commands.Kept.{AreSure, IsKept, unread};
+ghost use Rattle.message_commands.specs.board_commands.State.{State, Stores};
 ghost use Rattle.door_outside.specs.Shelf.{Files};
 ghost use Rattle.entry_runs.specs.Door.{World};
 ghost use Rattle.entry_runs.specs.Entry.{IsAt, Works};
@@ -12,11 +12,9 @@ ghost use Rattle.jam_pack.specs.declared.error.PackError.TheVariants.{Doubt};
 ghost use Rattle.pack_commands.specs.Pack.{packed_line, packs};
 ghost use Rattle.pack_commands.specs.Packing.{pack_halt};
 
-use board_commands::{BoardHalt, board_in, find, keep_board, take_board};
 use door_outside::Host;
-use jam_pack::PackError;
-use mail_board::Loaded;
-use message_commands::place_in;
+use jam_pack::{Loaded, PackError};
+use message_commands::{BoardHalt, board_in, find, keep_board, place_in, take_board};
 use std::alloc::Global;
 
 /// What a pack on a board in no doubt answers, or why the command isn't carried out.

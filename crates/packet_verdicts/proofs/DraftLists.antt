@@ -6,9 +6,9 @@ use Rattle.std.proofs.lemmas.Bool.{cases_eq, ne_eqb}
 use Rattle.std.proofs.lemmas.List.{get_or-set_same, get_or-set_other, length-set}
 use Rattle.std.proofs.lemmas.List.Elements.{All-push}
 use Rattle.std.proofs.lemmas.Option.{get_or_from_slice_get, none-some, same_Some, slice_get-get_or}
-use Rattle.board_changes.proofs.OneBase.{all_at}
+use Rattle.post_changes.proofs.board_changes.OneBase.{all_at}
 use Rattle.jam_records.specs.declared.message.Message.{Message}
-use Rattle.jam_layout.specs.Messages.{IsTyped}
+use Rattle.board_layout.specs.jam_layout.Messages.{IsTyped}
 use Rattle.packet_verdicts.proofs.Indexes.{at_index, found_at, indexes_hit, indexes_miss}
 use Rattle.packet_verdicts.specs.Accepted.{IsIndexed, indexes_in}
 use Rattle.post_changes.specs.Posted.{posts_in}

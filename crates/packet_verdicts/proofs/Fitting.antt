@@ -4,7 +4,7 @@ use Rattle.std.specs.Prelude.{All, Option, Some, None, option_map, unwrap_or, sl
 use Rattle.std.proofs.lemmas.Bool.{cases_eq, ne_eqb}
 use Rattle.std.proofs.lemmas.List.Elements.{All-cons, All-head, All-nil, All-push, All-tail}
 use Rattle.std.proofs.lemmas.Option.{slice_get-get_or, same_Some}
-use Rattle.board_changes.proofs.OneBase.{all_at}
+use Rattle.post_changes.proofs.board_changes.OneBase.{all_at}
 use Rattle.board_layout.specs.Board.{Board}
 use Rattle.board_layout.specs.Layout.{board_size}
 use Rattle.board_layout.specs.Lookups.{user_of, slots_in, message_at}
@@ -14,9 +14,9 @@ use Rattle.board_ledger.specs.Users.{IsUser}
 use Rattle.board_ledger.specs.declared.user.User.{User}
 use Rattle.setup_file.specs.Texts.{is_user_name}
 use Rattle.setup_file.specs.declared.conference.Conference.{Conference as SetupConference}
-use Rattle.jam_layout.specs.Fields.{is_text}
-use Rattle.jam_layout.specs.Limits.{slot_limit}
-use Rattle.jam_layout.specs.Messages.{EmptyOr, IsMessage, IsTyped}
+use Rattle.board_layout.specs.jam_layout.Fields.{is_text}
+use Rattle.board_layout.specs.jam_layout.Limits.{slot_limit}
+use Rattle.board_layout.specs.jam_layout.Messages.{EmptyOr, IsMessage, IsTyped}
 use Rattle.jam_records.specs.declared.message.Message.{Message}
 use Rattle.netmail_rules.proofs.PostedDrafts.{posted_is_message, posted_has_room}
 use Rattle.netmail_rules.specs.Fits.{IsView, HasShortTexts, with_msgid}
@@ -39,8 +39,8 @@ use Rattle.packet_verdicts.proofs.Spreading.{spread_count}
 use Rattle.packet_verdicts.proofs.SpreadSizes.{draft_bytes, spread_grows}
 use Rattle.packet_verdicts.proofs.Steps.{spread_none}
 use Rattle.packet_verdicts.proofs.Validity.{AreFit, fit_board, no_conference}
-use Rattle.slot_changes.specs.Msgids.{IsMsgid, msgid_in, or_else}
-use Rattle.slot_changes.specs.Values.{MayHold}
+use Rattle.post_changes.specs.slot_changes.Msgids.{IsMsgid, msgid_in, or_else}
+use Rattle.post_changes.specs.slot_changes.Values.{MayHold}
 
 -- ---- the view
 named : (count : ℕ) (users : List User) (k : ℕ) (o : Option User) → All (IsUser count) users → slice_get users k ≡ o → IsSome o → IsTrue (is_user_name (unwrap_or o nobody).name)

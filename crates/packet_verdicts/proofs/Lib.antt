@@ -11,3 +11,4 @@ pub mod Steps
 pub mod Fitting
 pub mod Counting
 pub mod OutlineLaws
+pub use Rattle.offered_packets.proofs as offered_packets

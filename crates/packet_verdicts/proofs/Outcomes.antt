@@ -2,7 +2,7 @@
 use Rattle.std.proofs.Common.{◌≡◌, ℕ, [], ap}
 use Rattle.std.specs.Prelude.{Option, Some, None}
 use Rattle.jam_records.specs.declared.message.Message.{Message}
-use Rattle.long_names.specs.Plain.{plain}
+use Rattle.netmail_rules.specs.long_names.Plain.{plain}
 use Rattle.netmail_rules.specs.Draft.{draft_of}
 use Rattle.netmail_rules.specs.Rules.{first_refusing, rules_of}
 use Rattle.netmail_rules.specs.Verdict.{unless_refused, plain_verdict, verdict}

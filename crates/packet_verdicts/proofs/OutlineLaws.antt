@@ -8,7 +8,7 @@ use Rattle.board_layout.specs.Valid.{board_limit}
 use Rattle.board_layout.specs.Lookups.{message_at}
 use Rattle.board_ledger.specs.Uploads.{upload_size}
 use Rattle.board_ledger.specs.declared.user.User.{User}
-use Rattle.jam_layout.specs.Outlines.{message_outline}
+use Rattle.board_layout.specs.jam_layout.Outlines.{message_outline}
 use Rattle.jam_records.specs.declared.message.Message.{Message}
 use Rattle.netmail_rules.specs.Verdict.{verdict}
 use Rattle.netmail_rules.specs.declared.view.ConferenceView.{ConferenceView}
@@ -18,7 +18,7 @@ use Rattle.post_changes.proofs.EachPost.{posted_outline}
 use Rattle.post_changes.specs.Posted.{spread}
 use Rattle.qwk_blocks.specs.declared.message.QwkMessage.{QwkMessage}
 use Rattle.setup_file.specs.declared.conference.Conference.{Conference as SetupConference}
-use Rattle.slot_changes.specs.Msgids.{msgid_in}
+use Rattle.post_changes.specs.slot_changes.Msgids.{msgid_in}
 use Rattle.packet_verdicts.specs.Judged.{outcome_of, posts_after, judged_next, judged}
 use Rattle.packet_verdicts.specs.Views.{user_with, addressed_place, conference_view, conference_seen, msgid_at, reply_at, reply_seen, room_of, view_with, view_of}
 use Rattle.packet_verdicts.specs.declared.outcome.Outcome.{Outcome}

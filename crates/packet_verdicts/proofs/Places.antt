@@ -4,13 +4,13 @@ use Rattle.std.specs.Prelude.{IfSome, position, slice_get, Option, Some, None}
 use Rattle.std.specs.List.{position_or_len}
 use Rattle.std.proofs.lemmas.Bool.{ltb-true}
 use Rattle.std.proofs.lemmas.Option.{cond_some, none-some}
-use Rattle.board_changes.proofs.OneBase.{all_at, are_bases}
+use Rattle.post_changes.proofs.board_changes.OneBase.{all_at, are_bases}
 use Rattle.board_layout.proofs.BasePlaces.{IsBase}
 use Rattle.board_layout.specs.Board.{Board, shapes_of}
 use Rattle.board_layout.specs.Renewed.{contents_of}
 use Rattle.board_layout.specs.Valid.{IsBoard}
-use Rattle.jam_base.specs.Contents.{Contents}
-use Rattle.jam_layout.specs.Limits.{slot_limit}
+use Rattle.board_layout.specs.jam_base.Contents.{Contents}
+use Rattle.board_layout.specs.jam_layout.Limits.{slot_limit}
 use Rattle.jam_records.specs.declared.message.Message.{Message}
 use Rattle.post_changes.specs.Posted.{spread}
 use Rattle.packet_verdicts.specs.Views.{addressed_place}

@@ -6,7 +6,7 @@ use Rattle.std.proofs.lemmas.List.{append-nil, map-append}
 use Rattle.std.proofs.lemmas.List.Elements.{filter-append}
 use Rattle.jam_records.specs.declared.message.Message.{Message}
 use Rattle.post_changes.specs.Posted.{posts_in}
-use Rattle.slot_changes.specs.Msgids.{all_identified, identified}
+use Rattle.post_changes.specs.slot_changes.Msgids.{all_identified, identified}
 
 posts_more : (k : ℕ) (posts more : List (ℕ × Message)) → posts_in k (posts ++ more) ≡ posts_in k posts ++ posts_in k more
 posts_more k posts more =

@@ -9,9 +9,9 @@ use Rattle.board_layout.specs.Lookups.{user_of, held_in, slots_in}
 use Rattle.board_layout.specs.Valid.{IsBoard}
 use Rattle.board_ledger.specs.declared.ledger.Ledger.{Ledger}
 use Rattle.board_ledger.specs.declared.user.User.{User}
-use Rattle.jam_base.specs.Slots.{numbered}
-use Rattle.jam_layout.specs.Conference.{is_live}
-use Rattle.jam_layout.specs.Outlines.{slot_bare}
+use Rattle.board_layout.specs.jam_base.Slots.{numbered}
+use Rattle.board_layout.specs.jam_layout.Conference.{is_live}
+use Rattle.board_layout.specs.jam_layout.Outlines.{slot_bare}
 use Rattle.jam_records.specs.declared.message.Message.{Message}
 use Rattle.jam_records.specs.declared.message.Slot.{Slot}
 use Rattle.jam_records.specs.declared.message.Slot.TheVariants.{Gone, Held}
@@ -19,7 +19,7 @@ use Rattle.offered_packets.specs.Sees.{is_allowed, may_see, sees}
 use Rattle.post_changes.specs.Posted.{posts_in, spread}
 use Rattle.packet_verdicts.specs.Views.{msgid_at, nobody, reply_at, user_with}
 use Rattle.packet_verdicts.proofs.Spreading.{spread_slots}
-use Rattle.slot_changes.specs.Msgids.{all_identified, identified, msgid_in, or_else}
+use Rattle.post_changes.specs.slot_changes.Msgids.{all_identified, identified, msgid_in, or_else}
 
 -- ---- slots
 numbered_is : (slots : List Slot) (number : ℕ) → number ≢ 0 → numbered slots number ≡ get_or slots (number - 1) Gone

@@ -4,24 +4,24 @@ use Rattle.std.specs.Prelude.{sum_by}
 use Rattle.std.proofs.lemmas.Bool.{ne_eqb}
 use Rattle.std.proofs.lemmas.List.{length-replicate}
 use Rattle.std.proofs.lemmas.List.Sums.{sum_by-append, sum_by-cons}
-use Rattle.board_changes.proofs.OneBase.{conferences_back}
+use Rattle.post_changes.proofs.board_changes.OneBase.{conferences_back}
 use Rattle.board_layout.proofs.SizeLaws.{size_in}
 use Rattle.board_layout.specs.Board.{Board, conferences_in, shapes_of}
 use Rattle.board_layout.specs.Layout.{base_size, board_size}
 use Rattle.board_layout.specs.Renewed.{contents_of}
 use Rattle.board_layout.specs.Valid.{IsBoard}
-use Rattle.jam_base.specs.Contents.{Contents}
-use Rattle.jam_layout.proofs.SizeLaws.{size_by_length}
-use Rattle.jam_layout.specs.declared.conference.Conference.{Conference}
+use Rattle.board_layout.specs.jam_base.Contents.{Contents}
+use Rattle.board_layout.proofs.jam_layout.SizeLaws.{size_by_length}
+use Rattle.board_layout.specs.jam_layout.declared.conference.Conference.{Conference}
 use Rattle.jam_records.specs.declared.message.Message.{Message}
 use Rattle.netmail_rules.specs.Rules.{new_bytes}
 use Rattle.post_changes.specs.Posted.{posts_in, all_posted, spread}
 use Rattle.packet_verdicts.specs.Views.{next_number, room_of}
 use Rattle.packet_verdicts.proofs.PostLists.{posts_hit, posts_miss, identified_more}
 use Rattle.packet_verdicts.proofs.Spreading.{slots_at, as_many, spread_shapes, spread_count}
-use Rattle.slot_changes.proofs.SlotBytes.{base_grows, message_size}
-use Rattle.slot_changes.specs.Changed.{with_identified}
-use Rattle.slot_changes.specs.Msgids.{all_identified, identified, msgid_in, or_else}
+use Rattle.post_changes.proofs.slot_changes.SlotBytes.{base_grows, message_size}
+use Rattle.post_changes.specs.slot_changes.Changed.{with_identified}
+use Rattle.post_changes.specs.slot_changes.Msgids.{all_identified, identified, msgid_in, or_else}
 
 -- ---- a draft
 -- what is reckoned of a draft is what its message takes

@@ -2,23 +2,23 @@
 use Rattle.std.proofs.Common.{◌≡◌, ℕ, zero, suc, ◌+◌, ◌<◌, List, [], ◌∷◌, ◌++◌, length, map, refl, sym, ap, ◌∙◌, subst, arith, length-append}
 use Rattle.std.specs.Prelude.{option_map, unwrap_or, slice_get}
 use Rattle.std.proofs.lemmas.List.{append-nil, length-map}
-use Rattle.board_changes.proofs.OneBase.{conferences_back, shapes_back}
+use Rattle.post_changes.proofs.board_changes.OneBase.{conferences_back, shapes_back}
 use Rattle.board_layout.proofs.BoardLookups.{conferences_count}
 use Rattle.board_layout.specs.Board.{Board, conferences_in, shapes_in, shapes_of}
 use Rattle.board_layout.specs.Renewed.{contents_of}
 use Rattle.board_layout.specs.Valid.{IsBoard}
-use Rattle.jam_base.specs.Contents.{Contents, with_messages}
-use Rattle.jam_layout.specs.declared.conference.Conference.{Conference}
+use Rattle.board_layout.specs.jam_base.Contents.{Contents, with_messages}
+use Rattle.board_layout.specs.jam_layout.declared.conference.Conference.{Conference}
 use Rattle.jam_records.specs.declared.message.Message.{Message}
 use Rattle.jam_records.specs.declared.message.Slot.{Slot}
 use Rattle.jam_records.specs.declared.message.Slot.TheVariants.{Held}
 use Rattle.board_layout.specs.Lookups.{slots_in}
 use Rattle.post_changes.specs.Posted.{posts_in, all_posted, spread}
-use Rattle.slot_changes.proofs.AppendLaws.{shape_stays}
-use Rattle.slot_changes.proofs.MsgidLaws.{identified_count}
-use Rattle.slot_changes.proofs.SlotBytes.{all_at_end}
-use Rattle.slot_changes.specs.Changed.{with_identified}
-use Rattle.slot_changes.specs.Msgids.{all_identified, msgid_in}
+use Rattle.post_changes.proofs.slot_changes.AppendLaws.{shape_stays}
+use Rattle.post_changes.proofs.slot_changes.MsgidLaws.{identified_count}
+use Rattle.post_changes.proofs.slot_changes.SlotBytes.{all_at_end}
+use Rattle.post_changes.specs.slot_changes.Changed.{with_identified}
+use Rattle.post_changes.specs.slot_changes.Msgids.{all_identified, msgid_in}
 
 -- the slots of the conference in a place
 abbrev pub slots_at : List Conference → ℕ → List Slot

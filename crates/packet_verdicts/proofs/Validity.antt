@@ -5,16 +5,16 @@ use Rattle.std.specs.List.{list_all}
 use Rattle.std.proofs.lemmas.Bool.{and_parts, leb-true}
 use Rattle.std.proofs.lemmas.List.Elements.{All-cons, All-head, All-nil, All-tail}
 use Rattle.std.proofs.lemmas.Option.{slice_get-get_or, slice_get_within}
-use Rattle.board_changes.proofs.OneBase.{all_at, are_bases, conferences_back}
+use Rattle.post_changes.proofs.board_changes.OneBase.{all_at, are_bases, conferences_back}
 use Rattle.board_layout.proofs.BasePlaces.{IsBase}
 use Rattle.board_layout.specs.Board.{Board, conferences_in, shapes_of}
 use Rattle.board_layout.specs.Layout.{board_size}
 use Rattle.board_layout.specs.Renewed.{contents_of}
 use Rattle.board_layout.specs.Valid.{IsBoard, board_limit}
-use Rattle.jam_base.specs.Contents.{Contents}
-use Rattle.jam_layout.specs.Fields.{is_text}
-use Rattle.jam_layout.specs.Limits.{slot_limit}
-use Rattle.jam_layout.specs.Messages.{IsMessage}
+use Rattle.board_layout.specs.jam_base.Contents.{Contents}
+use Rattle.board_layout.specs.jam_layout.Fields.{is_text}
+use Rattle.board_layout.specs.jam_layout.Limits.{slot_limit}
+use Rattle.board_layout.specs.jam_layout.Messages.{IsMessage}
 use Rattle.jam_records.specs.declared.message.Kind.{Kind}
 use Rattle.jam_records.specs.declared.message.Kind.TheVariants.{Local}
 use Rattle.jam_records.specs.declared.message.Message.{Message}
@@ -25,13 +25,13 @@ use Rattle.post_changes.specs.Posted.{posts_in, all_posted, spread}
 use Rattle.packet_verdicts.proofs.Spreading.{as_many}
 use Rattle.setup_file.specs.Valid.{IsSetupConference}
 use Rattle.setup_file.specs.declared.conference.Conference.{Conference as SetupConference}
-use Rattle.slot_changes.proofs.AppendLaws.{base_is, named}
-use Rattle.slot_changes.proofs.MsgidLaws.{generated_is, identified_count}
-use Rattle.slot_changes.proofs.PlaceKinds.{kind_at}
-use Rattle.slot_changes.proofs.ValueLaws.{all_hold}
-use Rattle.slot_changes.specs.Changed.{with_identified}
-use Rattle.slot_changes.specs.Msgids.{IsMsgid, all_identified, msgid_in}
-use Rattle.slot_changes.specs.Values.{MayHold}
+use Rattle.post_changes.proofs.slot_changes.AppendLaws.{base_is, named}
+use Rattle.post_changes.proofs.slot_changes.MsgidLaws.{generated_is, identified_count}
+use Rattle.post_changes.proofs.slot_changes.PlaceKinds.{kind_at}
+use Rattle.post_changes.proofs.slot_changes.ValueLaws.{all_hold}
+use Rattle.post_changes.specs.slot_changes.Changed.{with_identified}
+use Rattle.post_changes.specs.slot_changes.Msgids.{IsMsgid, all_identified, msgid_in}
+use Rattle.post_changes.specs.slot_changes.Values.{MayHold}
 
 -- each place may hold its posts, and has slots for them
 pub record AreFit (b : Board) (posts : List (ℕ × Message)) : Type 0 where

@@ -15,7 +15,7 @@ use Rattle.netmail_rules.specs.declared.view.View.{View}
 use Rattle.offered_packets.specs.Sees.{is_sysop, sees}
 use Rattle.qwk_blocks.specs.declared.message.QwkMessage.{QwkMessage}
 use Rattle.setup_file.specs.declared.conference.Conference.{Conference as SetupConference}
-use Rattle.slot_changes.specs.Msgids.{msgid_in}
+use Rattle.post_changes.specs.slot_changes.Msgids.{msgid_in}
 
 -- ---- the user
 -- a user without a name, who is a member nowhere

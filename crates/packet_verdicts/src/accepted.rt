@@ -1,7 +1,7 @@
 ghost use Rattle.std.specs.Prelude.{◌≡◌, ◌<◌, ◌++◌, [], ◌∷◌, length, slice_get, IfOk, OnOk};
 ghost use Rattle.std.specs.Option.{option_copied};
 ghost use Rattle.board_ledger.specs.Limits.{verdict_limit};
-ghost use Rattle.jam_layout.specs.Messages.{IsTyped};
+ghost use Rattle.board_layout.specs.jam_layout.Messages.{IsTyped};
 ghost use Rattle.packet_verdicts.specs.Accepted.{IsIndexed};
 ghost use Rattle.post_changes.specs.Posted.{posts_in};
 

@@ -2,8 +2,8 @@
 ghost use Rattle.std.specs.Prelude.{◌≡◌, ◌<◌, length, IfSome};
 ghost use Rattle.std.specs.Option.{option_copied};
 ghost use Rattle.board_layout.specs.Lookups.{held_in, slots_in};
-ghost use Rattle.jam_base.specs.Slots.{numbered};
-ghost use Rattle.jam_layout.specs.Outlines.{slot_bare};
+ghost use Rattle.board_layout.specs.jam_base.Slots.{numbered};
+ghost use Rattle.board_layout.specs.jam_layout.Outlines.{slot_bare};
 ghost use Rattle.packet_verdicts.specs.Views.{addressed_place as place_in};
 
 use board_layout::{StoredBoard, message_of};

@@ -5,7 +5,7 @@ ghost use Rattle.offered_packets.specs.Sees.{may_see as is_seen_by};
 ghost use Rattle.packet_verdicts.specs.Accepted.{IsIndexed};
 ghost use Rattle.post_changes.specs.Posted.{spread};
 ghost use Rattle.packet_verdicts.specs.Views.{user_with, reply_at as reply_of, reply_seen as reply_seen_of};
-ghost use Rattle.slot_changes.specs.Msgids.{msgid_in};
+ghost use Rattle.post_changes.specs.slot_changes.Msgids.{msgid_in};
 
 use crate::accepted::Accepted;
 use crate::lookups::message_at;
@@ -13,7 +13,7 @@ use board_layout::StoredBoard;
 use byte_lists::Bytes;
 use jam_records::Message;
 use offered_packets::{may_see, sees};
-use slot_changes::msgid_of;
+use post_changes::msgid_of;
 use std::alloc::{AllocError, Global};
 
 /// The msgid of the message of a number in a place of the board, where the user of an id sees it, else nothing.

@@ -3,11 +3,11 @@ ghost use Rattle.std.specs.Prelude.{◌≡◌, ◌<◌, ◌≤◌, ◌+◌, [], 
 ghost use Rattle.board_layout.specs.Valid.{IsBoard};
 ghost use Rattle.board_layout.specs.Lookups.{slots_in};
 ghost use Rattle.board_ledger.specs.Limits.{verdict_limit};
-ghost use Rattle.jam_layout.specs.Limits.{slot_limit};
+ghost use Rattle.board_layout.specs.jam_layout.Limits.{slot_limit};
 ghost use Rattle.packet_verdicts.specs.Accepted.{IsIndexed};
 ghost use Rattle.post_changes.specs.Posted.{spread};
 ghost use Rattle.packet_verdicts.specs.Views.{view_with, conference_seen as seen_of};
-ghost use Rattle.slot_changes.specs.Msgids.{msgid_in};
+ghost use Rattle.post_changes.specs.slot_changes.Msgids.{msgid_in};
 
 use crate::accepted::Accepted;
 use board_layout::StoredBoard;
@@ -15,7 +15,7 @@ use board_ledger::User;
 use byte_lists::Bytes;
 use netmail_rules::{ConferenceView, View};
 use offered_packets::is_sysop;
-use slot_changes::generated_len;
+use post_changes::generated_len;
 use std::alloc::{AllocError, Global};
 
 /// What the rules see of a board for a user, without a conference and a reply.

@@ -3,10 +3,10 @@ use Rattle.std.proofs.Common.{◌≡◌, ℕ, ◌+◌, List, [], ◌∷◌, leng
 use Rattle.std.specs.Prelude.{All, slice_get}
 use Rattle.std.specs.List.{AllZip}
 use Rattle.std.proofs.lemmas.List.Elements.{All-nil, All-cons, All-head, All-tail}
-use Rattle.board_changes.proofs.BaseOutlines.{conferences_outlined}
-use Rattle.board_changes.proofs.EachBoard.{leads_as}
-use Rattle.board_changes.proofs.GatherLaws.{gathered_kept}
-use Rattle.board_changes.specs.Outlined.{ChangesEach, GatheredEach, KeepsEach, LeadsEach}
+use Rattle.slot_changes.proofs.board_changes.BaseOutlines.{conferences_outlined}
+use Rattle.slot_changes.proofs.board_changes.EachBoard.{leads_as}
+use Rattle.slot_changes.proofs.board_changes.GatherLaws.{gathered_kept}
+use Rattle.slot_changes.specs.board_changes.Outlined.{ChangesEach, GatheredEach, KeepsEach, LeadsEach}
 use Rattle.board_layout.proofs.BasePlaces.{IsBase, zipped}
 use Rattle.board_layout.proofs.OneOutline.{alike_count, alike_ledger, alike_valid}
 use Rattle.board_layout.proofs.OutlineLaws.{outline_contents}
@@ -18,13 +18,13 @@ use Rattle.board_layout.specs.Valid.{IsBoard}
 use Rattle.board_ledger.specs.Ledger.{ledger_text}
 use Rattle.board_ledger.specs.declared.ledger.Ledger.{Ledger}
 use Rattle.intent_journal.specs.declared.patch.Patch.{Patch}
-use Rattle.jam_base.proofs.PatchLaws.{nothing_turns}
-use Rattle.jam_base.specs.Contents.{Contents, with_messages}
-use Rattle.jam_base.specs.Outlined.{outlined, TurnsEach}
-use Rattle.jam_layout.specs.Messages.{IsMessage}
-use Rattle.jam_layout.specs.Valid.{IsConference}
-use Rattle.jam_layout.specs.declared.conference.Conference.{Conference}
-use Rattle.jam_layout.specs.declared.shape.Shape.{Shape}
+use Rattle.board_layout.proofs.jam_base.PatchLaws.{nothing_turns}
+use Rattle.board_layout.specs.jam_base.Contents.{Contents, with_messages}
+use Rattle.board_layout.specs.jam_base.Outlined.{outlined, TurnsEach}
+use Rattle.board_layout.specs.jam_layout.Messages.{IsMessage}
+use Rattle.board_layout.specs.jam_layout.Valid.{IsConference}
+use Rattle.board_layout.specs.jam_layout.declared.conference.Conference.{Conference}
+use Rattle.board_layout.specs.jam_layout.declared.shape.Shape.{Shape}
 use Rattle.jam_records.specs.declared.message.Kind.{Kind}
 use Rattle.jam_records.specs.declared.message.Message.{Message}
 use Rattle.post_changes.proofs.PlacePosts.{posted_base, posted_few, posted_messages}

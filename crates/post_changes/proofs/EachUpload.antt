@@ -1,7 +1,7 @@
 -- The record of an upload, and its posts, on each board with one outline.
 use Rattle.std.proofs.Common.{ℕ, List, sym, ap, ◌∙◌}
-use Rattle.board_changes.proofs.EachBoard.{leads_as}
-use Rattle.board_changes.specs.Outlined.{GatheredEach, LeadsEach}
+use Rattle.slot_changes.proofs.board_changes.EachBoard.{leads_as}
+use Rattle.slot_changes.specs.board_changes.Outlined.{GatheredEach, LeadsEach}
 use Rattle.board_layout.proofs.OneOutline.{alike_ledger}
 use Rattle.board_layout.specs.Board.{Board}
 use Rattle.board_layout.specs.Layout.{IsLayout, base_files}

@@ -3,8 +3,8 @@ use Rattle.std.proofs.Common.{◌≡◌, ℕ, ◌+◌, ◌^◌, ◌<◌, ◌≤�
 use Rattle.std.specs.Prelude.{All, slice_get, Some}
 use Rattle.std.proofs.lemmas.Bool.{cases_eq}
 use Rattle.std.proofs.lemmas.List.Elements.{All-cons, All-head, All-nil, All-tail}
-use Rattle.board_changes.proofs.OneBase.{all_at}
-use Rattle.board_changes.specs.Changed.{base_at}
+use Rattle.slot_changes.proofs.board_changes.OneBase.{all_at}
+use Rattle.slot_changes.specs.board_changes.Changed.{base_at}
 use Rattle.board_layout.proofs.BasePlaces.{IsBase}
 use Rattle.board_layout.specs.Board.{Board}
 use Rattle.board_layout.specs.Layout.{board_size}
@@ -12,9 +12,9 @@ use Rattle.board_layout.specs.Renewed.{contents_of}
 use Rattle.board_layout.specs.Valid.{IsBoard, board_limit}
 use Rattle.board_ledger.specs.declared.upload.UploadRecord.{UploadRecord}
 use Rattle.byte_lists.specs.Byte.{IsByte}
-use Rattle.jam_base.specs.Contents.{Contents}
-use Rattle.jam_layout.specs.Limits.{slot_limit}
-use Rattle.jam_layout.specs.Messages.{IsMessage}
+use Rattle.board_layout.specs.jam_base.Contents.{Contents}
+use Rattle.board_layout.specs.jam_layout.Limits.{slot_limit}
+use Rattle.board_layout.specs.jam_layout.Messages.{IsMessage}
 use Rattle.jam_records.specs.declared.message.Kind.{Kind}
 use Rattle.jam_records.specs.declared.message.Message.{Message}
 use Rattle.post_changes.proofs.PlacePosts.{elsewhere, here, posted_base, posted_messages}
@@ -22,8 +22,8 @@ use Rattle.post_changes.proofs.PostLaws.{posted_bases, posted_board, were_bases}
 use Rattle.post_changes.proofs.RecordLaws.{ledger_is, record_shapes, was_free}
 use Rattle.post_changes.specs.Posted.{ArePlaced, MayHoldIn, all_posted, posted_in, posts_in, upload_record, spread, uploaded, with_record}
 use Rattle.post_changes.specs.Recorded.{may_record}
-use Rattle.setup_file.specs.Valid.{IsSetupConference}
-use Rattle.setup_file.specs.declared.conference.Conference.{Conference as SetupConference}
+use Rattle.board_ledger.specs.setup_file.Valid.{IsSetupConference}
+use Rattle.board_ledger.specs.setup_file.declared.conference.Conference.{Conference as SetupConference}
 use Rattle.slot_changes.proofs.AppendLaws.{named}
 use Rattle.slot_changes.proofs.MsgidLaws.{generated_is}
 use Rattle.slot_changes.proofs.PlaceKinds.{kind_at}

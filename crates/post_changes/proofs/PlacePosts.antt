@@ -5,17 +5,17 @@ use Rattle.std.proofs.lemmas.Bool.{eq-eqb, ne_eqb}
 use Rattle.std.proofs.lemmas.List.{drop_more, length-map}
 use Rattle.std.proofs.lemmas.List.Sums.{length-filter}
 use Rattle.std.proofs.lemmas.Option.{slice_get-get_or, slice_get_within}
-use Rattle.board_changes.specs.Changed.{base_at}
+use Rattle.slot_changes.specs.board_changes.Changed.{base_at}
 use Rattle.board_layout.proofs.BasePlaces.{IsBase}
 use Rattle.board_layout.specs.Board.{Board, shapes_of}
 use Rattle.board_layout.specs.Layout.{base_size}
 use Rattle.board_layout.specs.Renewed.{contents, contents_of}
-use Rattle.jam_base.specs.Contents.{Contents, with_messages}
-use Rattle.jam_base.specs.Outlined.{outlined}
-use Rattle.jam_layout.specs.Limits.{slot_limit}
-use Rattle.jam_layout.specs.Messages.{IsMessage}
-use Rattle.jam_layout.specs.declared.conference.Conference.{Conference}
-use Rattle.jam_layout.specs.declared.shape.Shape.{Shape}
+use Rattle.board_layout.specs.jam_base.Contents.{Contents, with_messages}
+use Rattle.board_layout.specs.jam_base.Outlined.{outlined}
+use Rattle.board_layout.specs.jam_layout.Limits.{slot_limit}
+use Rattle.board_layout.specs.jam_layout.Messages.{IsMessage}
+use Rattle.board_layout.specs.jam_layout.declared.conference.Conference.{Conference}
+use Rattle.board_layout.specs.jam_layout.declared.shape.Shape.{Shape}
 use Rattle.jam_records.specs.declared.message.Message.{Message}
 use Rattle.post_changes.specs.Posted.{posted_in, posts_in}
 use Rattle.slot_changes.proofs.AppendLaws.{base_is, messages_are, more_slots, shape_stays}

@@ -7,7 +7,7 @@ use Rattle.std.proofs.lemmas.Bool.{and_from, and_parts, leb-true, le-leb}
 use Rattle.std.proofs.lemmas.List.{length-map}
 use Rattle.std.proofs.lemmas.List.Elements.{All-weaker}
 use Rattle.std.proofs.lemmas.Option.{none-some, same_Some}
-use Rattle.board_changes.proofs.OneBase.{all_at, are_bases, conferences_back, shapes_back, still_fit}
+use Rattle.slot_changes.proofs.board_changes.OneBase.{all_at, are_bases, conferences_back, shapes_back, still_fit}
 use Rattle.board_layout.proofs.BasePlaces.{IsBase, shapes_count, zipped}
 use Rattle.board_layout.proofs.RenewedBases.{contents_are}
 use Rattle.board_layout.proofs.SizeLaws.{size_in}
@@ -19,10 +19,10 @@ use Rattle.board_ledger.specs.Ledger.{ledger_text}
 use Rattle.board_ledger.specs.Valid.{IsLedger}
 use Rattle.board_ledger.specs.declared.ledger.Ledger.{Ledger}
 use Rattle.board_ledger.specs.declared.user.User.{User}
-use Rattle.jam_base.specs.Contents.{Contents}
-use Rattle.jam_layout.specs.Valid.{IsConference}
-use Rattle.jam_layout.specs.declared.conference.Conference.{Conference}
-use Rattle.jam_layout.specs.declared.shape.Shape.{Shape}
+use Rattle.board_layout.specs.jam_base.Contents.{Contents}
+use Rattle.board_layout.specs.jam_layout.Valid.{IsConference}
+use Rattle.board_layout.specs.jam_layout.declared.conference.Conference.{Conference}
+use Rattle.board_layout.specs.jam_layout.declared.shape.Shape.{Shape}
 use Rattle.jam_records.specs.declared.message.Message.{Message}
 use Rattle.post_changes.proofs.PlacePosts.{posted_shape, posted_slots}
 use Rattle.post_changes.specs.Posted.{all_posted, posted_in, posted_with}

@@ -4,18 +4,18 @@ use Rattle.std.specs.Prelude.{IfSome, count_by, nat_lt, option_map, sum_by, unwr
 use Rattle.std.proofs.lemmas.Bool.{cases_order, cond-false, cond-true, eq-eqb, le-ltb, lt-ltb, ne_eqb}
 use Rattle.std.proofs.lemmas.List.{length-map, take_all, take_more}
 use Rattle.std.proofs.lemmas.List.Sums.{count_by-le-length, sum_by-append, sum_by-cons}
-use Rattle.board_changes.proofs.EachBase.{suits_alike}
-use Rattle.board_changes.proofs.EachBoard.{gathered_leads, step_each}
-use Rattle.board_changes.proofs.LeadLaws.{places_count}
-use Rattle.board_changes.proofs.MemberLaws.{files_at, files_count, place_known, renewed_pushed}
-use Rattle.board_changes.proofs.PlaceSteps.{step_joins}
-use Rattle.board_changes.proofs.StepLaws.{change_joins, change_suits}
-use Rattle.board_changes.specs.Change.{Becomes, ChangesBase}
-use Rattle.board_changes.specs.Gathered.{at_place, Joins}
-use Rattle.board_changes.specs.Outlined.{ChangesEach, GatheredEach, LeadsEach}
-use Rattle.board_changes.specs.Spending.{Spends, SpendsHere}
-use Rattle.board_changes.specs.Steps.{base_after, patches_or_none}
-use Rattle.board_changes.specs.declared.change.BoardChange.{BoardChange}
+use Rattle.slot_changes.proofs.board_changes.EachBase.{suits_alike}
+use Rattle.slot_changes.proofs.board_changes.EachBoard.{gathered_leads, step_each}
+use Rattle.slot_changes.proofs.board_changes.LeadLaws.{places_count}
+use Rattle.slot_changes.proofs.board_changes.MemberLaws.{files_at, files_count, place_known, renewed_pushed}
+use Rattle.slot_changes.proofs.board_changes.PlaceSteps.{step_joins}
+use Rattle.slot_changes.proofs.board_changes.StepLaws.{change_joins, change_suits}
+use Rattle.slot_changes.specs.board_changes.Change.{Becomes, ChangesBase}
+use Rattle.slot_changes.specs.board_changes.Gathered.{at_place, Joins}
+use Rattle.slot_changes.specs.board_changes.Outlined.{ChangesEach, GatheredEach, LeadsEach}
+use Rattle.slot_changes.specs.board_changes.Spending.{Spends, SpendsHere}
+use Rattle.slot_changes.specs.board_changes.Steps.{base_after, patches_or_none}
+use Rattle.slot_changes.specs.board_changes.declared.change.BoardChange.{BoardChange}
 use Rattle.board_layout.proofs.BasePlaces.{shapes_count}
 use Rattle.board_layout.proofs.OutlineLaws.{base_size_outline, outline_base, outline_contents}
 use Rattle.board_layout.specs.Board.{Board, shapes_of}
@@ -27,13 +27,13 @@ use Rattle.board_ledger.specs.Ledger.{ledger_text}
 use Rattle.board_ledger.specs.declared.ledger.Ledger.{Ledger}
 use Rattle.intent_journal.specs.Patches.{byte_count}
 use Rattle.intent_journal.specs.declared.patch.Patch.{Patch}
-use Rattle.jam_base.proofs.PutBounds.{count_append}
-use Rattle.jam_base.specs.Change.{SuitsIntent}
-use Rattle.jam_base.specs.Contents.{Contents}
-use Rattle.jam_base.specs.Outlined.{outlined}
-use Rattle.jam_base.specs.declared.change.BaseChange.{BaseChange}
-use Rattle.jam_layout.specs.Layout.{files_size}
-use Rattle.jam_layout.specs.declared.files.BaseFiles.{BaseFiles}
+use Rattle.board_layout.proofs.jam_base.PutBounds.{count_append}
+use Rattle.board_layout.specs.jam_base.Change.{SuitsIntent}
+use Rattle.board_layout.specs.jam_base.Contents.{Contents}
+use Rattle.board_layout.specs.jam_base.Outlined.{outlined}
+use Rattle.board_layout.specs.jam_base.declared.change.BaseChange.{BaseChange}
+use Rattle.board_layout.specs.jam_layout.Layout.{files_size}
+use Rattle.board_layout.specs.jam_layout.declared.files.BaseFiles.{BaseFiles}
 use Rattle.jam_records.specs.declared.message.Message.{Message}
 use Rattle.post_changes.proofs.EachPost.{other_shapes, posted_at, posted_keeps}
 use Rattle.post_changes.proofs.PlacePosts.{count_posts}

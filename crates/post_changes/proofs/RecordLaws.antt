@@ -3,7 +3,7 @@ use Rattle.std.proofs.Common.{◌≡◌, ◌≢◌, ℕ, ◌+◌, ◌<◌, ◌�
 use Rattle.std.specs.Prelude.{All, nat_lt}
 use Rattle.std.proofs.lemmas.Bool.{and_from, and_parts, eqb-false, le-ltb, lt-ltb, ltb-false, ltb-true, ne_eqb, not-true, not_from_false, or_parts}
 use Rattle.std.proofs.lemmas.List.Elements.{All-append}
-use Rattle.board_changes.proofs.FitLaws.{each_last, each_more, last_of, one_all}
+use Rattle.slot_changes.proofs.board_changes.FitLaws.{each_last, each_more, last_of, one_all}
 use Rattle.board_layout.specs.Board.{shape_of, shapes_from, shapes_of}
 use Rattle.board_ledger.proofs.SizeLaws.{ledger_length}
 use Rattle.board_ledger.specs.Ledger.{ledger_text}
@@ -13,10 +13,10 @@ use Rattle.board_ledger.specs.Valid.{IsLedger}
 use Rattle.board_ledger.specs.declared.ledger.Ledger.{Ledger}
 use Rattle.board_ledger.specs.declared.upload.UploadRecord.{UploadRecord}
 use Rattle.byte_lists.specs.Byte.{IsByte}
-use Rattle.open_offers.specs.declared.version.Version.TheVariants.{Second}
+use Rattle.board_ledger.specs.open_offers.declared.version.Version.TheVariants.{Second}
 use Rattle.post_changes.specs.Posted.{with_record}
 use Rattle.post_changes.specs.Recorded.{is_new_upload, may_record}
-use Rattle.setup_file.specs.declared.conference.Conference.{Conference as SetupConference}
+use Rattle.board_ledger.specs.setup_file.declared.conference.Conference.{Conference as SetupConference}
 
 -- ---- shapes
 same_from : (l : Ledger) (r : UploadRecord) (place : ℕ) (conferences : List SetupConference) → shapes_from (with_record r l) place conferences ≡ shapes_from l place conferences

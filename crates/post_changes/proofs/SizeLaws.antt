@@ -10,7 +10,7 @@ use Rattle.board_layout.proofs.SizeLaws.{size_in}
 use Rattle.board_ledger.specs.Ledger.{ledger_text}
 use Rattle.board_ledger.specs.Uploads.{upload_size}
 use Rattle.board_ledger.specs.declared.upload.UploadRecord.{UploadRecord}
-use Rattle.jam_base.specs.Contents.{Contents}
+use Rattle.board_layout.specs.jam_base.Contents.{Contents}
 use Rattle.jam_records.specs.declared.message.Message.{Message}
 use Rattle.post_changes.proofs.PlacePosts.{posted_bytes}
 use Rattle.post_changes.proofs.PostLaws.{old_conferences, old_shapes, posted_size}

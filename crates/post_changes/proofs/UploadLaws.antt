@@ -1,7 +1,7 @@
 -- The puts of an upload record begin the intent of an upload.
 use Rattle.std.proofs.Common.{◌≡◌, List, [], length, arith}
-use Rattle.board_changes.proofs.LedgerPuts.{Begins, begins_gather, begins_join, two_begin}
-use Rattle.board_changes.specs.Gathered.{Gathered, HasBases, Joins}
+use Rattle.slot_changes.proofs.board_changes.LedgerPuts.{Begins, begins_gather, begins_join, two_begin}
+use Rattle.slot_changes.specs.board_changes.Gathered.{Gathered, HasBases, Joins}
 use Rattle.board_ledger.proofs.LedgerParts.{text_long}
 use Rattle.board_ledger.proofs.SizeLaws.{upload_length}
 use Rattle.board_ledger.proofs.UploadPutLaws.{last_digest, upload_turns}
@@ -11,9 +11,9 @@ use Rattle.board_ledger.specs.Uploads.{upload_text}
 use Rattle.board_ledger.specs.Valid.{IsLedger}
 use Rattle.board_ledger.specs.declared.ledger.Ledger.{Ledger}
 use Rattle.board_ledger.specs.declared.upload.UploadRecord.{UploadRecord}
-use Rattle.door_outside.specs.File.{ledger_file}
+use Rattle.intent_journal.specs.door_outside.File.{ledger_file}
 use Rattle.intent_journal.specs.Patches.{Files}
-use Rattle.jam_layout.specs.declared.files.BaseFiles.{BaseFiles}
+use Rattle.board_layout.specs.jam_layout.declared.files.BaseFiles.{BaseFiles}
 use Rattle.post_changes.proofs.RecordLaws.{record_length}
 use Rattle.post_changes.specs.Posted.{with_record}
 

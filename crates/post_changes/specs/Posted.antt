@@ -4,7 +4,7 @@ use Rattle.board_layout.specs.Board.{Board, board_with}
 use Rattle.board_layout.specs.Renewed.{contents_of}
 use Rattle.board_ledger.specs.declared.ledger.Ledger.{Ledger}
 use Rattle.board_ledger.specs.declared.upload.UploadRecord.{UploadRecord}
-use Rattle.jam_base.specs.Contents.{Contents}
+use Rattle.board_layout.specs.jam_base.Contents.{Contents}
 use Rattle.jam_records.specs.declared.message.Kind.{Kind}
 use Rattle.jam_records.specs.declared.message.Message.{Message}
 use Rattle.slot_changes.specs.Changed.{with_identified}

@@ -1,7 +1,7 @@
 -- A change of a board by posts, place by place.
 use Rattle.std.specs.Prelude.{◌≡◌, ℕ, ◌+◌, ◌*◌, ◌≤◌, List, length, take, count_by, nat_lt, sum_by, unwrap_or}
-use Rattle.board_changes.specs.Outlined.{GatheredEach}
-use Rattle.board_changes.specs.declared.change.BoardChange.{BoardChange}
+use Rattle.slot_changes.specs.board_changes.Outlined.{GatheredEach}
+use Rattle.slot_changes.specs.board_changes.declared.change.BoardChange.{BoardChange}
 use Rattle.board_layout.specs.Board.{Board, shapes_of}
 use Rattle.board_layout.specs.Layout.{base_files}
 use Rattle.board_layout.specs.Outlines.{board_outline}
@@ -11,7 +11,7 @@ use Rattle.board_ledger.specs.Ledger.{ledger_text}
 use Rattle.board_ledger.specs.declared.ledger.Ledger.{Ledger}
 use Rattle.intent_journal.specs.Patches.{byte_count}
 use Rattle.intent_journal.specs.declared.patch.Patch.{Patch}
-use Rattle.jam_layout.specs.Layout.{files_size}
+use Rattle.board_layout.specs.jam_layout.Layout.{files_size}
 use Rattle.jam_records.specs.declared.message.Message.{Message}
 use Rattle.post_changes.specs.Posted.{posted_with}
 

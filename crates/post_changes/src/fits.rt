@@ -1,18 +1,16 @@
 // Whether posts may stand at the ends of their conferences.
 ghost use Rattle.std.specs.Prelude.{◌≡◌, ◌↔◌, ◌==◌, Some, count_by, All, IsTrue};
-ghost use Rattle.board_changes.specs.Changed.{base_at};
+ghost use Rattle.slot_changes.specs.board_changes.Changed.{base_at};
 ghost use Rattle.board_layout.specs.Renewed.{contents_of};
 ghost use Rattle.board_layout.specs.Valid.{IsBoard};
-ghost use Rattle.jam_layout.specs.Valid.{IsConference};
+ghost use Rattle.board_layout.specs.jam_layout.Valid.{IsConference};
 ghost use Rattle.post_changes.specs.Posted.{ArePlaced, MayHoldIn, all_posted, posted_in, spread as spread_of, uploaded as uploaded_of};
 
 use crate::post::{Post, Posts};
 use crate::record::{may_record, record_of};
 use crate::size::{size_with_posts, size_with_upload};
-use board_layout::{BOARD_LIMIT, StoredBoard};
+use board_layout::{BOARD_LIMIT, Base, SLOT_LIMIT, StoredBoard};
 use board_ledger::VERDICT_LIMIT;
-use jam_base::Base;
-use jam_layout::SLOT_LIMIT;
 use jam_records::Kind;
 use slot_changes::may_hold;
 

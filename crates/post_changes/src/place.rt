@@ -1,20 +1,19 @@
 // The posts in one place.
 ghost use Rattle.std.specs.Prelude.{◌≡◌, ◌≤◌, ◌+◌, Some, length, IfOk, IfSome};
-ghost use Rattle.board_changes.specs.Change.{ChangesBase};
-ghost use Rattle.board_changes.specs.Changed.{base_at};
-ghost use Rattle.board_changes.specs.Outlined.{ChangesEach};
-ghost use Rattle.board_changes.specs.Spending.{SpendsHere};
-ghost use Rattle.jam_base.specs.Outlined.{outlined};
-ghost use Rattle.jam_layout.specs.Limits.{slot_limit};
-ghost use Rattle.jam_layout.specs.Valid.{IsConference};
-ghost use Rattle.board_changes.specs.Steps.{base_after, patches_or_none};
+ghost use Rattle.slot_changes.specs.board_changes.Change.{ChangesBase};
+ghost use Rattle.slot_changes.specs.board_changes.Changed.{base_at};
+ghost use Rattle.slot_changes.specs.board_changes.Outlined.{ChangesEach};
+ghost use Rattle.slot_changes.specs.board_changes.Spending.{SpendsHere};
+ghost use Rattle.board_layout.specs.jam_base.Outlined.{outlined};
+ghost use Rattle.board_layout.specs.jam_layout.Limits.{slot_limit};
+ghost use Rattle.board_layout.specs.jam_layout.Valid.{IsConference};
+ghost use Rattle.slot_changes.specs.board_changes.Steps.{base_after, patches_or_none};
 ghost use Rattle.board_layout.specs.Layout.{files_in};
 ghost use Rattle.post_changes.specs.Posted.{posted_in, posts_in};
 ghost use Rattle.slot_changes.specs.Msgids.{all_identified, generated};
 
 use crate::post::Post;
-use board_layout::StoredBoard;
-use jam_base::{Base, BaseChange};
+use board_layout::{Base, BaseChange, StoredBoard};
 use jam_records::Messages;
 use slot_changes::identified;
 use std::alloc::{AllocError, Global};

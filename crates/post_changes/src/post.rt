@@ -1,8 +1,8 @@
 ghost use Rattle.std.specs.Prelude.{◌≡◌, ◌+◌, Some, length, unwrap_or, IfOk, OnOk};
-ghost use Rattle.board_changes.specs.Change.{Becomes};
-ghost use Rattle.board_changes.specs.Changed.{base_at};
-ghost use Rattle.board_changes.specs.Outlined.{GatheredEach, LeadsEach};
-ghost use Rattle.board_changes.specs.Spending.{Spends};
+ghost use Rattle.slot_changes.specs.board_changes.Change.{Becomes};
+ghost use Rattle.slot_changes.specs.board_changes.Changed.{base_at};
+ghost use Rattle.slot_changes.specs.board_changes.Outlined.{GatheredEach, LeadsEach};
+ghost use Rattle.slot_changes.specs.board_changes.Spending.{Spends};
 ghost use Rattle.board_layout.specs.Board.{shapes_of};
 ghost use Rattle.board_layout.specs.Outlines.{board_outline};
 ghost use Rattle.board_layout.specs.Valid.{IsBoard};
@@ -10,13 +10,12 @@ ghost use Rattle.post_changes.specs.Posted.{ArePlaced, posted_with, spread as sp
 ghost use Rattle.post_changes.specs.Posting.{Posting, SpentSoFar, next_ledger};
 
 use crate::place::place_posted;
-use board_changes::{BoardChange, gather};
-use board_layout::StoredBoard;
+use board_layout::{Base, StoredBoard};
 use board_ledger::Ledger;
 use byte_lists::List;
 use intent_journal::Intent;
-use jam_base::Base;
 use jam_records::Message;
+use slot_changes::{BoardChange, gather};
 use std::alloc::{AllocError, Global};
 
 /// The place of a conference, from 0, and a message for it. A message with an empty msgid gets the one that is

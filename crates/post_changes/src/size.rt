@@ -1,16 +1,15 @@
 ghost use Rattle.std.specs.Prelude.{◌≡◌, ◌≤◌, ◌+◌, ◌-◌, ◌^◌, ℕ, List, Some, length, min, sum_by};
-ghost use Rattle.board_changes.specs.Changed.{base_at};
+ghost use Rattle.slot_changes.specs.board_changes.Changed.{base_at};
 ghost use Rattle.board_layout.specs.Layout.{board_size};
 ghost use Rattle.board_layout.specs.Valid.{IsBoard};
-ghost use Rattle.jam_layout.specs.Sizes.{slot_size};
+ghost use Rattle.board_layout.specs.jam_layout.Sizes.{slot_size};
 ghost use Rattle.jam_records.specs.declared.message.Slot.TheVariants.{Held};
 ghost use Rattle.post_changes.specs.Posted.{posts_in, spread as spread_of, uploaded as uploaded_of, ArePlaced};
 ghost use Rattle.slot_changes.specs.Msgids.{all_identified, generated, msgid_in};
 
 use crate::post::{Post, Posts};
-use board_layout::StoredBoard;
+use board_layout::{Base, StoredBoard};
 use board_ledger::UPLOAD_SIZE;
-use jam_base::Base;
 use slot_changes::{generated_len, message_size};
 
 /// How many bytes of a conference's files the messages of the posts in a place take, or 18,446,744,073,709,551,615

@@ -1,7 +1,7 @@
 ghost use Rattle.std.specs.Prelude.{◌≡◌, length, IfOk};
-ghost use Rattle.board_changes.specs.Change.{Becomes};
-ghost use Rattle.board_changes.specs.Outlined.{LeadsEach};
-ghost use Rattle.board_changes.specs.Spending.{Spends};
+ghost use Rattle.slot_changes.specs.board_changes.Change.{Becomes};
+ghost use Rattle.slot_changes.specs.board_changes.Outlined.{LeadsEach};
+ghost use Rattle.slot_changes.specs.board_changes.Spending.{Spends};
 ghost use Rattle.board_layout.specs.Outlines.{board_outline};
 ghost use Rattle.board_layout.specs.Valid.{IsBoard};
 ghost use Rattle.board_ledger.specs.UploadPuts.{upload_puts};
@@ -10,10 +10,10 @@ ghost use Rattle.post_changes.specs.Posted.{ArePlaced, uploaded as uploaded_of, 
 
 use crate::post::{Posts, posted};
 use crate::record::{record_of, with_record};
-use board_changes::{BoardChange, intent_with};
 use board_layout::StoredBoard;
 use board_ledger::{Ledger, UploadRecord, upload_patches};
 use intent_journal::Intent;
+use slot_changes::{BoardChange, intent_with};
 use std::alloc::{AllocError, Global};
 
 /// The intent that puts an upload record at the end of the ledger's file, and no other. Both ledgers are valid.

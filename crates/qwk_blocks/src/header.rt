@@ -2,10 +2,9 @@ ghost use Rattle.std.specs.Prelude.{◌≡◌, ◌≤◌, ◌+◌, ◌-◌, ℕ,
 ghost use Rattle.qwk_blocks.specs.Header.{number_in, HasText, HasNumber, BlockCountReads, HeaderReads};
 
 use crate::message::Header;
-use byte_lists::Bytes;
 use byteorder::{ByteOrder, LittleEndian};
 use std::alloc::{AllocError, Global};
-use text_fields::{Blank, number_of, trimmed_end};
+use text_fields::{Blank, Bytes, number_of, trimmed_end};
 
 /// The bytes of a block.
 pub const BLOCK: usize = 128;

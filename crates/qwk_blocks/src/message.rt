@@ -1,5 +1,5 @@
-use byte_lists::{Bytes, Duplicate, Lines, List};
 use std::alloc::{AllocError, Global};
+use text_fields::{Bytes, Duplicate, Lines, List};
 
 /// A message's header, by Lee's QWK Mail Packet File Layout of 1992. The numbers in brackets are the
 /// place of the field in its block of 128 bytes, from 1, and its width.

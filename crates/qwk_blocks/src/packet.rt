@@ -1,5 +1,5 @@
 ghost use Rattle.std.specs.Prelude.{◌≡◌, ◌≤◌, ◌<◌, ◌*◌, ◌^◌, ℕ, List, length, Err, IfOk, IfSome, All};
-ghost use Rattle.byte_lists.specs.Memory.{UnlessMemory};
+ghost use Rattle.text_fields.specs.byte_lists.Memory.{UnlessMemory};
 ghost use Rattle.qwk_blocks.specs.Header.{BlockCountReads};
 ghost use Rattle.qwk_blocks.specs.Packet.{MessageReads, PacketReads, FirstFault};
 ghost use Rattle.qwk_blocks.specs.Reader.{IsEvent, MovesFront};

@@ -1,9 +1,8 @@
 ghost use Rattle.std.specs.Prelude.{◌≡◌, ◌-◌, ◌^◌, length, min, IfOk};
 ghost use Rattle.qwk_blocks.specs.Text.{joined_lines, TextReads};
 
-use byte_lists::{Bytes, Lines};
 use std::alloc::{AllocError, Global};
-use text_fields::{Blank, split_at_byte, trimmed_end};
+use text_fields::{Blank, Bytes, Lines, split_at_byte, trimmed_end};
 
 /// The byte behind each line.
 pub const LINE_END: u8 = 0xE3;

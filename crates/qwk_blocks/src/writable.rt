@@ -5,8 +5,7 @@ ghost use Rattle.qwk_blocks.specs.Written.{TextFits, HeaderTextsFit, HeaderFits,
 use crate::header::BLOCK;
 use crate::message::{Header, QwkMessage};
 use crate::text::{LINE_END, text_len};
-use byte_lists::Lines;
-use text_fields::Blank;
+use text_fields::{Blank, Lines};
 
 /// Whether a text has at most so many bytes, and no blank at its end.
 fn text_fits(width: usize, text: &[u8]) -> bool

@@ -5,10 +5,10 @@ ghost use Rattle.qwk_blocks.specs.Written.{padded, number_text, low_first, heade
 use crate::header::BLOCK;
 use crate::message::{Header, QwkMessage, QwkMessages};
 use crate::text::{LINE_END, text_len};
-use byte_lists::{Bytes, Lines};
 use byteorder::{ByteOrder, LittleEndian};
 use itoa::Buffer;
 use std::alloc::{AllocError, Global};
+use text_fields::{Bytes, Lines};
 
 /// Adds spaces.
 fn add_spaces(out: &mut Bytes, count: usize) -> Result<(), AllocError>

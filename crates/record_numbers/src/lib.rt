@@ -4,4 +4,5 @@
 pub mod laws;
 mod numbers;
 
+pub use byte_lists::{Bytes, Duplicate, List};
 pub use numbers::{u16_at, u32_at};

@@ -3,7 +3,7 @@ use Rattle.std.proofs.Common.{◌≡◌, ◌⊎◌, ℕ, ◌+◌, ◌<◌, ◌�
 use Rattle.std.proofs.lemmas.Bool.{cases_lt}
 use Rattle.std.proofs.lemmas.List.{append-nil}
 use Rattle.std.specs.Result.{MatchResult}
-use Rattle.byte_lists.specs.Memory.{UnlessMemory}
+use Rattle.jam_records.specs.byte_lists.Memory.{UnlessMemory}
 use Rattle.text_fields.proofs.Trimming.{same_front, same_rest}
 use Rattle.setup_file.specs.Rules.{broken_rule}
 use Rattle.text_fields.specs.Lines.{is_skipped}

@@ -1,5 +1,4 @@
-use byte_lists::{Bytes, Duplicate, List};
-use jam_records::Kind;
+use jam_records::{Bytes, Duplicate, Kind, List};
 use std::alloc::{AllocError, Global};
 
 /// What a board's setup says of a conference.

@@ -10,8 +10,7 @@ use crate::error::{SetupError, SetupRule};
 use crate::texts::is_conference_name;
 use crate::unread::{breaks, past_skipped};
 use crate::word::{kind_of, number_of, rights_of, split_word, value_behind};
-use byte_lists::Bytes;
-use jam_records::Kind;
+use jam_records::{Bytes, Kind};
 use std::alloc::{AllocError, Global};
 use text_fields::Unread;
 

@@ -12,7 +12,7 @@ use crate::setup::Setup;
 use crate::word::number_of;
 use crate::zones::Zones;
 use crate::zones_line::zones_of;
-use byte_lists::Bytes;
+use jam_records::Bytes;
 use std::alloc::{AllocError, Global};
 use text_fields::Unread;
 

@@ -1,6 +1,6 @@
 ghost use Rattle.std.specs.Prelude.{◌≡◌, ◌↔◌, ◌<◌, ◌^◌, ℕ, Ok, Err, length, min, slice_get, Contains, IsTrue, IfOk};
 ghost use Rattle.std.specs.Option.{option_copied};
-ghost use Rattle.byte_lists.specs.Memory.{UnlessMemory};
+ghost use Rattle.jam_records.specs.byte_lists.Memory.{UnlessMemory};
 ghost use Rattle.setup_file.specs.Reads.{SetupReads};
 ghost use Rattle.setup_file.specs.Fault.{SetupFault};
 ghost use Rattle.setup_file.specs.declared.error.SetupError.TheVariants.{Line};
@@ -11,7 +11,7 @@ use crate::conference::{Conference, Conferences};
 use crate::error::SetupError;
 use crate::parse::setup_in;
 use crate::zones::Zones;
-use byte_lists::Bytes;
+use jam_records::Bytes;
 use std::alloc::{AllocError, Global};
 
 /// What a board is made of. A valid setup keeps the rules that the fields name.

@@ -3,7 +3,7 @@ ghost use Rattle.std.specs.List.{list_all};
 ghost use Rattle.setup_file.specs.Zones.{is_zone as zone_test, are_zones as zones_test};
 ghost use Rattle.setup_file.specs.Rising.{are_rising as rising_test, rise_above as rise_above_test};
 
-use byte_lists::List;
+use jam_records::List;
 
 /// The zones of a board, each above the one before.
 pub type Zones = List<u16>;

@@ -6,9 +6,8 @@ ghost use Rattle.jam_layout.specs.Bodies.{body_size, message_with};
 ghost use Rattle.jam_layout.specs.Outlines.{slot_bare};
 ghost use Rattle.shared_slots.specs.Kept.{one_live};
 
-use byte_lists::Bytes;
 use jam_layout::header_size;
-use jam_records::{Message, Slot};
+use jam_records::{Bytes, Message, Slot};
 use std::alloc::Global;
 
 /// How many bytes the header of what a slot holds has, with its subfields.

@@ -9,9 +9,8 @@ ghost use Rattle.jam_layout.specs.Outlines.{slot_bare, slot_outline, slot_with};
 ghost use Rattle.shared_slots.specs.Kept.{slot_as_long};
 
 use crate::sizes::{body_length, header_length, live_in, next_length, without_body};
-use byte_lists::Duplicate;
-use jam_records::{Slot, Slots};
-use shared_lists::{Shared, SharedList};
+use jam_layout::{Shared, SharedList};
+use jam_records::{Duplicate, Slot, Slots};
 use std::alloc::{AllocError, Global};
 use std::marker::Model;
 

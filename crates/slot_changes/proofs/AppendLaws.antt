@@ -14,15 +14,15 @@ use Rattle.board_layout.proofs.OutlineLaws.{outline_size}
 use Rattle.board_layout.specs.Outlines.{board_outline}
 use Rattle.board_layout.specs.Valid.{IsBoard, board_limit}
 use Rattle.board_ledger.specs.declared.ledger.Ledger.{Ledger}
-use Rattle.intent_journal.specs.Patches.{byte_count}
-use Rattle.intent_journal.specs.declared.patch.Patch.{Patch}
-use Rattle.jam_base.proofs.SlotChanges.{appended_is, length_all}
-use Rattle.jam_base.specs.Change.{SuitsIntent}
-use Rattle.jam_base.specs.Contents.{Contents, with_messages}
-use Rattle.jam_base.specs.Outlined.{outlined}
-use Rattle.jam_base.specs.Puts.{Costs}
-use Rattle.jam_base.specs.Slots.{slots_with_all}
-use Rattle.jam_base.specs.declared.change.BaseChange.{BaseChange}
+use Rattle.board_ledger.specs.intent_journal.Patches.{byte_count}
+use Rattle.board_ledger.specs.intent_journal.declared.patch.Patch.{Patch}
+use Rattle.board_layout.proofs.jam_base.SlotChanges.{appended_is, length_all}
+use Rattle.board_layout.specs.jam_base.Change.{SuitsIntent}
+use Rattle.board_layout.specs.jam_base.Contents.{Contents, with_messages}
+use Rattle.board_layout.specs.jam_base.Outlined.{outlined}
+use Rattle.board_layout.specs.jam_base.Puts.{Costs}
+use Rattle.board_layout.specs.jam_base.Slots.{slots_with_all}
+use Rattle.board_layout.specs.jam_base.declared.change.BaseChange.{BaseChange}
 use Rattle.jam_layout.specs.Limits.{slot_limit}
 use Rattle.jam_layout.specs.Messages.{IsMessage, IsSlot}
 use Rattle.jam_layout.specs.Valid.{IsConference}
@@ -30,7 +30,7 @@ use Rattle.jam_records.specs.declared.message.Kind.{Kind}
 use Rattle.jam_records.specs.declared.message.Message.{Message}
 use Rattle.jam_records.specs.declared.message.Slot.{Slot}
 use Rattle.jam_records.specs.declared.message.Slot.TheVariants.{Held}
-use Rattle.setup_file.specs.declared.conference.Conference.{Conference as SetupConference}
+use Rattle.board_ledger.specs.setup_file.declared.conference.Conference.{Conference as SetupConference}
 use Rattle.slot_changes.proofs.MsgidLaws.{identified_count}
 use Rattle.slot_changes.proofs.SlotBytes.{all_at_end, base_grows, message_size}
 use Rattle.slot_changes.specs.Changed.{appended, with_identified}

@@ -11,9 +11,9 @@ use Rattle.board_layout.specs.Board.{Board, shapes_of}
 use Rattle.board_layout.specs.Layout.{base_size, board_size}
 use Rattle.board_layout.specs.Renewed.{contents}
 use Rattle.board_layout.specs.Valid.{IsBoard}
-use Rattle.jam_base.proofs.SlotChanges.{deleted_is, live_above, live_within, numbered_is}
-use Rattle.jam_base.specs.Contents.{Contents, with_deleted}
-use Rattle.jam_base.specs.Slots.{has_live, slot_deleted, slots_deleted}
+use Rattle.board_layout.proofs.jam_base.SlotChanges.{deleted_is, live_above, live_within, numbered_is}
+use Rattle.board_layout.specs.jam_base.Contents.{Contents, with_deleted}
+use Rattle.board_layout.specs.jam_base.Slots.{has_live, slot_deleted, slots_deleted}
 use Rattle.jam_layout.specs.Fields.{subfields_of}
 use Rattle.jam_layout.specs.Headers.{header_size}
 use Rattle.jam_layout.specs.Sizes.{slot_size}

@@ -11,12 +11,12 @@ use Rattle.board_layout.specs.Board.{Board}
 use Rattle.board_layout.specs.Outlines.{board_outline}
 use Rattle.board_layout.specs.Valid.{IsBoard}
 use Rattle.board_ledger.specs.declared.ledger.Ledger.{Ledger}
-use Rattle.intent_journal.specs.declared.patch.Patch.{Patch}
-use Rattle.jam_base.proofs.OutlineChanges.{appended_blind, killed_blind}
-use Rattle.jam_base.specs.Contents.{Contents, with_deleted, with_messages}
-use Rattle.jam_base.specs.Outlined.{outlined, TurnsEach}
-use Rattle.jam_base.specs.Slots.{has_live}
-use Rattle.jam_base.specs.declared.change.BaseChange.{BaseChange}
+use Rattle.board_ledger.specs.intent_journal.declared.patch.Patch.{Patch}
+use Rattle.board_layout.proofs.jam_base.OutlineChanges.{appended_blind, killed_blind}
+use Rattle.board_layout.specs.jam_base.Contents.{Contents, with_deleted, with_messages}
+use Rattle.board_layout.specs.jam_base.Outlined.{outlined, TurnsEach}
+use Rattle.board_layout.specs.jam_base.Slots.{has_live}
+use Rattle.board_layout.specs.jam_base.declared.change.BaseChange.{BaseChange}
 use Rattle.jam_layout.specs.Messages.{IsMessage}
 use Rattle.jam_layout.specs.Outlines.{message_outline}
 use Rattle.jam_records.specs.declared.message.Kind.{Kind}

@@ -6,13 +6,13 @@ use Rattle.board_changes.specs.Changed.{base_at}
 use Rattle.board_layout.specs.Board.{Board}
 use Rattle.board_layout.specs.Layout.{board_size}
 use Rattle.board_layout.specs.Valid.{IsBoard, board_limit}
-use Rattle.jam_base.specs.Contents.{Contents}
+use Rattle.board_layout.specs.jam_base.Contents.{Contents}
 use Rattle.jam_layout.specs.Limits.{slot_limit}
 use Rattle.jam_layout.specs.Messages.{IsMessage}
 use Rattle.jam_records.specs.declared.message.Kind.{Kind}
 use Rattle.jam_records.specs.declared.message.Message.{Message}
-use Rattle.setup_file.specs.Valid.{IsSetupConference}
-use Rattle.setup_file.specs.declared.conference.Conference.{Conference as SetupConference}
+use Rattle.board_ledger.specs.setup_file.Valid.{IsSetupConference}
+use Rattle.board_ledger.specs.setup_file.declared.conference.Conference.{Conference as SetupConference}
 use Rattle.slot_changes.proofs.AppendLaws.{appended_board, appended_messages, named}
 use Rattle.slot_changes.proofs.MsgidLaws.{generated_is}
 use Rattle.slot_changes.proofs.PlaceKinds.{kind_at}

@@ -9,3 +9,4 @@ pub mod EachSlots
 pub mod PackLaws
 pub mod ReplaceLaws
 pub mod SlotValues
+pub use Rattle.board_changes.proofs as board_changes

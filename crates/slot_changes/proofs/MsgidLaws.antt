@@ -8,7 +8,7 @@ use Rattle.std.proofs.lemmas.List.Elements.{All-append, All-cons, All-head, All-
 use Rattle.std.proofs.lemmas.Nat.{mod_below}
 use Rattle.byte_lists.specs.Byte.{IsByte}
 use Rattle.jam_layout.specs.Fields.{is_text}
-use Rattle.setup_file.specs.Texts.{is_bbsid, is_letter_or_digit}
+use Rattle.board_ledger.specs.setup_file.Texts.{is_bbsid, is_letter_or_digit}
 use Rattle.jam_records.specs.declared.message.Message.{Message}
 use Rattle.slot_changes.specs.Msgids.{IsMsgid, all_identified, generated}
 

@@ -10,7 +10,7 @@ use Rattle.board_changes.specs.Changed.{base_at, with_base}
 use Rattle.board_layout.specs.Board.{Board}
 use Rattle.board_layout.specs.Layout.{base_size}
 use Rattle.board_layout.specs.Valid.{IsBoard}
-use Rattle.jam_base.specs.Contents.{Contents, with_slots}
+use Rattle.board_layout.specs.jam_base.Contents.{Contents, with_slots}
 use Rattle.jam_layout.specs.Messages.{IsSlot}
 use Rattle.jam_layout.specs.Sizes.{slot_size}
 use Rattle.jam_layout.specs.Valid.{IsConference, PointersFit}

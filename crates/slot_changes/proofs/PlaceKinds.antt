@@ -6,10 +6,10 @@ use Rattle.board_changes.proofs.PlaceLaws.{shape_in}
 use Rattle.board_changes.specs.Changed.{base_at}
 use Rattle.board_layout.specs.Board.{Board, shape_of, shapes_of}
 use Rattle.board_layout.specs.Renewed.{contents}
-use Rattle.jam_base.specs.Contents.{Contents}
+use Rattle.board_layout.specs.jam_base.Contents.{Contents}
 use Rattle.jam_layout.specs.declared.conference.Conference.{Conference}
 use Rattle.jam_layout.specs.declared.shape.Shape.{Shape}
-use Rattle.setup_file.specs.declared.conference.Conference.{Conference as SetupConference}
+use Rattle.board_ledger.specs.setup_file.declared.conference.Conference.{Conference as SetupConference}
 
 shape_there : (shapes : List Shape) (conferences : List Conference) (place : ℕ) (base : Contents) → slice_get (contents shapes conferences) place ≡ Some base → slice_get shapes place ≡ Some base.shape
 shape_there [] conferences place base is = absurd (none-some base is)

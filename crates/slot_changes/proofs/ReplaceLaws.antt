@@ -13,11 +13,11 @@ use Rattle.board_layout.specs.Board.{Board, board_with, shapes_of}
 use Rattle.board_layout.specs.Layout.{base_size, board_size, files_in}
 use Rattle.board_layout.specs.Renewed.{contents, contents_of}
 use Rattle.board_layout.specs.Valid.{IsBoard}
-use Rattle.intent_journal.specs.declared.patch.Patch.{Patch}
-use Rattle.jam_base.specs.Change.{SuitsIntent}
-use Rattle.jam_base.specs.Contents.{Contents, with_slots}
-use Rattle.jam_base.specs.Outlined.{outlined, TurnsEach}
-use Rattle.jam_base.specs.declared.change.BaseChange.{BaseChange}
+use Rattle.board_ledger.specs.intent_journal.declared.patch.Patch.{Patch}
+use Rattle.board_layout.specs.jam_base.Change.{SuitsIntent}
+use Rattle.board_layout.specs.jam_base.Contents.{Contents, with_slots}
+use Rattle.board_layout.specs.jam_base.Outlined.{outlined, TurnsEach}
+use Rattle.board_layout.specs.jam_base.declared.change.BaseChange.{BaseChange}
 use Rattle.jam_layout.specs.Messages.{IsSlot}
 use Rattle.jam_layout.specs.Valid.{IsConference, PointersFit}
 use Rattle.jam_layout.specs.declared.conference.Conference.{Conference}

@@ -5,8 +5,8 @@ use Rattle.std.proofs.lemmas.List.{append-nil}
 use Rattle.std.proofs.lemmas.List.Concat.{length-flat_map}
 use Rattle.std.proofs.lemmas.List.Sums.{sum_by-append, sum_by-cons}
 use Rattle.board_layout.specs.Layout.{base_size}
-use Rattle.jam_base.specs.Contents.{Contents, with_messages}
-use Rattle.jam_base.specs.Slots.{slots_with_all}
+use Rattle.board_layout.specs.jam_base.Contents.{Contents, with_messages}
+use Rattle.board_layout.specs.jam_base.Slots.{slots_with_all}
 use Rattle.jam_layout.proofs.BaseLaws.{base_length}
 use Rattle.jam_layout.proofs.EntryLaws.{entry_length}
 use Rattle.jam_layout.proofs.SlotLaws.{index_length}
@@ -22,10 +22,10 @@ use Rattle.jam_records.specs.declared.message.Kind.{Kind}
 use Rattle.jam_records.specs.declared.message.Message.{Message}
 use Rattle.jam_records.specs.declared.message.Slot.{Slot}
 use Rattle.jam_records.specs.declared.message.Slot.TheVariants.{Gone, Held}
-use Rattle.jam_threads.specs.Links.{link_of}
-use Rattle.jam_threads.specs.declared.link.Link.{Link}
-use Rattle.jam_writing.proofs.PieceLaws.{bodies_are}
-use Rattle.jam_writing.specs.Pieces.{body_piece, body_size, entry_with}
+use Rattle.jam_layout.specs.jam_threads.Links.{link_of}
+use Rattle.jam_layout.specs.jam_threads.declared.link.Link.{Link}
+use Rattle.board_layout.proofs.jam_writing.PieceLaws.{bodies_are}
+use Rattle.board_layout.specs.jam_writing.Pieces.{body_piece, body_size, entry_with}
 use Rattle.slot_changes.specs.Msgids.{all_identified, identified}
 
 -- ---- the files of a conference

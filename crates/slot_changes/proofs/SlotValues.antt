@@ -8,7 +8,7 @@ use Rattle.board_changes.specs.Changed.{base_at}
 use Rattle.board_layout.specs.Board.{Board}
 use Rattle.board_layout.specs.Layout.{base_size, board_size}
 use Rattle.board_layout.specs.Valid.{IsBoard}
-use Rattle.jam_base.specs.Contents.{Contents, with_slots}
+use Rattle.board_layout.specs.jam_base.Contents.{Contents, with_slots}
 use Rattle.jam_layout.proofs.SlotSizes.{readers_length}
 use Rattle.jam_layout.specs.Fields.{is_text}
 use Rattle.jam_layout.specs.Messages.{IsMessage}

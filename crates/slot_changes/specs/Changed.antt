@@ -2,8 +2,8 @@
 use Rattle.std.specs.Prelude.{ℕ, ◌+◌, List, length, option_map, IsSomeAnd, IsTrue, if◌then◌else◌}
 use Rattle.board_changes.specs.Changed.{base_at, with_base}
 use Rattle.board_layout.specs.Board.{Board}
-use Rattle.jam_base.specs.Contents.{Contents, with_messages, with_deleted}
-use Rattle.jam_base.specs.Slots.{has_live}
+use Rattle.board_layout.specs.jam_base.Contents.{Contents, with_messages, with_deleted}
+use Rattle.board_layout.specs.jam_base.Slots.{has_live}
 use Rattle.jam_records.specs.declared.message.Message.{Message}
 use Rattle.slot_changes.specs.Msgids.{msgid_in, all_identified}
 

@@ -4,7 +4,7 @@ use Rattle.std.specs.Option.{option_map_or}
 use Rattle.board_changes.specs.Changed.{base_at, with_base}
 use Rattle.board_layout.specs.Board.{Board}
 use Rattle.board_layout.specs.Valid.{IsBoard}
-use Rattle.jam_base.specs.Contents.{Contents, with_slots}
+use Rattle.board_layout.specs.jam_base.Contents.{Contents, with_slots}
 use Rattle.jam_records.specs.declared.message.Slot.{Slot}
 use Rattle.jam_records.specs.declared.message.Slot.TheVariants.{Gone, Held}
 

@@ -2,15 +2,14 @@ ghost use Rattle.std.specs.Prelude.{◌≡◌, ◌≤◌, length, IfOk, IsTrue};
 ghost use Rattle.board_changes.specs.Change.{Becomes, ChangesBase};
 ghost use Rattle.board_changes.specs.Outlined.{LeadsEach};
 ghost use Rattle.board_layout.specs.Valid.{IsBoard};
-ghost use Rattle.intent_journal.specs.Patches.{byte_count};
-ghost use Rattle.jam_base.specs.Contents.{with_deleted};
-ghost use Rattle.jam_base.specs.Outlined.{TurnsEach};
-ghost use Rattle.jam_base.specs.Slots.{has_live};
+ghost use Rattle.board_ledger.specs.intent_journal.Patches.{byte_count};
+ghost use Rattle.board_layout.specs.jam_base.Contents.{with_deleted};
+ghost use Rattle.board_layout.specs.jam_base.Outlined.{TurnsEach};
+ghost use Rattle.board_layout.specs.jam_base.Slots.{has_live};
 ghost use Rattle.slot_changes.specs.Changed.{deleted as deleted_of, HasMessage};
 
 use board_changes::{BoardChange, with_base};
-use board_layout::StoredBoard;
-use jam_base::{Base, BaseChange, KillRefusal};
+use board_layout::{Base, BaseChange, KillRefusal, StoredBoard};
 use std::alloc::{AllocError, Global};
 
 /// The base with the message of a number deleted, which is there and isn't deleted.

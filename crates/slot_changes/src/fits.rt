@@ -1,14 +1,13 @@
 ghost use Rattle.std.specs.Prelude.{◌≡◌, ◌↔◌, ◌<◌, ◌≤◌, ◌+◌, length, IsTrue};
 ghost use Rattle.board_layout.specs.Valid.{IsBoard};
-ghost use Rattle.jam_base.specs.Slots.{has_live};
+ghost use Rattle.board_layout.specs.jam_base.Slots.{has_live};
 ghost use Rattle.jam_layout.specs.Conference.{is_live as is_live_of};
 ghost use Rattle.jam_layout.specs.Limits.{slot_limit};
 ghost use Rattle.slot_changes.specs.Changed.{appended as appended_of, deleted as deleted_of, HasMessage};
 
 use crate::size::size_with_messages;
 use crate::value::may_hold_all;
-use board_layout::{BOARD_LIMIT, StoredBoard};
-use jam_base::Base;
+use board_layout::{BOARD_LIMIT, Base, StoredBoard};
 use jam_layout::SLOT_LIMIT;
 use jam_records::{Messages, Slot};
 

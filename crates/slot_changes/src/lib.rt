@@ -12,6 +12,9 @@ mod slots;
 mod value;
 
 pub use append::{appended, identified};
+pub use board_changes::{
+    BoardChange, enrolled, fits_user, gather, intent_with, ledger_intent, made, size_with_user,
+};
 pub use delete::deleted;
 pub use fits::{fits_deletion, fits_messages};
 pub use msgid::{generated_len, msgid_of};

@@ -4,3 +4,4 @@ pub mod Number
 pub mod Split
 pub mod Lines
 pub mod Numbered
+pub use Rattle.byte_lists.specs as byte_lists

@@ -12,6 +12,7 @@ mod trim;
 mod unread;
 
 pub use blank::Blank;
+pub use byte_lists::{Bytes, Duplicate, Lines, List};
 pub use digits::{add_decimal, digits_of};
 pub use lines::{add_line, is_skipped, lines_of, next_line};
 pub use number::number_of;

@@ -20,10 +20,10 @@ use Rattle.jam_records.specs.declared.message.Message.{Message}
 use Rattle.mail_intake.specs.Tallies.{MayTake}
 use Rattle.netmail_rules.specs.Fits.{with_msgid}
 use Rattle.netmail_rules.specs.Rules.{first_refusing}
-use Rattle.packet_verdicts.proofs.Validity.{no_conference}
+use Rattle.message_commands.proofs.packet_verdicts.Validity.{no_conference}
 use Rattle.setup_file.specs.declared.conference.Conference.{Conference}
 use Rattle.setup_file.specs.declared.setup.Setup.{Setup}
-use Rattle.slot_changes.specs.Msgids.{IsMsgid, or_else}
+use Rattle.post_changes.specs.slot_changes.Msgids.{IsMsgid, or_else}
 use Rattle.toss_commands.specs.Tossing.{IsOfPacket}
 
 -- ---- the place

@@ -17,11 +17,11 @@ use Rattle.jam_threads.specs.Children.{has_msgid}
 use Rattle.mail_intake.specs.Msgids.{has_id}
 use Rattle.mail_intake.specs.declared.msgids.MsgidSet.{MsgidSet}
 use Rattle.board_layout.specs.Lookups.{slots_in}
-use Rattle.packet_verdicts.proofs.PostLists.{identified_more, posts_hit, posts_miss}
-use Rattle.packet_verdicts.proofs.Spreading.{spread_count, spread_slots}
-use Rattle.packet_verdicts.specs.Views.{next_number}
+use Rattle.message_commands.proofs.packet_verdicts.PostLists.{identified_more, posts_hit, posts_miss}
+use Rattle.message_commands.proofs.packet_verdicts.Spreading.{spread_count, spread_slots}
+use Rattle.message_commands.specs.packet_verdicts.Views.{next_number}
 use Rattle.post_changes.specs.Posted.{posts_in, spread}
-use Rattle.slot_changes.specs.Msgids.{all_identified, identified, msgid_in}
+use Rattle.post_changes.specs.slot_changes.Msgids.{all_identified, identified, msgid_in}
 use Rattle.toss_commands.specs.Tossing.{AreSeen, HasSet, IsSeen}
 use Rattle.toss_commands.specs.declared.seen.Seen.{Seen}
 

@@ -5,7 +5,7 @@ use Rattle.board_layout.specs.Board.{Board}
 use Rattle.fts_packet.specs.declared.rule.TossRule.TheVariants.{Dupe, Full}
 use Rattle.jam_records.specs.declared.message.Message.{Message}
 use Rattle.mail_intake.specs.Room.{is_full}
-use Rattle.slot_changes.specs.Msgids.{or_else}
+use Rattle.post_changes.specs.slot_changes.Msgids.{or_else}
 use Rattle.toss_commands.specs.Tossed.{is_dupe, last_rule}
 
 -- ---- msgids

@@ -1,8 +1,8 @@
 -- The turns of `toss` give what a lawful act asks.
 use Rattle.std.proofs.Common.{◌≡◌, ◌≢◌, ℕ, ◌-◌, List, [], ◌∷◌, ◌++◌, length, Option, Some, None, Result, Ok, Err, sym, ◌∙◌, ap, subst}
-use Rattle.board_commands.proofs.BoardActs.{AreTurns}
-use Rattle.board_commands.proofs.TurnLaws.{IsTurn, are_turns, done_is, refuses_is}
-use Rattle.board_commands.specs.Turns.{Turn}
+use Rattle.message_commands.proofs.board_commands.BoardActs.{AreTurns}
+use Rattle.message_commands.proofs.board_commands.TurnLaws.{IsTurn, are_turns, done_is, refuses_is}
+use Rattle.message_commands.specs.board_commands.Turns.{Turn}
 use Rattle.board_layout.specs.Board.{Board}
 use Rattle.door_outside.specs.Shelf.{Files}
 use Rattle.fts_packet.specs.declared.packet.FtsMessage.{FtsMessage}

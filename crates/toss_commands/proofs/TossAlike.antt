@@ -2,7 +2,7 @@
 use Rattle.std.proofs.Common.{◌≡◌, ℕ, ◌+◌, ◌||◌, ◌&&◌, cond, List, [], ◌∷◌, ◌++◌, length, map, Option, Some, None, refl, sym, ap, ◌∙◌}
 use Rattle.std.specs.Prelude.{◌==◌, not}
 use Rattle.std.specs.List.{list_any}
-use Rattle.board_commands.specs.Turns.{Turn}
+use Rattle.message_commands.specs.board_commands.Turns.{Turn}
 use Rattle.board_layout.proofs.OneOutline.{alike_ledger}
 use Rattle.board_layout.specs.Board.{Board}
 use Rattle.board_layout.specs.Outlines.{board_outline}
@@ -18,20 +18,20 @@ use Rattle.jam_records.specs.declared.message.Message.{Message}
 use Rattle.jam_records.specs.declared.message.Slot.{Slot}
 use Rattle.jam_records.specs.declared.message.Slot.TheVariants.{Gone, Held}
 use Rattle.jam_threads.specs.Children.{has_msgid}
-use Rattle.mail_board.proofs.EachNext.{changed_alike}
-use Rattle.mail_board.specs.Changes.{changed}
-use Rattle.mail_board.specs.Held.{AreAlike}
-use Rattle.mail_board.specs.declared.change.Change.{Change}
-use Rattle.mail_board.specs.declared.change.Change.TheVariants.{Spread}
+use Rattle.message_commands.proofs.mail_board.EachNext.{changed_alike}
+use Rattle.message_commands.specs.mail_board.Changes.{changed}
+use Rattle.message_commands.specs.mail_board.Held.{AreAlike}
+use Rattle.message_commands.specs.mail_board.declared.change.Change.{Change}
+use Rattle.message_commands.specs.mail_board.declared.change.Change.TheVariants.{Spread}
 use Rattle.mail_intake.proofs.RoomAlike.{count_alike, full_alike}
 use Rattle.mail_intake.specs.Lines.{intake_text, posted_line}
 use Rattle.message_commands.proofs.Exits.{carried}
 use Rattle.message_commands.proofs.PlaceAlike.{bare}
-use Rattle.offered_packets.proofs.OutlineLaws.{outline_slots}
+use Rattle.mail_intake.proofs.offered_packets.OutlineLaws.{outline_slots}
 use Rattle.board_layout.specs.Lookups.{slots_in}
 use Rattle.post_changes.specs.Posted.{spread}
 use Rattle.shelf_files.specs.Halts.{done}
-use Rattle.slot_changes.specs.Msgids.{number_of_place}
+use Rattle.post_changes.specs.slot_changes.Msgids.{number_of_place}
 use Rattle.toss_commands.specs.Toss.{tossing}
 use Rattle.toss_commands.specs.Tossed.{is_dupe, last_rule, posted_as, tossed, tossed_as, tossed_from}
 

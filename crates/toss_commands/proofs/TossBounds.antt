@@ -1,9 +1,9 @@
 -- A packet that is tossed writes no more than the messages that it posts may.
 use Rattle.std.proofs.Common.{◌≡◌, ℕ, List, Option, Some, Ok, refl, sym}
-use Rattle.board_commands.proofs.WriteLaws.{turned_within, WritesFound}
-use Rattle.board_commands.specs.Kept.{IsOutlined}
-use Rattle.board_commands.specs.State.{State, Stores, migrated}
-use Rattle.board_commands.specs.WriteBound.{KeepsWriteBound}
+use Rattle.message_commands.proofs.board_commands.WriteLaws.{turned_within, WritesFound}
+use Rattle.message_commands.specs.board_commands.Kept.{IsOutlined}
+use Rattle.message_commands.specs.board_commands.State.{State, Stores, migrated}
+use Rattle.message_commands.specs.board_commands.WriteBound.{KeepsWriteBound}
 use Rattle.board_layout.specs.Board.{Board}
 use Rattle.board_layout.specs.Valid.{IsBoard}
 use Rattle.door_outside.specs.Disk.{Disk}
@@ -11,10 +11,10 @@ use Rattle.door_outside.specs.Shelf as Shelf
 use Rattle.fts_packet.specs.declared.packet.FtsMessage.{FtsMessage}
 use Rattle.intent_journal.specs.Journal.{IsClosed}
 use Rattle.intent_journal.specs.Recovered.{recovered}
-use Rattle.mail_board.proofs.EachNext.{changed_alike}
-use Rattle.mail_board.proofs.PostedSlots.{posting_keeps}
-use Rattle.mail_board.specs.Changes.{changed}
-use Rattle.mail_board.specs.Written.{WritesFew}
+use Rattle.message_commands.proofs.mail_board.EachNext.{changed_alike}
+use Rattle.message_commands.proofs.mail_board.PostedSlots.{posting_keeps}
+use Rattle.message_commands.specs.mail_board.Changes.{changed}
+use Rattle.message_commands.specs.mail_board.Written.{WritesFew}
 use Rattle.message_commands.proofs.Exits.{carried}
 use Rattle.toss_commands.proofs.TossActs.{toss_turns}
 use Rattle.toss_commands.proofs.TossAlike.{tossing_alike}

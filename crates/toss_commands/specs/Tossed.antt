@@ -14,9 +14,9 @@ use Rattle.jam_threads.specs.Children.{has_msgid}
 use Rattle.mail_intake.specs.Lines.{posted_line, refused_line}
 use Rattle.mail_intake.specs.Room.{is_full}
 use Rattle.board_layout.specs.Lookups.{slots_in}
-use Rattle.packet_verdicts.specs.Views.{next_number}
+use Rattle.message_commands.specs.packet_verdicts.Views.{next_number}
 use Rattle.post_changes.specs.Posted.{spread}
-use Rattle.slot_changes.specs.Msgids.{number_of_place}
+use Rattle.post_changes.specs.slot_changes.Msgids.{number_of_place}
 
 -- its msgid isn't absent, and a message that the conference holds has it, the posts before it included
 abbrev pub is_dupe : Board → List (ℕ × Message) → ℕ × Message → Bool

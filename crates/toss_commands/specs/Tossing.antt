@@ -1,17 +1,17 @@
 -- What is known between two messages of a packet, and what is found before those that are taken are posted.
 use Rattle.std.specs.Prelude.{◌≡◌, ℕ, ◌≤◌, List, [], length, slice_get, Contains, Option, Some, None, Result, Ok, Err}
 use Rattle.std.specs.List.{list_any}
-use Rattle.board_commands.specs.Halts.{StopsBy}
-use Rattle.board_commands.specs.declared.halt.BoardHalt.{BoardHalt}
+use Rattle.message_commands.specs.board_commands.Halts.{StopsBy}
+use Rattle.message_commands.specs.board_commands.declared.halt.BoardHalt.{BoardHalt}
 use Rattle.board_layout.specs.Board.{Board}
 use Rattle.fts_packet.specs.Packet.{FtsReads}
 use Rattle.fts_packet.specs.declared.packet.FtsMessage.{FtsMessage}
 use Rattle.jam_records.specs.declared.message.Message.{Message}
 use Rattle.jam_records.specs.declared.message.Slot.{Slot}
 use Rattle.jam_threads.specs.Children.{has_msgid}
-use Rattle.mail_board.specs.Changes.{changed, Fits}
-use Rattle.mail_board.specs.Written.{IsPosting}
-use Rattle.mail_board.specs.declared.change.Change.TheVariants.{Spread}
+use Rattle.message_commands.specs.mail_board.Changes.{changed, Fits}
+use Rattle.message_commands.specs.mail_board.Written.{IsPosting}
+use Rattle.message_commands.specs.mail_board.declared.change.Change.TheVariants.{Spread}
 use Rattle.mail_intake.specs.Msgids.{has_id}
 use Rattle.mail_intake.specs.Tallies.{IsTally}
 use Rattle.mail_intake.specs.declared.msgids.MsgidSet.{MsgidSet}

@@ -3,18 +3,17 @@ ghost use Rattle.std.specs.Prelude.{◌≡◌, ◌<◌, ◌+◌, ◌||◌, ◌++
 ghost use Rattle.std.specs.List.{list_any};
 ghost use Rattle.board_layout.specs.Board as Boards;
 ghost use Rattle.board_layout.specs.Valid.{IsBoard};
-ghost use Rattle.jam_base.specs.Slots.{numbered};
+ghost use Rattle.board_layout.specs.jam_base.Slots.{numbered};
 ghost use Rattle.jam_records.specs.declared.message.Message as Messages;
 ghost use Rattle.jam_threads.specs.Children.{has_msgid};
 ghost use Rattle.mail_intake.specs.Msgids.{has_id};
 ghost use Rattle.board_layout.specs.Lookups.{slots_in};
 ghost use Rattle.post_changes.specs.Posted.{spread};
-ghost use Rattle.slot_changes.specs.Msgids.{identified, msgid_in};
-ghost use Rattle.packet_verdicts.specs.Views.{next_number};
+ghost use Rattle.post_changes.specs.slot_changes.Msgids.{identified, msgid_in};
+ghost use Rattle.message_commands.specs.packet_verdicts.Views.{next_number};
 ghost use Rattle.toss_commands.specs.Tossing.{AreSeen, HasSet, IsLoaded};
 
-use board_layout::{StoredBoard, message_of};
-use jam_base::Base;
+use board_layout::{Base, StoredBoard, message_of};
 use mail_intake::MsgidSet;
 use std::alloc::{AllocError, Global};
 

@@ -16,7 +16,7 @@ use fts_packet::{FtsMessage, TossDraft, TossRule, toss_draft};
 use jam_layout::typed;
 use jam_records::Message;
 use mail_intake::{Tally, add_posted, add_refused};
-use slot_changes::msgid_of;
+use post_changes::msgid_of;
 use std::alloc::{AllocError, Global};
 
 /// What became of the messages so far.

@@ -1,10 +1,10 @@
 //! The command `toss`.
 ghost use Rattle.std.specs.Prelude.{◌≡◌, ℕ, List, Ok, length, IfOk, IsTrue};
-ghost use Rattle.board_commands.specs.Causes.{HaveCauses};
-ghost use Rattle.board_commands.specs.Halts.{told};
-ghost use Rattle.board_commands.specs.Kept.{AreSure, IsKept, unread};
-ghost use Rattle.board_commands.specs.State.{State, Stores};
-ghost use Rattle.board_commands.specs.WriteBound.{KeepsWriteBound};
+ghost use Rattle.message_commands.specs.board_commands.Causes.{HaveCauses};
+ghost use Rattle.message_commands.specs.board_commands.Halts.{told};
+ghost use Rattle.message_commands.specs.board_commands.Kept.{AreSure, IsKept, unread};
+ghost use Rattle.message_commands.specs.board_commands.State.{State, Stores};
+ghost use Rattle.message_commands.specs.board_commands.WriteBound.{KeepsWriteBound};
 ghost use Rattle.board_layout.specs.Board as Boards;
 ghost use Rattle.board_layout.specs.Valid.{IsBoard};
 ghost use Rattle.entry_runs.specs.Door.{World};
@@ -17,12 +17,11 @@ ghost use Rattle.toss_commands.specs.Tossing.{AreRead, AreTossed, MayToss, Posts
 
 use crate::packet_file::packet_in;
 use crate::tossed::{Tossed, tossed_of};
-use board_commands::{BoardHalt, board_in, find, make_change};
 use byte_lists::Bytes;
 use door_outside::{Host, Shelf, ShelfName};
 use fts_packet::FtsPacket;
-use mail_board::{Board, Change, Loaded};
 use mail_intake::with_counts;
+use message_commands::{Board, BoardHalt, Change, Loaded, board_in, find, make_change};
 use std::alloc::{AllocError, Global};
 
 /// The change that posts what was taken of a packet, and what is to be said of it.

@@ -4,8 +4,8 @@ use board_layout::StoredBoard;
 use byte_lists::Bytes;
 use case_texts::{Miss, expect_cases, number_of};
 use jam_records::{Slot, Slots};
+use post_changes::{fits_slots, replaced};
 use setup_file::Setup;
-use slot_changes::{fits_slots, replaced};
 use std::alloc::{AllocError, Global};
 
 /// A setup of three conferences.

@@ -2,14 +2,14 @@
 ghost use Rattle.std.specs.Prelude.{false, IfOk, IsFalse};
 ghost use Rattle.door_outside.specs.Disk.{silent};
 ghost use Rattle.intent_journal.specs.Hosts.{IsSettled};
-ghost use Rattle.mail_board.specs.Held.{RestsOn};
+ghost use Rattle.board_commands.specs.mail_board.Held.{RestsOn};
 ghost use Rattle.memory_outside.specs.MemoryHost.{disk_of};
 
+use board_commands::{Board, Loaded, ReadError};
 use byte_lists::Bytes;
 use door_outside::{DiskFault, FileId, Host, VoiceFault};
 use example_runs::{Miss, no_faults, played};
 use jam_records::{Message, Slot, Slots};
-use mail_board::{Board, Loaded, ReadError};
 use memory_outside::{ImageChoice, MemoryHost};
 use std::alloc::{AllocError, Global};
 

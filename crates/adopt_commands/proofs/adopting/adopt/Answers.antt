@@ -1,19 +1,19 @@
 use Rattle.std.proofs.Common.{rules, ◌≡◌, ℕ, List, Some, Err, refl, sym, ◌∙◌, ap, subst}
 use Rattle.std.specs.Prelude.{Result}
-use Rattle.board_commands.proofs.CauseLaws.{no_fault}
-use Rattle.board_commands.proofs.Exits.{unfound}
-use Rattle.board_commands.proofs.FindLaws.{same_host}
-use Rattle.board_commands.proofs.WriteLaws.{found_within}
-use Rattle.board_commands.specs.Halts.{told, halt_of_read, of_shelf, of_journal}
-use Rattle.board_commands.specs.Kept.{kept_board, unread}
-use Rattle.board_commands.specs.State.{Stores}
-use Rattle.board_commands.specs.declared.halt.BoardHalt.{BoardHalt}
+use Rattle.message_commands.proofs.board_commands.CauseLaws.{no_fault}
+use Rattle.message_commands.proofs.board_commands.Exits.{unfound}
+use Rattle.message_commands.proofs.board_commands.FindLaws.{same_host}
+use Rattle.message_commands.proofs.board_commands.WriteLaws.{found_within}
+use Rattle.message_commands.specs.board_commands.Halts.{told, halt_of_read, of_shelf, of_journal}
+use Rattle.message_commands.specs.board_commands.Kept.{kept_board, unread}
+use Rattle.message_commands.specs.board_commands.State.{Stores}
+use Rattle.message_commands.specs.board_commands.declared.halt.BoardHalt.{BoardHalt}
 use Rattle.board_layout.specs.Board.{Board}
 use Rattle.door_outside.specs.Disk.{Unchanged}
 use Rattle.entry_runs.specs.Entry.{Works}
 use Rattle.entry_runs.specs.Promise.{Counts, HasCauses, counts, ended}
 use Rattle.entry_runs.specs.declared.status.Status.TheVariants as status
-use Rattle.mail_board.specs.Changes.{Fits}
+use Rattle.message_commands.specs.mail_board.Changes.{Fits}
 use Rattle.shelf_files.specs.declared.refusal.Refusal.TheVariants.{NoConference}
 use Rattle.message_commands.proofs.Exits.{refused_on, unmade_by}
 use Rattle.message_commands.proofs.PlaceAlike.{place_alike}

@@ -7,9 +7,9 @@ use Rattle.board_changes.specs.Outlined.{GatheredEach}
 use Rattle.board_layout.specs.Board.{Board, readers_from}
 use Rattle.board_ledger.specs.Users.{is_member}
 use Rattle.board_ledger.specs.declared.user.User.{User}
-use Rattle.jam_base.specs.Contents.{Contents, with_reader}
-use Rattle.jam_base.specs.Outlined.{TurnsEach}
-use Rattle.jam_layout.specs.declared.reader.Reader.{Reader}
+use Rattle.board_layout.specs.jam_base.Contents.{Contents, with_reader}
+use Rattle.board_layout.specs.jam_base.Outlined.{TurnsEach}
+use Rattle.board_layout.specs.jam_layout.declared.reader.Reader.{Reader}
 use Rattle.board_changes.proofs.enroll.joined_base.Goals as goal
 
 pub is_member-requires : goal.is_member-requires

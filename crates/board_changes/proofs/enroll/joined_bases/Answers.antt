@@ -5,7 +5,7 @@ use Rattle.board_changes.specs.Changed.{with_member}
 use Rattle.board_changes.proofs.MemberLaws.{next_count, place_small, renewed_pushed}
 use Rattle.board_layout.specs.Board.{Board}
 use Rattle.board_layout.specs.Renewed.{contents_of, renewed}
-use Rattle.jam_base.specs.Contents.{Contents}
+use Rattle.board_layout.specs.jam_base.Contents.{Contents}
 use Rattle.board_changes.proofs.enroll.joined_bases.Goals as goal
 
 -- the base of a place

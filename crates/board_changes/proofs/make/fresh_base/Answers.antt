@@ -10,8 +10,8 @@ use Rattle.board_layout.specs.Layout.{AreEmpty, layouts}
 use Rattle.board_ledger.specs.Ledger.{ledger_text}
 use Rattle.board_ledger.specs.Valid.{IsLedger}
 use Rattle.board_ledger.specs.declared.ledger.Ledger.{Ledger}
-use Rattle.jam_layout.specs.Valid.{IsShape}
-use Rattle.jam_layout.specs.declared.shape.Shape.{Shape}
+use Rattle.board_layout.specs.jam_layout.Valid.{IsShape}
+use Rattle.board_layout.specs.jam_layout.declared.shape.Shape.{Shape}
 use Rattle.board_changes.proofs.make.fresh_base.Goals as goal
 
 -- the place is one of the 64

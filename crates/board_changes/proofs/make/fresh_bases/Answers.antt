@@ -9,8 +9,8 @@ use Rattle.board_layout.specs.Board.{shape_of, shapes_of, shapes_in, conferences
 use Rattle.board_layout.specs.Layout.{AreEmpty, layouts}
 use Rattle.board_ledger.specs.Ledger.{ledger_text}
 use Rattle.board_ledger.specs.declared.ledger.Ledger.{Ledger}
-use Rattle.jam_base.specs.Contents.{Contents}
-use Rattle.setup_file.specs.declared.conference.Conference.{Conference as SetupConference}
+use Rattle.board_layout.specs.jam_base.Contents.{Contents}
+use Rattle.board_ledger.specs.setup_file.declared.conference.Conference.{Conference as SetupConference}
 use Rattle.board_changes.proofs.make.fresh_bases.Goals as goal
 
 -- the shape of the conference of a place

@@ -13,9 +13,9 @@ use Rattle.board_ledger.specs.Ledger.{ledger_text}
 use Rattle.board_ledger.specs.declared.ledger.Ledger.{Ledger}
 use Rattle.board_ledger.specs.declared.upload.UploadRecord.{UploadRecord}
 use Rattle.board_ledger.specs.declared.user.User.{User}
-use Rattle.jam_base.specs.Contents.{Contents}
-use Rattle.jam_layout.specs.declared.files.BaseFiles.{BaseFiles}
-use Rattle.setup_file.specs.declared.setup.Setup.{Setup}
+use Rattle.board_layout.specs.jam_base.Contents.{Contents}
+use Rattle.board_layout.specs.jam_layout.declared.files.BaseFiles.{BaseFiles}
+use Rattle.board_ledger.specs.setup_file.declared.setup.Setup.{Setup}
 use Rattle.board_changes.proofs.make.made.Goals as goal
 
 -- a ledger without users and upload records

@@ -1,6 +1,6 @@
 use Rattle.std.proofs.Common.{Ok, Err, sym, subst, arith}
-use Rattle.board_changes.proofs.MadeLaws.{new_is_board}
-use Rattle.board_changes.specs.Changed.{made}
+use Rattle.mail_board.proofs.board_changes.MadeLaws.{new_is_board}
+use Rattle.mail_board.specs.board_changes.Changed.{made}
 use Rattle.board_layout.specs.Layout.{AreEmpty}
 use Rattle.intent_journal.specs.declared.recovery.JournalError.TheVariants.{DiskFault, OutOfMemory}
 use Rattle.mail_board.specs.Held.{HeldBoard, RestsOn}

@@ -3,13 +3,13 @@ use Rattle.std.specs.Prelude.{All}
 use Rattle.std.proofs.lemmas.List.{drop_all}
 use Rattle.std.proofs.lemmas.List.Elements.{All-push}
 use Rattle.std.proofs.lemmas.Result.{err_from_is_err_and}
-use Rattle.damage_rules.specs.Rules.{Stops}
-use Rattle.intent_journal.specs.Patches.{Files}
+use Rattle.board_ledger.specs.damage_rules.Rules.{Stops}
+use Rattle.board_ledger.specs.intent_journal.Patches.{Files}
 use Rattle.jam_base.specs.Change.{files_of_place}
 use Rattle.jam_base.specs.Contents.{Contents}
 use Rattle.jam_base.specs.Outlined.{outlined}
-use Rattle.jam_layout.specs.Layout.{conference_of}
-use Rattle.setup_file.specs.declared.conference.Conference.{Conference as SetupConference}
+use Rattle.jam_base.specs.jam_layout.Layout.{conference_of}
+use Rattle.board_ledger.specs.setup_file.declared.conference.Conference.{Conference as SetupConference}
 use Rattle.board_layout.specs.Board.{shape_of}
 use Rattle.board_layout.specs.Rules.{IsOutlineOf, ReadSo, damage_of_read}
 use Rattle.board_layout.proofs.ReadingBases.{BasesRead, WholesRead, bases_more, next_left, wholes_done, wholes_fail, wholes_more}

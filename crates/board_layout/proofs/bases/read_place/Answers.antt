@@ -1,8 +1,8 @@
 use Rattle.std.proofs.Common.{◌∙◌, sym, ap, subst}
-use Rattle.damage_rules.proofs.KeptRules.{ok_is}
-use Rattle.jam_layout.specs.Layout.{layout}
-use Rattle.jam_layout.specs.Valid.{IsConference, IsShape}
-use Rattle.jam_layout.specs.declared.shape.Shape.{Shape}
+use Rattle.board_ledger.proofs.damage_rules.KeptRules.{ok_is}
+use Rattle.jam_base.specs.jam_layout.Layout.{layout}
+use Rattle.jam_base.specs.jam_layout.Valid.{IsConference, IsShape}
+use Rattle.jam_base.specs.jam_layout.declared.shape.Shape.{Shape}
 use Rattle.jam_base.specs.Contents.{Contents}
 use Rattle.board_layout.proofs.LedgerShapes.{shape_is, shape_fits}
 use Rattle.board_layout.proofs.OutlineLaws.{own_conference, own_outlined}

@@ -1,7 +1,7 @@
 use Rattle.std.proofs.Common.{◌≡◌, ◌≤◌, ◌∙◌, List, ℕ, length, replicate, refl, ap, arith}
 use Rattle.door_outside.specs.Disk.{read_into}
 use Rattle.door_outside.specs.File.{ledger_file}
-use Rattle.intent_journal.specs.Patches.{Files}
+use Rattle.board_ledger.specs.intent_journal.Patches.{Files}
 use Rattle.board_layout.proofs.FirstBytes.{old_read}
 use Rattle.board_layout.proofs.limit.is_old.Goals as goal
 

@@ -1,8 +1,8 @@
 use Rattle.std.proofs.Common.{◌≡◌, ◌∙◌, ◌≤◌, ◌<◌, Some, None, sym, ap, subst, arith}
 use Rattle.std.proofs.lemmas.Result.{err_from_is_err_and}
-use Rattle.damage_rules.specs.Rules.{Stops}
+use Rattle.board_ledger.specs.damage_rules.Rules.{Stops}
 use Rattle.door_outside.specs.File.{ledger_file}
-use Rattle.intent_journal.specs.Patches.{Files}
+use Rattle.board_ledger.specs.intent_journal.Patches.{Files}
 use Rattle.board_layout.specs.Damage.{parts_of, size_limit, board_in}
 use Rattle.board_layout.specs.Layout.{data_size}
 use Rattle.board_layout.specs.Rules.{IsFoundOf, ReadSo, damage_of_read}

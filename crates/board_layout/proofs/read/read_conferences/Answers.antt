@@ -1,10 +1,10 @@
 use Rattle.std.proofs.Common.{◌≡◌, ◌∙◌, ◌+◌, List, length, Some, sym, ap, subst, arith}
 use Rattle.std.proofs.lemmas.Result.{err_from_is_err_and}
 use Rattle.board_ledger.specs.declared.ledger.Ledger.{Ledger}
-use Rattle.damage_rules.specs.Rules.{Stops}
-use Rattle.intent_journal.specs.Patches.{Files}
+use Rattle.board_ledger.specs.damage_rules.Rules.{Stops}
+use Rattle.board_ledger.specs.intent_journal.Patches.{Files}
 use Rattle.jam_base.specs.Contents.{Contents}
-use Rattle.jam_layout.specs.declared.conference.Conference.{Conference}
+use Rattle.jam_base.specs.jam_layout.declared.conference.Conference.{Conference}
 use Rattle.board_layout.specs.Board.{conferences_in}
 use Rattle.board_layout.specs.Damage.{highs_of}
 use Rattle.board_layout.specs.Rules.{damage_of_read}

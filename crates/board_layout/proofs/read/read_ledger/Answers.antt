@@ -1,5 +1,5 @@
 use Rattle.std.proofs.Common.{◌∙◌, sym, ap}
-use Rattle.damage_rules.proofs.KeptRules.{ok_is}
+use Rattle.board_ledger.proofs.damage_rules.KeptRules.{ok_is}
 use Rattle.board_layout.proofs.ReadingClauses.{ledger_read}
 use Rattle.board_layout.proofs.read.read_ledger.Goals as goal
 

@@ -5,9 +5,9 @@ use Rattle.std.proofs.lemmas.Result.{err_from_is_err_and}
 use Rattle.board_ledger.specs.Valid.{IsLedger, today}
 use Rattle.board_ledger.proofs.VersionLaws.{today_valid}
 use Rattle.board_ledger.specs.declared.ledger.Ledger.{Ledger}
-use Rattle.damage_rules.specs.Rules.{Stops}
-use Rattle.intent_journal.specs.Patches.{Files}
-use Rattle.jam_layout.specs.Valid.{IsConference}
+use Rattle.board_ledger.specs.damage_rules.Rules.{Stops}
+use Rattle.board_ledger.specs.intent_journal.Patches.{Files}
+use Rattle.jam_base.specs.jam_layout.Valid.{IsConference}
 use Rattle.board_layout.specs.Board.{Board, shapes_of}
 use Rattle.board_layout.specs.Damage.{parts_behind}
 use Rattle.board_layout.specs.Layout.{board_size}

@@ -1,6 +1,6 @@
 use Rattle.std.proofs.Common.{◌∙◌, sym, subst}
 use Rattle.std.proofs.lemmas.Result.{err_from_is_err_and}
-use Rattle.damage_rules.specs.Rules.{Stops}
+use Rattle.board_ledger.specs.damage_rules.Rules.{Stops}
 use Rattle.board_layout.specs.Rules.{damage_of_read, ReadGives}
 use Rattle.board_layout.proofs.RestLaws.{asked, jhr_fails, jdt_fails, jdx_fails, at_last}
 use Rattle.board_layout.proofs.rest.check_place.Goals as goal

@@ -1,7 +1,7 @@
 use Rattle.std.proofs.Common.{◌≡◌, ◌∙◌, suc, ◌+◌, ◌-◌, sym, ap, subst, arith}
 use Rattle.std.proofs.lemmas.Result.{err_from_is_err_and}
-use Rattle.damage_rules.specs.Rules.{Stops}
-use Rattle.intent_journal.specs.Patches.{Files}
+use Rattle.board_ledger.specs.damage_rules.Rules.{Stops}
+use Rattle.board_ledger.specs.intent_journal.Patches.{Files}
 use Rattle.board_layout.specs.Damage.{is_rest_place}
 use Rattle.board_layout.specs.Rules.{damage_of_read}
 use Rattle.door_outside.proofs.Disks.{unchanged_twice}

@@ -4,8 +4,8 @@ use Rattle.std.specs.List.{list_any}
 use Rattle.std.specs.Str.{bytes_eq}
 use Rattle.std.proofs.lemmas.Bool.{le-ltb}
 use Rattle.std.proofs.lemmas.List.{length-take}
-use Rattle.byte_lists.specs.Byte.{IsByte}
-use Rattle.record_numbers.proofs.NumberLemmas.{all_bytes}
+use Rattle.jam_records.specs.byte_lists.Byte.{IsByte}
+use Rattle.jam_records.proofs.record_numbers.NumberLemmas.{all_bytes}
 use Rattle.board_ledger.specs.Met.{is_met}
 use Rattle.board_ledger.specs.Uploads.{upload_in_record, wrong_user, too_many, is_repeated, upload_size}
 use Rattle.board_ledger.specs.declared.upload.UploadRecord.{UploadRecord}

@@ -3,7 +3,7 @@ use Rattle.std.specs.Prelude.{slice_get}
 use Rattle.std.proofs.lemmas.Option.{slice_get_within}
 use Rattle.intent_journal.specs.Patches.{byte_count}
 use Rattle.intent_journal.specs.declared.patch.Patch.{Patch}
-use Rattle.door_outside.specs.File.{ledger_file}
+use Rattle.intent_journal.specs.door_outside.File.{ledger_file}
 use Rattle.board_ledger.specs.Ledger.{ledger_text}
 use Rattle.board_ledger.specs.OneFile.{TurnsFile}
 use Rattle.board_ledger.specs.UserPuts.{record_in, with_user_at}

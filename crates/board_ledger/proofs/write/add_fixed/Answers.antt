@@ -1,7 +1,7 @@
 use Rattle.std.proofs.Common.{◌≡◌, ℕ, List, [], ◌∷◌, ◌++◌, length, ap, ◌∙◌, arith, append_assoc}
 use Rattle.std.specs.List.{flat_map}
 use Rattle.byteorder.specs.Endian.{little_bytes}
-use Rattle.record_numbers.specs.Numbers.{u32s_text}
+use Rattle.jam_records.specs.record_numbers.Numbers.{u32s_text}
 use Rattle.board_ledger.specs.Opening.{magic, fixed_text}
 use Rattle.board_ledger.specs.declared.ledger.Ledger.{Ledger}
 use Rattle.board_ledger.proofs.SetupBounds.{zones_few}

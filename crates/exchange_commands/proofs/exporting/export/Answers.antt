@@ -9,9 +9,9 @@ use Rattle.board_commands.specs.declared.halt.BoardHalt.{BoardHalt}
 use Rattle.board_layout.specs.Board.{Board}
 use Rattle.entry_runs.specs.Entry.{Works}
 use Rattle.entry_runs.specs.Promise.{HasCauses, counts, ended}
-use Rattle.mail_board.specs.Causes.{HasFault}
-use Rattle.mail_board.specs.Held.{RestsOn}
-use Rattle.mail_board.specs.declared.loading.Loaded.{Loaded}
+use Rattle.board_commands.specs.mail_board.Causes.{HasFault}
+use Rattle.board_commands.specs.mail_board.Held.{RestsOn}
+use Rattle.board_commands.specs.mail_board.declared.loading.Loaded.{Loaded}
 use Rattle.shelf_files.specs.declared.refusal.Refusal.TheVariants.{NotMade}
 use Rattle.door_export.proofs.ExportAlike.{answer_alike, refused_alike}
 use Rattle.door_export.specs.Export.{after_export, export_of}

@@ -17,9 +17,9 @@ use Rattle.door_upload.specs.Upload.{UploadGives, UploadsAs}
 use Rattle.door_upload.specs.Uploading.{UploadAnswers, UploadLeavesAll}
 use Rattle.door_upload.specs.declared.answer.Uploaded.{Uploaded}
 use Rattle.entry_runs.specs.Entry.{Works}
-use Rattle.mail_board.specs.Held.{RestsOn}
-use Rattle.mail_board.specs.Readers.{user_id}
-use Rattle.mail_board.specs.declared.loading.Loaded.{Loaded}
+use Rattle.board_commands.specs.mail_board.Held.{RestsOn}
+use Rattle.board_commands.specs.mail_board.Readers.{user_id}
+use Rattle.board_commands.specs.mail_board.declared.loading.Loaded.{Loaded}
 use Rattle.shelf_files.specs.ShelfFile.{file_within, rep_limit}
 use Rattle.shelf_files.specs.declared.refusal.Refusal.TheVariants.{NotMade}
 use Rattle.exchange_commands.proofs.KeptUploads.{upload_kept, upload_sure}

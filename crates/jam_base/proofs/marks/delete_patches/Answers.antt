@@ -2,7 +2,7 @@ use Rattle.std.proofs.Common.{◌≡◌, ◌∙◌, ◌-◌, ◌<◌, ℕ, List,
 use Rattle.intent_journal.specs.declared.patch.Patch.{Patch}
 use Rattle.jam_records.specs.declared.message.Slot.{Slot}
 use Rattle.jam_records.specs.declared.message.Slot.TheVariants.{Gone}
-use Rattle.shared_slots.proofs.BareSlots.{bare_is}
+use Rattle.jam_writing.proofs.shared_slots.BareSlots.{bare_is}
 use Rattle.jam_base.specs.MarkPuts.{delete_put, delete_puts}
 use Rattle.jam_base.specs.Slots.{numbered}
 use Rattle.jam_base.proofs.BareLookups.{delete_bare}

@@ -1,7 +1,7 @@
 use Rattle.std.proofs.Common.{◌+◌, ◌<◌, ◌^◌, List, length, ap, arith}
 use Rattle.std.specs.Prelude.{sum_by}
 use Rattle.jam_records.specs.declared.message.Slot.{Slot}
-use Rattle.jam_layout.specs.Sizes.{slot_header}
+use Rattle.jam_writing.specs.jam_layout.Sizes.{slot_header}
 use Rattle.jam_writing.proofs.WritingLoops.{header_small}
 use Rattle.jam_base.proofs.DueRange.{marks_start, marks_stop}
 use Rattle.jam_base.proofs.MarkLoop.{mark_fits, marks_more}

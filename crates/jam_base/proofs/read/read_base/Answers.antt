@@ -1,10 +1,10 @@
 use Rattle.std.proofs.Common.{◌≡◌, inl, inr, Ok, sym, ap, subst, ◌∙◌}
-use Rattle.jam_layout.specs.Bare.{bare_of, filled}
-use Rattle.jam_layout.specs.Valid.{IsConference}
-use Rattle.jam_layout.specs.declared.bare.BareConference.{BareConference}
-use Rattle.jam_layout.specs.declared.conference.Conference.{Conference}
-use Rattle.jam_layout.proofs.BareLaws.{bare_filled}
-use Rattle.jam_layout.proofs.OutlineLaws.{conference_outline}
+use Rattle.jam_writing.specs.jam_layout.Bare.{bare_of, filled}
+use Rattle.jam_writing.specs.jam_layout.Valid.{IsConference}
+use Rattle.jam_writing.specs.jam_layout.declared.bare.BareConference.{BareConference}
+use Rattle.jam_writing.specs.jam_layout.declared.conference.Conference.{Conference}
+use Rattle.jam_writing.proofs.jam_layout.BareLaws.{bare_filled}
+use Rattle.jam_writing.proofs.jam_layout.OutlineLaws.{conference_outline}
 use Rattle.jam_base.specs.Contents.{Contents}
 use Rattle.jam_base.proofs.read.read_base.Goals as goal
 

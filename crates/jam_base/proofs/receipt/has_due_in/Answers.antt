@@ -1,6 +1,6 @@
 use Rattle.std.proofs.Common.{◌∙◌, ◌+◌, get_or, ap}
 use Rattle.jam_records.specs.declared.message.Slot.TheVariants.{Gone}
-use Rattle.shared_slots.proofs.BareSlots.{bare_is}
+use Rattle.jam_writing.proofs.shared_slots.BareSlots.{bare_is}
 use Rattle.jam_base.specs.Slots.{has_due}
 use Rattle.jam_base.proofs.BareLookups.{due_bare}
 use Rattle.jam_base.proofs.receipt.has_due_in.Goals as goal

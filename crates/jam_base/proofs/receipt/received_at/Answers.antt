@@ -3,12 +3,12 @@ use Rattle.std.specs.Prelude.{Option, unwrap_or}
 use Rattle.std.proofs.Math.ListN.{set}
 use Rattle.jam_records.specs.declared.message.Slot.{Slot}
 use Rattle.jam_records.specs.declared.message.Slot.TheVariants.{Gone}
-use Rattle.jam_layout.specs.Bodies.{body_size}
-use Rattle.jam_layout.specs.Outlines.{slot_bare}
-use Rattle.jam_layout.specs.Sizes.{slot_header}
-use Rattle.shared_slots.specs.Kept.{slot_as_long}
-use Rattle.shared_slots.proofs.BareSlots.{bare_is}
-use Rattle.shared_slots.proofs.KeptLaws.{header_bare, same_item}
+use Rattle.jam_writing.specs.jam_layout.Bodies.{body_size}
+use Rattle.jam_writing.specs.jam_layout.Outlines.{slot_bare}
+use Rattle.jam_writing.specs.jam_layout.Sizes.{slot_header}
+use Rattle.jam_writing.specs.shared_slots.Kept.{slot_as_long}
+use Rattle.jam_writing.proofs.shared_slots.BareSlots.{bare_is}
+use Rattle.jam_writing.proofs.shared_slots.KeptLaws.{header_bare, same_item}
 use Rattle.jam_base.specs.Slots.{slot_received}
 use Rattle.jam_base.proofs.BareLookups.{received_as_long, unreceived_bare}
 use Rattle.jam_base.proofs.ChangeClauses.{one_ok}

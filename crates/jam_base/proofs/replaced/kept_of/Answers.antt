@@ -2,9 +2,9 @@ use Rattle.std.proofs.Common.{◌≡◌, ◌+◌, ◌∷◌, [], ◌++◌, List,
 use Rattle.std.specs.Prelude.{sum_by}
 use Rattle.std.proofs.lemmas.List.{length-map, length-take-le, map-append, take_all, take_more}
 use Rattle.std.proofs.lemmas.List.Sums.{sum_by_more_le}
-use Rattle.jam_layout.specs.Bodies.{body_size}
-use Rattle.jam_layout.specs.Outlines.{slot_outline}
-use Rattle.jam_layout.specs.Sizes.{slot_header}
+use Rattle.jam_writing.specs.jam_layout.Bodies.{body_size}
+use Rattle.jam_writing.specs.jam_layout.Outlines.{slot_outline}
+use Rattle.jam_writing.specs.jam_layout.Sizes.{slot_header}
 use Rattle.jam_records.specs.declared.message.Slot.{Slot}
 use Rattle.jam_base.proofs.EndOutlines.{bodies_sum, headers_sum}
 use Rattle.jam_base.proofs.replaced.kept_of.Goals as goal

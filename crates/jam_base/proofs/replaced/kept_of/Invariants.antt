@@ -1,5 +1,5 @@
 use Rattle.std.proofs.Common.{◌≡◌, map, take}
-use Rattle.jam_layout.specs.Outlines.{slot_outline}
+use Rattle.jam_writing.specs.jam_layout.Outlines.{slot_outline}
 use Rattle.jam_base.proofs.replaced.kept_of.Given as goal
 
 -- the outlines of the slots so far

@@ -4,10 +4,10 @@ use Rattle.std.specs.Vec.Iter.{into_iter_items}
 use Rattle.jam_records.specs.declared.message.Message.{Message}
 use Rattle.jam_records.specs.declared.message.Slot.{Slot}
 use Rattle.jam_records.specs.declared.message.Slot.TheVariants.{Held}
-use Rattle.jam_layout.specs.Outlines.{message_outline}
-use Rattle.shared_slots.proofs.KeptLaws.{body_outline, header_outline}
-use Rattle.jam_layout.specs.Sizes.{slot_header}
-use Rattle.jam_layout.specs.Bodies.{body_size}
+use Rattle.jam_writing.specs.jam_layout.Outlines.{message_outline}
+use Rattle.jam_writing.proofs.shared_slots.KeptLaws.{body_outline, header_outline}
+use Rattle.jam_writing.specs.jam_layout.Sizes.{slot_header}
+use Rattle.jam_writing.specs.jam_layout.Bodies.{body_size}
 use Rattle.jam_base.specs.Slots.{slots_with_all}
 use Rattle.jam_base.proofs.BaseLaws.{next_fits}
 use Rattle.jam_base.proofs.SlotChanges.{length_all}

@@ -1,6 +1,6 @@
 use Rattle.std.proofs.Common.{◌≡◌, length, map}
 use Rattle.std.specs.Vec.Iter.{into_iter_items, into_iter_len}
-use Rattle.jam_layout.specs.Outlines.{message_outline}
+use Rattle.jam_writing.specs.jam_layout.Outlines.{message_outline}
 use Rattle.jam_base.specs.Slots.{slots_with_all}
 use Rattle.jam_base.proofs.slots.with_messages.Given as goal
 

@@ -1,5 +1,5 @@
 use Rattle.std.proofs.Common.{sym}
-use Rattle.jam_base.specs.Slots.{numbered}
+use Rattle.board_layout.specs.jam_base.Slots.{numbered}
 use Rattle.jam_pack.proofs.FetchedSlots.{deleted_held, deleted_none}
 use Rattle.jam_pack.proofs.counting.is_deleted.Goals as goal
 

@@ -1,6 +1,6 @@
 use Rattle.std.proofs.Common.{◌∙◌, Option, ap}
 use Rattle.std.specs.Option.{option_map_or}
-use Rattle.jam_base.specs.Contents.{Contents}
+use Rattle.board_layout.specs.jam_base.Contents.{Contents}
 use Rattle.slot_changes.specs.Packed.{deleted_count}
 use Rattle.jam_pack.proofs.counting.packed_count.Goals as goal
 

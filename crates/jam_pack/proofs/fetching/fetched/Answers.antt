@@ -3,7 +3,7 @@ use Rattle.std.specs.Prelude.{option_map, IfSome}
 use Rattle.board_layout.specs.Board.{Board}
 use Rattle.board_layout.specs.Lookups.{held_in, slots_in}
 use Rattle.board_layout.specs.Outlines.{HasBody}
-use Rattle.jam_base.specs.Slots.{numbered}
+use Rattle.board_layout.specs.jam_base.Slots.{numbered}
 use Rattle.jam_layout.specs.Outlines.{message_outline, slot_outline}
 use Rattle.jam_records.specs.declared.message.Message.{Message}
 use Rattle.jam_records.specs.declared.message.Slot.{Slot}

@@ -1,5 +1,5 @@
 use Rattle.std.proofs.Common.{ℕ, ◌+◌, ◌<◌, ◌^◌, List, length, drop, sym, subst, arith}
-use Rattle.jam_threads.specs.Links.{link_of}
+use Rattle.jam_layout.specs.jam_threads.Links.{link_of}
 use Rattle.jam_layout.specs.Headers.{headers_text}
 use Rattle.jam_layout.specs.Layout.{entries_of}
 use Rattle.jam_writing.proofs.WritingLoops.{HeadersSoFar, header_small, headers_from}

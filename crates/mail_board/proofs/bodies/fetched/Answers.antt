@@ -3,9 +3,9 @@ use Rattle.std.specs.Prelude.{option_map}
 use Rattle.board_layout.specs.Outlines.{HasBody}
 use Rattle.board_layout.specs.declared.error.ReadError.TheVariants.{Damaged}
 use Rattle.door_outside.specs.File.{jdt_file}
-use Rattle.jam_base.specs.Bodies.{body_begin}
-use Rattle.jam_base.specs.Contents.{Contents}
-use Rattle.jam_base.specs.Slots.{numbered}
+use Rattle.board_layout.specs.jam_base.Bodies.{body_begin}
+use Rattle.board_layout.specs.jam_base.Contents.{Contents}
+use Rattle.board_layout.specs.jam_base.Slots.{numbered}
 use Rattle.jam_layout.specs.Bodies.{message_with}
 use Rattle.jam_layout.specs.Messages.{IsBody}
 use Rattle.jam_layout.specs.Outlines.{message_outline}

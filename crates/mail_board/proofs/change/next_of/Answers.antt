@@ -1,7 +1,7 @@
 use Rattle.std.proofs.Common.{List, ℕ, subst}
 use Rattle.std.specs.Prelude.{IfOk}
-use Rattle.board_changes.specs.Change.{Becomes}
-use Rattle.board_changes.specs.Changed.{enrolled, new_user}
+use Rattle.post_changes.specs.board_changes.Change.{Becomes}
+use Rattle.post_changes.specs.board_changes.Changed.{enrolled, new_user}
 use Rattle.board_layout.specs.Board.{Board}
 use Rattle.mail_board.specs.Changes.{changed, Fits}
 use Rattle.mail_board.specs.declared.change.Change.{Change}

@@ -1,5 +1,5 @@
 use Rattle.std.proofs.Common.{sym, ap}
-use Rattle.jam_threads.specs.Children.{has_msgid}
+use Rattle.jam_layout.specs.jam_threads.Children.{has_msgid}
 use Rattle.mail_board.proofs.BodyLaws.{none_numbered}
 use Rattle.mail_board.proofs.readers.holds_msgid.Goals as goal
 

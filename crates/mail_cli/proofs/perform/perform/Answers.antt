@@ -2,7 +2,7 @@ use Rattle.std.proofs.Common.{Ok, refl}
 use Rattle.entry_runs.proofs.Commands.{serves}
 use Rattle.entry_runs.proofs.Entries.{performs_spoken}
 use Rattle.entry_runs.specs.Entry.{on_shelf}
-use Rattle.shelf_files.specs.Halts.{refused}
+use Rattle.board_commands.specs.shelf_files.Halts.{refused}
 use Rattle.door_commands.specs.Answers.{usage}
 use Rattle.board_commands.specs.State.{Stores}
 use Rattle.mail_cli.proofs.CommandBounds.{command_bound}

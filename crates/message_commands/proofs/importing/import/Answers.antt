@@ -13,8 +13,8 @@ use Rattle.door_outside.specs.Disk.{Unchanged}
 use Rattle.entry_runs.specs.Entry.{Works}
 use Rattle.entry_runs.specs.Promise.{Counts, HasCauses, counts, ended}
 use Rattle.entry_runs.specs.declared.status.Status.TheVariants as status
-use Rattle.mail_board.specs.Changes.{Fits}
-use Rattle.shelf_files.specs.declared.refusal.Refusal.TheVariants.{NoConference}
+use Rattle.board_commands.specs.mail_board.Changes.{Fits}
+use Rattle.board_commands.specs.shelf_files.declared.refusal.Refusal.TheVariants.{NoConference}
 use Rattle.message_commands.proofs.Exits.{refused_on, unmade_by}
 use Rattle.message_commands.proofs.ImportExits.{imported, no_sheet, unimported, unplaced, unprepared}
 use Rattle.message_commands.proofs.PlaceAlike.{place_alike}

@@ -2,7 +2,7 @@ use Rattle.std.proofs.Common.{◌≡◌, List, map, sym, ap, ◌∙◌}
 use Rattle.board_layout.specs.Board.{Board}
 use Rattle.jam_records.specs.declared.message.Kind.{Kind}
 use Rattle.jam_records.specs.declared.message.Message.{Message}
-use Rattle.mail_board.specs.declared.change.Change.TheVariants.{Append}
+use Rattle.board_commands.specs.mail_board.declared.change.Change.TheVariants.{Append}
 use Rattle.message_commands.proofs.ImportLaws.{appends, import_fits, import_short}
 use Rattle.message_commands.specs.Import.{imported_message, imported_messages}
 use Rattle.message_commands.proofs.importing.prepared.Goals as goal

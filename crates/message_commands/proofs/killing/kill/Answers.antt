@@ -9,8 +9,8 @@ use Rattle.board_commands.specs.declared.halt.BoardHalt.{BoardHalt}
 use Rattle.board_layout.specs.Board.{Board}
 use Rattle.door_outside.specs.Disk.{Unchanged}
 use Rattle.entry_runs.specs.Entry.{Works}
-use Rattle.mail_board.specs.declared.change.Change.{Change}
-use Rattle.shelf_files.specs.declared.refusal.Refusal.TheVariants.{NoConference, NoMessage}
+use Rattle.board_commands.specs.mail_board.declared.change.Change.{Change}
+use Rattle.board_commands.specs.shelf_files.declared.refusal.Refusal.TheVariants.{NoConference, NoMessage}
 use Rattle.message_commands.proofs.Exits.{changed_by, refused_on, unchanged_by, unmade_by}
 use Rattle.message_commands.proofs.KillLaws.{turn_killing, turn_missing, turn_unplaced}
 use Rattle.message_commands.specs.Kill.{kill_turn, killed_line, kills}

@@ -7,7 +7,7 @@ use Rattle.packet_verdicts.specs.Views.{msgid_at}
 use Rattle.post_changes.specs.Posted.{posts_in, spread}
 use Rattle.message_commands.proofs.LastSlots.{last_kept, last_posted}
 use Rattle.message_commands.specs.Sample.{last_msgid}
-use Rattle.slot_changes.specs.Msgids.{msgid_in}
+use Rattle.post_changes.specs.slot_changes.Msgids.{msgid_in}
 use Rattle.message_commands.proofs.last.last_msgid.Goals as goal
 
 pub returns-then-posted-eq0 : goal.returns-then-posted-eq0

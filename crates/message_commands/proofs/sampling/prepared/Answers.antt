@@ -2,7 +2,7 @@ use Rattle.std.proofs.Common.{◌≡◌, ◌^◌, ◌<◌, ℕ, length, map, Lis
 use Rattle.board_commands.specs.Enroll.{first_refusal}
 use Rattle.board_layout.specs.Board.{Board}
 use Rattle.jam_records.specs.declared.message.Message.{Message}
-use Rattle.mail_board.specs.declared.change.Change.TheVariants.{Spread}
+use Rattle.board_commands.specs.mail_board.declared.change.Change.TheVariants.{Spread}
 use Rattle.post_changes.specs.Posted.{ArePlaced, spread}
 use Rattle.message_commands.proofs.SampleFitLaws.{sample_fits, sample_short}
 use Rattle.message_commands.proofs.SampleLists.{are_placed, posts_count}

@@ -13,7 +13,7 @@ use Rattle.door_outside.specs.Disk.{Unchanged}
 use Rattle.entry_runs.specs.Entry.{Works}
 use Rattle.entry_runs.specs.Promise.{Counts, HasCauses, counts, ended}
 use Rattle.entry_runs.specs.declared.status.Status.TheVariants as status
-use Rattle.mail_board.specs.Changes.{Fits}
+use Rattle.board_commands.specs.mail_board.Changes.{Fits}
 use Rattle.message_commands.proofs.Exits.{unmade_by}
 use Rattle.message_commands.proofs.PostBounds.{sample_within}
 use Rattle.message_commands.proofs.SampleExits.{Turns, appended, unappended, unprepared}

@@ -1,7 +1,7 @@
 use Rattle.std.proofs.Common.{◌≡◌, ℕ, ◌+◌, ◌<◌, List, length, Some, refl, ◌∙◌, ap, arith}
-use Rattle.board_changes.specs.Changed.{base_at}
+use Rattle.post_changes.specs.board_changes.Changed.{base_at}
 use Rattle.board_layout.specs.Board.{Board}
-use Rattle.jam_base.specs.Contents.{Contents}
+use Rattle.board_layout.specs.jam_base.Contents.{Contents}
 use Rattle.packet_verdicts.proofs.Places.{few_slots, small_place}
 use Rattle.packet_verdicts.proofs.PostLists.{few_in}
 use Rattle.packet_verdicts.proofs.Spreading.{as_many}
@@ -11,7 +11,7 @@ use Rattle.message_commands.proofs.SamplingLaws.{count_there}
 use Rattle.message_commands.proofs.SlotCounts.{all_refuse, counts_length, first_past, none_past, refuse_more, slots_here}
 use Rattle.message_commands.specs.Sample.{slot_counts}
 use Rattle.message_commands.specs.declared.posts.Sampling.{Sampling}
-use Rattle.shelf_files.specs.declared.refusal.Refusal.TheVariants.{Slots}
+use Rattle.board_commands.specs.shelf_files.declared.refusal.Refusal.TheVariants.{Slots}
 use Rattle.message_commands.proofs.sampling.slots_refusal.Goals as goal
 
 pub loop-place-init : goal.loop-place-init

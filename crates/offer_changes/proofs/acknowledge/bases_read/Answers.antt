@@ -9,8 +9,8 @@ use Rattle.board_layout.specs.Renewed.{contents_of, renewed}
 use Rattle.board_layout.specs.Valid.{IsBoard}
 use Rattle.open_offers.specs.declared.offer.OpenOffer.{OpenOffer}
 use Rattle.board_ledger.specs.declared.user.User.{User}
-use Rattle.jam_base.specs.Contents.{Contents}
-use Rattle.jam_base.specs.declared.change.BaseChange.{BaseChange}
+use Rattle.board_layout.specs.jam_base.Contents.{Contents}
+use Rattle.board_layout.specs.jam_base.declared.change.BaseChange.{BaseChange}
 use Rattle.offer_changes.proofs.AcknowledgeLaws.{base_read, contents_count, highs_were}
 use Rattle.offer_changes.proofs.EachOffer.{read_gathers, read_joins}
 use Rattle.board_changes.proofs.StepLaws.{change_joins}

@@ -1,7 +1,7 @@
 use Rattle.std.proofs.Common.{length, ap, arith}
 use Rattle.std.proofs.lemmas.List.{length-map}
 use Rattle.board_layout.proofs.BoardLookups.{conferences_count}
-use Rattle.jam_base.specs.Contents.{Contents}
+use Rattle.board_layout.specs.jam_base.Contents.{Contents}
 use Rattle.offer_changes.proofs.fits.may_have.Goals as goal
 
 pub are_of_member-requires : goal.are_of_member-requires

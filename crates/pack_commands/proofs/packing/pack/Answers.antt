@@ -2,25 +2,25 @@ use Rattle.std.proofs.Common.{rules, ◌≡◌, ℕ, ◌<◌, length, inl, inr, 
 use Rattle.std.specs.Prelude.{Result}
 use Rattle.std.proofs.lemmas.Option.{none-some}
 use Rattle.std.proofs.lemmas.Result.{on_ok_weaker}
-use Rattle.board_commands.proofs.ChangeLaws.{stores_holds}
-use Rattle.board_commands.proofs.Exits.{unfound}
-use Rattle.board_commands.proofs.KeptLaws.{once_told}
-use Rattle.board_commands.proofs.LikeLaws.{real_stored, some_outlined}
-use Rattle.board_commands.specs.Halts.{told, halt_of_read}
-use Rattle.board_commands.specs.Kept.{AreSure, IsKept, kept_board, unread}
-use Rattle.board_commands.specs.State.{Stores, migrated}
-use Rattle.board_commands.specs.declared.halt.BoardHalt.{BoardHalt}
+use Rattle.message_commands.proofs.board_commands.ChangeLaws.{stores_holds}
+use Rattle.message_commands.proofs.board_commands.Exits.{unfound}
+use Rattle.message_commands.proofs.board_commands.KeptLaws.{once_told}
+use Rattle.message_commands.proofs.board_commands.LikeLaws.{real_stored, some_outlined}
+use Rattle.message_commands.specs.board_commands.Halts.{told, halt_of_read}
+use Rattle.message_commands.specs.board_commands.Kept.{AreSure, IsKept, kept_board, unread}
+use Rattle.message_commands.specs.board_commands.State.{Stores, migrated}
+use Rattle.message_commands.specs.board_commands.declared.halt.BoardHalt.{BoardHalt}
 use Rattle.board_layout.specs.Board.{Board}
 use Rattle.board_layout.specs.Lookups.{place_of}
 use Rattle.entry_runs.specs.Entry.{Works}
 use Rattle.entry_runs.specs.Promise.{HasCauses, counts, ended}
 use Rattle.jam_pack.specs.declared.error.PackError.TheVariants.{DiskFault}
-use Rattle.mail_board.specs.Causes.{HasFault}
-use Rattle.mail_board.specs.Held.{RestsOn}
-use Rattle.mail_board.specs.declared.loading.Loaded.{Loaded}
+use Rattle.jam_pack.specs.mail_board.Causes.{HasFault}
+use Rattle.jam_pack.specs.mail_board.Held.{RestsOn}
+use Rattle.jam_pack.specs.mail_board.declared.loading.Loaded.{Loaded}
 use Rattle.message_commands.proofs.Exits.{refused_on, unmade_by}
-use Rattle.shelf_files.specs.declared.refusal.Refusal.TheVariants.{NoConference}
-use Rattle.slot_changes.specs.Packed.{packed, packed_count}
+use Rattle.message_commands.specs.shelf_files.declared.refusal.Refusal.TheVariants.{NoConference}
+use Rattle.jam_pack.specs.slot_changes.Packed.{packed, packed_count}
 use Rattle.pack_commands.proofs.PackAlike.{turn_packing, turn_unplaced}
 use Rattle.pack_commands.proofs.PackExits.{counted, pack_causes, pack_kept, pack_sure, works}
 use Rattle.pack_commands.specs.Pack.{pack_turn, packed_line, packs}

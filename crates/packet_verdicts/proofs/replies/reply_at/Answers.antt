@@ -8,7 +8,7 @@ use Rattle.packet_verdicts.proofs.Places.{small_place}
 use Rattle.packet_verdicts.proofs.ReplyLaws.{reply_draft, reply_kept, reply_none}
 use Rattle.post_changes.specs.Posted.{posts_in, spread}
 use Rattle.packet_verdicts.specs.Views.{reply_at, user_with}
-use Rattle.slot_changes.specs.Msgids.{msgid_in}
+use Rattle.post_changes.specs.slot_changes.Msgids.{msgid_in}
 use Rattle.packet_verdicts.proofs.replies.reply_at.Goals as goal
 
 pub returns-then-number-kept : goal.returns-then-number-kept

@@ -1,7 +1,7 @@
 use Rattle.std.proofs.Common.{◌≡◌, length, arith, sym, ap, ◌∙◌}
 use Rattle.std.specs.Option.{option_map_or}
 use Rattle.board_layout.proofs.BoardLookups.{conferences_count}
-use Rattle.slot_changes.specs.Msgids.{generated, msgid_in}
+use Rattle.post_changes.specs.slot_changes.Msgids.{generated, msgid_in}
 use Rattle.packet_verdicts.proofs.Validity.{short_id}
 use Rattle.packet_verdicts.proofs.views.msgid_len.Goals as goal
 

@@ -1,12 +1,12 @@
 use Rattle.std.proofs.Common.{ℕ, List, arith}
 use Rattle.std.proofs.lemmas.Bool.{leb-true, le-leb}
 use Rattle.board_layout.specs.Board.{Board}
-use Rattle.jam_base.specs.Contents.{Contents}
-use Rattle.jam_layout.specs.Limits.{slot_limit}
+use Rattle.board_layout.specs.jam_base.Contents.{Contents}
+use Rattle.board_layout.specs.jam_layout.Limits.{slot_limit}
 use Rattle.jam_records.specs.declared.message.Message.{Message}
 use Rattle.post_changes.proofs.FitLaws.{held_in, in_held, place_fits, place_may}
 use Rattle.post_changes.proofs.PlacePosts.{count_posts, place_there, posted_few}
-use Rattle.setup_file.specs.declared.conference.Conference.{Conference}
+use Rattle.board_ledger.specs.setup_file.declared.conference.Conference.{Conference}
 use Rattle.post_changes.proofs.fits.fits_place.Goals as goal
 
 pub conference_of-requires : goal.conference_of-requires

@@ -2,11 +2,11 @@ use Rattle.std.proofs.Common.{◌≡◌, true≢false, ℕ, ◌+◌, List, [], d
 use Rattle.std.specs.Prelude.{All}
 use Rattle.std.proofs.lemmas.List.{drop_all}
 use Rattle.std.proofs.lemmas.List.Elements.{All-nil}
-use Rattle.board_changes.proofs.MemberLaws.{place_small}
+use Rattle.slot_changes.proofs.board_changes.MemberLaws.{place_small}
 use Rattle.board_layout.proofs.BasePlaces.{IsBase}
 use Rattle.board_layout.specs.Board.{Board}
 use Rattle.board_layout.specs.Renewed.{contents_of}
-use Rattle.jam_base.specs.Contents.{Contents}
+use Rattle.board_layout.specs.jam_base.Contents.{Contents}
 use Rattle.jam_records.specs.declared.message.Message.{Message}
 use Rattle.post_changes.proofs.FitLaws.{all_first, all_more}
 use Rattle.post_changes.proofs.PlacePosts.{base_here, bases_left}

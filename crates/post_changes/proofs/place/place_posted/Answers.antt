@@ -2,11 +2,11 @@ use Rattle.std.proofs.Common.{◌≡◌, ◌≢◌, ◌+◌, List, [], length, r
 use Rattle.std.specs.Prelude.{All}
 use Rattle.std.proofs.lemmas.Bool.{eqb-false, eqb-true}
 use Rattle.std.proofs.lemmas.List.{nil_from_length}
-use Rattle.board_changes.proofs.BaseOutlines.{own_base}
+use Rattle.slot_changes.proofs.board_changes.BaseOutlines.{own_base}
 use Rattle.board_layout.specs.Board.{Board}
-use Rattle.jam_base.specs.Contents.{Contents}
-use Rattle.jam_base.specs.Outlined.{outlined}
-use Rattle.jam_layout.specs.Messages.{IsMessage}
+use Rattle.board_layout.specs.jam_base.Contents.{Contents}
+use Rattle.board_layout.specs.jam_base.Outlined.{outlined}
+use Rattle.board_layout.specs.jam_layout.Messages.{IsMessage}
 use Rattle.jam_records.specs.declared.message.Message.{Message}
 use Rattle.post_changes.proofs.EachPost.{nothing_each, posted_each}
 use Rattle.post_changes.proofs.PlacePosts.{none_posted, place_there, posted_few, posted_messages, some_posted}

@@ -1,8 +1,8 @@
 use Rattle.std.proofs.Common.{Option, refl}
 use Rattle.std.proofs.lemmas.Result.{on_ok_weaker}
-use Rattle.board_changes.specs.declared.change.BoardChange.{BoardChange}
+use Rattle.slot_changes.specs.board_changes.declared.change.BoardChange.{BoardChange}
 use Rattle.board_layout.specs.Board.{Board}
-use Rattle.jam_base.specs.declared.change.BaseChange.{BaseChange}
+use Rattle.board_layout.specs.jam_base.declared.change.BaseChange.{BaseChange}
 use Rattle.post_changes.proofs.PostLaws.{posted_there}
 use Rattle.post_changes.proofs.PostSteps.{post_joins, post_more}
 use Rattle.post_changes.specs.Posting.{next_ledger}

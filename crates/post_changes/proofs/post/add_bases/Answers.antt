@@ -1,9 +1,9 @@
 use Rattle.std.proofs.Common.{◌∙◌, Option, length, subst, arith}
 use Rattle.std.specs.Prelude.{unwrap_or}
-use Rattle.board_changes.proofs.MemberLaws.{place_small}
-use Rattle.board_changes.specs.Change.{Becomes}
-use Rattle.board_changes.specs.Outlined.{LeadsEach}
-use Rattle.board_changes.specs.Spending.{Spends}
+use Rattle.slot_changes.proofs.board_changes.MemberLaws.{place_small}
+use Rattle.slot_changes.specs.board_changes.Change.{Becomes}
+use Rattle.slot_changes.specs.board_changes.Outlined.{LeadsEach}
+use Rattle.slot_changes.specs.board_changes.Spending.{Spends}
 use Rattle.board_layout.specs.Board.{Board}
 use Rattle.board_layout.specs.Outlines.{board_outline}
 use Rattle.board_ledger.specs.declared.ledger.Ledger.{Ledger}

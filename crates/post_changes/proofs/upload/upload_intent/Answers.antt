@@ -1,5 +1,5 @@
 use Rattle.std.proofs.Common.{[], sym, subst}
-use Rattle.board_changes.specs.Gathered.{Joins}
+use Rattle.slot_changes.specs.board_changes.Gathered.{Joins}
 use Rattle.post_changes.proofs.UploadLaws.{upload_joins}
 use Rattle.post_changes.proofs.upload.upload_intent.Goals as goal
 

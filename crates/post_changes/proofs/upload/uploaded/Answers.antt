@@ -1,9 +1,9 @@
 use Rattle.std.proofs.Common.{◌≡◌, ℕ, List, length, sym, ap, ◌∙◌, subst, arith}
 use Rattle.std.specs.Prelude.{IfOk}
-use Rattle.board_changes.specs.Change.{Becomes}
-use Rattle.board_changes.specs.Outlined.{GatheredEach, LeadsEach}
-use Rattle.board_changes.specs.Spending.{Spends}
-use Rattle.board_changes.specs.declared.change.BoardChange.{BoardChange}
+use Rattle.slot_changes.specs.board_changes.Change.{Becomes}
+use Rattle.slot_changes.specs.board_changes.Outlined.{GatheredEach, LeadsEach}
+use Rattle.slot_changes.specs.board_changes.Spending.{Spends}
+use Rattle.slot_changes.specs.board_changes.declared.change.BoardChange.{BoardChange}
 use Rattle.board_layout.specs.Board.{Board, shapes_of}
 use Rattle.board_layout.specs.Outlines.{board_outline}
 use Rattle.board_layout.specs.Valid.{IsBoard}
@@ -14,7 +14,7 @@ use Rattle.board_ledger.specs.declared.ledger.Ledger.{Ledger}
 use Rattle.board_ledger.specs.declared.upload.UploadRecord.{UploadRecord}
 use Rattle.board_ledger.proofs.UploadPutLaws.{last_digest, upload_bytes}
 use Rattle.intent_journal.specs.Patches.{byte_count}
-use Rattle.jam_base.proofs.ChangeClauses.{one_ok}
+use Rattle.board_layout.proofs.jam_base.ChangeClauses.{one_ok}
 use Rattle.jam_records.specs.declared.message.Message.{Message}
 use Rattle.post_changes.proofs.EachUpload.{upload_begun, upload_leads}
 use Rattle.post_changes.proofs.PostSteps.{spent_begun}

@@ -10,10 +10,10 @@ use Rattle.board_layout.proofs.OutlineLaws.{outline_valid}
 use Rattle.board_layout.specs.Board.{Board}
 use Rattle.board_layout.specs.Outlines.{board_outline}
 use Rattle.board_layout.specs.Valid.{IsBoard}
-use Rattle.jam_base.proofs.ChangeClauses.{one_ok}
-use Rattle.jam_base.specs.Contents.{Contents, with_messages}
-use Rattle.jam_base.specs.Outlined.{outlined}
-use Rattle.jam_base.specs.declared.change.BaseChange.{BaseChange}
+use Rattle.board_layout.proofs.jam_base.ChangeClauses.{one_ok}
+use Rattle.board_layout.specs.jam_base.Contents.{Contents, with_messages}
+use Rattle.board_layout.specs.jam_base.Outlined.{outlined}
+use Rattle.board_layout.specs.jam_base.declared.change.BaseChange.{BaseChange}
 use Rattle.jam_layout.specs.Messages.{IsMessage}
 use Rattle.jam_records.specs.declared.message.Message.{Message}
 use Rattle.slot_changes.proofs.AppendLaws.{appended_few, appended_messages, appended_spends, appended_there, changes, copies_are}

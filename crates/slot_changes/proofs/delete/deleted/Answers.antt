@@ -3,11 +3,11 @@ use Rattle.std.specs.Prelude.{IsSomeAnd}
 use Rattle.board_changes.specs.Changed.{base_at}
 use Rattle.board_changes.specs.Outlined.{KeepsEach, LeadsEach, MadeBy, with_changed}
 use Rattle.board_changes.specs.declared.change.BoardChange.{BoardChange}
-use Rattle.intent_journal.specs.Patches.{byte_count}
-use Rattle.intent_journal.specs.declared.patch.Patch.{Patch}
-use Rattle.jam_base.proofs.ChangeClauses.{one_ok}
-use Rattle.jam_base.specs.Contents.{Contents}
-use Rattle.jam_base.specs.declared.change.BaseChange.{BaseChange}
+use Rattle.board_ledger.specs.intent_journal.Patches.{byte_count}
+use Rattle.board_ledger.specs.intent_journal.declared.patch.Patch.{Patch}
+use Rattle.board_layout.proofs.jam_base.ChangeClauses.{one_ok}
+use Rattle.board_layout.specs.jam_base.Contents.{Contents}
+use Rattle.board_layout.specs.jam_base.declared.change.BaseChange.{BaseChange}
 use Rattle.board_layout.specs.Board.{Board}
 use Rattle.slot_changes.proofs.DeleteLaws.{place_there}
 use Rattle.slot_changes.proofs.EachSlots.{deleted_keeps, deleted_made}

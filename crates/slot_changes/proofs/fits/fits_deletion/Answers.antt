@@ -2,8 +2,8 @@ use Rattle.std.proofs.Common.{◌≡◌, true, length, sym, ap, ◌∙◌, subst
 use Rattle.std.specs.Prelude.{IsSomeAnd, Option}
 use Rattle.std.proofs.lemmas.Bool.{lt-ltb, ltb-true}
 use Rattle.std.proofs.lemmas.List.{length-map}
-use Rattle.jam_base.specs.Contents.{Contents}
-use Rattle.jam_base.specs.Slots.{has_live}
+use Rattle.board_layout.specs.jam_base.Contents.{Contents}
+use Rattle.board_layout.specs.jam_base.Slots.{has_live}
 use Rattle.slot_changes.proofs.DeleteLaws.{deleted_board, place_there}
 use Rattle.slot_changes.proofs.fits.fits_deletion.Goals as goal
 

@@ -1,6 +1,6 @@
 use Rattle.std.proofs.Common.{sym, ap, ◌∙◌}
 use Rattle.std.specs.Option.{option_copied}
-use Rattle.jam_base.proofs.BareLookups.{looked_live, looked_none}
+use Rattle.board_layout.proofs.jam_base.BareLookups.{looked_live, looked_none}
 use Rattle.slot_changes.proofs.fits.has_message.Goals as goal
 
 pub returns-in-Some : goal.returns-in-Some

@@ -9,10 +9,10 @@ use Rattle.board_layout.proofs.OutlineLaws.{base_again, outline_valid}
 use Rattle.board_layout.specs.Board.{Board}
 use Rattle.board_layout.specs.Outlines.{board_outline}
 use Rattle.board_layout.specs.Valid.{IsBoard}
-use Rattle.jam_base.proofs.ChangeClauses.{one_ok}
-use Rattle.jam_base.specs.Contents.{Contents, with_slots}
-use Rattle.jam_base.specs.Outlined.{outlined}
-use Rattle.jam_base.specs.declared.change.BaseChange.{BaseChange}
+use Rattle.board_layout.proofs.jam_base.ChangeClauses.{one_ok}
+use Rattle.board_layout.specs.jam_base.Contents.{Contents, with_slots}
+use Rattle.board_layout.specs.jam_base.Outlined.{outlined}
+use Rattle.board_layout.specs.jam_base.declared.change.BaseChange.{BaseChange}
 use Rattle.jam_records.specs.declared.message.Slot.{Slot}
 use Rattle.slot_changes.proofs.ReplaceLaws.{many_there, replaced_changes, replaced_keeps, replaced_made, replaced_there, slots_fit, slots_place}
 use Rattle.slot_changes.specs.Packed.{replaced}

@@ -3,7 +3,7 @@ use Rattle.std.specs.Prelude.{sum_by}
 use Rattle.std.proofs.lemmas.List.{drop_all}
 use Rattle.board_layout.specs.Board.{Board}
 use Rattle.board_layout.specs.Layout.{board_size}
-use Rattle.jam_base.specs.Contents.{Contents}
+use Rattle.board_layout.specs.jam_base.Contents.{Contents}
 use Rattle.jam_records.specs.declared.message.Message.{Message}
 use Rattle.slot_changes.proofs.AppendLaws.{appended_size, copies_are}
 use Rattle.slot_changes.proofs.SlotBytes.{message_size}

@@ -2,7 +2,7 @@ use Rattle.std.proofs.Common.{◌≡◌, true≢false, length, sym, ap, ◌∙�
 use Rattle.std.specs.Prelude.{All}
 use Rattle.std.proofs.lemmas.Bool.{leb-true, le-leb}
 use Rattle.board_layout.specs.Valid.{board_limit}
-use Rattle.jam_base.specs.Contents.{Contents}
+use Rattle.board_layout.specs.jam_base.Contents.{Contents}
 use Rattle.jam_layout.specs.Messages.{IsSlot}
 use Rattle.jam_records.specs.declared.message.Kind.{Kind}
 use Rattle.slot_changes.proofs.PlaceKinds.{kind_at}

@@ -3,7 +3,7 @@ use Rattle.std.specs.Prelude.{sum_by}
 use Rattle.std.proofs.lemmas.List.{drop_all, drop_more}
 use Rattle.board_layout.specs.Board.{Board}
 use Rattle.board_layout.specs.Layout.{board_size}
-use Rattle.jam_base.specs.Contents.{Contents}
+use Rattle.board_layout.specs.jam_base.Contents.{Contents}
 use Rattle.jam_layout.specs.Sizes.{slot_size}
 use Rattle.jam_records.specs.declared.message.Slot.{Slot}
 use Rattle.slot_changes.proofs.ReplaceLaws.{base_within, slots_place}

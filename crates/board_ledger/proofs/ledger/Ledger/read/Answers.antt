@@ -1,8 +1,8 @@
 use Rattle.std.proofs.Common.{◌≡◌, ◌∙◌, ap, arith}
 use Rattle.std.specs.Prelude.{All}
-use Rattle.byte_lists.specs.Byte.{IsByte}
+use Rattle.jam_records.specs.byte_lists.Byte.{IsByte}
 use Rattle.damage_rules.proofs.ReadingClauses.{if_read, is_damage, only_damage, only_ok}
-use Rattle.record_numbers.proofs.NumberLemmas.{all_bytes}
+use Rattle.jam_records.proofs.record_numbers.NumberLemmas.{all_bytes}
 use Rattle.board_ledger.specs.Ledger.{stored_text, ledger_of}
 use Rattle.board_ledger.specs.Valid.{IsStored}
 use Rattle.board_ledger.specs.declared.ledger.Ledger.{Ledger}

@@ -1,6 +1,6 @@
 use Rattle.std.proofs.Common.{◌≡◌, ◌∙◌, ℕ, true, false, Option, Some, List, [], ◌∷◌, ◌++◌, length, sym, ap, arith}
 use Rattle.std.specs.Prelude.{unwrap_or, IfOk}
-use Rattle.jam_layout.specs.declared.shape.Shape.{Shape}
+use Rattle.jam_writing.specs.jam_layout.declared.shape.Shape.{Shape}
 use Rattle.jam_base.specs.Contents.{Contents, pointer_of, reader_place, receipt_to, with_acknowledged, with_pointer}
 use Rattle.intent_journal.specs.declared.patch.Patch.{Patch}
 use Rattle.jam_base.specs.MarkPuts.{pointer_patch, receive_puts}

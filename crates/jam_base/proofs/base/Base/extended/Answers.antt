@@ -5,11 +5,11 @@ use Rattle.std.proofs.lemmas.List.{length-map}
 use Rattle.jam_records.specs.declared.message.Message.{Message}
 use Rattle.jam_records.specs.declared.message.Slot.{Slot}
 use Rattle.jam_threads.specs.Threading.{AreThreads}
-use Rattle.jam_layout.specs.Layout.{layout}
-use Rattle.jam_layout.specs.Outlines.{message_outline}
-use Rattle.jam_layout.specs.Sizes.{slot_header}
-use Rattle.jam_layout.specs.Valid.{IsConference}
-use Rattle.jam_layout.proofs.OutlineLaws.{conference_outline}
+use Rattle.jam_writing.specs.jam_layout.Layout.{layout}
+use Rattle.jam_writing.specs.jam_layout.Outlines.{message_outline}
+use Rattle.jam_writing.specs.jam_layout.Sizes.{slot_header}
+use Rattle.jam_writing.specs.jam_layout.Valid.{IsConference}
+use Rattle.jam_writing.proofs.jam_layout.OutlineLaws.{conference_outline}
 use Rattle.jam_writing.specs.Pieces.{body_size}
 use Rattle.jam_writing.proofs.PieceLaws.{headers_small, bodies_small}
 use Rattle.jam_base.specs.Bodies.{Lengthens}

@@ -1,6 +1,6 @@
 use Rattle.std.proofs.Common.{◌≡◌, ◌∙◌, [], sym, ap, replicate}
-use Rattle.jam_layout.specs.Bare.{filled, filled_slots}
-use Rattle.jam_layout.specs.Layout.{layout}
+use Rattle.jam_writing.specs.jam_layout.Bare.{filled, filled_slots}
+use Rattle.jam_writing.specs.jam_layout.Layout.{layout}
 use Rattle.jam_base.specs.Contents.{Contents, no_slots}
 use Rattle.jam_base.proofs.ReaderLaws.{fresh_base}
 use Rattle.jam_base.proofs.ChangeClauses.{fresh_changes, fresh_suits}

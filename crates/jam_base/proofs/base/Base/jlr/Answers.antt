@@ -1,7 +1,7 @@
 use Rattle.std.proofs.Common.{◌≡◌, ◌∙◌, ℕ, List, ap}
-use Rattle.jam_layout.specs.Layout.{layout}
-use Rattle.jam_layout.specs.Readers.{last_reads}
-use Rattle.jam_layout.specs.declared.shape.Shape.{Shape}
+use Rattle.jam_writing.specs.jam_layout.Layout.{layout}
+use Rattle.jam_writing.specs.jam_layout.Readers.{last_reads}
+use Rattle.jam_writing.specs.jam_layout.declared.shape.Shape.{Shape}
 use Rattle.jam_base.specs.Contents.{Contents}
 use Rattle.jam_base.proofs.ChangeClauses.{one_ok}
 use Rattle.jam_base.proofs.base.Base.jlr.Goals as goal

@@ -1,7 +1,7 @@
 use Rattle.std.proofs.Common.{sym, subst, arith}
-use Rattle.jam_layout.specs.Valid.{Rise}
-use Rattle.jam_layout.specs.declared.shape.Shape.{Shape}
-use Rattle.jam_layout.proofs.SlotSizes.{few_readers}
+use Rattle.jam_writing.specs.jam_layout.Valid.{Rise}
+use Rattle.jam_writing.specs.jam_layout.declared.shape.Shape.{Shape}
+use Rattle.jam_writing.proofs.jam_layout.SlotSizes.{few_readers}
 use Rattle.jam_base.proofs.base.Base.jlr_size.Goals as goal
 
 pub overflow_mul-result : goal.overflow_mul-result

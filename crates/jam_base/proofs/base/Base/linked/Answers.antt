@@ -1,9 +1,9 @@
 use Rattle.std.proofs.Common.{◌≡◌, ◌∙◌, ◌<◌, ◌^◌, ℕ, List, refl, sym, ap, subst, arith}
 use Rattle.std.specs.Prelude.{sum_by}
-use Rattle.jam_layout.specs.Bare.{filled, filled_slots}
-use Rattle.jam_layout.specs.Bodies.{body_size}
+use Rattle.jam_writing.specs.jam_layout.Bare.{filled, filled_slots}
+use Rattle.jam_writing.specs.jam_layout.Bodies.{body_size}
 use Rattle.jam_writing.proofs.PieceLaws.{headers_small, bodies_small}
-use Rattle.shared_slots.proofs.KeptLaws.{filled_length, headers_filled}
+use Rattle.jam_writing.proofs.shared_slots.KeptLaws.{filled_length, headers_filled}
 use Rattle.jam_base.proofs.BaseLaws.{made_of}
 use Rattle.jam_base.proofs.EndOutlines.{filled_threads}
 use Rattle.jam_base.proofs.base.Base.linked.Goals as goal

@@ -1,6 +1,6 @@
 use Rattle.std.proofs.Common.{◌≡◌, ◌∙◌, sym, ap, Some, List, ◌∷◌, [], ◌++◌}
 use Rattle.intent_journal.specs.declared.patch.Patch.{Patch}
-use Rattle.jam_layout.specs.declared.shape.Shape.{Shape}
+use Rattle.jam_writing.specs.jam_layout.declared.shape.Shape.{Shape}
 use Rattle.jam_base.specs.Contents.{Contents, with_pointer, reader_place}
 use Rattle.jam_base.specs.MarkPuts.{pointer_patch}
 use Rattle.jam_base.specs.declared.change.BaseChange.{BaseChange}

@@ -1,6 +1,6 @@
 use Rattle.std.proofs.Common.{◌≡◌, ◌∙◌, true, false, List, refl, sym, ap, arith}
 use Rattle.jam_records.specs.declared.message.Slot.{Slot}
-use Rattle.jam_layout.specs.Layout.{layout}
+use Rattle.jam_writing.specs.jam_layout.Layout.{layout}
 use Rattle.jam_base.specs.Contents.{Contents, with_slots}
 use Rattle.jam_base.specs.Slots.{any_due, slots_received}
 use Rattle.jam_base.specs.declared.receipt.Receipt.{Receipt}

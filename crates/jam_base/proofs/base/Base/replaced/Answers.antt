@@ -1,10 +1,10 @@
 use Rattle.std.proofs.Common.{◌≡◌, List, length, map, sym, ap, ◌∙◌, subst, arith}
 use Rattle.std.specs.Prelude.{sum_by}
-use Rattle.jam_layout.specs.Bodies.{body_size}
-use Rattle.jam_layout.specs.Layout.{layout}
-use Rattle.jam_layout.specs.Outlines.{slot_outline}
-use Rattle.jam_layout.specs.Sizes.{slot_header}
-use Rattle.jam_layout.specs.Valid.{IsConference}
+use Rattle.jam_writing.specs.jam_layout.Bodies.{body_size}
+use Rattle.jam_writing.specs.jam_layout.Layout.{layout}
+use Rattle.jam_writing.specs.jam_layout.Outlines.{slot_outline}
+use Rattle.jam_writing.specs.jam_layout.Sizes.{slot_header}
+use Rattle.jam_writing.specs.jam_layout.Valid.{IsConference}
 use Rattle.jam_records.specs.declared.message.Slot.{Slot}
 use Rattle.jam_threads.specs.Threading.{AreThreads}
 use Rattle.jam_base.proofs.EndOutlines.{outlined_threads}

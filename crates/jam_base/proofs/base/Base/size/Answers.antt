@@ -2,9 +2,9 @@ use Rattle.std.proofs.Common.{◌≡◌, ◌∙◌, ◌≤◌, length, take, ap,
 use Rattle.std.specs.Prelude.{sum_by}
 use Rattle.std.proofs.lemmas.List.{take_all}
 use Rattle.jam_records.specs.declared.message.Slot.{Slot}
-use Rattle.jam_layout.specs.Sizes.{slot_header}
-use Rattle.jam_layout.specs.Valid.{IsConference}
-use Rattle.jam_layout.specs.Bodies.{body_size}
+use Rattle.jam_writing.specs.jam_layout.Sizes.{slot_header}
+use Rattle.jam_writing.specs.jam_layout.Valid.{IsConference}
+use Rattle.jam_writing.specs.jam_layout.Bodies.{body_size}
 use Rattle.jam_base.specs.Contents.{Contents}
 use Rattle.jam_base.proofs.BaseLaws.{size_apart}
 use Rattle.jam_base.proofs.base.Base.size.Goals as goal

@@ -1,5 +1,5 @@
 use Rattle.std.proofs.Common.{◌≡◌, subst}
-use Rattle.jam_layout.specs.Valid.{IsConference}
+use Rattle.jam_writing.specs.jam_layout.Valid.{IsConference}
 use Rattle.jam_base.specs.Contents.{Contents}
 use Rattle.jam_base.specs.Outlined.{outlined}
 use Rattle.jam_base.proofs.OutlineChanges.{own_outline}

@@ -1,5 +1,5 @@
 use Rattle.std.proofs.Common.{ℕ, Ok, Result, refl, ◌∙◌}
-use Rattle.jam_layout.specs.Layout.{layout}
+use Rattle.jam_writing.specs.jam_layout.Layout.{layout}
 use Rattle.jam_base.specs.Contents.{Contents}
 use Rattle.jam_base.specs.declared.change.BaseChange.{BaseChange}
 use Rattle.jam_base.proofs.ChangeClauses.{no_change_lengthens}

@@ -1,6 +1,6 @@
 use Rattle.std.proofs.Common.{◌≡◌, ◌∙◌, ℕ, length, sym, ap, subst, arith}
 use Rattle.std.proofs.Math.ListN.{set}
-use Rattle.jam_layout.specs.Valid.{IsShape, IsConference}
+use Rattle.jam_writing.specs.jam_layout.Valid.{IsShape, IsConference}
 use Rattle.jam_base.specs.Contents.{Contents}
 use Rattle.jam_base.proofs.ChangeClauses.{one_ok}
 use Rattle.jam_base.proofs.ReadingLaws.{moved_is, pointer_at}

@@ -1,5 +1,5 @@
 use Rattle.std.proofs.Common.{◌≡◌, ◌∙◌, ℕ, List, ap, [], ◌∷◌, ◌++◌}
-use Rattle.jam_layout.specs.declared.shape.Shape.{Shape}
+use Rattle.jam_writing.specs.jam_layout.declared.shape.Shape.{Shape}
 use Rattle.jam_base.specs.Contents.{Contents, with_reader}
 use Rattle.jam_base.proofs.ReaderLaws.{joined_made, shape_more}
 use Rattle.jam_base.proofs.ChangeClauses.{one_ok}

@@ -1,5 +1,5 @@
 use Rattle.std.proofs.Common.{refl, sym, subst}
-use Rattle.jam_layout.specs.Valid.{IsConference}
+use Rattle.jam_writing.specs.jam_layout.Valid.{IsConference}
 use Rattle.jam_base.specs.Contents.{Contents}
 use Rattle.jam_base.proofs.BaseLaws.{made_of}
 use Rattle.jam_base.proofs.base.Base.with_readers.Goals as goal

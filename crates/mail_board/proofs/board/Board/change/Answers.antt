@@ -4,7 +4,7 @@ use Rattle.board_layout.specs.Board.{Board}
 use Rattle.board_layout.specs.Layout.{IsLayout}
 use Rattle.board_layout.specs.Outlines.{board_outline}
 use Rattle.board_layout.specs.Valid.{IsBoard}
-use Rattle.board_changes.proofs.NextLaws.{next_is, next_board, next_shapes}
+use Rattle.post_changes.proofs.board_changes.NextLaws.{next_is, next_board, next_shapes}
 use Rattle.mail_board.specs.Changes.{changed, Fits}
 use Rattle.mail_board.specs.Held.{HeldBoard}
 use Rattle.mail_board.specs.Written.{PutsFew}

@@ -3,7 +3,7 @@ use Rattle.std.specs.List.{list_any}
 use Rattle.std.specs.Option.{option_map_or}
 use Rattle.jam_layout.specs.declared.conference.Conference.{Conference}
 use Rattle.jam_records.specs.declared.message.Slot.{Slot}
-use Rattle.jam_threads.specs.Children.{has_msgid}
+use Rattle.jam_layout.specs.jam_threads.Children.{has_msgid}
 use Rattle.mail_board.proofs.MsgidTests.{any_all, any_here, none_next}
 use Rattle.mail_board.proofs.board.Board.has_msgid.Goals as goal
 

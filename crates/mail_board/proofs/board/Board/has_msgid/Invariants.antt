@@ -1,6 +1,6 @@
 use Rattle.std.proofs.Common.{◌≡◌, false, take}
 use Rattle.std.specs.List.{list_any}
-use Rattle.jam_threads.specs.Children.{has_msgid}
+use Rattle.jam_layout.specs.jam_threads.Children.{has_msgid}
 use Rattle.mail_board.proofs.board.Board.has_msgid.Given as goal
 
 -- no slot so far holds a message with the msgid

@@ -1,4 +1,4 @@
-use Rattle.board_changes.specs.Changed.{made}
+use Rattle.post_changes.specs.board_changes.Changed.{made}
 use Rattle.board_layout.specs.Layout.{AreEmpty}
 use Rattle.mail_board.proofs.CommitLaws.{calm_now, commit_moments, commit_now, commit_rests}
 use Rattle.mail_board.proofs.DataLaws.{empty_moves}

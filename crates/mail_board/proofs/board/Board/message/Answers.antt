@@ -1,11 +1,11 @@
 use Rattle.std.proofs.Common.{rules, ◌≡◌, ◌≤◌, length, Some, None, Err, sym, ap, ◌∙◌, subst}
 use Rattle.std.specs.Prelude.{option_map}
-use Rattle.board_changes.specs.Changed.{base_at}
+use Rattle.post_changes.specs.board_changes.Changed.{base_at}
 use Rattle.board_layout.specs.Board.{Board}
 use Rattle.board_layout.specs.Valid.{IsBoard}
 use Rattle.board_layout.specs.declared.error.ReadError.TheVariants.{Damaged}
-use Rattle.jam_base.specs.Contents.{Contents}
-use Rattle.jam_base.specs.Slots.{numbered}
+use Rattle.board_layout.specs.jam_base.Contents.{Contents}
+use Rattle.board_layout.specs.jam_base.Slots.{numbered}
 use Rattle.jam_layout.specs.Outlines.{message_outline}
 use Rattle.jam_records.specs.declared.message.Message.{Message}
 use Rattle.mail_board.proofs.BodyLaws.{none_whole, same_error}

@@ -1,11 +1,11 @@
 use Rattle.std.proofs.Common.{◌≡◌, sym, ap, ◌∙◌, subst}
-use Rattle.board_changes.proofs.NextLaws.{next_is, next_board, next_shapes}
+use Rattle.post_changes.proofs.board_changes.NextLaws.{next_is, next_board, next_shapes}
 use Rattle.board_layout.proofs.OutlineLaws.{outline_again, outline_valid}
 use Rattle.board_layout.specs.Board.{Board}
 use Rattle.board_layout.specs.Layout.{IsLayout}
 use Rattle.board_layout.specs.Outlines.{board_outline}
 use Rattle.board_layout.specs.Valid.{IsBoard}
-use Rattle.slot_changes.specs.Packed.{FitsSlots, replaced}
+use Rattle.post_changes.specs.slot_changes.Packed.{FitsSlots, replaced}
 use Rattle.mail_board.proofs.CommitLaws.{calm_now, commit_moments, commit_now, commit_rests}
 use Rattle.mail_board.proofs.DataLaws.{layout_moves}
 use Rattle.mail_board.proofs.OneHost.{holds_one}

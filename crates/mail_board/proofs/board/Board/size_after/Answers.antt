@@ -7,7 +7,7 @@ use Rattle.mail_board.specs.Held.{HeldBoard}
 use Rattle.mail_board.specs.declared.change.Change.{Change}
 use Rattle.offer_changes.proofs.AcknowledgeLaws.{acknowledged_size}
 use Rattle.offer_changes.proofs.OfferLaws.{offered_size}
-use Rattle.slot_changes.proofs.DeleteLaws.{deleted_size}
+use Rattle.post_changes.proofs.slot_changes.DeleteLaws.{deleted_size}
 use Rattle.mail_board.proofs.board.Board.size_after.Goals as goal
 
 pub returns-in-Kill : goal.returns-in-Kill

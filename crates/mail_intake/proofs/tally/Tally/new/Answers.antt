@@ -1,5 +1,5 @@
 use Rattle.std.proofs.Common.{List, ◌∙◌, arith}
-use Rattle.jam_base.specs.Contents.{Contents}
+use Rattle.board_layout.specs.jam_base.Contents.{Contents}
 use Rattle.mail_intake.proofs.TallyLaws.{counts_whole, no_tally, slot_counts}
 use Rattle.mail_intake.proofs.tally.Tally.new.Goals as goal
 

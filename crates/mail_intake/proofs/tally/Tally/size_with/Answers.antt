@@ -4,7 +4,7 @@ use Rattle.jam_records.specs.declared.message.Message.{Message}
 use Rattle.mail_intake.proofs.TallyLaws.{count_there, msgid_is, size_more}
 use Rattle.packet_verdicts.specs.Views.{next_number}
 use Rattle.post_changes.specs.Posted.{spread}
-use Rattle.slot_changes.specs.Msgids.{msgid_in}
+use Rattle.post_changes.specs.slot_changes.Msgids.{msgid_in}
 use Rattle.mail_intake.proofs.tally.Tally.size_with.Goals as goal
 
 pub returns-clause-size : goal.returns-clause-size

@@ -5,9 +5,9 @@ use Rattle.jam_records.specs.declared.message.Message.{Message}
 use Rattle.mail_intake.proofs.TallyLaws.{count_there}
 use Rattle.board_layout.specs.Lookups.{slots_in}
 use Rattle.board_layout.proofs.BoardLookups.{few_in_place}
-use Rattle.packet_verdicts.specs.Views.{next_number}
+use Rattle.message_commands.specs.packet_verdicts.Views.{next_number}
 use Rattle.post_changes.specs.Posted.{spread}
-use Rattle.slot_changes.specs.Msgids.{msgid_in}
+use Rattle.post_changes.specs.slot_changes.Msgids.{msgid_in}
 use Rattle.toss_commands.proofs.StepLaws.{other_is, own_is}
 use Rattle.toss_commands.proofs.tossed.Tossed.see.Goals as goal
 
