@@ -1,5 +1,5 @@
 #!/bin/sh
-# Times `list` on a packet of about 41 MB beside `cat` and `sha256sum` of the same file, in one run, and shows
+# Times `list` and `scan` on a packet of about 41 MB beside `cat` and `sha256sum` of the same file, in one run, and shows
 # the peak of memory. It is no part of the gate. usage: bench/list.sh [RUNS]
 
 runs=${1:-3}
@@ -46,6 +46,10 @@ list() {
     "$top/bin/qwkdoor" "$work/data" "$work/shelf" list BIG
 }
 
+scan() {
+    "$top/bin/qwkdoor" "$work/data" "$work/shelf" scan BIG
+}
+
 "$top/bin/qwkdoor" --build || exit 1
 make_packet
 printf 'packet: %s bytes\n' "$(wc -c <"$big")"
@@ -54,9 +58,11 @@ list >"$work/reply" || fail "list failed with status $?"
 printf 'reply: %s lines, %s bytes\n' "$(wc -l <"$work/reply")" "$(wc -c <"$work/reply")"
 tail -n 1 "$work/reply"
 
+[ "$(scan)" = '163839 messages' ] || fail 'the packet is not scanned as it should be'
 listing=$(best list) || exit 1
+scanning=$(best scan) || exit 1
 copying=$(best cat "$big") || exit 1
-printf 'list: %s s, the best of %s\ncat: %s s\nlist / cat: %s\n' "$listing" "$runs" "$copying" \
+printf 'list: %s s, the best of %s\nscan: %s s\ncat: %s s\nlist / cat: %s\n' "$listing" "$runs" "$scanning" "$copying" \
     "$(awk -v a="$listing" -v b="$copying" 'BEGIN { printf "%.1f", a / b }')"
 hashing=-
 if command -v sha256sum >/dev/null; then
@@ -65,6 +71,7 @@ if command -v sha256sum >/dev/null; then
         "$(awk -v a="$listing" -v b="$hashing" 'BEGIN { printf "%.1f", a / b }')"
 fi
 row 'list of a packet of 41.9 MB' "$listing" "$copying" "$hashing"
+row 'scan of a packet of 41.9 MB' "$scanning" "$copying" "$hashing"
 if [ -x /usr/bin/time ] && /usr/bin/time -f %M true 2>/dev/null; then
     peak=$(/usr/bin/time -f %M "$top/bin/qwkdoor" "$work/data" "$work/shelf" list BIG 2>&1 >/dev/null)
     printf 'peak of memory: %s KiB\n' "$peak"
