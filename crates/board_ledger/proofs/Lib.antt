@@ -8,6 +8,7 @@ pub mod OpeningTests
 pub mod UploadTests
 pub mod SizeLaws
 pub mod MetLoops
+pub mod ApartLaws
 pub mod ReadingSteps
 pub mod UploadLaws
 pub mod ConferenceLaws

@@ -1,3 +1,4 @@
+pub mod Apart
 pub mod Limits
 pub mod Rules
 pub mod Met

@@ -2,6 +2,7 @@
 //! named.
 #![tactic(auto)]
 
+mod apart;
 mod conferences;
 mod damaged;
 mod enroll_puts;

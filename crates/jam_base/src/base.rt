@@ -34,8 +34,8 @@ use intent_journal::{FileId, Patch, Patches};
 use jam_records::{Bytes, Duplicate, List, Message, Messages, Slot, Slots};
 use jam_threads::{Shared, SharedList, Threads};
 use jam_writing::{
-    BareConference, Conference, Reader, SLOT_LIMIT, Shape, SharedSlots, write_bodies, write_first,
-    write_jlr, write_last_headers, write_last_records, write_reader,
+    BareConference, Conference, Reader, SLOT_LIMIT, Shape, SharedSlots, ThreadedConference,
+    write_bodies, write_first, write_jlr, write_last_headers, write_last_records, write_reader,
 };
 use std::alloc::{AllocError, Global};
 use std::marker::Model;
@@ -66,18 +66,18 @@ impl Model for Base {
 }
 
 impl Base {
-    /// The base of this shape and of this conference, which has no bodies, but their lengths.
+    /// The base of this shape and of this conference, which has no bodies, but their lengths. Its threads are kept.
     pub(crate) fn linked(
         alloc: Global,
         shape: &Shape,
-        bare: BareConference,
+        bare: ThreadedConference,
     ) -> Result<Base, AllocError>
         requires shape { IsShape shape.now }
         requires conference { IsConference shape.now (filled bare) }
         ensures { IfOk result (λ base. base ≡ record { shape = shape.now; conference = filled bare }) }
     {
+        let (bare, threads) = bare.into_parts();
         let conference = bare.conference;
-        let threads = Threads::of(alloc, &conference.slots)?;
         let slots = SharedSlots::from_bare(alloc, conference.slots, bare.lengths.as_slice())?;
         let pointers = SharedList::from_list(alloc, conference.pointers)?;
         Ok(Base {
@@ -358,7 +358,7 @@ impl Base {
             conference,
             lengths: List::new(alloc),
         };
-        let base = Base::linked(alloc, shape, bare)?;
+        let base = Base::linked(alloc, shape, ThreadedConference::new(alloc, bare)?)?;
         BaseChange::of_files(alloc, base, files)
     }
 

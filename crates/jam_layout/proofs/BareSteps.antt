@@ -1,7 +1,8 @@
 -- The steps of `bare_in`: what is read without copying a body, and what it answers where a step fails.
-use Rattle.std.proofs.Common.{◌≡◌, ℕ, ◌+◌, ◌^◌, ◌≤◌, ◌<◌, List, [], ◌∷◌, length, drop, map, Result, Ok, refl, sym, ap, ◌∙◌, subst, arith}
+use Rattle.std.proofs.Common.{◌≡◌, ℕ, zero, suc, ◌+◌, ◌-◌, ◌^◌, ◌≤◌, ◌<◌, List, [], ◌∷◌, ◌++◌, length, length-append, replicate, drop, map, Result, Ok, refl, sym, ap, ◌∙◌, subst, arith}
 use Rattle.std.specs.Prelude.{All}
-use Rattle.std.proofs.lemmas.List.{length-drop, length-map}
+use Rattle.std.proofs.Math.ListN.{length-replicate}
+use Rattle.std.proofs.lemmas.List.{length-drop, length-map, map-append}
 use Rattle.std.proofs.lemmas.List.Elements.{All-drop}
 use Rattle.jam_records.specs.byte_lists.Byte.{IsByte}
 use Rattle.jam_records.specs.record_numbers.Numbers.{u32_at}
@@ -9,6 +10,8 @@ use Rattle.jam_records.specs.declared.damage.Damage.{Damage}
 use Rattle.jam_records.specs.declared.message.Slot.{Slot}
 use Rattle.jam_records.specs.declared.message.Slot.TheVariants.{Gone, Held}
 use Rattle.jam_threads.specs.Links.{link_of}
+use Rattle.jam_threads.specs.Threading.{AreThreads}
+use Rattle.jam_threads.specs.declared.threads.Threads.{Threads}
 use Rattle.jam_threads.specs.declared.link.Link.{Link}
 use Rattle.damage_rules.specs.Rules.{◌>>=◌}
 use Rattle.damage_rules.proofs.KeptRules.{step_fails}
@@ -29,7 +32,7 @@ use Rattle.jam_layout.specs.declared.shape.Shape.{Shape}
 use Rattle.jam_layout.proofs.BareIndex.{index_bare}
 use Rattle.jam_layout.proofs.BodyLaws.{bare, BodiesFit, bodies_take}
 use Rattle.jam_layout.proofs.ConferenceLayout.{jhr_take, second_take, jdx_take}
-use Rattle.jam_layout.proofs.LinkLaws.{LinksFit}
+use Rattle.jam_layout.proofs.LinkLaws.{LinksFit, slots_back, slots_bare}
 use Rattle.jam_layout.proofs.MappedReads.{mapped, mapped_ok, stops_before}
 use Rattle.jam_layout.proofs.ReadingSteps.{base_at, headers_at, second_at, counter_fails, headers_fail, second_fails, bodies_fail, slots_fail, pointers_fail, all_read}
 use Rattle.jam_layout.proofs.SlotLaws.{bodiless_of, linked_of}
@@ -53,12 +56,40 @@ texts_read shape files hs found fits small headers texts =
     let bodies = bodies_take shape.place 1 hs files.jdt one.0 (bodiless_of shape.kind start hs all.1) one.1 in
     record { entries = one.0; read = one.1; bared = bodies.1; fit = bodies.2; known = one.2 }
 
+-- ---- the slots of the headers, and slots without a message behind them
+pub record Spread (hs : List Entry) (bares : List Slot) : Type 0 where
+  pub more : ℕ
+  pub is : bares ≡ slots_of 1 hs ++ replicate more Gone
+
+bare_gone : (k : ℕ) → map slot_bare (replicate k Gone) ≡ replicate k Gone
+bare_gone zero = refl
+bare_gone (suc k) = ap (λ (xs : List Slot). Gone ∷ xs) (bare_gone k)
+
+spread_of : (links : ℕ → Link) (es : List Entry) (slots bares : List Slot) → entries_of links 1 slots ≡ es → map slot_bare slots ≡ bares → Spread (map bare es) bares
+spread_of links es slots bares entries bared =
+    let back = slots_back links 1 slots in
+    record {
+      more = back.0;
+      is = sym bared
+          ∙ (ap (map slot_bare) (back.1 ∙ ap (λ (xs : List Entry). slots_of 1 xs ++ replicate back.0 Gone) entries)
+          ∙ (map-append slot_bare (slots_of 1 es) (replicate back.0 Gone)
+          ∙ (ap (λ (xs : List Slot). map slot_bare (slots_of 1 es) ++ xs) (bare_gone back.0)
+          ∙ ap (λ (xs : List Slot). xs ++ replicate back.0 Gone) (sym (slots_bare 1 es)))));
+    }
+
+-- threads of the slots of the headers, with as many slots behind them as there are
+pub spread_threads : (hs : List Entry) (bares : List Slot) (count : ℕ) (threads : Threads) → count ≡ length bares → Spread hs bares → AreThreads (slots_of 1 hs ++ replicate (count - length (slots_of 1 hs)) Gone) threads → AreThreads bares threads
+spread_threads hs bares count threads is spread are =
+    let len : count - length (slots_of 1 hs) ≡ spread.more = omega (arith, is, ap length spread.is, length-append (slots_of 1 hs) (replicate spread.more Gone), length-replicate {A = Slot} spread.more Gone) in
+    subst (λ (xs : List Slot). AreThreads xs threads) (ap (λ n. slots_of 1 hs ++ replicate n Gone) len ∙ sym spread.is) are
+
 pub record IndexRead (shape : Shape) (files : BaseFiles) (es : List Entry) (found : List ℕ) (bares : List Slot) : Type 0 where
   pub slots : List Slot
   pub read : slots_at shape.place 1024 es files.jdx ≡ Ok slots
   pub bared : map slot_bare slots ≡ bares
   pub few : length bares ≤ slot_limit
   pub known : body_lengths slots ≡ found
+  pub spread : Spread (map bare es) bares
 
 lengths_in : (links : ℕ → Link) (n : ℕ) (slots : List Slot) → body_lengths slots ≡ lengths (entries_of links n slots)
 lengths_in links n [] = refl
@@ -85,6 +116,7 @@ index_read shape files hs found bares u texts ints second index =
       bared = one.2;
       few = omega (arith, most, length-map one.0 slot_bare, ap length one.2);
       known = lengths_in links 1 one.0 ∙ (ap lengths taken.1 ∙ texts.known);
+      spread = spread_of links es one.0 bares taken.1 one.2;
     }
 
 -- ---- a step that fails

@@ -25,6 +25,7 @@ pub mod HeaderFrontTests
 pub mod HeaderTests
 pub mod IndexTests
 pub mod SecondPassLoops
+pub mod ThreadLoop
 pub mod NumberedLaws
 pub mod AddressLaws
 pub mod SizeLaws

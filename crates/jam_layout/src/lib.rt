@@ -22,7 +22,7 @@ mod shape;
 mod sizes;
 mod types;
 
-pub use bare::BareConference;
+pub use bare::{BareConference, ThreadedConference};
 pub use conference::{Conference, SLOT_LIMIT};
 pub use error::BaseError;
 pub use files::BaseFiles;

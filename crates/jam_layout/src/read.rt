@@ -11,7 +11,7 @@ ghost use Rattle.jam_layout.specs.Bare.{bare_of, bare_in as bare_read, IsBareOf}
 ghost use Rattle.jam_layout.specs.Layout.{wrong_base as base_wrong, base_rules, layout, base_damage};
 ghost use Rattle.jam_layout.specs.Valid.{IsShape, ShapeFits, BaseFilesFit, IsConference};
 
-use crate::bare::BareConference;
+use crate::bare::{BareConference, ThreadedConference};
 use crate::bodies::lengths_of;
 use crate::conference::Conference;
 use crate::error::BaseError;
@@ -69,7 +69,7 @@ fn counter_of(shape: &Shape, bytes: &[u8]) -> Result<u32, BaseError>
 }
 
 /// The conference of the files without its bodies, or the first rule that they break.
-fn bare_in(alloc: Global, files: &BaseFiles, shape: &Shape) -> Result<BareConference, BaseError>
+fn bare_in(alloc: Global, files: &BaseFiles, shape: &Shape) -> Result<ThreadedConference, BaseError>
     requires place { shape.now.place < 64 }
     requires jhr { length files.now.jhr < 2 ^ 31 }
     requires jdt { length files.now.jdt < 2 ^ 31 }
@@ -83,7 +83,7 @@ fn bare_in(alloc: Global, files: &BaseFiles, shape: &Shape) -> Result<BareConfer
     let headers = files.jhr.as_slice();
     let counter = counter_of(shape, headers)?;
     let entries = entries_of(alloc, shape.place, shape.kind, &headers[BASE_HEADER..])?;
-    check(alloc, shape.place, u32_at(headers, 12), entries.as_slice())?;
+    let mut threads = check(alloc, shape.place, u32_at(headers, 12), entries.as_slice())?;
     let lengths = lengths_of(alloc, shape.place, entries.as_slice(), files.jdt.as_slice())?;
     let slots = slots_in(alloc, shape.place, entries, files.jdx.as_slice())?;
     let count = slots.len() as u32;
@@ -93,14 +93,16 @@ fn bare_in(alloc: Global, files: &BaseFiles, shape: &Shape) -> Result<BareConfer
         slots,
         pointers,
     };
-    Ok(BareConference {
+    threads.fill(count as usize)?;
+    let bare = BareConference {
         conference,
         lengths,
-    })
+    };
+    Ok(ThreadedConference::with_threads(bare, threads))
 }
 
 /// The conference whose layout the files are (JAM message base proposal, revision 1), without the bodies of its
-/// messages: they are tested, but not copied. Each file has fewer than 2^31 bytes, the shape's place is at most 63,
+/// messages: they are tested, but not copied; and the threads of its slots. Each file has fewer than 2^31 bytes, the shape's place is at most 63,
 /// and the ids of its readers rise.
 ///
 /// `Damaged` comes where the files are the layout of no conference of that shape, with the first rule that
@@ -109,7 +111,7 @@ pub fn read_bare(
     alloc: Global,
     files: &BaseFiles,
     shape: &Shape,
-) -> Result<BareConference, BaseError>
+) -> Result<ThreadedConference, BaseError>
     requires shape { IsShape shape.now }
     requires jhr { length files.now.jhr < 2 ^ 31 }
     requires jdt { length files.now.jdt < 2 ^ 31 }

@@ -4,4 +4,5 @@ pub mod FirstNumbers
 pub mod IdNumbers
 pub mod LinkChanges
 pub mod Links
+pub mod Mix
 pub mod Threading

@@ -1,14 +1,43 @@
 ghost use Rattle.std.specs.Prelude.{◌≡◌, ℕ, List, ◌==◌, ◌&&◌, if◌then◌else◌, IfOk, OnOk};
+ghost use Rattle.std.specs.BTreeMap.{get};
+ghost use Rattle.std.specs.Ordering.{nat_cmp};
 ghost use Rattle.std.specs.Str.{bytes_eq};
-ghost use Rattle.jam_threads.specs.IdNumbers.{mapped_number};
+ghost use Rattle.jam_threads.specs.Mix.{mix_of};
+ghost use Rattle.jam_threads.specs.IdNumbers.{mapped_number, number_here};
 
 use std::alloc::{AllocError, Global};
 use std::collections::BTreeMap;
 
-/// The number of the first message of each id, as a map.
+/// What a mix is multiplied by for each byte: an odd number, so that no two mixes become one.
+const FACTOR: u64 = 0x0000_0100_0000_01b3;
+
+/// A number that differs for most ids.
+#[tactic(auto, unfolding(crate::specs::Mix::mix_of))]
+fn mixed(id: &[u8]) -> u64
+    ensures { result ≡ mix_of id.now }
+{
+    let mut mix = 0u64;
+    for byte in id {
+        mix = mix.wrapping_mul(FACTOR) ^ u64::from(*byte);
+    }
+    mix
+}
+
+/// An id, and the number of its first message.
+#[derive(Debug, Clone, Drop)]
+pub(crate) struct MixedId {
+    id: Vec<u8>,
+    number: u32,
+}
+
+/// The number of the first message of each id, as a map. Ids share long fronts, so that most are found by their mixes:
+/// a look-up compares numbers, and one id. That takes no more steps where many ids have one mix.
 #[derive(Debug, Drop)]
 pub(crate) struct IdNumbers {
-    numbers: BTreeMap<Vec<u8>, u32>,
+    /// The first id of each mix.
+    firsts: BTreeMap<u64, MixedId>,
+    /// The ids whose mix another had before.
+    others: BTreeMap<Vec<u8>, u32>,
 }
 
 impl IdNumbers {
@@ -18,7 +47,24 @@ impl IdNumbers {
         ensures { (id : List ℕ) → mapped_number result id ≡ 0 }
     {
         IdNumbers {
-            numbers: BTreeMap::new(alloc),
+            firsts: BTreeMap::new(alloc),
+            others: BTreeMap::new(alloc),
+        }
+    }
+
+    /// The number of the first message of an id among the first ids of their mixes, or 0.
+    fn first_number(&self, id: &[u8]) -> u32
+        ensures { result ≡ number_here id.now (get nat_cmp self.now.firsts (mix_of id.now)) }
+    {
+        match self.firsts.get(&mixed(id)) {
+            None => 0,
+            Some(first) => {
+                if first.id.as_slice() == id {
+                    first.number
+                } else {
+                    0
+                }
+            }
         }
     }
 
@@ -27,28 +73,51 @@ impl IdNumbers {
     pub(crate) fn number(&self, id: &[u8]) -> u32
         ensures { result ≡ mapped_number self.now id.now }
     {
-        self.numbers.get(id).copied().unwrap_or(0)
+        let number = self.others.get(id).copied().unwrap_or(0);
+        if number != 0 {
+            return number;
+        }
+        self.first_number(id)
     }
 
-    /// Puts the number of an id, and answers the one before, or 0.
+    /// Puts the number of an id whose mix another id has.
     #[tactic(auto, unfolding(crate::specs::IdNumbers::mapped_number))]
-    fn put(&mut self, alloc: Global, id: &[u8], number: u32) -> Result<u32, AllocError>
-        ensures before { IfOk result (λ before. before ≡ mapped_number self.old id.now) }
-        ensures updates { OnOk result ((other : List ℕ) → mapped_number self.new other ≡ (if bytes_eq id.now other then number else mapped_number self.old other)) }
+    fn put_other(&mut self, alloc: Global, id: &[u8], number: u32) -> Result<(), AllocError>
+        requires { mapped_number self.old id.now ≡ 0 }
+        ensures { OnOk result ((other : List ℕ) → mapped_number self.new other ≡ (if bytes_eq id.now other then number else mapped_number self.old other)) }
     {
         let key = Vec::from_slice(alloc, id)?;
-        Ok(self.numbers.insert(key, number)?.unwrap_or(0))
+        self.others.insert(key, number)?;
+        Ok(())
+    }
+
+    /// Puts the number of an id where no id has its mix yet, and answers whether it did.
+    #[tactic(auto, unfolding(crate::specs::IdNumbers::mapped_number))]
+    fn put_first(&mut self, alloc: Global, id: &[u8], number: u32) -> Result<bool, AllocError>
+        ensures { IfOk result (λ put. (other : List ℕ) → mapped_number self.new other ≡ (if put && (mapped_number self.old other == 0 && bytes_eq id.now other) then number else mapped_number self.old other)) }
+    {
+        let mix = mixed(id);
+        let first = MixedId {
+            id: Vec::from_slice(alloc, id)?,
+            number,
+        };
+        match self.firsts.insert(mix, first)? {
+            None => Ok(true),
+            Some(before) => {
+                self.firsts.insert(mix, before)?;
+                Ok(false)
+            }
+        }
     }
 
     /// Adds a message behind the others. Most ids are new, so that one is put before it is known whether it was there.
     pub(crate) fn add(&mut self, alloc: Global, id: &[u8], number: u32) -> Result<(), AllocError>
         ensures { OnOk result ((other : List ℕ) → mapped_number self.new other ≡ (if mapped_number self.old other == 0 && bytes_eq id.now other then number else mapped_number self.old other)) }
     {
-        let before = self.put(alloc, id, number)?;
-        if before != 0 {
-            self.put(alloc, id, before)?;
+        if self.put_first(alloc, id, number)? || self.number(id) != 0 {
+            return Ok(());
         }
-        Ok(())
+        self.put_other(alloc, id, number)
     }
 
     /// The same numbers.
@@ -56,7 +125,8 @@ impl IdNumbers {
         ensures { IfOk result (λ copy. (id : List ℕ) → mapped_number copy id ≡ mapped_number self.now id) }
     {
         Ok(IdNumbers {
-            numbers: self.numbers.clone()?,
+            firsts: self.firsts.clone()?,
+            others: self.others.clone()?,
         })
     }
 }

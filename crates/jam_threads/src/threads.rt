@@ -1,7 +1,7 @@
-ghost use Rattle.std.specs.Prelude.{◌≡◌, ℕ, suc, ◌+◌, ◌-◌, ◌≤◌, ◌<◌, ◌^◌, List, [], ◌∷◌, ◌++◌, length, slice_get, slice_index, slice_index_or, slice_set, IfOk, OnOk, Some};
+ghost use Rattle.std.specs.Prelude.{◌≡◌, ℕ, suc, ◌+◌, ◌-◌, ◌≤◌, ◌<◌, ◌^◌, List, [], ◌∷◌, ◌++◌, length, replicate, slice_get, slice_index, slice_index_or, slice_set, IfOk, OnOk, Some};
 ghost use Rattle.jam_records.specs.declared.message.Message.{Message};
 ghost use Rattle.jam_records.specs.declared.message.Slot.{Slot};
-ghost use Rattle.jam_records.specs.declared.message.Slot.TheVariants.{Held};
+ghost use Rattle.jam_records.specs.declared.message.Slot.TheVariants.{Gone, Held};
 ghost use Rattle.jam_threads.specs.Children.{original_behind, slot_original, original as original_in};
 ghost use Rattle.jam_threads.specs.LinkChanges.{change_by, link_change};
 ghost use Rattle.jam_threads.specs.Links.{link_of};
@@ -142,6 +142,21 @@ impl Threads {
             }
             Slot::Held(message) => self.add(message.msgid.as_slice(), message.replyid.as_slice()),
         }
+    }
+
+    /// Adds slots at the end that hold no message, up to this many.
+    ///
+    /// The error comes where there is no memory. They are of no use then.
+    pub fn fill(&mut self, count: usize) -> Result<(), AllocError>
+        requires slots { AreOfSlots self.old }
+        requires few { count + 1 < 2 ^ 32 }
+        ensures { OnOk result ((slots : List Slot) → AreThreads slots self.old → AreThreads (slots ++ replicate (count - length slots) Gone) self.new) }
+    {
+        let missing = count.saturating_sub(self.links.len());
+        for _ in 0..missing {
+            self.add_slot(&Slot::Gone)?;
+        }
+        Ok(())
     }
 
     /// The original of a message that is added next and answers this id: the smallest number of a message of

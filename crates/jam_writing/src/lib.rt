@@ -16,7 +16,7 @@ pub use files::write_first;
 pub use header::add_header;
 pub use jam_layout::{
     BareConference, BaseError, BaseFiles, Conference, Marks, Reader, Readers, SLOT_LIMIT, Shape,
-    laws, read_bare, typed,
+    ThreadedConference, laws, read_bare, typed,
 };
 pub use jlr::{write_jlr, write_reader};
 pub use last::{write_last_headers, write_last_records};

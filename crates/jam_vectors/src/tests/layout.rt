@@ -6,7 +6,7 @@ use super::conference::{are_short, general, line_of};
 use super::patched::{file_of, no_files, set};
 use super::texts::{Subject, bytes_of, expect, number_of, parted};
 use byte_lists::Bytes;
-use jam_layout::{BareConference, BaseError, BaseFiles, Reader, Readers, Shape, read_bare};
+use jam_layout::{BaseError, BaseFiles, Reader, Readers, Shape, ThreadedConference, read_bare};
 use jam_records::{Kind, Slot};
 use std::alloc::{AllocError, Global};
 use std::test::Fail;
@@ -139,9 +139,10 @@ fn change(alloc: Global, files: &mut BaseFiles, number: &str, change: &str) -> R
 }
 
 /// The counts, the pointers and the lengths of a conference, or its first damage.
-fn told(alloc: Global, read: &Result<BareConference, BaseError>) -> Result<String, AllocError> {
+fn told(alloc: Global, read: &Result<ThreadedConference, BaseError>) -> Result<String, AllocError> {
     match read {
-        Ok(bare) => {
+        Ok(threaded) => {
+            let bare = threaded.bare();
             let conference = &bare.conference;
             let (slots, live) = (conference.slots.len(), conference.live_count());
             let (counter, pointers) = (conference.counter, conference.pointers.as_slice());
@@ -159,13 +160,13 @@ fn told(alloc: Global, read: &Result<BareConference, BaseError>) -> Result<Strin
 /// The message in a place of a conference, or without one what is told of it.
 fn found_in(
     alloc: Global,
-    read: &Result<BareConference, BaseError>,
+    read: &Result<ThreadedConference, BaseError>,
     place: Option<usize>,
 ) -> Result<String, Fail> {
-    let (Ok(bare), Some(place)) = (read, place) else {
+    let (Ok(threaded), Some(place)) = (read, place) else {
         return Ok(told(alloc, read)?);
     };
-    match bare.conference.slots.get(place) {
+    match threaded.bare().conference.slots.get(place) {
         Some(Slot::Held(message)) => Ok(line_of(alloc, message)?),
         _ => Ok(String::from_str(alloc, "none")?),
     }

@@ -6,7 +6,7 @@ use Rattle.board_ledger.specs.Met.{is_met}
 use Rattle.board_ledger.specs.Records.{records_at}
 use Rattle.board_ledger.specs.Uploads.{upload_at}
 use Rattle.board_ledger.proofs.UploadTests.{pair_of}
-use Rattle.board_ledger.proofs.uploads.uploads_of.Given as goal
+use Rattle.board_ledger.proofs.uploads.met_uploads.Given as goal
 
 -- the upload records so far, and those that are still read, are those of the bytes, and the pairs so far were met
 abbrev pub invariant-loop : goal.invariant-loop

@@ -1,17 +1,18 @@
-use Rattle.std.proofs.Common.{◌+◌, ◌-◌, ◌^◌, ◌<◌, ◌||◌, List, length, subst, sym, ap, ◌∙◌, arith}
+use Rattle.std.proofs.Common.{◌≡◌, ◌+◌, ◌-◌, false, List, length, subst, sym, ap, ◌∙◌, arith}
 use Rattle.std.proofs.lemmas.List.{take_rest, length_push}
 use Rattle.std.proofs.lemmas.Result.{err_from_is_err_and}
 use Rattle.board_ledger.specs.Rules.{damage_of_ledger}
 use Rattle.damage_rules.specs.Rules.{Stops}
-use Rattle.std.specs.List.{list_any}
-use Rattle.std.specs.Str.{bytes_eq}
-use Rattle.std.proofs.lemmas.List.Elements.{All-push}
-use Rattle.board_ledger.specs.Uploads.{upload_at, upload_size}
+use Rattle.board_ledger.specs.Uploads.{is_repeated, upload_at, upload_in_record, upload_size}
 use Rattle.board_ledger.specs.declared.upload.UploadRecord.{UploadRecord}
-use Rattle.board_ledger.proofs.MetLoops.{met_more}
-use Rattle.board_ledger.proofs.UploadTests.{pair_of}
+use Rattle.board_ledger.proofs.ApartLaws.{apart_more, none_repeated}
 use Rattle.board_ledger.proofs.RecordLaws.{records_more, records_fail, records_done}
-use Rattle.board_ledger.proofs.uploads.uploads_of.Goals as goal
+use Rattle.board_ledger.proofs.uploads.apart_uploads.Goals as goal
+
+pub new_upload_of-requires-clause-new : goal.new_upload_of-requires-clause-new
+new_upload_of-requires-clause-new c = λ long.
+    subst (λ (xs : List UploadRecord). is_repeated xs (upload_in_record c.loop.rest.now) ≡ false) (sym c.as_slice.ensures)
+    (none_repeated c.loop.uploads (c.args.count - c.loop.counter) (c.args.count - (c.loop.counter + 1)) c.loop.rest.now (omega arith) c.loop.invariant.apart long)
 
 pub returns-in_err-upload : goal.returns-in_err-upload
 returns-in_err-upload c =
@@ -25,10 +26,7 @@ loop-preserved c =
     record {
       read = records_more (upload_at c.args.first c.args.users) (c.args.count - c.loop.counter) (c.args.count - (c.loop.counter + 1)) c.loop.uploads c.add.new.self c.loop.rest.now _ (c.in_ok-upload.upload, upload_size) _ (omega arith) read c.in_ok-add.ensures.ok (take_rest c.loop.rest.now upload_size) c.loop.invariant.read;
       many = ap length c.in_ok-add.ensures.ok ∙ (length_push c.loop.uploads c.in_ok-upload.upload ∙ ap (λ n. n + 1) c.loop.invariant.many);
-      fit = rw c.in_ok-add.ensures.ok (All-push (λ (e : UploadRecord). e.user < 2 ^ 16) _ _ c.loop.invariant.fit c.in_ok-upload.ensures.fits);
-      met = λ key.
-          c.in_ok-upload.ensures.added key ∙ (ap (λ b. bytes_eq (pair_of c.in_ok-upload.upload) key || b) (c.loop.invariant.met key)
-          ∙ (met_more (λ (e : UploadRecord). bytes_eq (pair_of e) key) c.loop.uploads c.in_ok-upload.upload ∙ ap (list_any (λ (e : UploadRecord). bytes_eq (pair_of e) key)) (sym c.in_ok-add.ensures.ok)));
+      apart = apart_more c.loop.uploads c.add.new.self c.in_ok-upload.upload (c.args.count - c.loop.counter) (c.args.count - (c.loop.counter + 1)) c.loop.rest.now _ (omega arith) c.in_ok-upload.ensures.size c.in_ok-upload.ensures.read c.in_ok-add.ensures.ok (take_rest c.loop.rest.now upload_size) c.loop.invariant.apart;
     }
 
 pub returns : goal.returns
