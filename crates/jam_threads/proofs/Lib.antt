@@ -4,5 +4,4 @@ pub mod ChangeLemmas
 pub mod FillLemmas
 pub mod FirstLemmas
 pub mod FirstLoop
-pub mod IdLemmas
 pub mod LookUpLemmas

@@ -1,10 +1,10 @@
 -- What a value of `FirstNumbers` shows.
 use Rattle.std.specs.Prelude.{ℕ, List, Option, None, Some, fold, ◌==◌, ◌&&◌, if◌then◌else◌}
 use Rattle.std.specs.Str.{bytes_eq}
-use Rattle.jam_threads.specs.IdNumbers.{mapped_number}
+use Rattle.id_numbers.specs.Numbers.{mapped_number}
 use Rattle.jam_threads.specs.declared.first_numbers.FirstNumbers.{FirstNumbers}
 use Rattle.jam_threads.specs.declared.first_numbers.IdNumber.{IdNumber}
-use Rattle.jam_threads.specs.declared.id_numbers.IdNumbers.{IdNumbers}
+use Rattle.id_numbers.specs.declared.numbers.IdNumbers.{IdNumbers}
 
 -- the number that is kept for an id among the older ones, 0 for none
 abbrev pub older_number : Option IdNumbers → List ℕ → ℕ

@@ -1,9 +1,9 @@
 ghost use Rattle.std.specs.Prelude.{◌≡◌, ℕ, List, [], Some, length, fold, ◌==◌, ◌&&◌, if◌then◌else◌, IfOk, IfErr, OnOk};
 ghost use Rattle.std.specs.Str.{bytes_eq};
 ghost use Rattle.jam_threads.specs.FirstNumbers.{kept_number, number_or, older_number as number_among};
-ghost use Rattle.jam_threads.specs.IdNumbers.{mapped_number};
+ghost use Rattle.id_numbers.specs.Numbers.{mapped_number};
 
-use crate::id_numbers::IdNumbers;
+use id_numbers::IdNumbers;
 use jam_records::{Bytes, Duplicate, List as Items};
 use shared_lists::Shared;
 use std::alloc::{AllocError, Global};

@@ -3,7 +3,6 @@
 #![tactic(auto)]
 
 mod first_numbers;
-mod id_numbers;
 pub mod laws;
 mod link;
 mod linking;

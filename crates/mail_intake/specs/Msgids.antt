@@ -1,10 +1,8 @@
 -- What a set of msgids shows.
-use Rattle.std.specs.Prelude.{ℕ, List, Bool}
-use Rattle.std.specs.BTreeSet.{contains_by}
-use Rattle.std.specs.Cmp.Lexicographic.{slice_cmp}
-use Rattle.std.specs.Ordering.{nat_cmp}
+use Rattle.std.specs.Prelude.{ℕ, List, Bool, not, ◌==◌}
+use Rattle.id_numbers.specs.Numbers.{mapped_number}
 use Rattle.mail_intake.specs.declared.msgids.MsgidSet.{MsgidSet}
 
--- the msgid is one of them
+-- the msgid is one of them: it has a number
 unfoldable pub has_id : MsgidSet → List ℕ → Bool
-has_id set id = contains_by (λ key. slice_cmp nat_cmp id key.items) set.ids
+has_id set id = not (mapped_number set.ids id == 0)

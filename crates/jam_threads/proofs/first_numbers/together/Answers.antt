@@ -1,7 +1,7 @@
 use Rattle.std.proofs.Common.{◌∙◌, ap, cond, ◌==◌, ◌&&◌}
 use Rattle.std.specs.Str.{bytes_eq}
 use Rattle.jam_threads.specs.FirstNumbers.{older_number}
-use Rattle.jam_threads.specs.IdNumbers.{mapped_number}
+use Rattle.id_numbers.specs.Numbers.{mapped_number}
 use Rattle.jam_threads.proofs.FirstLoop.{looked_more}
 use Rattle.jam_threads.proofs.first_numbers.together.Goals as goal
 

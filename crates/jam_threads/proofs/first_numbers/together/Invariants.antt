@@ -1,7 +1,7 @@
 use Rattle.std.proofs.Common.{◌≡◌, ℕ, List, take}
 use Rattle.std.specs.Prelude.{fold}
 use Rattle.jam_threads.specs.FirstNumbers.{number_or, older_number}
-use Rattle.jam_threads.specs.IdNumbers.{mapped_number}
+use Rattle.id_numbers.specs.Numbers.{mapped_number}
 use Rattle.jam_threads.proofs.first_numbers.together.Given as goal
 
 -- the newer ids so far were added

@@ -2,9 +2,9 @@ use Rattle.std.proofs.Common.{ℕ, List, ◌∙◌, ◌==◌, ◌&&◌, sym, ap,
 use Rattle.std.specs.Prelude.{Option, fold}
 use Rattle.std.specs.Str.{bytes_eq}
 use Rattle.jam_threads.specs.FirstNumbers.{kept_number, number_or, older_number}
-use Rattle.jam_threads.specs.IdNumbers.{mapped_number}
+use Rattle.id_numbers.specs.Numbers.{mapped_number}
 use Rattle.jam_threads.specs.declared.first_numbers.IdNumber.{IdNumber}
-use Rattle.jam_threads.specs.declared.id_numbers.IdNumbers.{IdNumbers}
+use Rattle.id_numbers.specs.declared.numbers.IdNumbers.{IdNumbers}
 use Rattle.jam_threads.proofs.first_numbers.FirstNumbers.add_older.Goals as goal
 
 pub returns-in_ok-with_message-in-Ok : goal.returns-in_ok-with_message-in-Ok

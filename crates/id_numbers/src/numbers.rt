@@ -2,8 +2,8 @@ ghost use Rattle.std.specs.Prelude.{◌≡◌, ℕ, List, ◌==◌, ◌&&◌, if
 ghost use Rattle.std.specs.BTreeMap.{get};
 ghost use Rattle.std.specs.Ordering.{nat_cmp};
 ghost use Rattle.std.specs.Str.{bytes_eq};
-ghost use Rattle.jam_threads.specs.Mix.{mix_of};
-ghost use Rattle.jam_threads.specs.IdNumbers.{mapped_number, number_here};
+ghost use Rattle.id_numbers.specs.Mix.{mix_of};
+ghost use Rattle.id_numbers.specs.Numbers.{mapped_number, number_here};
 
 use std::alloc::{AllocError, Global};
 use std::collections::BTreeMap;
@@ -23,17 +23,18 @@ fn mixed(id: &[u8]) -> u64
     mix
 }
 
-/// An id, and the number of its first message.
+/// An id, and its number.
 #[derive(Debug, Clone, Drop)]
 pub(crate) struct MixedId {
     id: Vec<u8>,
     number: u32,
 }
 
-/// The number of the first message of each id, as a map. Ids share long fronts, so that most are found by their mixes:
-/// a look-up compares numbers, and one id. That takes no more steps where many ids have one mix.
+/// A number of each id. Ids share long fronts, so an id is looked up by a mix of its bytes: numbers are compared, and
+/// one id. Ids whose mix another id has stand in a map of their own, so that a look-up takes no more than the logarithm
+/// of their count, whoever chose them.
 #[derive(Debug, Drop)]
-pub(crate) struct IdNumbers {
+pub struct IdNumbers {
     /// The first id of each mix.
     firsts: BTreeMap<u64, MixedId>,
     /// The ids whose mix another had before.
@@ -42,8 +43,8 @@ pub(crate) struct IdNumbers {
 
 impl IdNumbers {
     /// No numbers. It takes no memory.
-    #[tactic(auto, unfolding(crate::specs::IdNumbers::mapped_number))]
-    pub(crate) fn new(alloc: Global) -> IdNumbers
+    #[tactic(auto, unfolding(crate::specs::Numbers::mapped_number))]
+    pub fn new(alloc: Global) -> IdNumbers
         ensures { (id : List ℕ) → mapped_number result id ≡ 0 }
     {
         IdNumbers {
@@ -52,7 +53,7 @@ impl IdNumbers {
         }
     }
 
-    /// The number of the first message of an id among the first ids of their mixes, or 0.
+    /// The number of an id among the first ids of their mixes, or 0.
     fn first_number(&self, id: &[u8]) -> u32
         ensures { result ≡ number_here id.now (get nat_cmp self.now.firsts (mix_of id.now)) }
     {
@@ -68,9 +69,9 @@ impl IdNumbers {
         }
     }
 
-    /// The number of the first message of an id, or 0.
-    #[tactic(auto, unfolding(crate::specs::IdNumbers::mapped_number))]
-    pub(crate) fn number(&self, id: &[u8]) -> u32
+    /// The number of an id, or 0 where it has none. It takes no memory.
+    #[tactic(auto, unfolding(crate::specs::Numbers::mapped_number))]
+    pub fn number(&self, id: &[u8]) -> u32
         ensures { result ≡ mapped_number self.now id.now }
     {
         let number = self.others.get(id).copied().unwrap_or(0);
@@ -81,7 +82,7 @@ impl IdNumbers {
     }
 
     /// Puts the number of an id whose mix another id has.
-    #[tactic(auto, unfolding(crate::specs::IdNumbers::mapped_number))]
+    #[tactic(auto, unfolding(crate::specs::Numbers::mapped_number))]
     fn put_other(&mut self, alloc: Global, id: &[u8], number: u32) -> Result<(), AllocError>
         requires { mapped_number self.old id.now ≡ 0 }
         ensures { OnOk result ((other : List ℕ) → mapped_number self.new other ≡ (if bytes_eq id.now other then number else mapped_number self.old other)) }
@@ -92,7 +93,7 @@ impl IdNumbers {
     }
 
     /// Puts the number of an id where no id has its mix yet, and answers whether it did.
-    #[tactic(auto, unfolding(crate::specs::IdNumbers::mapped_number))]
+    #[tactic(auto, unfolding(crate::specs::Numbers::mapped_number))]
     fn put_first(&mut self, alloc: Global, id: &[u8], number: u32) -> Result<bool, AllocError>
         ensures { IfOk result (λ put. (other : List ℕ) → mapped_number self.new other ≡ (if put && (mapped_number self.old other == 0 && bytes_eq id.now other) then number else mapped_number self.old other)) }
     {
@@ -110,8 +111,10 @@ impl IdNumbers {
         }
     }
 
-    /// Adds a message behind the others. Most ids are new, so that one is put before it is known whether it was there.
-    pub(crate) fn add(&mut self, alloc: Global, id: &[u8], number: u32) -> Result<(), AllocError>
+    /// Gives an id a number, unless it has one. Most ids have none, so that one is put before it is known.
+    ///
+    /// The error comes where there is no memory.
+    pub fn add(&mut self, alloc: Global, id: &[u8], number: u32) -> Result<(), AllocError>
         ensures { OnOk result ((other : List ℕ) → mapped_number self.new other ≡ (if mapped_number self.old other == 0 && bytes_eq id.now other then number else mapped_number self.old other)) }
     {
         if self.put_first(alloc, id, number)? || self.number(id) != 0 {
@@ -121,7 +124,9 @@ impl IdNumbers {
     }
 
     /// The same numbers.
-    pub(crate) fn copy(&self) -> Result<IdNumbers, AllocError>
+    ///
+    /// The error comes where there is no memory.
+    pub fn copy(&self) -> Result<IdNumbers, AllocError>
         ensures { IfOk result (λ copy. (id : List ℕ) → mapped_number copy id ≡ mapped_number self.now id) }
     {
         Ok(IdNumbers {

@@ -1,12 +1,12 @@
--- What a value of `IdNumbers` shows.
+-- The number that a value of `IdNumbers` has for an id.
 use Rattle.std.specs.Prelude.{ℕ, List, Option, None, Some, unwrap_or, ◌==◌, if◌then◌else◌}
 use Rattle.std.specs.BTreeMap.{get, get_by}
 use Rattle.std.specs.Cmp.Lexicographic.{slice_cmp}
 use Rattle.std.specs.Ordering.{nat_cmp}
 use Rattle.std.specs.Str.{bytes_eq}
-use Rattle.jam_threads.specs.Mix.{mix_of}
-use Rattle.jam_threads.specs.declared.id_numbers.IdNumbers.{IdNumbers}
-use Rattle.jam_threads.specs.declared.id_numbers.MixedId.{MixedId}
+use Rattle.id_numbers.specs.Mix.{mix_of}
+use Rattle.id_numbers.specs.declared.numbers.IdNumbers.{IdNumbers}
+use Rattle.id_numbers.specs.declared.numbers.MixedId.{MixedId}
 
 -- the number of an id at the first id of its mix, 0 where that is another
 abbrev pub number_here : List ℕ → Option MixedId → ℕ

@@ -4,8 +4,8 @@ use Rattle.std.specs.Str.{bytes_eq}
 use Rattle.std.specs.List.{AllZip}
 use Rattle.std.specs.Map.{lookup}
 use Rattle.std.proofs.lemmas.Bool.Decides.{nat_tests}
-use Rattle.jam_threads.specs.IdNumbers.{number_here, either_number}
-use Rattle.jam_threads.specs.declared.id_numbers.MixedId.{MixedId}
+use Rattle.id_numbers.specs.Numbers.{number_here, either_number}
+use Rattle.id_numbers.specs.declared.numbers.MixedId.{MixedId}
 
 -- ---- another id
 -- where neither number is kept, that among the others may be any

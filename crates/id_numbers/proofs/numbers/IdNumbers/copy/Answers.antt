@@ -3,11 +3,11 @@ use Rattle.std.specs.Prelude.{unwrap_or}
 use Rattle.std.specs.BTreeMap.{is_at, get, get_by}
 use Rattle.std.specs.Cmp.Lexicographic.{slice_cmp}
 use Rattle.std.specs.Ordering.{nat_cmp}
-use Rattle.jam_threads.specs.Mix.{mix_of}
-use Rattle.jam_threads.specs.IdNumbers.{mapped_number, number_here, either_number}
-use Rattle.jam_threads.proofs.FirstLemmas.{number_copied, same_items}
-use Rattle.jam_threads.proofs.IdLemmas.{here_copied}
-use Rattle.jam_threads.proofs.id_numbers.IdNumbers.copy.Goals as goal
+use Rattle.id_numbers.specs.Mix.{mix_of}
+use Rattle.id_numbers.specs.Numbers.{mapped_number, number_here, either_number}
+use Rattle.id_numbers.proofs.ByteMaps.{number_copied, same_items}
+use Rattle.id_numbers.proofs.NumberLemmas.{here_copied}
+use Rattle.id_numbers.proofs.numbers.IdNumbers.copy.Goals as goal
 
 pub returns : goal.returns
 unfolding mapped_number

@@ -4,11 +4,11 @@ use Rattle.std.specs.BTreeMap.{get, get_by}
 use Rattle.std.specs.Cmp.Lexicographic.{slice_cmp, bytes_decides}
 use Rattle.std.specs.Ordering.{nat_cmp}
 use Rattle.std.specs.Str.{bytes_eq}
-use Rattle.jam_threads.specs.Mix.{mix_of}
-use Rattle.jam_threads.specs.IdNumbers.{mapped_number, number_here, either_number}
-use Rattle.jam_threads.proofs.FirstLemmas.{number_updates}
-use Rattle.jam_threads.proofs.IdLemmas.{other_put}
-use Rattle.jam_threads.proofs.id_numbers.IdNumbers.put_other.Goals as goal
+use Rattle.id_numbers.specs.Mix.{mix_of}
+use Rattle.id_numbers.specs.Numbers.{mapped_number, number_here, either_number}
+use Rattle.id_numbers.proofs.ByteMaps.{number_updates}
+use Rattle.id_numbers.proofs.NumberLemmas.{other_put}
+use Rattle.id_numbers.proofs.numbers.IdNumbers.put_other.Goals as goal
 
 pub returns : goal.returns
 unfolding mapped_number

@@ -1,0 +1,2 @@
+pub mod ByteMaps
+pub mod NumberLemmas
