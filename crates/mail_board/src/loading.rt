@@ -76,6 +76,9 @@ impl Board {
         ensures calm { IsTold result → IsTrue H.tells → IsCalm (H.disk host.new) }
         ensures done { IsTold result → IsTrue H.tells → AreOpened (recovered (H.disk host.old).files) (data_files (H.disk host.new).files) }
 
+        // Where memory ran out, nothing was migrated: the files recover to the same bytes.
+        ensures starved { IsErrOf result ReadError.OutOfMemory → IsTrue H.tells → recovered (H.disk host.new).files ≡ recovered (H.disk host.old).files }
+
         // The outline of the board whose layout the recovered files are, or none where all are empty, or their first damage.
         ensures gives { IsTrue H.tells → ReadGives loaded_outline result (outline_in (recovered (H.disk host.old).files)) }
         // What it answers stands in the files that it leaves, which are of version 2: they are the layout of a board with
