@@ -3,6 +3,7 @@ pub mod Nuls
 pub mod Messages
 pub mod Once
 pub mod Dates
+pub mod DateSpelling
 pub mod Values
 pub mod Verdicts
 pub mod Posted

@@ -4,6 +4,7 @@ pub mod Packet
 pub mod Fault
 pub mod Answer
 pub mod Date
+pub mod Spelled
 pub mod Lines
 pub mod Draft
 pub mod Tossed

@@ -1,5 +1,5 @@
 //! Laws of packets.
-ghost use Rattle.std.specs.Prelude.{◌≡◌, ℕ, List, Some, Contains, slice_get, IsTrue};
+ghost use Rattle.std.specs.Prelude.{◌≡◌, ◌↔◌, ℕ, List, length, Some, Contains, slice_get, IsTrue};
 ghost use Rattle.jam_records.specs.declared.message.Message.{Message};
 ghost use Rattle.jam_layout.specs.Fields.{is_text};
 ghost use Rattle.jam_layout.specs.Messages.{EmptyOr, IsMessage, IsTyped};
@@ -7,6 +7,8 @@ ghost use Rattle.setup_file.specs.declared.conference.Conference.{Conference};
 ghost use Rattle.setup_file.specs.declared.setup.Setup.{Setup};
 ghost use Rattle.netmail_rules.specs.Fits.{with_msgid};
 ghost use Rattle.fts_packet.specs.Packet.{FtsReads};
+ghost use Rattle.fts_packet.specs.Date.{moment_of_date};
+ghost use Rattle.fts_packet.specs.Spelled.{DateReads};
 ghost use Rattle.fts_packet.specs.Fault.{FtsFault};
 ghost use Rattle.fts_packet.specs.Tossed.{toss_verdict};
 ghost use Rattle.fts_packet.specs.declared.fault.FtsRule.{FtsRule};
@@ -23,6 +25,12 @@ pub fn one_fault()
     ensures rule { (bytes : List ℕ) (p q : FtsRule) (m n : ℕ) → FtsFault bytes p m → FtsFault bytes q n → p ≡ q }
     ensures place { (bytes : List ℕ) (p q : FtsRule) (m n : ℕ) → FtsFault bytes p m → FtsFault bytes q n → m ≡ n }
     ensures none { (bytes : List ℕ) (messages : List FtsMessage) (rule : FtsRule) (at : ℕ) → FtsReads bytes messages → ¬ FtsFault bytes rule at }
+{}
+
+/// The 20 bytes of a date read as a moment exactly where they spell its second.
+pub fn spelled_date_reads()
+    ensures { (date : List ℕ) (seconds : ℕ) → length date ≡ 20 →
+        (moment_of_date date ≡ Some seconds) ↔ DateReads date seconds }
 {}
 
 /// A posted draft of a packet's message, with a msgid, is a message that the conference in its place may hold; its own
