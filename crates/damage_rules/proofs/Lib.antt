@@ -2,3 +2,4 @@ pub mod KeptRules
 pub mod RecordWalks
 pub mod BoolTests
 pub mod ReadingClauses
+pub mod TestLists
