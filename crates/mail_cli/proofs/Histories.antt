@@ -1,7 +1,7 @@
--- Runs, and what crashes leave of them, as one history.
+-- A run, and what a crash leaves of it, behind a history.
 use Rattle.std.proofs.Common.{◌≡◌, ◌⊎◌, inl, inr, ⊎_elim, ℕ, zero, suc, ◌+◌, ◌<◌, ◌≤◌, Bool, true, false, List, [], ◌∷◌, ◌++◌, length, Option, Some, None, refl, sym, ◌∙◌, ap, subst, append_assoc, arith, length-append}
 use Rattle.std.proofs.lemmas.Bool.{cases_lt, true≢false}
-use Rattle.std.proofs.lemmas.List.{append-nil, map-append}
+use Rattle.std.proofs.lemmas.List.{append-nil}
 use Rattle.std.proofs.lemmas.List.Elements.{All-nil, All-cons}
 use Rattle.std.proofs.lemmas.Option.{slice_get_within}
 use Rattle.std.specs.Prelude.{slice_get, ◌||◌}
@@ -16,18 +16,14 @@ use Rattle.entry_runs.specs.declared.stop.Stop.TheVariants.{DiskFault, ShelfFaul
 use Rattle.intent_journal.specs.Patches.{Files}
 use Rattle.intent_journal.specs.Recovered.{recovered}
 use Rattle.board_commands.proofs.BoardActs.{migrated_once}
-use Rattle.board_commands.proofs.StateLaws.{one_state}
 use Rattle.board_commands.specs.State.{State, Stores, migrated}
-use Rattle.board_laws.proofs.KeptLaws.{stays_offered}
-use Rattle.board_laws.proofs.OnceLaws.{changes_once}
-use Rattle.board_laws.specs.History.{Deed, IsBeginning, IsHistory, after, left_by}
+use Rattle.board_laws.specs.History.{Deed, IsHistory, after, left_by}
 use Rattle.door_commands.specs.declared.command.Command.TheVariants as command
 use Rattle.door_commands.specs.declared.entry.Entry.{Entry}
 use Rattle.door_commands.specs.declared.entry.Entry.TheVariants.{Run, Wrong, Refuse}
-use Rattle.mail_cli.proofs.BoardEntries.{are_commands}
 use Rattle.mail_cli.proofs.EntryLaws.{lawful, one_migration}
-use Rattle.mail_cli.specs.BoardEntry.{board_command, steps}
-use Rattle.mail_cli.specs.Histories.{AreJoined, AreTold, Continues, HoldsAsThen, HoldsFront, KeepPromises, Passage, RunBreaksSo, RunContinues, RunEndsSo, StandFor, left_behind, reached}
+use Rattle.mail_cli.specs.BoardEntry.{steps}
+use Rattle.mail_cli.specs.Histories.{Continues, HoldsAsThen, HoldsFront, RunBreaksSo, RunContinues, RunEndsSo, StandFor, reached}
 use Rattle.mail_cli.specs.Run.{RunLeaves, RunSurvives}
 use Rattle.mail_cli.specs.Step.{act, door}
 
@@ -134,27 +130,40 @@ run_migrated now (entry ∷ entries) world outcome was runs =
     ap migrated same ∙ (run_migrated now entries runs.0.world runs.1 (next_migrated now entry world runs.0 runs.2 was) runs.3 ∙ sym same)
 
 -- ---- one entry more
-longer : {World Entry : Type 0} (Does : World → Entry → Stepped World → Type 0) (start : World) (front : List Entry) (entry : Entry) (outcome : Outcome World) (stepped : Stepped World)
-    → Runs Does start front outcome → Does outcome.world entry stepped → (whole : Outcome World) × Runs Does start (front ++ entry ∷ []) whole × (whole.world ≡ stepped.world)
-longer {World} Does start [] entry outcome stepped runs step =
-    let none : Outcome World = record { world = stepped.world; replies = []; classes = [] } in (
-      record { world = stepped.world; replies = stepped.reply ++ []; classes = stepped.class ∷ [] },
-      (stepped, none, subst (λ (w : World). Does w entry stepped) (ap (λ (o : Outcome World). o.world) runs) step, refl, refl),
-      refl,
-    )
-longer {World} Does start (e ∷ front) entry outcome stepped runs step =
-    let rest = longer Does runs.0.world front entry runs.1 stepped runs.3 (subst (λ (w : World). Does w entry stepped) (ap (λ (o : Outcome World). o.world) runs.4) step) in (
-      record { world = rest.0.world; replies = runs.0.reply ++ rest.0.replies; classes = runs.0.class ∷ rest.0.classes },
-      (runs.0, rest.0, runs.2, rest.1, refl),
-      rest.2,
-    )
+abbrev pub with_one : Outcome (World State) → Stepped (World State) → Outcome (World State)
+with_one outcome stepped = record { world = stepped.world; replies = outcome.replies ++ stepped.reply; classes = outcome.classes ++ stepped.class ∷ [] }
+
+module _ (Does : World State → Entry → Stepped (World State) → Type 0) where
+  pub runs_more : (start : World State) (front : List Entry) (entry : Entry) (outcome : Outcome (World State)) (stepped : Stepped (World State)) → Runs Does start front outcome → Does outcome.world entry stepped
+      → Runs Does start (front ++ entry ∷ []) (with_one outcome stepped)
+  runs_more start [] entry outcome stepped runs step = (
+    stepped,
+    record { world = stepped.world; replies = []; classes = [] },
+    subst (λ (w : World State). Does w entry stepped) (ap (λ (o : Outcome (World State)). o.world) runs) step,
+    refl,
+    (λ i. record {
+      world = stepped.world;
+      replies = (ap (λ (o : Outcome (World State)). o.replies ++ stepped.reply) runs ∙ sym (append-nil stepped.reply)) i;
+      classes = ap (λ (o : Outcome (World State)). o.classes ++ stepped.class ∷ []) runs i;
+    }),
+  )
+  runs_more start (e ∷ front) entry outcome stepped runs step = (
+    runs.0,
+    with_one runs.1 stepped,
+    runs.2,
+    runs_more runs.0.world front entry runs.1 stepped runs.3 (subst (λ (w : World State). Does w entry stepped) (ap (λ (o : Outcome (World State)). o.world) runs.4) step),
+    (λ i. record {
+      world = stepped.world;
+      replies = (ap (λ (o : Outcome (World State)). o.replies ++ stepped.reply) runs.4 ∙ append_assoc runs.0.reply runs.1.replies stepped.reply) i;
+      classes = ap (λ (o : Outcome (World State)). o.classes ++ stepped.class ∷ []) runs.4 i;
+    }),
+  )
 
 module _ (start : State) where
   pub stopped_continues : (now : ℕ) (deeds : List (Deed Entry)) → IsHistory steps start deeds → (shelf : Shelf.Files) (front : List Entry) (entry : Entry) (outcome : Outcome (World State)) (stepped : Stepped (World State))
       → Runs (Step (door now)) (here (reached start deeds) shelf) front outcome → Step (door now) outcome.world entry stepped → Continues now start deeds (front ++ entry ∷ []) stepped.world.state
   stopped_continues now deeds history shelf front entry outcome stepped runs step =
-      let whole = longer (Step (door now)) (here (reached start deeds) shelf) front entry outcome stepped runs step in
-      to_state start (ap (λ (w : World State). w.state) whole.2) (runs_continue start now deeds history shelf (front ++ entry ∷ []) whole.0 whole.1)
+      runs_continue start now deeds history shelf (front ++ entry ∷ []) (with_one outcome stepped) (runs_more (Step (door now)) (here (reached start deeds) shelf) front entry outcome stepped runs step)
 
 -- ---- entries that don't touch the board
 -- what they do doesn't depend on it
@@ -186,9 +195,9 @@ or_false : (a b : Bool) → (a || b) ≡ false → (a ≡ false) × (b ≡ false
 or_false true b is = absurd (true≢false is)
 or_false false b is = (refl, is)
 
-all_moved : (now : ℕ) (entries : List Entry) (start : World State) (outcome : Outcome (World State)) (state : State) → any_touches (door now) entries ≡ false → Runs (Step (door now)) start entries outcome
-    → (next : Outcome (World State)) × Runs (Step (door now)) (here state start.shelf) entries next × (next.world.state ≡ state)
-all_moved now [] start outcome state off runs = (record { world = here state start.shelf; replies = []; classes = [] }, refl, refl)
+pub all_moved : (now : ℕ) (entries : List Entry) (start : World State) (outcome : Outcome (World State)) (state : State) → any_touches (door now) entries ≡ false → Runs (Step (door now)) start entries outcome
+    → (next : Outcome (World State)) × Runs (Step (door now)) (here state start.shelf) entries next × (next.world.state ≡ state) × (outcome.replies ≡ next.replies)
+all_moved now [] start outcome state off runs = (record { world = here state start.shelf; replies = []; classes = [] }, refl, refl, ap (λ (o : Outcome (World State)). o.replies) runs)
 all_moved now (entry ∷ entries) start outcome state off runs =
     let parts = or_false (touches (door now) entry) (any_touches (door now) entries) off in
     let one : Stepped (World State) = record { world = here state runs.0.world.shelf; reply = runs.0.reply; class = runs.0.class } in
@@ -196,6 +205,7 @@ all_moved now (entry ∷ entries) start outcome state off runs =
       record { world = rest.0.world; replies = one.reply ++ rest.0.replies; classes = one.class ∷ rest.0.classes },
       (one, rest.0, moved now entry start runs.0 state parts.0 runs.2, rest.1, refl),
       rest.2,
+      ap (λ (o : Outcome (World State)). o.replies) runs.4 ∙ ap (λ (replies : List ℕ). runs.0.reply ++ replies) rest.3,
     )
 
 pub untouched_continues : (start : State) (now : ℕ) (deeds : List (Deed Entry)) → IsHistory steps start deeds → (state : State) (shelf : Shelf.Files) (entries : List Entry) (outcome : Outcome (World State)) → any_touches (door now) entries ≡ false
@@ -241,10 +251,10 @@ migrated_continues start now deeds history shelf entries outcome runs =
     (other.0.world.state, runs_continue start now deeds history shelf entries other.0 other.1, other.2)
 
 -- ---- entries from the state that a history leads to, or from that migrated
-abbrev IsEither : State → State → Type 0
+abbrev pub IsEither : State → State → Type 0
 IsEither state other = (other ≡ state) ⊎ (other ≡ migrated state)
 
-from_either : (start : State) (now : ℕ) (deeds : List (Deed Entry)) → IsHistory steps start deeds → (state : State) → IsEither (reached start deeds) state → (shelf : Shelf.Files) (entries : List Entry) (outcome : Outcome (World State))
+pub from_either : (start : State) (now : ℕ) (deeds : List (Deed Entry)) → IsHistory steps start deeds → (state : State) → IsEither (reached start deeds) state → (shelf : Shelf.Files) (entries : List Entry) (outcome : Outcome (World State))
     → Runs (Step (door now)) (here state shelf) entries outcome → (other : State) × Continues now start deeds entries other × IsEither other outcome.world.state
 from_either start now deeds history state (inl same) shelf entries outcome runs =
     (outcome.world.state, runs_continue start now deeds history shelf entries outcome (subst (λ (s : State). Runs (Step (door now)) (here s shelf) entries outcome) same runs), inl refl)
@@ -252,7 +262,7 @@ from_either start now deeds history state (inr same) shelf entries outcome runs 
     let more = migrated_continues start now deeds history shelf entries outcome (subst (λ (s : State). Runs (Step (door now)) (here s shelf) entries outcome) same runs) in
     (more.0, more.1, inr (sym more.2))
 
-stand_for : (state other : State) (files : Files) → IsEither state other → StandFor other files → StandFor state files
+pub stand_for : (state other : State) (files : Files) → IsEither state other → StandFor other files → StandFor state files
 stand_for state other files (inl same) stands = subst (λ (s : State). StandFor s files) same stands
 stand_for state other files (inr same) stands = inr (⊎_elim
     (λ still. subst (λ (s : State). Stores s files) same still)
@@ -278,9 +288,7 @@ module _ (now : ℕ) (start : State) (deeds : List (Deed Entry)) (history : IsHi
   holds_stopped : (front back entries : List Entry) (entry : Entry) (outcome : Outcome (World State)) (stepped : Stepped (World State)) (files : Files) → entries ≡ front ++ entry ∷ back
       → Runs (Step (door now)) (here state shelf) front outcome → Step (door now) outcome.world entry stepped → Stores stepped.world.state files → HoldsFront now start deeds entries files
   holds_stopped front back entries entry outcome stepped files split runs step stores =
-      let whole = longer (Step (door now)) (here state shelf) front entry outcome stepped runs step in
-      holds_front (front ++ entry ∷ []) back entries whole.0 files (split ∙ sym (append_assoc front (entry ∷ []) back)) whole.1
-      (inl (subst (λ (w : World State). Stores w.state files) (sym whole.2) stores))
+      holds_front (front ++ entry ∷ []) back entries (with_one outcome stepped) files (split ∙ sym (append_assoc front (entry ∷ []) back)) (runs_more (Step (door now)) (here state shelf) front entry outcome stepped runs step) (inl stores)
 
   -- it was stopped before an entry, which may have migrated the board
   holds_before : (front back entries : List Entry) (entry : Entry) (outcome : Outcome (World State)) (files : Files) → entries ≡ front ++ entry ∷ back
@@ -357,51 +365,3 @@ run_continues now words result old new shelf later leaves survives start deeds h
   ends_so now words old new shelf start deeds history (migrated (reached start deeds)) (inr refl) stores result later leaves,
   breaks_so now words old new shelf start deeds history (migrated (reached start deeds)) (inr refl) stores survives,
 )
-
--- ---- many runs
--- the state that files stand for, where they stand for another or for that migrated
-which_is : (state other : State) (files : Files) → StandFor state files → Stores other files → IsEither state other
-which_is state other files (inl stores) stands = inl (one_state files other state stands stores)
-which_is state other files (inr stores) stands = inr (one_state files other (migrated state) stands stores)
-
-told_behind : (start : State) (deeds : List (Deed Entry)) (files : Files) (passages : List Passage) → IsHistory steps start deeds → StandFor (reached start deeds) files → AreJoined files passages → AreTold start deeds files passages
-told_behind start deeds files [] history stands joined = record {
-  more = [];
-  entries_are = refl;
-  history = subst (IsHistory steps start) (sym (append-nil deeds)) history;
-  stores = subst (λ (ds : List (Deed Entry)). StandFor (reached start ds) files) (sym (append-nil deeds)) stands;
-}
-told_behind start deeds files (p ∷ passages) history stands joined =
-    let is = joined.1 in
-    let one = which_is (reached start deeds) is.start p.before (subst (StandFor (reached start deeds)) (sym joined.0) stands) is.stores in
-    let next = from_either start p.now deeds history is.start one p.shelf p.entries p.outcome is.runs in
-    let on = next.1 in
-    let left = stand_for next.0 p.outcome.world.state p.behind next.2 is.leaves in
-    let rest = told_behind start (deeds ++ on.more) p.behind passages on.history (subst (λ (s : State). StandFor s p.behind) (sym on.leads) left) joined.2 in
-    let same : (deeds ++ on.more) ++ rest.more ≡ deeds ++ (on.more ++ rest.more) = append_assoc deeds on.more rest.more in
-    record {
-      more = on.more ++ rest.more;
-      entries_are = map-append (λ (deed : Deed Entry). deed.entry) on.more rest.more ∙ (λ i. on.are.entries_are i ++ rest.entries_are i);
-      history = subst (IsHistory steps start) same rest.history;
-      stores = subst (λ (ds : List (Deed Entry)). StandFor (reached start ds) (left_behind p.behind passages)) same rest.stores;
-    }
-
-no_history : (start : State) → IsHistory steps start []
-no_history start n deed is = absurd (cc is)
-
--- either is one board
-one_board : (state other : State) → IsEither state other → migrated state ≡ migrated other
-one_board state other (inl same) = ap migrated (sym same)
-one_board state other (inr same) = sym (ap migrated same ∙ migrated_once state)
-
-pub keep_promises : (start : State) → IsBeginning start → (files : Files) (passages : List Passage) → Stores start files → AreJoined files passages → KeepPromises start files passages
-keep_promises start begins files passages stores joined =
-    let all : AreTold start [] files passages = told_behind start [] files passages (no_history start) (inl stores) joined in
-    record {
-      told = all;
-      offers = λ state last stands made i within then board user no_ack limit m offers live most enough.
-          let one = which_is (reached start all.more) state (left_behind files passages) all.stores stands in
-          stays_offered board_command steps are_commands start begins all.more all.history i (length all.more) within then last board
-          (one_board (reached start all.more) state one ∙ made) user no_ack limit m offers live most enough;
-      posts = λ user digest i j first changed second again. changes_once board_command steps are_commands start all.more all.history user digest i j first changed second again;
-    }

@@ -2,6 +2,7 @@ pub mod Arms
 pub mod BoardEntries
 pub mod EntryLaws
 pub mod Histories
+pub mod Passages
 pub mod Reading
 pub mod Staying
 pub mod Wrongs

@@ -5,14 +5,14 @@ use Rattle.door_outside.specs.Shelf.{Files}
 use Rattle.entry_runs.specs.Door.{World, here, any_touches}
 use Rattle.entry_runs.specs.Entry as Owed
 use Rattle.entry_runs.specs.Promise as Promise
-use Rattle.entry_runs.specs.Promise.{Counts}
+use Rattle.entry_runs.specs.Promise.{AllSince, Counts}
 use Rattle.entry_runs.specs.declared.class.Class.{Class}
 use Rattle.entry_runs.specs.declared.status.Status.{Status}
 use Rattle.entry_runs.specs.declared.status.Status.TheVariants as status
 use Rattle.entry_runs.specs.declared.stop.Stop.{Stop}
 use Rattle.intent_journal.specs.Recovered.{recovered}
 use Rattle.board_commands.specs.Kept.{unread}
-use Rattle.board_commands.specs.State.{State, Stores, IsSpoiled}
+use Rattle.board_commands.specs.State.{State, AreSpoiled, Stores, IsSpoiled}
 use Rattle.mail_cli.specs.Step.{act, door, uses_shelf}
 use Rattle.door_commands.specs.Entries.{AreEntries, EntriesRead, HasWrong}
 use Rattle.door_commands.specs.Words.{CommandReads}
@@ -31,6 +31,18 @@ FromEntry old shelf P = (state : State) → Stores state (recovered old.files) �
 -- it ends as damaged only where the data files at entry are neither all empty nor a board
 abbrev pub DamagedOnlyIfSpoiled : Status → Disk → Files → Type 0
 DamagedOnlyIfSpoiled result old shelf = FromEntry old shelf (λ start. result ≡ status.Damaged → IsSpoiled start.state)
+
+-- It leaves data files that are those of no board or of a valid one, and so does a crash at any moment; or, from a host that is
+-- only settled, that leaves files as it could have left them at entry.
+pub record SpoilsNone (old new : Disk) : Type 0 where
+  pub exit : ¬ AreSpoiled (recovered new.files)
+  pub each : AllSince old new (λ image. (¬ AreSpoiled (recovered image.files)) ⊎ Promise.AsThen old image)
+  -- where a crash at entry could leave no others, it leaves no others since
+  pub always : AllNow old (λ image. ¬ AreSpoiled (recovered image.files)) → AllSince old new (λ image. ¬ AreSpoiled (recovered image.files))
+
+-- so it does where those at entry are such
+abbrev pub NeverSpoils : Disk → Disk → Type 0
+NeverSpoils old new = ¬ AreSpoiled (recovered old.files) → SpoilsNone old new
 
 -- Nothing was done to the data files: they read as before, and a crash, then or since, leaves them as it could have before.
 pub record LeavesFiles (old new : Disk) : Type 0 where

@@ -1,5 +1,5 @@
 //! A run over a list of entries.
-ghost use Rattle.std.specs.Prelude.{◌≡◌, false, IsTrue, All};
+ghost use Rattle.std.specs.Prelude.{◌≡◌, ◌≤◌, false, IsTrue, All};
 ghost use Rattle.entry_runs.specs.Door.{any_touches};
 ghost use Rattle.board_commands.specs.Causes.{HaveCauses};
 ghost use Rattle.board_commands.specs.Kept.{AreSure, IsKept};
@@ -33,6 +33,7 @@ pub fn run_entries<H: Host, S: Shelf>(
     ensures settled { IsTrue H.tells → IsSettled (H.disk host.new) }
     ensures leaves { IsTrue H.tells → IsTrue S.tells → EntriesLeave now entries.now result (H.disk host.old) (H.disk host.new) (S.files shelf.old) (S.files shelf.new) }
     ensures survives { IsTrue H.tells → IsTrue S.tells → EntriesSurvive now entries.now (H.disk host.old) (H.disk host.new) (S.files shelf.old) }
+    ensures later { IsTrue H.tells → IsTrue S.tells → (H.disk host.old).clock ≤ (H.disk host.new).clock }
     ensures damaged { IsTrue H.tells → IsTrue S.tells → DamagedOnlyIfSpoiled result (H.disk host.old) (S.files shelf.old) }
     ensures touched { result ≡ Status.Damaged → IsTrue (any_touches (door now) entries.now) }
     ensures causes { HaveCauses H.disk_faults H.voice_faults S.faults host.old host.new shelf.old shelf.new result }

@@ -5,7 +5,7 @@ ghost use Rattle.entry_runs.specs.Door.{World, AreLawful, Step, any_touches, her
 ghost use Rattle.entry_runs.specs.Promise.{Before, IsMigrating};
 ghost use Rattle.entry_runs.specs.Runs.{Outcome, Runs, Stepped};
 ghost use Rattle.intent_journal.specs.Patches.{Files};
-ghost use Rattle.board_commands.specs.State.{State, Stores, migrated};
+ghost use Rattle.board_commands.specs.State.{State, IsSpoiled, Stores, migrated};
 ghost use Rattle.board_laws.specs.History.{Deed, IsBeginning, IsHistory, after};
 ghost use Rattle.board_layout.specs.Layout.{AreFileBytes};
 ghost use Rattle.door_commands.specs.Entries.{EntryCanRun};
@@ -13,7 +13,8 @@ ghost use Rattle.board_laws.specs.Kept.{StaysMade, StaysOffered};
 ghost use Rattle.board_laws.specs.Once.{ChangesOnce, SaysAgain};
 ghost use Rattle.board_laws.specs.Passed.{IsPassed, PacketsRise};
 ghost use Rattle.mail_cli.specs.BoardEntry.{board_command, steps};
-ghost use Rattle.mail_cli.specs.Histories.{AreJoined, Continues, KeepPromises, Passage, reached};
+ghost use Rattle.mail_cli.specs.Histories.{Continues, reached};
+ghost use Rattle.mail_cli.specs.Passages.{AreJoined, Begun, HaveBrought, KeepPromises, Passage};
 ghost use Rattle.mail_cli.specs.Step.{act, door};
 ghost use Rattle.door_commands.specs.declared.entry.Entry.{Entry};
 
@@ -97,10 +98,19 @@ pub fn runs_are_histories()
         → Runs (Step (door now)) (here state shelf) entries outcome → Continues now start deeds entries (reached start deeds) }
 {}
 
+/// From no board on, or from a valid one in files of either version, no entries lead to files that are no board's.
+pub fn never_spoiled()
+    ensures { (start : State) → IsBeginning start → (deeds : List (Deed Entry)) → IsHistory steps start deeds → (n : ℕ) → ¬ IsSpoiled (after start deeds n) }
+{}
+
 /// For every list of runs and crashes, from no board on or from files of a valid one, of either version, the last files
 /// stand for the board after one history, of all entries that were carried out, in order. On that board each message that
-/// was offered to a user is offered until he acknowledges a packet or it is deleted; and for each user and SHA-256 one
-/// upload at most changed the board.
+/// was offered to a user is offered until he acknowledges a packet or it is deleted; where there was no board, he has
+/// nothing behind him but what he acknowledged; for each user and SHA-256 one upload at most changed the board; and the
+/// files are never damaged. So it is of runs that brought files to others. The clause `joins` of `run` says that they do,
+/// also where a crash came, beginning with none.
 pub fn runs_and_crashes()
-    ensures { (start : State) → IsBeginning start → (files : Files) (passages : List Passage) → Stores start files → AreJoined files passages → KeepPromises start files passages }
+    ensures joined { (start : State) → IsBeginning start → (first last : Files) (passages : List Passage) → Stores start first → AreJoined first passages last → KeepPromises start passages last }
+    ensures brought { (start : State) → IsBeginning start → (first last : Files) (runs : List Begun) → Stores start first → (brought : HaveBrought first runs last) → KeepPromises start brought.passages last }
+    ensures none { (files : Files) → HaveBrought files [] files }
 {}

@@ -6,7 +6,8 @@ ghost use Rattle.entry_runs.specs.Promise.{counts};
 ghost use Rattle.intent_journal.specs.Hosts.{IsFirm, IsSettled};
 ghost use Rattle.mail_cli.specs.CommandBound.{RunKeepsBound};
 ghost use Rattle.mail_cli.specs.Histories.{RunContinues};
-ghost use Rattle.mail_cli.specs.Run.{RunLeaves, RunSurvives, RunCompletes, DamagedOnlyIfSpoiled, HaveWrong, TouchBoard, AnswersUsage, AlwaysLeaveBoard, LeaveBoard, LeavesFiles, NameNoFile, ReadTouching, ReadWrong};
+ghost use Rattle.mail_cli.specs.Passages.{IsOnePassage, RunJoins, begun};
+ghost use Rattle.mail_cli.specs.Run.{RunLeaves, RunSurvives, RunCompletes, DamagedOnlyIfSpoiled, HaveWrong, TouchBoard, AnswersUsage, AlwaysLeaveBoard, LeaveBoard, LeavesFiles, NameNoFile, NeverSpoils, ReadTouching, ReadWrong};
 
 use crate::entries::run_entries;
 use door_commands::{Unread, Words, entries_of};
@@ -42,6 +43,17 @@ pub fn run<H: Host, S: Shelf>(
     // Behind a history that leads to the board at entry, what it leaves and what a crash leaves of it is that history with
     // some of its entries more.
     ensures continues { IsTrue H.tells → IsTrue S.tells → RunContinues now words.now (H.disk host.old) (H.disk host.new) (S.files shelf.old) }
+
+    // It is one passage, from what the data files recovered to at entry, at its exit and where a crash came: the entries that
+    // were carried out, from the first on, what was said of their replies, and the shelf.
+    ensures passage { IsTrue H.tells → IsTrue S.tells → IsOnePassage (begun now words.now (S.files shelf.old)) (H.disk host.old) (H.disk host.new) result (S.files shelf.new) }
+
+    // Where other runs brought some data files to what the host holds at entry, they and this run brought them to what it holds
+    // since, after a crash too: so the next run may begin on that.
+    ensures joins { IsTrue H.tells → IsTrue S.tells → RunJoins (begun now words.now (S.files shelf.old)) (H.disk host.old) (H.disk host.new) }
+
+    // Files of no board or of a valid one it never damages, whatever it answers, and nor does a crash.
+    ensures unspoiled { IsTrue H.tells → IsTrue S.tells → NeverSpoils (H.disk host.old) (H.disk host.new) }
 
     // Where no count rose, the whole was done, or memory ran out.
     ensures completes { IsTrue H.tells → IsTrue S.tells → RunCompletes now words.now

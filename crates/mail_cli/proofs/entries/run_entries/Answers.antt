@@ -1,4 +1,5 @@
 use Rattle.std.proofs.Common.{rules, inl, inr, refl, sym, ◌∙◌, ap, length, arith}
+use Rattle.std.proofs.Math.Nat.{le_trans}
 use Rattle.std.proofs.lemmas.List.{drop_all}
 use Rattle.entry_runs.proofs.Commands.{causes_on, causes_class}
 use Rattle.entry_runs.proofs.Outcomes.{damaged_start}
@@ -6,7 +7,9 @@ use Rattle.entry_runs.proofs.Running.{next_entry, at_next, starts, runs_on, ends
 use Rattle.entry_runs.specs.Door.{touches}
 use Rattle.entry_runs.specs.Runs.{with_class}
 use Rattle.entry_runs.specs.declared.class.Class.TheVariants.{Done}
-use Rattle.board_commands.specs.State.{IsSpoiled}
+use Rattle.board_commands.proofs.StateLaws.{some_state}
+use Rattle.board_commands.specs.State.{State, IsSpoiled, Stores}
+use Rattle.intent_journal.specs.Recovered.{recovered}
 use Rattle.mail_cli.specs.Step.{door, entry_uses_shelf}
 use Rattle.mail_cli.proofs.EntryLaws.{lawful, only_spoiled, still_spoiled}
 use Rattle.mail_cli.proofs.CommandBounds.{one_bound}
@@ -43,6 +46,13 @@ returns-in-Err-clause-survives g c tells shelf_tells state stores =
     let more = next_entry c.args.entries.now c.loop-entry.entry-index c.entry-item.result (omega arith) c.entry-item.is in
     let running = at_next (door c.args.now) more (c.loop-entry.invariant.running tells shelf_tells state stores) in
     survives_on (door c.args.now) (lawful c.args.now) running (c.perform.ensures.performs tells shelf_tells running.outcome.world running.at) stores
+
+pub returns-in-Err-clause-later : goal.returns-in-Err-clause-later
+returns-in-Err-clause-later g c tells shelf_tells =
+    let more = next_entry c.args.entries.now c.loop-entry.entry-index c.entry-item.result (omega arith) c.entry-item.is in
+    let at : (state : State) × Stores state (recovered (g.H.Host.disk c.args.host.now).files) = some_state (recovered (g.H.Host.disk c.args.host.now).files) in
+    let running = at_next (door c.args.now) more (c.loop-entry.invariant.running tells shelf_tells at.0 at.1) in
+    le_trans running.moments.later (c.perform.ensures.performs tells shelf_tells running.outcome.world running.at).moments.later
 
 pub returns-in-Err-clause-damaged : goal.returns-in-Err-clause-damaged
 returns-in-Err-clause-damaged g c tells shelf_tells state stores is = stopped_damaged c.in-Err.stop (sym c.status.ensures ∙ is)
@@ -87,6 +97,13 @@ returns-then-is_last-clause-survives g c tells shelf_tells state stores =
     let more = next_entry c.args.entries.now c.loop-entry.entry-index c.entry-item.result (omega arith) c.entry-item.is in
     let running = at_next (door c.args.now) more (c.loop-entry.invariant.running tells shelf_tells state stores) in
     survives_on (door c.args.now) (lawful c.args.now) running (c.perform.ensures.performs tells shelf_tells running.outcome.world running.at) stores
+
+pub returns-then-is_last-clause-later : goal.returns-then-is_last-clause-later
+returns-then-is_last-clause-later g c tells shelf_tells =
+    let more = next_entry c.args.entries.now c.loop-entry.entry-index c.entry-item.result (omega arith) c.entry-item.is in
+    let at : (state : State) × Stores state (recovered (g.H.Host.disk c.args.host.now).files) = some_state (recovered (g.H.Host.disk c.args.host.now).files) in
+    let running = at_next (door c.args.now) more (c.loop-entry.invariant.running tells shelf_tells at.0 at.1) in
+    le_trans running.moments.later (c.perform.ensures.performs tells shelf_tells running.outcome.world running.at).moments.later
 
 pub returns-then-is_last-clause-damaged : goal.returns-then-is_last-clause-damaged
 returns-then-is_last-clause-damaged g c tells shelf_tells state stores =
@@ -136,6 +153,11 @@ returns-clause-leaves g c tells shelf_tells state stores =
 pub returns-clause-survives : goal.returns-clause-survives
 returns-clause-survives g c tells shelf_tells state stores =
     survives (door c.args.now) (lawful c.args.now) stores (c.loop-entry.invariant.running tells shelf_tells state stores)
+
+pub returns-clause-later : goal.returns-clause-later
+returns-clause-later g c tells shelf_tells =
+    let at : (state : State) × Stores state (recovered (g.H.Host.disk c.args.host.now).files) = some_state (recovered (g.H.Host.disk c.args.host.now).files) in
+    (c.loop-entry.invariant.running tells shelf_tells at.0 at.1).moments.later
 
 pub returns-clause-damaged : goal.returns-clause-damaged
 returns-clause-damaged g c tells shelf_tells state stores is = quiet_damaged c.loop-entry.invariant.quiet is

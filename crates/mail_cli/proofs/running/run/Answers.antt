@@ -1,10 +1,11 @@
-use Rattle.std.proofs.Common.{rules, ◌≡◌, inl, inr, refl, sym, ◌∙◌, subst}
+use Rattle.std.proofs.Common.{rules, ◌≡◌, inl, inr, refl, sym, ◌∙◌, subst, arith}
 use Rattle.door_commands.proofs.Entering.{begins_wrong}
 use Rattle.door_commands.specs.Entries.{AreEntries, BeginsWrong, EntriesRead}
 use Rattle.entry_runs.specs.declared.status.Status.TheVariants as status
 use Rattle.entry_runs.specs.declared.stop.Stop.TheVariants as stop
 use Rattle.mail_cli.proofs.CommandBounds.{run_bound, unwritten}
 use Rattle.mail_cli.proofs.Histories.{run_continues}
+use Rattle.mail_cli.proofs.Passages.{read_passage, run_joins, run_spoils_none, unread_passage}
 use Rattle.mail_cli.proofs.Reading.{read_causes, read_completes, read_kept, read_leaves, read_survives, stays_firm, unread_leaves, unread_survives}
 use Rattle.mail_cli.proofs.Staying.{names_no_batch, none_uses_shelf, nothing_done}
 use Rattle.mail_cli.proofs.running.run.Goals as goal
@@ -29,6 +30,36 @@ returns-in-Err-OutOfMemory-clause-continues g c tells shelf_tells =
     (unread_leaves c.args.now c.args.words.now stop.OutOfMemory status.OutOfMemory (g.H.Host.disk c.args.host.now) (g.S.Shelf.files c.args.shelf.now) (g.S.Shelf.files c.entries_of.new.shelf)
     (inr refl) refl (c.entries_of.ensures.unchanged shelf_tells))
     (unread_survives c.args.now c.args.words.now (g.H.Host.disk c.args.host.now) (g.S.Shelf.files c.args.shelf.now) (c.requires tells))
+
+pub returns-in-Err-ShelfFault-clause-passage : goal.returns-in-Err-ShelfFault-clause-passage
+returns-in-Err-ShelfFault-clause-passage g c tells shelf_tells =
+    unread_passage c.args.now c.args.words.now stop.ShelfFault status.ShelfFault (g.H.Host.disk c.args.host.now) (g.S.Shelf.files c.args.shelf.now) (g.S.Shelf.files c.entries_of.new.shelf)
+    (inl refl) refl (c.entries_of.ensures.unchanged shelf_tells) (c.requires tells)
+
+pub returns-in-Err-ShelfFault-clause-joins : goal.returns-in-Err-ShelfFault-clause-joins
+returns-in-Err-ShelfFault-clause-joins g c tells shelf_tells = run_joins
+    (unread_passage c.args.now c.args.words.now stop.ShelfFault status.ShelfFault (g.H.Host.disk c.args.host.now) (g.S.Shelf.files c.args.shelf.now) (g.S.Shelf.files c.entries_of.new.shelf)
+    (inl refl) refl (c.entries_of.ensures.unchanged shelf_tells) (c.requires tells)) (omega arith)
+
+pub returns-in-Err-ShelfFault-clause-unspoiled : goal.returns-in-Err-ShelfFault-clause-unspoiled
+returns-in-Err-ShelfFault-clause-unspoiled g c tells shelf_tells = run_spoils_none
+    (unread_passage c.args.now c.args.words.now stop.ShelfFault status.ShelfFault (g.H.Host.disk c.args.host.now) (g.S.Shelf.files c.args.shelf.now) (g.S.Shelf.files c.entries_of.new.shelf)
+    (inl refl) refl (c.entries_of.ensures.unchanged shelf_tells) (c.requires tells))
+
+pub returns-in-Err-OutOfMemory-clause-passage : goal.returns-in-Err-OutOfMemory-clause-passage
+returns-in-Err-OutOfMemory-clause-passage g c tells shelf_tells =
+    unread_passage c.args.now c.args.words.now stop.OutOfMemory status.OutOfMemory (g.H.Host.disk c.args.host.now) (g.S.Shelf.files c.args.shelf.now) (g.S.Shelf.files c.entries_of.new.shelf)
+    (inr refl) refl (c.entries_of.ensures.unchanged shelf_tells) (c.requires tells)
+
+pub returns-in-Err-OutOfMemory-clause-joins : goal.returns-in-Err-OutOfMemory-clause-joins
+returns-in-Err-OutOfMemory-clause-joins g c tells shelf_tells = run_joins
+    (unread_passage c.args.now c.args.words.now stop.OutOfMemory status.OutOfMemory (g.H.Host.disk c.args.host.now) (g.S.Shelf.files c.args.shelf.now) (g.S.Shelf.files c.entries_of.new.shelf)
+    (inr refl) refl (c.entries_of.ensures.unchanged shelf_tells) (c.requires tells)) (omega arith)
+
+pub returns-in-Err-OutOfMemory-clause-unspoiled : goal.returns-in-Err-OutOfMemory-clause-unspoiled
+returns-in-Err-OutOfMemory-clause-unspoiled g c tells shelf_tells = run_spoils_none
+    (unread_passage c.args.now c.args.words.now stop.OutOfMemory status.OutOfMemory (g.H.Host.disk c.args.host.now) (g.S.Shelf.files c.args.shelf.now) (g.S.Shelf.files c.entries_of.new.shelf)
+    (inr refl) refl (c.entries_of.ensures.unchanged shelf_tells) (c.requires tells))
 
 pub returns-in-Err-ShelfFault-clause-files_stay : goal.returns-in-Err-ShelfFault-clause-files_stay
 returns-in-Err-ShelfFault-clause-files_stay g c none tells = nothing_done (g.H.Host.disk c.args.host.now)
@@ -92,6 +123,27 @@ returns-clause-continues g c tells shelf_tells =
     (c.entries_of.ensures.unchanged shelf_tells) reads c.run_entries.result (g.S.Shelf.files c.run_entries.new.shelf) (c.run_entries.ensures.leaves tells shelf_tells))
     (read_survives c.args.now c.args.words.now c.as_slice.result.now (g.H.Host.disk c.args.host.now) (g.H.Host.disk c.run_entries.new.host) (g.S.Shelf.files c.args.shelf.now) (g.S.Shelf.files c.entries_of.new.shelf)
     (c.entries_of.ensures.unchanged shelf_tells) reads (c.run_entries.ensures.survives tells shelf_tells))
+
+pub returns-clause-passage : goal.returns-clause-passage
+returns-clause-passage g c tells shelf_tells =
+    let same : c.as_slice.result.now ≡ c.in-Ok.entries = search rules in
+    let reads = subst (EntriesRead c.args.words.now (g.S.Shelf.files c.args.shelf.now)) (sym same) (c.in-Ok.ensures.reads shelf_tells) in
+    read_passage c.args.now c.args.words.now c.as_slice.result.now c.run_entries.result (g.H.Host.disk c.args.host.now) (g.H.Host.disk c.run_entries.new.host) (g.S.Shelf.files c.args.shelf.now)
+    (g.S.Shelf.files c.entries_of.new.shelf) (g.S.Shelf.files c.run_entries.new.shelf) (c.entries_of.ensures.unchanged shelf_tells) reads (c.run_entries.ensures.leaves tells shelf_tells) (c.run_entries.ensures.survives tells shelf_tells)
+
+pub returns-clause-joins : goal.returns-clause-joins
+returns-clause-joins g c tells shelf_tells =
+    let same : c.as_slice.result.now ≡ c.in-Ok.entries = search rules in
+    let reads = subst (EntriesRead c.args.words.now (g.S.Shelf.files c.args.shelf.now)) (sym same) (c.in-Ok.ensures.reads shelf_tells) in
+    run_joins (read_passage c.args.now c.args.words.now c.as_slice.result.now c.run_entries.result (g.H.Host.disk c.args.host.now) (g.H.Host.disk c.run_entries.new.host) (g.S.Shelf.files c.args.shelf.now)
+    (g.S.Shelf.files c.entries_of.new.shelf) (g.S.Shelf.files c.run_entries.new.shelf) (c.entries_of.ensures.unchanged shelf_tells) reads (c.run_entries.ensures.leaves tells shelf_tells) (c.run_entries.ensures.survives tells shelf_tells)) (c.run_entries.ensures.later tells shelf_tells)
+
+pub returns-clause-unspoiled : goal.returns-clause-unspoiled
+returns-clause-unspoiled g c tells shelf_tells =
+    let same : c.as_slice.result.now ≡ c.in-Ok.entries = search rules in
+    let reads = subst (EntriesRead c.args.words.now (g.S.Shelf.files c.args.shelf.now)) (sym same) (c.in-Ok.ensures.reads shelf_tells) in
+    run_spoils_none (read_passage c.args.now c.args.words.now c.as_slice.result.now c.run_entries.result (g.H.Host.disk c.args.host.now) (g.H.Host.disk c.run_entries.new.host) (g.S.Shelf.files c.args.shelf.now)
+    (g.S.Shelf.files c.entries_of.new.shelf) (g.S.Shelf.files c.run_entries.new.shelf) (c.entries_of.ensures.unchanged shelf_tells) reads (c.run_entries.ensures.leaves tells shelf_tells) (c.run_entries.ensures.survives tells shelf_tells))
 
 pub returns-clause-firm : goal.returns-clause-firm
 returns-clause-firm g c tells shelf_tells sound firm =
