@@ -2,7 +2,7 @@
 use Rattle.std.proofs.Common.{◌≡◌, ◌⊎◌, ◌≤◌, inl, inr, ⊎_elim, ℕ, zero, suc, List, [], ◌∷◌, ◌++◌, length, Option, Some, None, refl, sym, ◌∙◌, ap, subst, append_assoc}
 use Rattle.std.proofs.lemmas.List.{append-nil, map-append}
 use Rattle.std.proofs.lemmas.List.Elements.{All-nil, All-cons, All-append, Contains-append_left, Contains-append_right, Contains-push}
-use Rattle.std.specs.Prelude.{All, Contains, slice_get}
+use Rattle.std.specs.Prelude.{Contains, slice_get}
 use Rattle.board_commands.proofs.BoardActs.{migrated_once}
 use Rattle.board_commands.proofs.StateLaws.{one_state, some_state}
 use Rattle.board_commands.specs.State.{State, NotMade, Made, Old, Spoiled, AreSpoiled, IsSpoiled, Stores, migrated}
@@ -16,12 +16,12 @@ use Rattle.door_outside.specs.Disk.{Disk, Image, AllNow, as_read}
 use Rattle.door_outside.specs.Shelf as Shelf
 use Rattle.door_outside.specs.Shelf.{SameBut, held}
 use Rattle.entry_runs.specs.Door.{World, here, Step}
-use Rattle.entry_runs.specs.Promise.{AllSince, AsThen, Before, IsFront, IsHeld, IsMigrating, IsRunCutShort, IsUntouched, IsWhole, Stopped}
+use Rattle.entry_runs.specs.Promise.{AllSince, Before, IsFront, IsHeld, IsRunCutShort, IsUntouched, IsWhole, Stopped}
 use Rattle.entry_runs.specs.Runs.{Outcome, Runs, Stepped, stopped_status}
 use Rattle.entry_runs.specs.declared.status.Status.{Status}
 use Rattle.entry_runs.specs.declared.stop.Stop.{Stop}
 use Rattle.entry_runs.specs.declared.stop.Stop.TheVariants.{DiskFault, ShelfFault, VoiceFault, OutOfMemory}
-use Rattle.intent_journal.specs.Hosts.{IsFirm, IsSettled}
+use Rattle.intent_journal.specs.Hosts.{IsSettled}
 use Rattle.intent_journal.specs.Patches.{Files, data_files}
 use Rattle.intent_journal.specs.Recovered.{recovered}
 use Rattle.mail_cli.proofs.BoardEntries.{are_commands}
@@ -247,11 +247,11 @@ module _ {run : Begun} {old new : Disk} {result : Status} {later : Shelf.Files} 
       (one.each image left)
 
   pub run_joins : old.clock ≤ new.clock → RunJoins run old new
-  run_joins after = record {
+  run_joins order = record {
     exit = λ first runs brought. brought_more brought (exit_brings one.exit);
     firm = λ firm first runs brought image left. brought_more brought (one.firm firm image left);
     each = each_brought;
-    now = λ first runs brought image left. each_brought first runs brought image (new.counts old.clock image after left);
+    now = λ first runs brought image left. each_brought first runs brought image (new.counts old.clock image order left);
   }
 
 -- ---- files that are no board's

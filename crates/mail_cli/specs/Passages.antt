@@ -18,7 +18,7 @@ use Rattle.door_outside.specs.Disk.{Disk, Image, Now, AllNow}
 use Rattle.door_outside.specs.Shelf as Shelf
 use Rattle.door_outside.specs.Shelf.{SameBut}
 use Rattle.entry_runs.specs.Door.{World, here, Step, any_touches}
-use Rattle.entry_runs.specs.Promise.{AllSince, AsThen, IsFront}
+use Rattle.entry_runs.specs.Promise.{AllSince, IsFront}
 use Rattle.entry_runs.specs.Runs.{Outcome, Runs, AreTaken, status_of, stopped_status}
 use Rattle.entry_runs.specs.declared.status.Status.{Status}
 use Rattle.entry_runs.specs.declared.stop.Stop.{Stop}
