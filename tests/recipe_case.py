@@ -61,6 +61,8 @@ class RecipeCase(unittest.TestCase):
     def setUpClass(cls) -> None:
         with open(os.path.join(TOP, "docs/RECIPES.md"), encoding="utf-8") as file:
             cls.steps = list(steps_of(file.read()))
+        # The scripts set a mask of their own, also where a test calls them in this process.
+        cls.addClassCleanup(os.umask, os.umask(0o022))
         cls.root = os.path.join(tempfile.mkdtemp(), "root")
         cls.saved = cls.root + ".saved"
         cls.addClassCleanup(shutil.rmtree, os.path.dirname(cls.root))

@@ -4,6 +4,7 @@ from __future__ import annotations
 
 import os
 import shutil
+import time
 import unittest
 
 from tests.letters import DELETED, base_files, base_record, reply_archive
@@ -42,6 +43,8 @@ class Recipes(RecipeCase):
         def later() -> None:
             self.post("bob", "Bob Ray", "Second")
             self.day()
+            # An archive's name has the second in which it was taken.
+            time.sleep(1)
             self.post("ann", "Ann Lee", "Third")
             self.day()
 
