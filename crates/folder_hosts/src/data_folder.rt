@@ -1,14 +1,12 @@
 //! The data files as they lie in a folder.
 ghost use Rattle.std.specs.Prelude.{◌≡◌, ◌<◌, ◌≤◌, ◌^◌, length, IfOk};
 
-use crate::boot::{boot_id, keep_id, kept_id};
+use crate::boot::{has_mark, keep_mark};
 use crate::data_paths::data_path;
-use crate::opening::{
-    make_folder, open_found, open_locked, open_or_make, sync_names, sync_own_name,
-};
+use crate::opening::{is_named, make_folder, open_above, open_found, open_locked, open_or_make};
 use crate::placements::Placement;
 use crate::transfer::{WriterAt, read_full, write_full};
-use crate::trouble::Trouble;
+use crate::trouble::{Part, Trouble};
 use door_outside::FileId;
 use std::alloc::AllocError;
 use std::fs::{self, File};
@@ -73,8 +71,13 @@ fn short_length(file: &File) -> io::Result<u32>
 fn of_lock(error: io::Error) -> Trouble {
     match error.kind() {
         ErrorKind::WouldBlock => Trouble::Held,
-        _ => Trouble::Lock(error),
+        _ => Trouble::Call(Part::Lock, error),
     }
+}
+
+/// What it means that a call on the folder failed.
+fn of_folder(error: io::Error) -> Trouble {
+    Trouble::Call(Part::Folder, error)
 }
 
 impl DataFolder {
@@ -153,7 +156,7 @@ impl DataFolder {
         }
         self.open_to_write(file)?;
         match self.opened(file) {
-            None => Err(Trouble::System(ErrorKind::NotFound.into())),
+            None => Err(Trouble::from(io::Error::from(ErrorKind::NotFound))),
             Some(open) => Ok(write_full(&mut WriterAt::new(open, u64::from(at)), bytes)?),
         }
     }
@@ -177,48 +180,58 @@ impl DataFolder {
     fn set_len(&mut self, file: FileId, len: u32) -> Result<(), Trouble> {
         self.open_to_write(file)?;
         match self.opened(file) {
-            None => return Err(Trouble::System(ErrorKind::NotFound.into())),
+            None => return Err(Trouble::from(io::Error::from(ErrorKind::NotFound))),
             Some(open) => open.set_len(u64::from(len))?,
         }
         self.files[usize::from(file.number())].known = u64::from(len);
         Ok(())
     }
 
-    /// Puts the file's bytes, its length and its name on the disk. Where that fails, no run goes on until the
+    /// Puts the file's bytes, its length and its name on the disk. Where a sync fails, no run goes on until the
     /// machine is started anew.
     pub fn sync(&mut self, file: FileId) -> Result<(), Trouble> {
         if !self.is_there()? {
             return Ok(());
         }
         self.open_to_read(file)?;
-        match self.sync_opened(file) {
-            Ok(()) => Ok(()),
-            Err(error) => {
-                self.keep_failure();
-                Err(Trouble::Sync(error))
-            }
-        }
-    }
-
-    /// Keeps in the lock's file that a sync failed since the machine's last start. Where that can't be told or
-    /// kept, what is said on standard error has to do.
-    fn keep_failure(&self) {
-        if let (Hold::Locked(lock), Some(id)) = (&self.hold, boot_id(&self.rt)) {
-            let _ = keep_id(lock, &id);
-        }
-    }
-
-    /// Puts an open file's bytes and length on the disk, and the names in the folder.
-    fn sync_opened(&mut self, file: FileId) -> io::Result<()> {
         if let Some(open) = self.opened(file) {
-            open.sync_all()?;
+            self.sync_part(Part::Asked, open)?;
         }
-        if !self.names_synced {
-            sync_names(&self.rt, self.folder.as_str())?;
-            sync_own_name(&self.rt, self.parent.as_str())?;
-            self.names_synced = true;
+        self.sync_names()
+    }
+
+    /// Puts the names in the folder, and its own, on the disk. An open that fails is a fault that the next run may get
+    /// over; it is no sync that failed.
+    fn sync_names(&mut self) -> Result<(), Trouble> {
+        if self.names_synced {
+            return Ok(());
         }
+        let folder = fs::open(&self.rt, self.folder.as_str()).map_err(of_folder)?;
+        self.sync_part(Part::Folder, &folder)?;
+        match open_above(&self.rt, self.parent.as_str()) {
+            Ok(Some(above)) => self.sync_part(Part::Above, &above)?,
+            Ok(None) => {}
+            Err(error) => return Err(Trouble::Call(Part::Above, error)),
+        }
+        self.names_synced = true;
         Ok(())
+    }
+
+    /// Puts on the disk what is open as a part of the folder. Where that fails, the lock's file keeps it.
+    fn sync_part(&self, part: Part, open: &File) -> Result<(), Trouble> {
+        match open.sync_all() {
+            Ok(()) => Ok(()),
+            Err(error) => Err(Trouble::Sync(part, error, self.keep_failure())),
+        }
+    }
+
+    /// Keeps in the lock's file that a sync failed since the machine's last start, and answers whether that is kept.
+    /// Where it isn't, what is said on standard error has to do.
+    fn keep_failure(&self) -> bool {
+        match &self.hold {
+            Hold::Locked(lock) => matches!(keep_mark(&self.rt, lock), Ok(true)),
+            _ => false,
+        }
     }
 
     /// Locks the folder at the first call of a run, and answers whether it was there then.
@@ -235,23 +248,21 @@ impl DataFolder {
         }
     }
 
-    /// Locks the folder if it is there, and answers whether it is.
+    /// Locks the folder if it is there, and answers whether it is. Only where nothing has its name there is no board: a
+    /// lock that isn't found in a folder that is there is a fault.
     fn take_hold(&mut self) -> Result<bool, Trouble> {
-        match open_locked(&self.rt, self.lock_path.as_str()) {
-            Ok(lock) => {
-                let kept = kept_id(&lock);
-                if kept.is_some() && kept == boot_id(&self.rt) {
-                    return Err(Trouble::Unsynced);
-                }
-                self.hold = Hold::Locked(lock);
-                Ok(true)
-            }
-            Err(error) if error.kind() == ErrorKind::NotFound => {
-                self.hold = Hold::Missing;
-                Ok(false)
-            }
-            Err(error) => Err(of_lock(error)),
+        if !is_named(&self.rt, self.folder.as_str()).map_err(of_folder)? {
+            self.hold = Hold::Missing;
+            return Ok(false);
         }
+        let lock = open_locked(&self.rt, self.lock_path.as_str()).map_err(of_lock)?;
+        match has_mark(&self.rt, &lock) {
+            Ok(false) => {}
+            Ok(true) => return Err(Trouble::Unsynced),
+            Err(error) => return Err(Trouble::Call(Part::Lock, error)),
+        }
+        self.hold = Hold::Locked(lock);
+        Ok(true)
     }
 
     /// Makes the folder where it was missing, and locks it.
@@ -259,7 +270,7 @@ impl DataFolder {
         if self.is_there()? {
             return Ok(());
         }
-        make_folder(&self.rt, self.folder.as_str())?;
+        make_folder(&self.rt, self.folder.as_str()).map_err(of_folder)?;
         let lock = open_locked(&self.rt, self.lock_path.as_str()).map_err(of_lock)?;
         if self.has_any()? {
             // Another run made them since this one found nothing.
@@ -271,15 +282,31 @@ impl DataFolder {
 
     /// Says on standard error what kept a call on a file from being done.
     pub fn tell(&self, file: FileId, trouble: &Trouble) {
-        let path = self.files[usize::from(file.number())].path.as_str();
+        let path = match trouble.part() {
+            Part::Asked => self.path_of(usize::from(file.number())),
+            Part::Beside(number) => self.path_of(number),
+            Part::Folder => self.folder.as_str(),
+            Part::Above => self.parent.as_str(),
+            Part::Lock => self.lock_path.as_str(),
+        };
         trouble.tell(&self.rt, self.folder.as_str(), path);
     }
 
+    /// The path of the file of that number.
+    fn path_of(&self, number: usize) -> &str {
+        match self.files.get(number) {
+            Some(file) => file.path.as_str(),
+            None => self.folder.as_str(),
+        }
+    }
+
     /// Whether any of the files is there.
-    fn has_any(&self) -> io::Result<bool> {
-        for file in &self.files {
-            if fs::exists(&self.rt, file.path.as_str())? {
-                return Ok(true);
+    fn has_any(&self) -> Result<bool, Trouble> {
+        for number in 0..258usize {
+            match is_named(&self.rt, self.files[number].path.as_str()) {
+                Ok(false) => {}
+                Ok(true) => return Ok(true),
+                Err(error) => return Err(Trouble::Call(Part::Beside(number), error)),
             }
         }
         Ok(false)
@@ -316,7 +343,7 @@ impl DataFolder {
         }
         self.make_there()?;
         if number < 2 {
-            return Ok(self.open_one_to_write(number)?);
+            return self.open_one_to_write(number);
         }
         let place = (number - 2) / 4;
         for part in 0..4usize {
@@ -326,13 +353,16 @@ impl DataFolder {
     }
 
     /// Opens one file to be written, and makes it where it is missing.
-    fn open_one_to_write(&mut self, number: usize) -> io::Result<()>
+    fn open_one_to_write(&mut self, number: usize) -> Result<(), Trouble>
         requires { number < 258 }
     {
         if let Handle::Writing(_) = self.files[number].handle {
             return Ok(());
         }
-        let (open, is_new) = open_or_make(&self.rt, self.files[number].path.as_str())?;
+        let (open, is_new) = match open_or_make(&self.rt, self.files[number].path.as_str()) {
+            Ok(opened) => opened,
+            Err(error) => return Err(Trouble::Call(Part::Beside(number), error)),
+        };
         if is_new {
             self.names_synced = false;
         }

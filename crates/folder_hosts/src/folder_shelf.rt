@@ -4,12 +4,15 @@ ghost use Rattle.std.specs.FinMap as map;
 ghost use Rattle.door_outside.specs.Cause.{HasCause};
 ghost use Rattle.door_outside.specs.Shelf.{PieceWithin};
 
-use crate::opening::{above_standard, not_regular, open_found};
+use crate::identity::Identity;
+use crate::opening::{above_standard, expect_regular};
+use crate::own_files::OwnFiles;
 use crate::transfer::{read_full, write_full};
 use door_outside::{Piece, Shelf, ShelfFault, ShelfName};
 use std::alloc::AllocError;
-use std::fs::{self, File, OpenOptions};
+use std::fs::{self, File, Metadata, OpenOptions};
 use std::io::{self, ErrorKind};
+use std::os::unix::fs::MetadataExt;
 use std::str;
 
 /// The longest shelf name in bytes: four parts of 32, and three `/`.
@@ -20,6 +23,8 @@ const LONGEST_NAME: usize = 131;
 #[derive(Drop)]
 pub struct FolderShelf {
     rt: HostRuntime,
+    /// The files of the board, which lie elsewhere.
+    own_files: OwnFiles,
     /// The folder's path and a `/`, and behind it the name of the last call.
     path: Vec<u8>,
     folder_len: usize,
@@ -31,45 +36,58 @@ pub struct FolderShelf {
 /// Fails unless the path is a regular file's, or nothing is there.
 fn look_at(rt: &HostRuntime, path: &str) -> io::Result<()> {
     match fs::metadata(rt, path) {
-        Ok(found) if found.is_file() => Ok(()),
-        Ok(found) => Err(not_regular(&found)),
+        Ok(found) => expect_regular(&found),
         Err(error) if error.kind() == ErrorKind::NotFound => Ok(()),
         Err(error) => Err(error),
     }
 }
 
-/// Opens a file that is to be filled, and makes the folders that it lies in where they are missing.
-fn open_to_fill(rt: &HostRuntime, path: &str, options: &OpenOptions) -> io::Result<File> {
+/// The regular file of that path, opened to be read, if it is there. It is looked at before, since the open of a pipe
+/// would wait for its writer, and again when it is open, since another could have come to be there meanwhile.
+fn open_to_read(rt: &HostRuntime, path: &str) -> io::Result<Option<File>> {
     look_at(rt, path)?;
+    match fs::open(rt, path) {
+        Ok(file) => {
+            let file = above_standard(file)?;
+            expect_stored(rt, &file.metadata()?)?;
+            Ok(Some(file))
+        }
+        Err(error) if error.kind() == ErrorKind::NotFound => Ok(None),
+        Err(error) => Err(error),
+    }
+}
+
+/// Fails unless a regular file was found whose bytes are stored. A file of `/proc` says that it has none, and makes them up
+/// as it is read, or waits for them.
+fn expect_stored(rt: &HostRuntime, found: &Metadata) -> io::Result<()> {
+    expect_regular(found)?;
+    if found.len() > 0 {
+        return Ok(());
+    }
+    match fs::metadata(rt, "/proc") {
+        Ok(made_up) if made_up.dev() == found.dev() => Err(ErrorKind::Unsupported.into()),
+        _ => Ok(()),
+    }
+}
+
+/// Opens a file, and makes the folders that it lies in where they are missing.
+fn open_in_folders(rt: &HostRuntime, path: &str, options: &OpenOptions) -> io::Result<File> {
     match options.open(rt, path) {
         Err(error) if error.kind() == ErrorKind::NotFound => {
             if let Some((folder, _)) = path.rsplit_once('/') {
                 fs::create_dir_all(rt, folder)?;
             }
-            above_standard(options.open(rt, path)?)
+            options.open(rt, path)
         }
-        Err(error) => Err(error),
-        Ok(file) => above_standard(file),
+        outcome => outcome,
     }
 }
 
-fn make_empty(rt: &HostRuntime, path: &str) -> io::Result<()> {
-    let mut options = OpenOptions::new();
-    options.write(true).create(true).truncate(true);
-    open_to_fill(rt, path, &options)?;
-    Ok(())
-}
-
-fn append_to(rt: &HostRuntime, path: &str, bytes: &[u8]) -> io::Result<()> {
-    let mut options = OpenOptions::new();
-    options.append(true).create(true);
-    let mut file = open_to_fill(rt, path, &options)?;
-    write_full(&mut file, bytes)
-}
-
 impl FolderShelf {
-    /// The shelf of a folder, which needn't be there.
-    pub fn new(rt: HostRuntime, folder: &str) -> Result<FolderShelf, AllocError> {
+    /// The shelf of a folder, which needn't be there, beside a data folder, whose files no name of the shelf may reach to
+    /// write.
+    pub fn new(rt: HostRuntime, data: &str, folder: &str) -> Result<FolderShelf, AllocError> {
+        let own_files = OwnFiles::new(&rt, data)?;
         let longest = folder.len().saturating_add(LONGEST_NAME + 1);
         let mut path = Vec::with_capacity(rt.alloc(), longest)?;
         path.extend_from_slice(folder.as_bytes())?;
@@ -77,6 +95,7 @@ impl FolderShelf {
         let folder_len = path.len();
         Ok(FolderShelf {
             rt,
+            own_files,
             path,
             folder_len,
             reading: None,
@@ -119,7 +138,7 @@ impl FolderShelf {
             return Ok(());
         }
         self.turn_to(name)?;
-        self.reading = open_found(&self.rt, self.path()?)?;
+        self.reading = open_to_read(&self.rt, self.path()?)?;
         Ok(())
     }
 
@@ -134,18 +153,37 @@ impl FolderShelf {
         }
     }
 
+    /// Opens the file of the last name by these options, which ask to read it too, since the open of a pipe doesn't wait
+    /// then. Before anything of it is changed, it is told apart from the board's own files.
+    fn open_to_fill(&self, options: &OpenOptions) -> io::Result<File> {
+        let path = self.path()?;
+        look_at(&self.rt, path)?;
+        self.own_files
+            .expect_outside(&self.rt, path, self.folder_len)?;
+        let file = above_standard(open_in_folders(&self.rt, path, options)?)?;
+        let found = file.metadata()?;
+        expect_regular(&found)?;
+        self.own_files.expect_other(&self.rt, Identity::of(&found))?;
+        Ok(file)
+    }
+
     fn try_begin(&mut self, name: &ShelfName) -> io::Result<()>
         ensures { self.new.faults ≡ self.old.faults }
     {
         self.turn_to(name)?;
-        make_empty(&self.rt, self.path()?)
+        let mut options = OpenOptions::new();
+        options.read(true).write(true).create(true);
+        self.open_to_fill(&options)?.set_len(0)
     }
 
     fn try_append(&mut self, name: &ShelfName, bytes: &[u8]) -> io::Result<()>
         ensures { self.new.faults ≡ self.old.faults }
     {
         self.turn_to(name)?;
-        append_to(&self.rt, self.path()?, bytes)
+        let mut options = OpenOptions::new();
+        options.read(true).append(true).create(true);
+        let mut file = self.open_to_fill(&options)?;
+        write_full(&mut file, bytes)
     }
 
     /// Says on standard error what a call on the last name failed by. Where standard error is closed too, the

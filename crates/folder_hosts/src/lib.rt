@@ -6,13 +6,15 @@ mod data_folder;
 mod data_paths;
 mod folder_host;
 mod folder_shelf;
+mod identity;
 mod moment;
 mod opening;
+mod own_files;
 mod placements;
 mod transfer;
 mod trouble;
 
-pub use boot::{BootId, boot_id, keep_id, kept_id};
+pub use boot::{BootId, SyncMark, boot_id, has_mark, keep_mark, sync_mark};
 pub use data_paths::data_path;
 pub use folder_host::FolderHost;
 pub use folder_shelf::FolderShelf;

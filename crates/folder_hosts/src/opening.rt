@@ -1,4 +1,5 @@
 //! How files and folders are opened, made and locked.
+use crate::identity::Identity;
 use std::fs::{self, DirBuilder, File, Metadata, OpenOptions};
 use std::io::{self, ErrorKind};
 use std::os::fd::AsRawFd;
@@ -14,38 +15,57 @@ pub fn above_standard(file: File) -> io::Result<File> {
     }
 }
 
-/// Why what is there can't be used as a file: it is a folder, or a pipe or the like.
-pub fn not_regular(found: &Metadata) -> io::Error {
-    if found.is_dir() {
-        ErrorKind::IsADirectory.into()
+/// Fails unless a regular file was found, and says why what was found can't be used as one: it is a folder, a symbolic
+/// link, or a pipe or the like.
+pub fn expect_regular(found: &Metadata) -> io::Result<()> {
+    if found.is_file() {
+        Ok(())
+    } else if found.is_dir() {
+        Err(ErrorKind::IsADirectory.into())
+    } else if found.is_symlink() {
+        Err(io::Error::new(
+            ErrorKind::FilesystemLoop,
+            "a symbolic link, which isn't followed here",
+        ))
     } else {
-        ErrorKind::Unsupported.into()
+        Err(ErrorKind::Unsupported.into())
     }
 }
 
-/// The regular file of that path, opened to be read, if it is there.
+/// Opens the regular file of that path by these options. It is looked at before, since the open of a pipe would wait for
+/// its other end, and since a symbolic link isn't followed; and what was opened is looked at again, since another could
+/// have come to be there meanwhile.
+fn open_same(rt: &HostRuntime, path: &str, options: &OpenOptions) -> io::Result<File> {
+    let found = fs::symlink_metadata(rt, path)?;
+    expect_regular(&found)?;
+    let file = above_standard(options.open(rt, path)?)?;
+    if Identity::of(&file.metadata()?) == Identity::of(&found) {
+        Ok(file)
+    } else {
+        Err(io::Error::new(ErrorKind::Other, "another file came to be there"))
+    }
+}
+
+/// The regular file of that path, opened to be read, if it is there. A symbolic link isn't followed.
 pub fn open_found(rt: &HostRuntime, path: &str) -> io::Result<Option<File>> {
-    // The open of a pipe would wait for its writer, so it is looked at first.
-    match fs::metadata(rt, path) {
-        Ok(found) if found.is_file() => Ok(Some(above_standard(fs::open(rt, path)?)?)),
-        Ok(found) => Err(not_regular(&found)),
+    let mut options = OpenOptions::new();
+    options.read(true);
+    match open_same(rt, path, &options) {
+        Ok(file) => Ok(Some(file)),
         Err(error) if error.kind() == ErrorKind::NotFound => Ok(None),
         Err(error) => Err(error),
     }
 }
 
 /// Opens a regular file to be read and written, or makes it, private to its owner, in a folder that is
-/// there. The flag says whether it was made.
+/// there. A symbolic link isn't followed. The flag says whether it was made.
 pub fn open_or_make(rt: &HostRuntime, path: &str) -> io::Result<(File, bool)> {
+    let mut options = OpenOptions::new();
+    options.read(true).write(true);
     match open_new(rt, path) {
         Ok(file) => Ok((above_standard(file)?, true)),
         Err(error) if error.kind() == ErrorKind::AlreadyExists => {
-            let found = fs::metadata(rt, path)?;
-            if !found.is_file() {
-                return Err(not_regular(&found));
-            }
-            let file = OpenOptions::new().read(true).write(true).open(rt, path)?;
-            Ok((above_standard(file)?, false))
+            Ok((open_same(rt, path, &options)?, false))
         }
         Err(error) => Err(error),
     }
@@ -76,16 +96,21 @@ pub fn make_folder(rt: &HostRuntime, path: &str) -> io::Result<()> {
     }
 }
 
-/// Puts the names in a folder on the disk.
-pub fn sync_names(rt: &HostRuntime, folder: &str) -> io::Result<()> {
-    fs::open(rt, folder)?.sync_all()
+/// Whether anything has that name, be it a symbolic link that leads nowhere.
+pub fn is_named(rt: &HostRuntime, path: &str) -> io::Result<bool> {
+    match fs::symlink_metadata(rt, path) {
+        Ok(_) => Ok(true),
+        Err(error) if error.kind() == ErrorKind::NotFound => Ok(false),
+        Err(error) => Err(error),
+    }
 }
 
-/// Puts the name of a folder on the disk, which stands in its parent. A parent that may not be read is left
-/// to whoever made the folder.
-pub fn sync_own_name(rt: &HostRuntime, parent: &str) -> io::Result<()> {
-    match sync_names(rt, parent) {
-        Err(error) if error.kind() == ErrorKind::PermissionDenied => Ok(()),
-        outcome => outcome,
+/// The folder above, opened so that a name in it can be put on the disk. One that may not be read is left to whoever made
+/// the folder.
+pub fn open_above(rt: &HostRuntime, path: &str) -> io::Result<Option<File>> {
+    match fs::open(rt, path) {
+        Ok(folder) => Ok(Some(folder)),
+        Err(error) if error.kind() == ErrorKind::PermissionDenied => Ok(None),
+        Err(error) => Err(error),
     }
 }

@@ -1,8 +1,9 @@
 //! How the two folders lie to each other.
+use crate::identity::Identity;
 use std::alloc::AllocError;
 use std::fs;
 use std::io::{self, ErrorKind};
-use std::path::PathBuf;
+use std::path::{Path, PathBuf};
 
 /// How a data folder and a shelf's lie to each other.
 #[derive(Clone, Copy, Debug, PartialEq, Eq)]
@@ -55,7 +56,30 @@ fn real_path(rt: &HostRuntime, path: &str) -> io::Result<PathBuf> {
 fn share(rt: &HostRuntime, data: &str, shelf: &str) -> io::Result<bool> {
     let data = real_path(rt, data)?;
     let shelf = real_path(rt, shelf)?;
-    Ok(shelf.starts_with(data.as_str()) || data.starts_with(shelf.as_str()))
+    let (data, shelf) = (data.as_str(), shelf.as_str());
+    Ok(lies_in(rt, data, shelf)? || lies_in(rt, shelf, data)?)
+}
+
+/// Whether a path is below a folder, which needn't be there, or is the folder itself: by its name, or where the folder
+/// has another name on the way, as one that is mounted twice has.
+fn lies_in(rt: &HostRuntime, path: &str, folder: &str) -> io::Result<bool> {
+    if Path::new(path).starts_with(folder) {
+        return Ok(true);
+    }
+    let Some(wanted) = Identity::at(rt, folder)? else {
+        return Ok(false);
+    };
+    let mut front = path;
+    for _ in 0..=path.len() {
+        if Identity::at(rt, front)? == Some(wanted) {
+            return Ok(true);
+        }
+        if front == "/" {
+            return Ok(false);
+        }
+        front = folder_above(front);
+    }
+    Ok(false)
 }
 
 impl Placement {

@@ -35,7 +35,7 @@ fn run_on_folders(rt: HostRuntime) -> Result<Status, AllocError> {
 fn run_there(rt: HostRuntime, arguments: &Arguments) -> Result<Status, AllocError> {
     let (data, shelf) = (arguments.data.as_str(), arguments.shelf.as_str());
     let mut host = FolderHost::new(rt, data, shelf)?;
-    let mut shelf = FolderShelf::new(rt, shelf)?;
+    let mut shelf = FolderShelf::new(rt, data, shelf)?;
     let now = unix_seconds(&rt);
     Ok(mail_cli::run(rt.alloc(), &arguments.words, &mut host, &mut shelf, now))
 }

@@ -1,8 +1,7 @@
 //! Hosts over real folders that may not begin, or whose files become shorter.
 use door_outside::{DiskFault, FileId, Host};
-use folder_hosts::{BootId, FolderHost, boot_id, keep_id, kept_id};
+use folder_hosts::{FolderHost, SyncMark, has_mark, keep_mark, sync_mark};
 use std::fs::{self, File, OpenOptions};
-use std::io;
 use std::test::Fail;
 
 /// A folder that lies beside those of the tests.
@@ -23,48 +22,54 @@ fn a_shelf_among_the_files_is_a_fault(rt: HostRuntime) -> Result<(), Fail> {
     Ok(())
 }
 
+/// The file of a lock.
+const LOCK: &str = "qwkdoor_test_boot/LOCK";
+
 /// Whether a run can begin where the lock's file has this content.
 fn begins(rt: HostRuntime, kept: &[u8]) -> Result<bool, Fail> {
-    let folder = "qwkdoor_test_boot";
-    let _ = fs::remove_dir_all(&rt, folder);
-    fs::create_dir_all(&rt, folder)?;
-    fs::write(&rt, "qwkdoor_test_boot/LOCK", kept)?;
-    let begins = FolderHost::new(rt, folder, SHELF)?
+    fs::write(&rt, LOCK, kept)?;
+    Ok(FolderHost::new(rt, "qwkdoor_test_boot", SHELF)?
         .length(FileId::journal())
-        .is_ok();
-    fs::remove_dir_all(&rt, folder)?;
-    Ok(begins)
+        .is_ok())
 }
 
-/// Whether a run can begin where the lock's file has another id than this one, a front of it or nothing, and not where it
-/// has this one.
-fn begins_after_a_start(rt: HostRuntime, here: &BootId) -> Result<bool, Fail> {
-    let mut other = *here;
-    other[35] = b'x';
-    let others = begins(rt, &other)? && begins(rt, &here[..35])? && begins(rt, b"")?;
-    Ok(others && !begins(rt, here)?)
+/// Whether a run can begin where the lock's file has the mark of another start or of another file, a front of this one
+/// without the whole id, or nothing; and not where it has this mark, or its id alone.
+fn begins_after_a_start(rt: HostRuntime, here: &SyncMark) -> Result<bool, Fail> {
+    let (mut other_start, mut other_file) = (*here, *here);
+    other_start[35] = b'x';
+    other_file[69] = b'x';
+    let others = begins(rt, &other_start)? && begins(rt, &other_file)?;
+    let fronts = begins(rt, &here[..35])? && begins(rt, b"")? && !begins(rt, &here[..36])?;
+    Ok(others && fronts && !begins(rt, here)?)
 }
 
-/// Whether the file of a path has an id that is kept in it, and no more.
-fn is_kept(rt: &HostRuntime, file: &File, path: &str, id: &BootId) -> io::Result<bool> {
-    keep_id(file, id)?;
-    let found = fs::read(rt, path)?;
-    Ok(kept_id(file) == Some(*id) && found.as_slice() == id.as_slice())
+/// Whether a mark is kept in the lock's file, and no more, and says nothing in another file.
+fn is_kept(rt: &HostRuntime, lock: &File, mark: &SyncMark) -> Result<bool, Fail> {
+    fs::write(rt, LOCK, b"what was there before, in more bytes than the seventy-one of such a mark")?;
+    let kept = keep_mark(rt, lock)? && has_mark(rt, lock)?;
+    let found = fs::read(rt, LOCK)?;
+    let copy = "qwkdoor_test_boot/COPY";
+    fs::write(rt, copy, mark)?;
+    let copied = has_mark(rt, &fs::open(rt, copy)?)?;
+    Ok(kept && !copied && found.as_slice() == mark.as_slice())
 }
 
-/// The same of a file that had more bytes.
-fn is_kept_over(rt: &HostRuntime, path: &str, id: &BootId) -> io::Result<bool> {
-    fs::write(rt, path, b"what was there before, in more bytes than an id")?;
-    let file = OpenOptions::new().read(true).write(true).open(rt, path)?;
-    is_kept(rt, &file, path, id)
+/// Whether a mark keeps runs out as long as it should.
+fn keeps_out(rt: HostRuntime) -> Result<bool, Fail> {
+    fs::write(&rt, LOCK, b"")?;
+    let lock = OpenOptions::new().read(true).write(true).open(&rt, LOCK)?;
+    let here = sync_mark(&rt, &lock)?.ok_or("a mark")?;
+    Ok(is_kept(&rt, &lock, &here)? && begins_after_a_start(rt, &here)?)
 }
 
 #[test]
 fn a_sync_that_failed_since_the_last_start_keeps_runs_out(rt: HostRuntime) -> Result<(), Fail> {
-    let here = boot_id(&rt).ok_or("an id")?;
-    let path = "qwkdoor_test_id";
-    assert!(rt; begins_after_a_start(rt, &here)? && is_kept_over(&rt, path, &here)?);
-    fs::remove_file(&rt, path)?;
+    let folder = "qwkdoor_test_boot";
+    let _ = fs::remove_dir_all(&rt, folder);
+    fs::create_dir_all(&rt, folder)?;
+    assert!(rt; keeps_out(rt)?);
+    fs::remove_dir_all(&rt, folder)?;
     Ok(())
 }
 

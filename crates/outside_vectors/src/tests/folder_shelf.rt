@@ -97,7 +97,7 @@ fn a_shelf_in_memory_is_used(rt: HostRuntime) -> Result<(), Fail> {
 
 /// Uses a shelf in a folder that isn't there.
 fn use_folder(rt: HostRuntime, folder: &str) -> Result<(), Fail> {
-    let mut shelf = FolderShelf::new(rt, folder)?;
+    let mut shelf = FolderShelf::new(rt, "qwkdoor_test_no_data", folder)?;
     use_shelf(rt.alloc(), &mut shelf, SHELVED)?;
     use_shelf(rt.alloc(), &mut shelf, REFUSED)
 }
@@ -110,5 +110,38 @@ fn shelf_files_lie_at_their_names(rt: HostRuntime) -> Result<(), Fail> {
     let text = "qwkdoor_test_shelf/out/text";
     expect(holds(&rt, text, b"xyz")?, text)?;
     fs::remove_dir_all(&rt, folder)?;
+    Ok(())
+}
+
+/// Calls on a file of the board, which has another name on the shelf: it may be read, and isn't written.
+const OWN: &str = "\
+piece own 0 = 4 text
+begin own = fault
+append own x = fault
+piece own 0 = 4 text
+begin new
+append new x
+";
+
+/// Makes a board of one file, and a shelf on which that has another name.
+fn make_own(rt: &HostRuntime, data: &str) -> Result<(), Fail> {
+    fs::create_dir_all(rt, data)?;
+    fs::create_dir_all(rt, "qwkdoor_test_own/shelf")?;
+    let file = "qwkdoor_test_own/data/C00.JDT";
+    fs::write(rt, file, b"text")?;
+    fs::hard_link(rt, file, "qwkdoor_test_own/shelf/own")?;
+    Ok(())
+}
+
+#[test]
+fn a_file_of_the_board_is_not_written(rt: HostRuntime) -> Result<(), Fail> {
+    let (top, data) = ("qwkdoor_test_own", "qwkdoor_test_own/data");
+    let _ = fs::remove_dir_all(&rt, top);
+    make_own(&rt, data)?;
+    let mut shelf = FolderShelf::new(rt, data, "qwkdoor_test_own/shelf")?;
+    use_shelf(rt.alloc(), &mut shelf, OWN)?;
+    let file = "qwkdoor_test_own/data/C00.JDT";
+    expect(holds(&rt, file, b"text")?, file)?;
+    fs::remove_dir_all(&rt, top)?;
     Ok(())
 }
