@@ -165,13 +165,13 @@ def calls_in(trace, top):
 
 def wanted(call, error):
     """The statuses that a run may end with: a call that is interrupted is made again, an error of a close isn't seen,
-    and a folder above DATA that may not be read is left to whoever made DATA."""
+    a folder that is there needn't be made, and one above DATA that may not be read is left to whoever made DATA."""
     status = 5 if call.place == "shelf" else 4
     if call.name == "close" or (call.name, call.place, error) == ("openat", "above", "EACCES"):
         return {0}
-    if error == "EINTR":
-        return {0, status} if call.name.startswith("mkdir") else {0}
-    return {status}
+    if call.name.startswith("mkdir"):
+        return {0, status}
+    return {0} if error == "EINTR" else {status}
 
 
 def judge(work, command, call, error):

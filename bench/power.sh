@@ -12,7 +12,7 @@ days=${2:-10}
 [ $# -le 2 ] || { shift 2 && types=$*; }
 top=$(readlink -f -- "$(dirname -- "$(readlink -f -- "$0")")/..")
 program=${PROGRAM:-$top/.build/qwkdoor}
-for tool in losetup mount umount python3; do
+for tool in losetup mount umount unshare python3; do
     if ! command -v "$tool" >/dev/null; then
         printf 'power: %s is missing, so nothing is shown\n' "$tool"
         exit 0
@@ -23,6 +23,10 @@ if [ "$(id -u)" -ne 0 ]; then
     exit 0
 fi
 [ -n "${PROGRAM:-}" ] || "$top/bin/qwkdoor" --build || exit 1
+# Mounts that others see are copied where they make a space of mounts, and a disk is unmounted only where nobody has one.
+if [ -z "${ALONE:-}" ]; then
+    ALONE=1 exec unshare -m -- "$0" "$times" "$days" ${types:-}
+fi
 
 work=$(mktemp -d) || exit 1
 place=$work/disk
@@ -151,8 +155,9 @@ for type in ${types:-ext4 xfs}; do
     fi
     cut_runs "$type" || complain "$type: the runs ended early"
     if [ "$days" -gt 0 ]; then
-        printf '%s, days: ' "$type"
-        DOOR=$program CUT=$work/cut "$top/bench/day.sh" "$days" || complain "$type: a day went wrong"
+        DOOR=$program CUT=$work/cut "$top/bench/day.sh" "$days" >"$work/days" 2>&1 ||
+            complain "$type: a day went wrong: $(grep WRONG "$work/days")"
+        tail -n 2 "$work/days" | sed "s/^/$type, days: /"
     fi
     umount -- "$place"
     losetup -d "$device"

@@ -15,7 +15,7 @@ import unittest
 
 TOP = os.path.dirname(os.path.dirname(os.path.abspath(__file__)))
 SAMPLE = os.path.join(TOP, "crates/qwkdoor/data/shelf")
-SECONDS = 10
+SECONDS = 60
 AS_ROOT = unittest.skipUnless(os.geteuid() == 0, "it needs root")
 
 

@@ -28,9 +28,11 @@ const LOCK: &str = "qwkdoor_test_boot/LOCK";
 /// Whether a run can begin where the lock's file has this content.
 fn begins(rt: HostRuntime, kept: &[u8]) -> Result<bool, Fail> {
     fs::write(&rt, LOCK, kept)?;
-    Ok(FolderHost::new(rt, "qwkdoor_test_boot", SHELF)?
-        .length(FileId::journal())
-        .is_ok())
+    Ok(
+        FolderHost::new(rt, "qwkdoor_test_boot", SHELF)?
+            .length(FileId::journal())
+            .is_ok(),
+    )
 }
 
 /// Whether a run can begin where the lock's file has the mark of another start or of another file, a front of this one
@@ -46,7 +48,11 @@ fn begins_after_a_start(rt: HostRuntime, here: &SyncMark) -> Result<bool, Fail> 
 
 /// Whether a mark is kept in the lock's file, and no more, and says nothing in another file.
 fn is_kept(rt: &HostRuntime, lock: &File, mark: &SyncMark) -> Result<bool, Fail> {
-    fs::write(rt, LOCK, b"what was there before, in more bytes than the seventy-one of such a mark")?;
+    fs::write(
+        rt,
+        LOCK,
+        b"what was there before, in more bytes than the seventy-one of such a mark",
+    )?;
     let kept = keep_mark(rt, lock)? && has_mark(rt, lock)?;
     let found = fs::read(rt, LOCK)?;
     let copy = "qwkdoor_test_boot/COPY";
