@@ -15,6 +15,7 @@ use crate::reader::reader_of;
 use door_outside::Host;
 use mail_board::{Board, Change, ChangeError};
 use std::alloc::Global;
+use std::fmt;
 use thiserror::Error;
 
 /// Why no packet was acknowledged, or perhaps not.
@@ -24,7 +25,7 @@ pub enum AckError {
     #[error("no such user")]
     NoUser,
     /// No open packet of the user has the number. It carries the greatest number of one that is open, or None.
-    #[error("no open packet has this number")]
+    #[error("no open packet has this number; {open}", open = shown_open(.0))]
     NoPacket(Option<u32>),
     /// A file call of the host failed. The files hold the board before the acknowledgement or the one after it.
     #[error("disk fault")]
@@ -35,6 +36,24 @@ pub enum AckError {
     /// There is no memory for the change. Nothing was done.
     #[error("out of memory")]
     OutOfMemory,
+}
+
+/// Which packets are open, as a message says it: the greatest number of one, where there is one.
+#[derive(Clone, Copy)]
+struct Greatest(Option<u32>);
+
+/// The greatest number of an open packet, to be shown.
+fn shown_open(open: &Option<u32>) -> Greatest {
+    Greatest(*open)
+}
+
+impl fmt::Display for Greatest {
+    fn fmt<W: fmt::Write>(&self, f: &mut fmt::Formatter<W>) -> fmt::Result {
+        match self.0 {
+            None => write!(f, "none is open"),
+            Some(packet) => write!(f, "the greatest that is open is {packet}"),
+        }
+    }
 }
 
 impl From<ChangeError> for AckError {
@@ -77,15 +96,19 @@ fn prepared(board: &Board, name: &[u8], packet: u32, now: u32) -> Result<Change,
     })
 }
 
-/// Acknowledges an open packet for the user of a name, ignoring ASCII case: in each conference with a high above his
-/// last-read pointer the messages to him up to that high are marked read at a moment in Unix seconds, and then the
-/// pointer is the high. That offer goes, and the others stay. Where the board isn't doubtful, the host rests, and its
-/// files are those of a board with this outline. It says nothing.
+/// Acknowledges an open packet for the user of a name, ignoring ASCII case. It changes each conference with a high
+/// above his last-read pointer. There the messages to him up to that high are marked read at a moment in Unix seconds,
+/// and then the pointer is the high. That offer goes, and the others stay. Where the board isn't doubtful, the host
+/// rests, and its files are those of a board with this outline. It says nothing.
 ///
-/// `NoUser` comes where no user has the name, else `NoPacket` where no open packet of his has the number, with the
-/// greatest number of one that is open, else `Doubt` where the board is doubtful, and `OutOfMemory` before the first
-/// write: all of them leave all as it was. `DiskFault` comes only where the host's count of disk faults rose, and then
-/// the board is doubtful.
+/// The first of these that applies comes:
+///
+/// - `NoUser` where no user has the name.
+/// - `NoPacket` where no open packet of his has the number, with the greatest number of one that is open.
+/// - `Doubt` where the board is doubtful.
+///
+/// `OutOfMemory` comes before the first write. All of these leave all as it was. `DiskFault` comes only where the
+/// host's count of disk faults rose, and then the board is doubtful.
 pub fn acknowledge<H: Host>(
     alloc: Global,
     board: &mut Board,

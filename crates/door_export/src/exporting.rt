@@ -52,10 +52,10 @@ pub enum ExportError {
     #[error("no such user")]
     NoUser,
     /// The limit isn't 1 to 2,000.
-    #[error("not a limit")]
+    #[error("the limit isn't 1 to 2000")]
     Limit,
     /// The user's last packet has the number 4,294,967,295.
-    #[error("no packet number is left")]
+    #[error("no packet number is left behind 4294967295")]
     Packets,
     /// A file call of the host failed. The files hold the board before the offer or the one after it.
     #[error("disk fault")]
@@ -65,7 +65,7 @@ pub enum ExportError {
     Doubt,
     /// What the host gave as a message's text can't be one of the board's. This is the rule that it breaks. Nothing was
     /// done. It never comes from a host that tells its files.
-    #[error("damaged: file {file}, record {item}, {rule:?}", file = .0.file, item = .0.item, rule = .0.rule)]
+    #[error("damaged: {0}")]
     Damaged(Damage),
     /// A call of the shelf failed. The offer is kept, and the next export offers the same messages.
     #[error("shelf fault")]
@@ -213,17 +213,26 @@ fn prepared<H: Host>(
 }
 
 /// Hands out to the user of a name, ignoring ASCII case, the messages that are offered to him, at most as many as the
-/// limit: it fetches them from the host, keeps the offer, and then writes CONTROL.DAT and MESSAGES.DAT of the folder. No
-/// last-read pointer moves. `now` is in Unix seconds. Where the board isn't doubtful, the host rests, and its files are
-/// those of a board with this outline; and so it is afterwards, unless the board is doubtful then. It says nothing.
+/// limit. It fetches them from the host, keeps the offer, and then writes CONTROL.DAT and MESSAGES.DAT of the folder.
+/// No last-read pointer moves. `now` is in Unix seconds. Where the board isn't doubtful, the host rests, and its files
+/// are those of a board with this outline. So it is afterwards too, unless the board is doubtful then. It says nothing.
 ///
-/// `NoUser` comes where no user has the name, else `Limit` where the limit isn't 1 to 2,000, else `Packets` where his
-/// last packet has the number 4,294,967,295, else `Doubt` where the board is doubtful: all of them before any call of
-/// the host or the shelf. `Damaged` comes where a fetched message can't be in the board's files, and never from a host
-/// that tells its files. It and `OutOfMemory` come before the first write. All of these leave the board, the files and
-/// the shelf as they were. `DiskFault` comes only where the host's count of disk faults rose. Where that was before the
-/// first write, all is as it was too, and the board isn't doubtful; else the board is doubtful. `ShelfFault` comes only
-/// where the shelf's count of faults rose: the offer is kept, and the two files may hold anything.
+/// The first of these that applies comes, before any call of the host or the shelf:
+///
+/// - `NoUser` where no user has the name.
+/// - `Limit` where the limit isn't 1 to 2,000.
+/// - `Packets` where his last packet has the number 4,294,967,295.
+/// - `Doubt` where the board is doubtful.
+///
+/// `Damaged` comes where a fetched message can't be in the board's files, and never from a host that tells its files.
+/// It and `OutOfMemory` come before the first write. All of these leave the board, the files and the shelf as they
+/// were.
+///
+/// `DiskFault` comes only where the host's count of disk faults rose. Where that was before the first write, all is as
+/// it was too, and the board isn't doubtful. Else the board is doubtful.
+///
+/// `ShelfFault` comes only where the shelf's count of faults rose. The offer is kept then, and the two files may hold
+/// anything.
 pub fn export<H: Host, S: Shelf>(
     alloc: Global,
     board: &mut Board,

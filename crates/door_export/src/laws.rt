@@ -10,9 +10,9 @@ ghost use Rattle.qwk_blocks.specs.Packet.{PacketReads};
 ghost use Rattle.qwk_blocks.specs.declared.message.QwkMessage.{QwkMessage};
 
 /// What is handed out as MESSAGES.DAT to a user of a valid board reads as the messages that he is offered, each as it
-/// is shown, and as no other list. What its reader sees of each is the sender, the recipient and the subject that the
-/// board keeps, where they are long or fit their fields (a name in its field in ASCII capitals), and else what fits of
-/// them; and the lines of its body.
+/// is shown, and as no other list. Its reader sees of each the sender, the recipient, the subject and the lines of its
+/// body. The first three are as the board keeps them where they are long or fit their fields (a name in its field in
+/// ASCII capitals). Else he sees what fits of them.
 pub fn exported_reads()
     ensures reads { (name : List ℕ) (limit now : ℕ) (b : Board) (p : Handout) → IsBoard b → export_of name limit now b ≡ Ok p → (id : ℕ) × (user_id name b ≡ Some id) × ((messages : List QwkMessage) → PacketReads p.messages messages ↔ (messages ≡ packet b id limit)) }
     ensures seen { (name : List ℕ) (limit now : ℕ) (b : Board) (p : Handout) → IsBoard b → export_of name limit now b ≡ Ok p → (id : ℕ) × (user_id name b ≡ Some id) × ((messages : List QwkMessage) → PacketReads p.messages messages → map plain messages ≡ packet_read b id limit) }

@@ -5,9 +5,9 @@ use mail_board::Board;
 use offered_packets::Offered;
 use std::alloc::{AllocError, Global};
 
-/// What the user of an id, from 1, is offered: the first messages, by place and then by number, that the user sees
-/// (as `Board::sees` says) and whose number is above the user's last-read pointer in their conference, at most as
-/// many as the limit.
+/// What the user of an id, from 1, is offered: messages that the user sees, as `Board::sees` says, with a number above
+/// the user's last-read pointer in their conference. They are the first by place and then by number, at most as many as
+/// the limit.
 ///
 /// The error comes where there is no memory.
 pub fn offered(alloc: Global, board: &Board, user: u32, limit: u32) -> Result<Offered, AllocError>

@@ -33,10 +33,10 @@ pub enum UploadError {
     #[error("the packet is for another board")]
     OtherBoard,
     /// There are 100,000 upload records.
-    #[error("there are 100000 upload records")]
+    #[error("there are 100000 upload records, and no more are kept")]
     Uploads,
     /// The data files would have so many bytes with the record, more than 34,603,008.
-    #[error("the data files would have {0} bytes")]
+    #[error("the data files would have {0} bytes, more than 34603008")]
     Size(u64),
     /// A file call of the host failed. The files hold the board before the upload or the one after it.
     #[error("disk fault")]
@@ -46,7 +46,7 @@ pub enum UploadError {
     Doubt,
     /// What the host gave as a message's text can't be one of the board's. This is the rule that it breaks. It never
     /// comes, since an upload fetches no text.
-    #[error("damaged: file {file}, record {item}, {rule:?}", file = .0.file, item = .0.item, rule = .0.rule)]
+    #[error("damaged: {0}")]
     Damaged(Damage),
     /// There is no memory for the upload. Nothing was done.
     #[error("out of memory")]

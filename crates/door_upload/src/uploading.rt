@@ -20,16 +20,28 @@ use mail_board::Board;
 use std::alloc::Global;
 
 /// Takes in a reply packet of at most 1,048,576 bytes for the user of a name, ignoring ASCII case, at a moment in Unix
-/// seconds: its messages are judged in order, each on the board with the ones accepted before it, and the accepted
-/// ones and a record of the packet are one change. Where the user has a record of the packet's SHA-256, the counts of
-/// that are answered, and nothing changes. Where the board isn't doubtful, the host rests, and its files are those of a
-/// board with this outline. It says nothing.
+/// seconds. Its messages are judged in order, each on the board with the ones accepted before it. The accepted ones and
+/// a record of the packet are one change. Where the user has a record of the packet's SHA-256, the counts of that are
+/// answered, and nothing changes. Where the board isn't doubtful, the host rests, and its files are those of a board
+/// with this outline. It says nothing.
 ///
-/// `NoUser` comes where no user has the name, else the first fault of the packet (`Broken` at 0 where it is shorter
-/// than a block, `NoBoardId`, any other `Broken`), else `OtherBoard`; where he didn't send it before, `Uploads` where
-/// there are 100,000 records, else `Size`, else `Doubt` where the board is doubtful, and `OutOfMemory` before the
-/// first write: all of them leave all as it was. `DiskFault` comes only where the host's count of disk faults rose,
-/// and then the board is doubtful. `Damaged` never comes, since no message's text is fetched.
+/// The first of these that applies comes:
+///
+/// - `NoUser` where no user has the name.
+/// - `Broken` at 0 where the packet is shorter than a block.
+/// - `NoBoardId` where it names no board.
+/// - `Broken` for any other first fault.
+/// - `OtherBoard` where it names another.
+///
+/// Else, where he didn't send the packet before, the first of these comes:
+///
+/// - `Uploads` where there are 100,000 records.
+/// - `Size` where the data files would be too long with the record.
+/// - `Doubt` where the board is doubtful.
+///
+/// `OutOfMemory` comes before the first write. All of these leave all as it was. `DiskFault` comes only where the
+/// host's count of disk faults rose, and then the board is doubtful. `Damaged` never comes, since no message's text is
+/// fetched.
 pub fn upload<H: Host>(
     alloc: Global,
     board: &mut Board,
@@ -59,7 +71,7 @@ pub fn upload<H: Host>(
     ensures fault { IsErrOf result UploadError.DiskFault → board.new ≡ record { board = board.old.board; doubtful = true } }
 
     // Whatever it answers, it writes fewer bytes than twice those by which it enlarges the data files, and 400 for each
-    // message that it posts and once more.
+    // message that it posts, and 400 more.
     ensures wrote { IsTrue H.tells → (r : _) → UploadGives user.now bytes.now now board.old.board r → KeepsBoundOf board.old.board (after_upload board.old.board r) (H.disk host.old).wrote (H.disk host.new).wrote }
 
     ensures disk_cause { HasFault UploadError.DiskFault (H.disk_faults host.old) (H.disk_faults host.new) result }

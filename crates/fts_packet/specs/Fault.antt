@@ -1,6 +1,6 @@
 -- The first fault of a packet, by place. At a place where a message should stand the rows of one table are tried from
--- the top: one byte is cut; a number that isn't 2 is of another kind; fewer than 34 bytes are cut; and then To, From,
--- Subject and the text in turn.
+-- the top. One byte is cut, a number that isn't 2 is of another kind, and fewer than 34 bytes are cut. Then come To,
+-- From, Subject and the text in turn.
 use Rattle.std.specs.Prelude.{◌≡◌, ℕ, ◌+◌, ◌<◌, List, [], ◌∷◌, ◌++◌, length, take, drop, Option, Some, None, Bool, false, not, ◌==◌, nat_lt, if◌then◌else◌}
 use Rattle.std.specs.List.{list_any}
 use Rattle.std.specs.Option.{option_or}

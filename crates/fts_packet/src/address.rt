@@ -12,6 +12,9 @@ fn are_parts(zone: u16, net: u16, node: u16) -> bool
     zone <= 32_767 && net <= 32_767 && node <= 32_767
 }
 
+/// The length of the longest address: three numbers of five digits, a `:` and a `/`.
+const LONGEST: usize = 17;
+
 /// The address of these numbers, as a message keeps it: `zone:net/node`, or nothing where one is above
 /// 32,767.
 pub fn address_of(alloc: Global, zone: u16, net: u16, node: u16) -> Result<Bytes, AllocError>
@@ -21,6 +24,7 @@ pub fn address_of(alloc: Global, zone: u16, net: u16, node: u16) -> Result<Bytes
     if !are_parts(zone, net, node) {
         return Ok(text);
     }
+    text.reserve(LONGEST)?;
     add_decimal(&mut text, u64::from(zone))?;
     text.add(b":")?;
     add_decimal(&mut text, u64::from(net))?;

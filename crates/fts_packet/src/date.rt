@@ -89,9 +89,9 @@ fn moment_in(date: &[u8; 20]) -> Option<u32>
     Some(minute + u32::from(second))
 }
 
-/// The moment that the date of a packed message reads as, in seconds since 1970, in UTC: `dd Mmm yy
-/// hh:mm:ss` and NUL, with two spaces before the hour, an English name of the month, and a space or a digit
-/// at the front; years 70 to 99 are 19xx, 00 to 69 are 20xx. None where it doesn't read.
+/// The moment that the date of a packed message reads as, in seconds since 1970, in UTC. The date is
+/// `dd Mmm yy hh:mm:ss` and NUL, with two spaces before the hour, an English name of the month, and a space
+/// or a digit at the front. Years 70 to 99 are 19xx, and 00 to 69 are 20xx. None where it doesn't read.
 #[tactic(auto, unfolding(crate::specs::Date::moment_of_date))]
 pub fn read_date(date: &[u8; 20]) -> Option<u32>
     ensures { result ≡ moment_of_date date.now }

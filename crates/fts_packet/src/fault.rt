@@ -40,7 +40,7 @@ impl FtsRule {
 pub enum FtsError {
     /// The bytes break the layout. This is the first rule that they break, and the byte, from 0, where what
     /// breaks it begins: 0 for `Short`, 18 for `WrongType`, else where the message begins.
-    #[error("the packet breaks the rule {rule:?} at byte {at}")]
+    #[error("the packet breaks the rule {word} at byte {at}", word = .rule.word().escape_ascii())]
     Fault { rule: FtsRule, at: u32 },
     /// There was no memory for the messages.
     #[error("out of memory")]

@@ -20,9 +20,10 @@ pub enum TossDraft {
     Refused(TossRule),
 }
 
-/// What becomes of a packed message that is tossed at this moment, in Unix seconds: the first rule that
-/// refuses it, in the order of `TossRule` and up to `Length`, or its draft and the place of the conference
-/// that takes it. A place is one of the first 255; a valid setup has at most 64.
+/// What becomes of a packed message that is tossed at this moment, in Unix seconds. It is the first rule
+/// that refuses the message, in the order of `TossRule` and up to `Length`. Where none does, it is its
+/// draft and the place of the conference that takes it. A place is one of the first 255; a valid setup has
+/// at most 64.
 ///
 /// The error comes where there is no memory.
 pub fn toss_draft(

@@ -64,7 +64,7 @@ impl SheetRule {
 #[derive(Clone, Copy, Debug, PartialEq, Eq, Error)]
 pub enum SheetError {
     /// This line, counted from 1, is the first that breaks a rule. For `End` it is one past the last.
-    #[error("line {line} breaks the rule {rule:?}")]
+    #[error("line {line} breaks the rule {word}", word = .rule.word().escape_ascii())]
     Line { line: u32, rule: SheetRule },
     /// There was no memory.
     #[error("out of memory")]

@@ -13,7 +13,7 @@ pub struct Sheet {
     pub to: Bytes,
     /// The subject, 0 to 72 bytes.
     pub subject: Bytes,
-    /// When it was written, as its header line says, in seconds.
+    /// When it was written, as its header line says, in Unix seconds, or None.
     pub date: Option<u32>,
     /// The message's own id, 1 to 80 bytes, or empty.
     pub msgid: Bytes,

@@ -61,9 +61,14 @@ impl Intent {
     }
 
     #[tactic(auto, using(crate::proofs::Spelling::size_more))]
-    /// Whether a patch may be added: its file isn't the journal; the file has no patch for all its bytes yet,
-    /// and none at all where this is one; its end is below 2^31; and the spelled intent stays within
-    /// 41,943,040 bytes. For callers of the library; the program doesn't call it.
+    /// Whether a patch may be added, which asks all of these:
+    ///
+    /// - Its file isn't the journal.
+    /// - The file has no patch for all its bytes yet, and none at all where this is one.
+    /// - Its end is below 2^31.
+    /// - The spelled intent stays within 41,943,040 bytes.
+    ///
+    /// For callers of the library; the program doesn't call it.
     pub fn takes(&self, patch: &Patch) -> bool
         ensures { IsTrue result ↔ TakesPatch self.now patch.now }
     {
@@ -85,7 +90,8 @@ impl Intent {
         13 + self.text.len() as u64
     }
 
-    /// Adds a patch at the end. Where there is no memory for it, the intent is unchanged.
+    /// Adds at the end a patch that may be added, as `takes` says. Where there is no memory for it, the intent is
+    /// unchanged.
     pub fn add(&mut self, patch: Patch) -> Result<(), AllocError>
         requires { TakesPatch self.old patch }
         ensures ok { OnOk result (self.new ≡ self.old ++ patch ∷ []) }

@@ -8,10 +8,10 @@ use thiserror::Error;
 #[derive(Debug, Clone, Copy, PartialEq, Eq, Error)]
 pub enum ForeignError {
     /// .JHR has fewer bytes than its base header.
-    #[error("the base header is cut short")]
+    #[error("short: .JHR has fewer than the 1024 bytes of a base header")]
     Short,
     /// .JHR doesn't begin with the signature of JAM.
-    #[error("the signature is not that of JAM")]
+    #[error("signature: .JHR doesn't begin with that of JAM")]
     Signature,
     /// There is no memory for the messages, or for what they are looked up in.
     #[error("out of memory")]

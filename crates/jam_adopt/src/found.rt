@@ -8,13 +8,14 @@ use std::alloc::{AllocError, Global};
 /// The rule by which a record of another tool's base is refused.
 #[derive(Debug, Clone, Copy, PartialEq, Eq)]
 pub enum ForeignRule {
-    /// The fixed part of the header passes the end of .JHR, or its signature or its revision is wrong.
+    /// The fixed part of the header, 76 bytes from its offset, passes the end of .JHR, or doesn't begin with the signature of
+    /// JAM, or its Revision isn't 1.
     Header,
     /// The subfields pass the end of .JHR, or don't fill SubfieldLen.
     Subfields,
-    /// The text passes the end of .JDT.
+    /// The text, TxtLen bytes from its Offset, passes the end of .JDT.
     Text,
-    /// The body is too long.
+    /// The body that is made of the text has more than 16,384 bytes.
     Length,
 }
 

@@ -22,9 +22,9 @@ pub(crate) struct Leap {
 }
 
 /// A leap from each place of .JHR, by which headers that share subfields are read without going over all of these for
-/// each. The leap behind one subfield goes as far as the leap from there and the one after that where those pass over
-/// equally many, so that a walk over n subfields takes leaps in proportion to the logarithm of n (E. W. Myers, "An
-/// applicative random-access stack", 1983).
+/// each. A leap passes over the subfield that stands there. It also takes in the leap from behind this one and the leap
+/// after that, where those two pass over equally many. So a walk over n subfields takes leaps in proportion to the
+/// logarithm of n (E. W. Myers, "An applicative random-access stack", 1983).
 #[derive(Debug, Drop)]
 pub(crate) struct Leaps {
     /// The leap from the end of .JHR, and then those from each place before.
@@ -68,8 +68,8 @@ fn no_leap(at: usize) -> Leap
     }
 }
 
-/// The leap over the subfield at a place and, where they pass over equally many, over what the leap from its end and the
-/// one after that pass over.
+/// The leap over the subfield at a place. Where the leap from its end and the one after that pass over equally many, it
+/// passes over these too.
 fn leap_over(jhr: &[u8], at: usize, end: usize, first: Leap, second: Leap) -> Leap
     requires short { length jhr.now < 2 ^ 31 }
     requires field { (at + 8 ≤ end) × (end ≤ length jhr.now) × (end ≡ at + 8 + u32_of (at + 4) jhr.now) }
@@ -92,7 +92,7 @@ fn leap_over(jhr: &[u8], at: usize, end: usize, first: Leap, second: Leap) -> Le
     }
 }
 
-/// Whether a leap from a place goes on, at most to another one, and over no subfield of an id of these bits.
+/// Whether a leap from a place goes on, ends at most at `to`, and passes over no subfield of an id of these bits.
 fn may_leap(leap: Leap, bits: u8, at: usize, to: usize) -> bool
     ensures { IsTrue result → (at < leap.to) × (leap.to ≤ to) × (bit_and leap.ids bits ≡ 0) }
 {
@@ -142,8 +142,8 @@ impl Leaps {
         leap_over(jhr, at, end, first, second)
     }
 
-    /// A place behind whole subfields from a place on that end at most at `to`, none of an id of these bits; or None
-    /// where the one there has such an id or passes `to`.
+    /// A place behind one or more whole subfields that stand from a place on. They end at most at `to`, and none has an
+    /// id of these bits. None where the subfield there has such an id or passes `to`.
     fn behind(&self, jhr: &[u8], bits: u8, at: usize, to: usize) -> Option<usize>
         requires short { length jhr.now < 2 ^ 31 }
         requires leaps { AreAllLeaps jhr.now self.now }
@@ -162,7 +162,7 @@ impl Leaps {
         Some(end)
     }
 
-    /// Where, from a place on, the first subfield stands that has an id of these bits or passes `to`, or else `to`.
+    /// Where the first subfield from a place on stands that has an id of these bits or passes `to`, or else `to`.
     fn stop(&self, jhr: &[u8], bits: u8, from: usize, to: usize) -> usize
         requires short { length jhr.now < 2 ^ 31 }
         requires leaps { AreAllLeaps jhr.now self.now }

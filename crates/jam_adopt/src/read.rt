@@ -81,19 +81,22 @@ fn add_all(
     Ok(())
 }
 
-/// Another tool's base, of its .JHR, .JDT and .JDX (JAM message base proposal, revision 1): for each whole record of .JDX
-/// that isn't passed over, in order, its place from 1 and its message, or the rule by which it is refused. Passed over are
-/// records of twice FFFFFFFFh and those whose header has the bit MSG_DELETED. A header may lie anywhere in .JHR, and
-/// several records may name one: each is a message of its own.
+/// Another tool's base, of its .JHR, .JDT and .JDX (JAM message base proposal, revision 1). Each whole record of .JDX
+/// that isn't passed over gives, in order, its place from 1 and its message, or the rule by which it is refused. Passed
+/// over are records of twice FFFFFFFFh and those whose header has the bit MSG_DELETED. A header may lie anywhere in
+/// .JHR, and several records may name one: each is a message of its own.
 ///
-/// `Short` comes exactly where .JHR has fewer than 1,024 bytes, else `Signature` exactly where it doesn't begin with that
-/// of JAM; after that `OutOfMemory` alone. Each file has fewer than 2^31 bytes.
+/// `Short` comes exactly where .JHR has fewer than 1,024 bytes, else `Signature` exactly where it doesn't begin with
+/// that of JAM; after that `OutOfMemory` alone. Each file has fewer than 2^31 bytes.
 ///
-/// The time is in proportion to the lengths of .JHR and .JDT and, for each record of .JDX, to the logarithm of .JHR's
-/// length and to the length of the message that is answered, whatever subfields and texts the headers share. Besides the
-/// messages it takes 8 bytes of memory for each byte of .JHR and 5 for each of .JDT. The messages themselves are bounded by
-/// the count of records alone: 2,097,152 records, as 16,777,216 bytes have, that all name one header with a text of 16,384
-/// bytes are 34 GB of messages, and it answers `OutOfMemory` where these can't be had.
+/// The time is in proportion to the lengths of .JHR and .JDT. Each record of .JDX adds time in proportion to the
+/// logarithm of .JHR's length and to the length of the message that is answered. That holds whatever subfields and
+/// texts the headers share.
+///
+/// Besides the messages it takes 8 bytes of memory for each byte of .JHR and 5 for each of .JDT. The messages
+/// themselves are bounded by the count of records alone. A .JDX of 16,777,216 bytes has 2,097,152 records. Where all
+/// name one header with a text of 16,384 bytes, they are 34 GB of messages. It answers `OutOfMemory` where these can't
+/// be had.
 pub fn read_foreign(
     alloc: Global,
     jhr: &[u8],

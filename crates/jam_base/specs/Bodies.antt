@@ -23,7 +23,7 @@ span_at at (Held message) = Some (record { at = at; len = length message.body })
 abbrev pub body_span : ℕ → List Slot → Option Span
 body_span number slots = span_at (body_begin number slots) (numbered slots number)
 
--- Whatever bytes .JDT holds, where they are as many as the old one's: the patches leave them, and put behind them what
--- the new one has behind the old one, so that .JDT is lengthened, and nothing else is done to it.
+-- The patches lengthen .JDT, and do nothing else to it. Whatever bytes it holds, where they are as many as the old
+-- one's, the patches leave them. Behind them they put what the new one has behind the old one.
 pub record Lengthens (place : ℕ) (old new : BaseFiles) (patches : List Patch) : Type 0 where
   pub bodies : (files : Files) → length (files (jdt_file place)) ≡ length old.jdt → patched patches files (jdt_file place) ≡ files (jdt_file place) ++ drop (length old.jdt) new.jdt

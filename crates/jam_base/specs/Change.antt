@@ -23,15 +23,15 @@ IsOfPlace place file = (jhr_file place ≤ file) × (file ≤ jlr_file place)
 abbrev pub IsElsewhere : ℕ → ℕ → Type 0
 IsElsewhere place file = (file < jhr_file place) ⊎ (jlr_file place < file)
 
--- the patches make the new four files of the old ones, where each begins at most at its file's end, and leave every
--- other file
+-- The patches make the new four files of the old ones, and leave every other file. Each begins at most at its file's
+-- end.
 pub record Turns (place : ℕ) (old new : BaseFiles) (patches : List Patch) : Type 0 where
   pub starts : (files : Files) → files_of_place place files ≡ old → IsTrue (are_within patches files)
   pub base : (files : Files) → files_of_place place files ≡ old → files_of_place place (patched patches files) ≡ new
   pub others : (files : Files) (file : ℕ) → IsElsewhere place file → patched patches files file ≡ files file
 
--- what an intent asks of patches: each is of one of the four files, no two clash, none ends behind as many bytes as the
--- new files have, and but for 11 bytes for each file they are spelled in no more than these and a fifth of them
+-- What an intent asks of patches. Each is of one of the four files, and no two clash. None ends behind as many bytes as
+-- the new files have. But for 11 bytes for each file, they are spelled in no more than these bytes and a fifth of them.
 pub record SuitsIntent (place : ℕ) (new : BaseFiles) (patches : List Patch) : Type 0 where
   pub within : All (λ patch. IsOfPlace place (file_of patch)) patches
   pub once : IsTrue (is_once patches)

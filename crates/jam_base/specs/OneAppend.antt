@@ -36,7 +36,7 @@ last_header shape c m =
     })
 
 -- .JHR is the old one with ActiveMsgs and at most one link number of an older header replaced, and the new header at
--- its end. .JDT and .JDX have the body and the record at their ends, and .JLR is the same.
+-- its end. The body is at the end of .JDT and the record at that of .JDX, and .JLR is the same.
 pub record OneAppend (shape : Shape) (c : Conference) (m : Message) : Type 0 where
   pub jhr : (layout shape (with_last c m)).jhr
       ≡ with_link c.slots (link_change c.slots m.replyid) (with_number 12 (live_count (with_last c m).slots) (layout shape c).jhr) ++ last_header shape c m

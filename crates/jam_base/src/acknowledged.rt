@@ -12,11 +12,11 @@ use crate::receipt::{Receipt, any_due, slots_received};
 use std::alloc::{AllocError, Global};
 
 impl Base {
-    /// The base in which a reader, the user of this id and name, has acknowledged what there is up to a message
-    /// number, 0 or one of a slot: each message to the name, ignoring case, marked read at a moment in Unix seconds
-    /// that isn't deleted, isn't read and has a number above the pointer and at most this one, and then the pointer
-    /// at this number. Its patches make its files of those of this base. Where there is such a message, the change
-    /// counter rises by one, and stays at 4,294,967,295.
+    /// The base in which a reader, the user of this id and name, has acknowledged what there is up to a message number,
+    /// 0 or one of a slot. Each message to the name, ignoring case, is marked read at a moment in Unix seconds where it
+    /// isn't deleted, isn't read and has a number above the pointer and at most this one. Then the pointer is at this
+    /// number. Where there is such a message, the change counter rises by one, and stays at 4,294,967,295. Its patches
+    /// make its files of those of this base.
     ///
     /// The error comes where there is no memory.
     pub fn acknowledged(

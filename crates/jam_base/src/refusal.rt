@@ -28,7 +28,7 @@ impl From<AllocError> for AppendRefusal {
 #[derive(Debug, Clone, Copy, PartialEq, Eq, Error)]
 pub enum KillRefusal {
     /// No message of that number is without the mark deleted.
-    #[error("no such message, or it is deleted")]
+    #[error("no message that isn't deleted has this number")]
     NoMessage,
     /// There was no memory.
     #[error("out of memory")]

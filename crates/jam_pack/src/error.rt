@@ -13,7 +13,7 @@ pub enum PackError {
     Doubt,
     /// What the host gave as a message's text can't be one of the board's. This is the rule that it breaks. Nothing was
     /// done. It never comes from a host that tells its files.
-    #[error("damaged: file {file}, record {item}, {rule:?}", file = .0.file, item = .0.item, rule = .0.rule)]
+    #[error("damaged: {0}")]
     Damaged(Damage),
     /// There is no memory for the conference. Nothing was done.
     #[error("out of memory")]

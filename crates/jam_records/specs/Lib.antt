@@ -1,5 +1,6 @@
 pub mod Addresses
 pub mod BaseHeaders
+pub mod DamageWord
 pub mod IndexRecords
 pub mod LastReads
 pub mod MessageHeaders

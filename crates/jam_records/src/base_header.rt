@@ -23,6 +23,8 @@ pub struct BaseHeader {
 }
 
 /// The header at the front of the bytes. What the reserved bytes hold is free.
+///
+/// `Short` comes exactly where there are fewer than 1,024 bytes, else `Signature` where they don't begin with that of JAM.
 pub fn read_base_header(bytes: &[u8]) -> Result<BaseHeader, RecordError>
     ensures ok { (header : BaseHeader) → (result ≡ Ok header) ↔ BaseHeaderStands bytes.now header }
     ensures short { (result ≡ Err RecordError.Short) ↔ (length bytes.now < 1024) }

@@ -14,7 +14,8 @@ pub struct IndexRecord {
     pub offset: u32,
 }
 
-/// The record at the front of the bytes. For callers of the library; the program doesn't call it.
+/// The record at the front of the bytes. `Short` comes exactly where there are fewer than 8. For callers of the library; the
+/// program doesn't call it.
 pub fn read_index(bytes: &[u8]) -> Result<IndexRecord, RecordError>
     ensures ok { (index : IndexRecord) → (result ≡ Ok index) ↔ IndexStands bytes.now index }
     ensures short { (result ≡ Err RecordError.Short) ↔ (length bytes.now < 8) }

@@ -18,7 +18,8 @@ pub struct LastRead {
     pub high: u32,
 }
 
-/// The record at the front of the bytes. For callers of the library; the program doesn't call it.
+/// The record at the front of the bytes. `Short` comes exactly where there are fewer than 16. For callers of the library; the
+/// program doesn't call it.
 pub fn read_last(bytes: &[u8]) -> Result<LastRead, RecordError>
     ensures ok { (last : LastRead) → (result ≡ Ok last) ↔ LastReadStands bytes.now last }
     ensures short { (result ≡ Err RecordError.Short) ↔ (length bytes.now < 16) }

@@ -1,38 +1,40 @@
 use record_numbers::{Bytes, Duplicate, List};
 use std::alloc::{AllocError, Global};
 
-/// A message of a conference.
+/// A message of a conference, which holds what JAM's message base proposal, revision 1, has in its header, its subfields
+/// and its text. The ranges are those of a message that a conference may hold. No byte of a name, an id or the subject is
+/// below 20h.
 #[derive(Debug, Drop)]
 pub struct Message {
-    /// The sender's name.
+    /// The sender's name, 1 to 36 bytes (SENDERNAME).
     pub from: Bytes,
-    /// The recipient's name.
+    /// The recipient's name, 1 to 36 bytes (RECEIVERNAME).
     pub to: Bytes,
-    /// The subject.
+    /// The subject, 0 to 72 bytes (SUBJECT).
     pub subject: Bytes,
-    /// The id of the message.
+    /// The id of the message, 1 to 80 bytes (MSGID), or nothing in a draft that will get one.
     pub msgid: Bytes,
-    /// The id of the message that is answered, or nothing.
+    /// The id of the message that is answered, 1 to 80 bytes (REPLYID), or nothing.
     pub replyid: Bytes,
-    /// The address that it comes from, or nothing.
+    /// The address that it comes from, as `address_text` takes it (OADDRESS), or nothing.
     pub origin: Bytes,
-    /// The address that it goes to, or nothing.
+    /// The address that it goes to, likewise (DADDRESS), or nothing.
     pub destination: Bytes,
-    /// The lines, each ended by a carriage return.
+    /// The lines, each ended by a carriage return (0Dh): 0 to 16,384 bytes. They stand in .JDT.
     pub body: Bytes,
-    /// When it was written, in Unix seconds.
+    /// When it was written, in Unix seconds (DateWritten).
     pub written: u32,
-    /// When its recipient received it, in Unix seconds, or 0.
+    /// When its recipient received it, in Unix seconds (DateReceived), or 0.
     pub received: u32,
-    /// When it came into the base, in Unix seconds.
+    /// When it came into the base, in Unix seconds (DateProcessed).
     pub processed: u32,
-    /// Whether it was made on this board.
+    /// Whether it was made on this board (MSG_LOCAL).
     pub local: bool,
-    /// Whether only its sender and its recipient may see it.
+    /// Whether only its sender, its recipient and the sysop may see it (MSG_PRIVATE). In a net conference each is private.
     pub private: bool,
-    /// Whether its recipient has read it.
+    /// Whether its recipient has read it (MSG_READ).
     pub seen: bool,
-    /// Whether it was deleted.
+    /// Whether it was deleted (MSG_DELETED). It keeps its number, and its links count.
     pub deleted: bool,
 }
 
@@ -42,23 +44,23 @@ pub type Messages = List<Message>;
 /// What a message number stands for.
 #[derive(Debug, Drop)]
 pub enum Slot {
-    /// No message.
+    /// No message: there never was one, or it was deleted and packed.
     Gone,
-    /// A message.
+    /// A message, deleted or not.
     Held(Message),
 }
 
-/// The slots of a conference. The one at place i, from 0, has the message number i + 1.
+/// The slots of a conference, at most 9,999. The one at place i, from 0, has the message number i + 1.
 pub type Slots = List<Slot>;
 
 /// Where the messages of a conference go.
 #[derive(Debug, Clone, Copy, PartialEq, Eq)]
 pub enum Kind {
-    /// To this board alone.
+    /// To this board alone (MSG_TYPELOCAL).
     Local,
-    /// To many boards.
+    /// To many boards (MSG_TYPEECHO).
     Echo,
-    /// To one person at an address.
+    /// To one person at an address (MSG_TYPENET).
     Net,
 }
 

@@ -74,6 +74,9 @@ fn fields_at(bytes: &[u8]) -> MessageHeader
 }
 
 /// The fixed part of the header at the front of the bytes. What the two reserved bytes hold is free.
+///
+/// `Short` comes exactly where there are fewer than 76 bytes, else `Signature` where they don't begin with that of JAM, else
+/// `Revision` where that isn't 1.
 pub fn read_message_header(bytes: &[u8]) -> Result<MessageHeader, RecordError>
     ensures ok { (header : MessageHeader) → (result ≡ Ok header) ↔ MessageHeaderStands bytes.now header }
     ensures short { (result ≡ Err RecordError.Short) ↔ (length bytes.now < 76) }

@@ -8,11 +8,12 @@ use std::alloc::{AllocError, Global};
 /// A subfield of a message header.
 #[derive(Debug, Drop)]
 pub struct Subfield {
-    /// LoID: what the value is, as 0 for the sender's address.
+    /// LoID: what the value is. 0 is the sender's address, 1 the recipient's, 2 the sender, 3 the recipient, 4 the message id,
+    /// 5 the id that is answered, 6 the subject.
     pub lo: u16,
     /// HiID, which revision 1 reserves.
     pub hi: u16,
-    /// The value.
+    /// The value, of which datlen states the length in 32 bits.
     pub value: Bytes,
 }
 
@@ -44,7 +45,9 @@ pub fn add_subfield(bytes: &mut Bytes, lo: u16, hi: u16, value: &[u8]) -> Result
     bytes.add(value)
 }
 
-/// The bytes of the subfields, one after the other.
+/// The bytes of the subfields, one after the other, which are fewer than 2^31.
+///
+/// The error comes where there is no memory.
 pub fn write_subfields(alloc: Global, value: &Subfields) -> Result<Bytes, AllocError>
     requires { length (subfields_text value.now) < 2 ^ 31 }
     ensures { IfOk result (λ bytes. bytes ≡ subfields_text value.now) }

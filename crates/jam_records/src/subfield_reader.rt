@@ -55,7 +55,11 @@ fn subfields_in(alloc: Global, bytes: &[u8]) -> Result<Subfields, SubfieldError>
     Ok(subfields)
 }
 
-/// The subfields of the whole slice. For callers of the library; the program doesn't call it.
+/// The subfields of the whole slice, which has fewer than 2^31 bytes. For callers of the library; the program doesn't call
+/// it.
+///
+/// `SubfieldEnd` comes where one passes the end of the slice, with the place of the first such, and `OutOfMemory` where there
+/// is no memory.
 pub fn read_subfields(alloc: Global, bytes: &[u8]) -> Result<Subfields, SubfieldError>
     requires { length bytes.now < 2 ^ 31 }
     ensures ok { IfOk result (λ subfields. SubfieldsRead bytes.now subfields) }

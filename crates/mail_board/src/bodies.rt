@@ -66,10 +66,10 @@ fn record_number(base: &Base, number: u32) -> u32
     count
 }
 
-/// The body that stands in .JDT of a place, which is that of the message of this number of its base.
+/// The body at a span of .JDT of a place. It is that of the message of this number in the place's base.
 ///
-/// `Damaged` comes where fewer bytes come, or no body: never where a host that tells its files has a body there.
-/// `DiskFault` comes only where the host's count of disk faults rose.
+/// `Damaged` comes where the host gives fewer bytes than the span has, or bytes that are no body. It never comes where
+/// a host that tells its files has a body there. `DiskFault` comes only where the host's count of disk faults rose.
 fn read_body<H: Host>(
     alloc: Global,
     host: &mut H,
@@ -111,8 +111,8 @@ fn with_body(alloc: Global, message: &Message, body: Bytes) -> Result<Message, A
     Ok(copy)
 }
 
-/// The message of a number in the base of a place, of which this is all but the body: the body is read from .JDT of the
-/// host, whose files have those of a base with the outline of this one. Nothing of the host changes.
+/// The message of a number in the base of a place, of which `message` is all but the body. The body is read from .JDT
+/// of the host, which has the bodies of a base with the outline of this one. Nothing of the host changes.
 ///
 /// `DiskFault` comes only where the host's count of disk faults rose. `Damaged` never comes from a host that tells its
 /// files. `OutOfMemory` comes where there is no memory for the message.

@@ -55,19 +55,20 @@ fn recover_board<H: Host>(alloc: Global, host: &mut H) -> Result<Option<FoundBoa
 }
 
 impl Board {
-    /// What the data files of a host stand for: it recovers first, carrying out what a crash left, reads each file
-    /// once, and where it finds a board in files of version 1, writes its ledger in version 2. It says nothing.
+    /// What the data files of a host stand for. It recovers first, and so carries out what a crash left. Then it reads
+    /// each file once. Where it finds a board in files of version 1, it writes the board's ledger in version 2. It says
+    /// nothing.
     ///
     /// `Damaged` comes where the recovered data files are neither all empty nor the layout of a board in either
-    /// version, with the first rule that they break. `DiskFault` comes only where the host's count of disk faults rose.
-    /// `OutOfMemory` comes before the first write of a migration, and hides no fault. Where damage and want of memory
-    /// meet, either may be answered.
+    /// version. It has the first rule that they break. `DiskFault` comes only where the host's count of disk faults
+    /// rose. `OutOfMemory` comes before the first write of a migration, and hides no fault. Where damage and want of
+    /// memory meet, either may be answered.
     #[tactic(auto, using(crate::proofs::LoadLaws::stops_outlined))]
     pub fn load<H: Host>(alloc: Global, host: &mut H) -> Result<Loaded, ReadError>
         requires { IsTrue H.tells → IsSettled (H.disk host.old) }
 
-        // A crash at any moment leaves what recovers to the same files, or to these migrated; or, from a host that is only
-        // settled, files as a crash at entry could have left them. From a firm host it is always one of the first two.
+        // A crash at any moment leaves what recovers to the same files, or to these migrated. From a host that is only
+        // settled, it may also leave files as a crash at entry could have left them. From a firm host it never does.
         ensures moments { IsTrue H.tells → Between (H.disk host.old) (H.disk host.new) (Opens (H.disk host.old)) }
         ensures now { IsTrue H.tells → IsFirm (H.disk host.old) → AllNow (H.disk host.new) (Opens (H.disk host.old)) }
         ensures same { IsTrue H.tells → Opens (H.disk host.old) (as_read (H.disk host.new)) }

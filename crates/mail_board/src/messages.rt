@@ -32,13 +32,13 @@ impl Board {
         msgid_of(alloc, &self.stored, place, number)
     }
 
-    /// The message of a number in a place, or None where no slot of that number holds one. Its body is read from the host.
-    /// The board isn't doubtful, and the host's files are those of a board with this outline, whose message it is. It says
-    /// nothing and changes nothing of the host.
+    /// The message of a number in a place, or None where no slot of that number holds one. Its body is read from the
+    /// host. The board isn't doubtful. The host's files are those of a board with this outline, and the message is that
+    /// board's. The call says nothing and changes nothing of the host.
     ///
-    /// `DiskFault` comes only where the host's count of disk faults rose. `Damaged` comes where fewer bytes come than the
-    /// body has, or no body, and never from a host that tells its files. `OutOfMemory` comes where there is no memory for
-    /// the message.
+    /// `DiskFault` comes only where the host's count of disk faults rose. `Damaged` comes where the host gives fewer
+    /// bytes than the body has, or bytes that are no body. It never comes from a host that tells its files.
+    /// `OutOfMemory` comes where there is no memory for the message.
     #[tactic(auto, using(crate::proofs::OneHost::rests_still))]
     pub fn message<H: Host>(
         &self,

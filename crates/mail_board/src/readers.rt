@@ -90,7 +90,7 @@ impl Board {
         }
     }
 
-    /// How many slots the conference in a place has, 0 to 9,999. It is the greatest message number.
+    /// How many slots the conference in a place has, 0 to 9,999. It is the greatest message number. The place is there.
     pub fn slot_count(&self, place: u8) -> u32
         requires { place < length self.now.board.conferences }
         ensures { Some result ≡ option_map (λ c. length c.slots) (slice_get self.now.board.conferences place) }
@@ -98,7 +98,7 @@ impl Board {
         self.base(place).slot_count()
     }
 
-    /// How many of its messages aren't deleted.
+    /// How many of its messages aren't deleted. The place is there.
     pub fn live_count(&self, place: u8) -> u32
         requires { place < length self.now.board.conferences }
         ensures { Some result ≡ option_map (λ c. live_in c.slots) (slice_get self.now.board.conferences place) }
@@ -106,8 +106,8 @@ impl Board {
         self.base(place).live_count()
     }
 
-    /// The number of the message that the message of a number answers, or 0 where it answers none that is there or
-    /// no slot has the number. For callers of the library; the program doesn't call it.
+    /// The number of the message that the message of a number answers. It is 0 where that answers none that is there,
+    /// or no slot has the number. The place is there. For callers of the library; the program doesn't call it.
     pub fn reply_to(&self, place: u8, number: u32) -> u32
         requires { place < length self.now.board.conferences }
         ensures { Some result ≡ option_map (λ c. original c.slots number) (slice_get self.now.board.conferences place) }
@@ -115,8 +115,8 @@ impl Board {
         self.base(place).reply_to(number)
     }
 
-    /// Whether a message that the conference in a place holds, deleted or not, has this msgid. It takes no memory, and goes
-    /// over the slots. For callers of the library; the program doesn't call it.
+    /// Whether a message that the conference in a place holds, deleted or not, has this msgid. The place is there. It takes
+    /// no memory, and goes over the slots. For callers of the library; the program doesn't call it.
     pub fn has_msgid(&self, place: u8, msgid: &[u8]) -> bool
         requires { place < length self.now.board.conferences }
         ensures { result ≡ has_msgid_in place msgid.now self.now.board }
@@ -142,10 +142,10 @@ impl Board {
         }
     }
 
-    /// Whether the user of an id, from 1, sees the message of a number, from 1, in a place, from 0: all three are
-    /// there, the message isn't deleted, the user is a member of its conference, and it isn't private, or is to the
-    /// user or from the user, ignoring ASCII case, or the user is the sysop. It takes no memory. For callers of the
-    /// library; the program doesn't call it.
+    /// Whether the user of an id, from 1, sees the message of a number, from 1, in a place, from 0. All three must be
+    /// there. The message mustn't be deleted, and the user must be a member of its conference. A private message must
+    /// be to the user or from the user, ignoring ASCII case, or the user must be the sysop. It takes no memory. For
+    /// callers of the library; the program doesn't call it.
     pub fn sees(&self, user: u32, place: u8, number: u32) -> bool
         ensures { result ≡ is_seen self.now.board user place number }
     {

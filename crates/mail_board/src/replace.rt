@@ -17,18 +17,18 @@ use post_changes::{fits_slots, replaced};
 use std::alloc::Global;
 
 impl Board {
-    /// Whether the conference in a place may get these slots: it is there and has as many, each message that they hold is
-    /// one that it may hold, with a msgid, and the data files would have at most 34,603,008 bytes. It takes no memory.
-    /// For callers of the library; the program doesn't call it.
+    /// Whether the conference in a place may get these slots. It must be there and have as many. Each message that they
+    /// hold must be one that it may hold, with a msgid. With them the data files must have at most 34,603,008 bytes. It
+    /// takes no memory. For callers of the library; the program doesn't call it.
     pub fn fits_slots(&self, place: u8, slots: &Slots) -> bool
         ensures { IsTrue result ↔ FitsSlots place slots.now self.now.board }
     {
         fits_slots(&self.stored, place, slots)
     }
 
-    /// Gives the conference in a place these slots, which fit, whole or not at all: with their bodies, whatever bodies
-    /// stand there. Its change counter rises by one, and stays at 4,294,967,295. Where the board isn't doubtful, the host
-    /// rests, and its files are those of a board with this outline. It says nothing.
+    /// Gives the conference in a place these slots, which fit, whole or not at all. They bring their bodies, whatever
+    /// bodies stand there. The conference's change counter rises by one, and stays at 4,294,967,295. Where the board
+    /// isn't doubtful, the host rests, and its files are those of a board with this outline. The call says nothing.
     ///
     /// `Doubt` comes where the board is doubtful, and `OutOfMemory` before the first write: both leave all as it
     /// was. `DiskFault` comes only where the host's count of disk faults rose. After it the board is doubtful.

@@ -27,7 +27,7 @@ pub struct View {
 /// What the rules see of a conference.
 #[derive(Debug, Clone, Copy)]
 pub struct ConferenceView {
-    /// Its number.
+    /// Its number, 0 to 65,535.
     pub number: u16,
     /// Where its messages go.
     pub kind: Kind,
@@ -37,7 +37,7 @@ pub struct ConferenceView {
     pub private: bool,
     /// Whether the user is a member.
     pub member: bool,
-    /// How many slots it has.
+    /// How many slots it has, 0 to 9,999.
     pub slots: u32,
     /// The length of the msgid that the message will get, in bytes.
     pub msgid_len: u32,

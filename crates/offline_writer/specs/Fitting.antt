@@ -32,8 +32,8 @@ pub record IsFirstUnfit (drafts : List QwkMessage) (number : ℕ) : Type 0 where
   pub unfit : ¬ FitsQwk draft
   pub at : number ≡ length before + 1
 
--- The texts end with no space and no NUL, and the reference has at most the 8 digits of its field: so it is where
--- the message that is answered was read of a packet, or the entry of a sheet.
+-- The texts end with no space and no NUL, and the reference has at most the 8 digits of its field. So it is where
+-- the message that is answered was read of a packet, or the entry was read of a sheet.
 pub record IsClean (envelope : Envelope) : Type 0 where
   pub to : EndsWithNone IsPad envelope.to
   pub subject : EndsWithNone IsPad envelope.subject

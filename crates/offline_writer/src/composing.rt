@@ -83,9 +83,12 @@ pub fn listed_conference(control: &Control, number: u32) -> Option<u16>
     None
 }
 
-/// Adds the messages of a sheet to a conference at the end of a reply packet, from the packet's user. `now`
-/// is in seconds since 1970, in UTC. After an error the packet is as it was. For callers of the library; the program
-/// doesn't call it.
+/// Adds the messages of a sheet, fewer than 4,294,967,295, to a conference at the end of a reply packet, from
+/// the packet's user. `now` is in seconds since 1970, in UTC. For callers of the library; the program doesn't
+/// call it.
+///
+/// `NoConference` comes exactly where the packet has no conference of the number, else `Text` where a message
+/// can't be put into QWK, and `OutOfMemory` where there is no memory. After an error the packet is as it was.
 pub fn compose(
     alloc: Global,
     control: &Control,

@@ -10,7 +10,7 @@ use thiserror::Error;
 /// Why messages aren't drafted.
 #[derive(Clone, Copy, Debug, PartialEq, Eq, Error)]
 pub enum DraftError {
-    /// The message of this number, from 1, is the first that can't be put into QWK: its To or its Subject has
+    /// The message of this number, from 1, is the first that can't be put into QWK. Its To or its Subject has
     /// over 25 bytes and can't go as a line, or its text has a byte E3h, a 0Dh that ends no line, or over
     /// 16,384 bytes.
     #[error("message {0} can't be put into QWK")]
@@ -24,7 +24,7 @@ pub enum DraftError {
 #[derive(Clone, Copy, Debug, PartialEq, Eq, Error)]
 pub enum ReplyError {
     /// The packet has no message in that place.
-    #[error("no message")]
+    #[error("the packet has no message in this place")]
     NoMessage,
     /// The reply, which is number 1, can't be put into QWK.
     #[error("message {0} can't be put into QWK")]
@@ -38,7 +38,7 @@ pub enum ReplyError {
 #[derive(Clone, Copy, Debug, PartialEq, Eq, Error)]
 pub enum ComposeError {
     /// The packet has no conference of that number.
-    #[error("no conference")]
+    #[error("the packet has no conference of this number")]
     NoConference,
     /// The message of this number, from 1, is the first that can't be put into QWK.
     #[error("message {0} can't be put into QWK")]

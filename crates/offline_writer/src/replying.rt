@@ -91,8 +91,11 @@ pub fn message_at(messages: &QwkMessages, place: u32) -> Option<&QwkMessage>
 }
 
 /// Adds the reply to the message in a place, which counts from 1, at the end of a reply packet: from the
-/// packet's user, with the lines of a text. `now` is in seconds since 1970, in UTC. After an error the
-/// packet is as it was. For callers of the library; the program doesn't call it.
+/// packet's user, with the lines of a text. `now` is in seconds since 1970, in UTC. For callers of the
+/// library; the program doesn't call it.
+///
+/// `NoMessage` comes exactly where the place is 0 or past the last message, else `Text(1)` where the reply
+/// can't be put into QWK, and `OutOfMemory` where there is no memory. After an error the packet is as it was.
 pub fn reply_to(
     alloc: Global,
     control: &Control,

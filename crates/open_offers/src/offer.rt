@@ -7,16 +7,18 @@ use crate::texts::{add_u32, u32s_at};
 use record_numbers::{Bytes, Duplicate, List, u32_at};
 use std::alloc::{AllocError, Global};
 
-/// A packet that was handed out to a user, and that he may acknowledge.
+/// A packet that was handed out to a user, and that he may acknowledge. A user has up to four of them: a fifth takes the
+/// place of the one with the smallest number.
 #[derive(Debug, Drop)]
 pub struct OpenOffer {
-    /// The number of the packet, from 1.
+    /// The number of the packet, from 1 to that of the user's last one.
     pub number: u32,
-    /// For each conference the greatest message number in the packet, or 0.
+    /// For each conference, by place, the greatest message number in the packet, or 0 where none is of it or the user isn't a
+    /// member.
     pub highs: Highs,
 }
 
-/// One message number for each conference, by place.
+/// One message number for each conference, by place, each 0 to 9,999.
 pub type Highs = List<u32>;
 
 /// The open offers of a user, in rising number. There are at most four.

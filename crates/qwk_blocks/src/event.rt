@@ -3,9 +3,9 @@
 pub enum Event {
     /// The producer's notice, the first block.
     Notice,
-    /// The header of a message that takes so many blocks, the header among them.
+    /// The header of a message that takes so many blocks, 1 to 999,999, the header among them.
     Head { blocks: u32 },
-    /// A block of a message's text, which so many more of the same message follow.
+    /// A block of a message's text, which so many more of the same message follow: 0 behind the last.
     Text { left: u32 },
 }
 

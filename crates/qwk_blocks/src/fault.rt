@@ -5,7 +5,7 @@ ghost use Rattle.qwk_blocks.specs.declared.fault.QwkFault.TheVariants.{BadBlocks
 use std::alloc::AllocError;
 use thiserror::Error;
 
-/// What is wrong with the bytes of MESSAGES.DAT, and at which byte from 0.
+/// What is wrong with the bytes of MESSAGES.DAT, and at which byte from 0, below 2^31.
 #[derive(Clone, Copy, Debug, PartialEq, Eq, Error)]
 pub enum QwkFault {
     /// The notice, a header block or the text blocks that the header counts aren't all there. The place

@@ -2,16 +2,19 @@ use std::alloc::{AllocError, Global};
 use text_fields::{Bytes, Duplicate, Lines, List};
 
 /// A message's header, by Lee's QWK Mail Packet File Layout of 1992. The numbers in brackets are the
-/// place of the field in its block of 128 bytes, from 1, and its width.
+/// place of the field in its block of 128 bytes, from 1, and its width. A text has at most as many bytes as
+/// its field is wide, and no space or NUL at its end.
 #[derive(Debug, Drop)]
 pub struct Header {
-    /// Status [1, 1]: space, `-`, `+`, `*` and others.
+    /// Status [1, 1]: `+` and `*` are private, `~` and a grave accent comments to the sysop; `%`, `^`, `!`, `#` and
+    /// `$` ask for a password; a space, `-` and any other byte are public.
     pub status: u8,
-    /// Message number [2, 7], or None where the field has no number.
+    /// Message number [2, 7], 0 to 9,999,999, or None where the field has no number. In a reply packet it is
+    /// that of the conference.
     pub number: Option<u32>,
-    /// Date [9, 8], as `mm-dd-yy`.
+    /// Date [9, 8], as `mm-dd-yy`. It need not read.
     pub date: [u8; 8],
-    /// Time [17, 5], as `hh:mm`.
+    /// Time [17, 5], as `hh:mm`. It need not read.
     pub time: [u8; 5],
     /// To [22, 25].
     pub to: Bytes,
@@ -21,7 +24,8 @@ pub struct Header {
     pub subject: Bytes,
     /// Password [97, 12].
     pub password: Bytes,
-    /// Number of the message that this one refers to [109, 8], or None where the field has no number.
+    /// Number of the message that this one refers to [109, 8], 0 to 99,999,999, or None where the field has
+    /// no number.
     pub reference: Option<u32>,
     /// Activity [123, 1]: E1h is active, E2h is killed.
     pub activity: u8,
@@ -33,7 +37,7 @@ pub struct Header {
     pub tag: u8,
 }
 
-/// A message: its header and the lines of its text, without their ends.
+/// A message: its header and the lines of its text, without their ends, in at most 999,999 blocks.
 #[derive(Debug, Drop)]
 pub struct QwkMessage {
     /// The header. The count of blocks isn't kept: it follows from the text.

@@ -88,7 +88,8 @@ fn messages_of(alloc: Global, bytes: &[u8]) -> Result<QwkMessages, QwkError>
 }
 
 /// The messages of the bytes of MESSAGES.DAT, by Lee's QWK Mail Packet File Layout of 1992, or the
-/// first fault of these bytes. The answer may be want of memory in place of either.
+/// first fault of these bytes, which are fewer than 2^31. The answer may be want of memory in place of
+/// either.
 pub fn read_messages(alloc: Global, bytes: &[u8]) -> Result<QwkMessages, QwkError>
     requires { length bytes.now < 2 ^ 31 }
 

@@ -55,7 +55,8 @@ impl BlockReader {
     }
 
     /// Takes from the front of the piece the rest of the block at hand, or the whole piece where it is less.
-    /// The event is that of a block that became full. The stream is all that was taken so far.
+    /// The event is that of a block that became full. The stream is all that was taken so far; with the piece it
+    /// has fewer than 2^31 bytes.
     ///
     /// `BlocksFault` comes where the block is a header whose count of blocks is no number or is 0, with the
     /// place of that header. Every later feed answers it again and takes nothing.
@@ -117,7 +118,8 @@ impl BlockReader {
         &self.block
     }
 
-    /// How many messages the stream has, or its first fault, where nothing follows.
+    /// How many messages the stream has, where nothing follows, or its first fault. It takes no memory, and may be
+    /// asked at any time.
     pub fn finish(&self) -> Result<u32, QwkFault>
         ensures count { (stream : List ℕ) → HoldsStream self.now stream → (n : ℕ) → (result ≡ Ok n) ↔ CountsMessages stream n }
         ensures fault { (stream : List ℕ) → HoldsStream self.now stream → (fault : QwkFault) → (result ≡ Err fault) ↔ FirstFault stream fault }

@@ -81,10 +81,15 @@ impl QwkMessage {
     ghost use Rattle.std.specs.Prelude.{◌↔◌, IsTrue};
     ghost use Rattle.qwk_blocks.specs.Written.{Writable};
 
-    /// Whether the message can be written: its number is at most 9,999,999 and its reference at most
-    /// 99,999,999, To, From and Subject have at most 25 bytes and the password at most 12, none with a
-    /// space or a NUL at its end, no line has E3h in it, and it takes at most 999,999 blocks. For callers of the
-    /// library; the program doesn't call it.
+    /// Whether the message can be written. It can where all of these hold:
+    ///
+    /// - Its number is at most 9,999,999, and its reference at most 99,999,999.
+    /// - To, From and Subject have at most 25 bytes, and the password at most 12. None of them ends with a space or a
+    ///   NUL.
+    /// - No line has E3h in it.
+    /// - It takes at most 999,999 blocks.
+    ///
+    /// For callers of the library; the program doesn't call it.
     pub fn writable(&self) -> bool
         ensures { IsTrue result ↔ Writable self.now }
     {

@@ -95,8 +95,12 @@ fn add_message(out: &mut Bytes, message: &QwkMessage) -> Result<(), AllocError>
     add_spaces(out, BLOCK * blocks - len)
 }
 
-/// The written form of messages as MESSAGES.DAT: the notice in a block of its own, and then each
-/// message, its number fields and texts padded with spaces.
+/// The written form of messages as MESSAGES.DAT, by Lee's QWK Mail Packet File Layout of 1992. The notice, of
+/// at most 128 bytes, comes first, in a block of its own. Then each message comes, its number fields and texts
+/// padded with spaces. Each message can be written, as `QwkMessage::writable` says, and the whole has fewer
+/// than 2^31 bytes.
+///
+/// The error comes where there is no memory.
 pub fn write_messages(
     alloc: Global,
     notice: &[u8],

@@ -89,9 +89,15 @@ impl Control {
     ghost use Rattle.std.specs.Prelude.{◌↔◌, IsTrue};
     ghost use Rattle.qwk_control.specs.Written.{WritableControl};
 
-    /// Whether there is a written form: no text has a CR or an LF, the serial has no comma, the board
-    /// id has 1 to 8 bytes from 21h to 7Eh, the count is at most 999,999,999, and there are 1 to 65,536
-    /// conferences. For callers of the library; the program doesn't call it.
+    /// Whether there is a written form. There is one where all of these hold:
+    ///
+    /// - No text has CR or LF.
+    /// - The serial has no comma.
+    /// - The board id has 1 to 8 bytes from 21h to 7Eh.
+    /// - The count is at most 999,999,999.
+    /// - There are 1 to 65,536 conferences.
+    ///
+    /// For callers of the library; the program doesn't call it.
     pub fn writable(&self) -> bool
         ensures { IsTrue result ↔ WritableControl self.now }
     {

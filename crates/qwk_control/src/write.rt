@@ -70,7 +70,16 @@ fn add_files(out: &mut Bytes, control: &Control) -> Result<(), AllocError>
     add_line(out, control.goodbye.as_slice())
 }
 
-/// The written form as CONTROL.DAT: each line with CR LF behind it.
+/// The written form as CONTROL.DAT, by Lee's QWK Mail Packet File Layout of 1992: each line with CR LF
+/// behind it. The control can be written, as `Control::writable` says:
+///
+/// - No text has CR or LF.
+/// - The serial has no comma.
+/// - The board id has 1 to 8 bytes from 21h to 7Eh.
+/// - The count is at most 999,999,999.
+/// - There are 1 to 65,536 conferences.
+///
+/// The error comes where there is no memory.
 pub fn write_control(alloc: Global, control: &Control) -> Result<Bytes, AllocError>
     requires { WritableControl control.now }
     ensures { IfOk result (λ text. text ≡ control_text control.now) }

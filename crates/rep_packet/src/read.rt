@@ -48,8 +48,8 @@ fn rep_of(alloc: Global, bytes: &[u8]) -> Result<Rep, RepError>
 
 /// The reply packet of the bytes of BBSID.MSG, by Lee's QWK Mail Packet File Layout of 1992, or their
 /// fault: fewer than 128 bytes, else the first 8 as spaces and NULs alone, else the first fault of the
-/// blocks. The answer may be want of memory in place of either. The 120 bytes behind the board id are
-/// free.
+/// blocks. The answer may be want of memory in place of either. The bytes are fewer than 2^31; the 120
+/// behind the board id are free.
 pub fn read_rep(alloc: Global, bytes: &[u8]) -> Result<Rep, RepError>
     requires { length bytes.now < 2 ^ 31 }
 

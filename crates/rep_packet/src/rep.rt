@@ -10,7 +10,7 @@ use std::alloc::AllocError;
 pub struct Rep {
     /// The board id, 1 to 8 bytes, the last of which is no space and no NUL.
     pub bbsid: Bytes,
-    /// The messages, in order.
+    /// The messages, in order. The number of each is that of the conference that it goes to.
     pub messages: QwkMessages,
 }
 

@@ -4,6 +4,7 @@ pub mod Zones
 pub mod Valid
 pub mod Words
 pub mod Rules
+pub mod RuleWord
 pub mod Reads
 pub mod Fault
 pub mod State

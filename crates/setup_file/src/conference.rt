@@ -4,7 +4,7 @@ use std::alloc::{AllocError, Global};
 /// What a board's setup says of a conference.
 #[derive(Debug, Drop)]
 pub struct Conference {
-    /// Its number, which callers see. Numbers rise with the places.
+    /// Its number, 0 to 65,535, which callers see. Numbers rise with the places.
     pub number: u16,
     /// Where its messages go.
     pub kind: Kind,
@@ -16,7 +16,7 @@ pub struct Conference {
     pub name: Bytes,
 }
 
-/// The conferences of a board, by their places from 0.
+/// The conferences of a board, 1 to 64, by their places from 0.
 pub type Conferences = List<Conference>;
 
 impl Duplicate for Conference {

@@ -1,4 +1,5 @@
 ghost use Rattle.std.specs.Prelude.{◌≡◌};
+ghost use Rattle.setup_file.specs.RuleWord.{setup_word};
 ghost use Rattle.setup_file.specs.declared.error.SetupError.TheVariants.{OutOfMemory};
 
 use std::alloc::AllocError;
@@ -32,11 +33,32 @@ pub enum SetupRule {
     Missing,
 }
 
+impl SetupRule {
+    /// The word of the rule, as a refusal has it.
+    pub fn word(self) -> &'static [u8]
+        ensures { result.now ≡ setup_word self }
+    {
+        match self {
+            SetupRule::Key => b"key",
+            SetupRule::Text => b"text",
+            SetupRule::Id => b"id",
+            SetupRule::Number => b"number",
+            SetupRule::Zones => b"zones",
+            SetupRule::Kind => b"kind",
+            SetupRule::Rules => b"rules",
+            SetupRule::Name => b"name",
+            SetupRule::Order => b"order",
+            SetupRule::Many => b"many",
+            SetupRule::Missing => b"missing",
+        }
+    }
+}
+
 /// Why the bytes of a setup file aren't read.
 #[derive(Clone, Copy, Debug, PartialEq, Eq, Error)]
 pub enum SetupError {
     /// This line, counted from 1, is the first that breaks a rule. For `Missing` it is one past the last.
-    #[error("line {line} breaks the rule {rule:?}")]
+    #[error("line {line} breaks the rule {word}", word = .rule.word().escape_ascii())]
     Line { line: u32, rule: SetupRule },
     /// There was no memory.
     #[error("out of memory")]

@@ -115,7 +115,7 @@ impl Setup {
         self.conferences.get(usize::from(place))
     }
 
-    /// An equal setup.
+    /// An equal setup. The error comes where there is no memory.
     pub fn copy(&self, alloc: Global) -> Result<Setup, AllocError>
         ensures { IfOk result (λ copy. copy ≡ self.now) }
     {

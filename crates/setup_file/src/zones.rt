@@ -5,7 +5,7 @@ ghost use Rattle.setup_file.specs.Rising.{are_rising as rising_test, rise_above 
 
 use jam_records::List;
 
-/// The zones of a board, each above the one before.
+/// The zones of a board, 0 to 16 numbers from 1 to 32,767, each above the one before.
 pub type Zones = List<u16>;
 
 /// Whether each number is from 1 to 32,767.

@@ -3,8 +3,7 @@ use Rattle.std.specs.Prelude.{ℕ, List, [], ◌++◌, codes, decimal, Option, S
 use Rattle.fts_packet.specs.RuleWord.{packet_word}
 use Rattle.import_sheet.specs.RuleWord.{sheet_rule_word}
 use Rattle.qwk_blocks.specs.declared.fault.QwkFault.TheVariants.{Truncated, BadBlocks}
-use Rattle.setup_file.specs.declared.error.SetupRule.{SetupRule}
-use Rattle.setup_file.specs.declared.error.SetupRule.TheVariants as setup
+use Rattle.setup_file.specs.RuleWord.{setup_word}
 use Rattle.shelf_files.specs.declared.refusal.Refusal.{Refusal}
 use Rattle.shelf_files.specs.declared.refusal.Refusal.TheVariants.{NoFile, TooLarge, Broken, ControlShort, ControlNumber, ControlId, NoMessage, NoBoardId, OtherBoard, NoConference}
 use Rattle.shelf_files.specs.declared.refusal.Refusal.TheVariants.{Sheet, Text, NotMade, Exists, Name, DupUser, Users, NoUser, Limit, Packets, NoPacket, Uploads, Count, Setup}
@@ -31,20 +30,6 @@ said_line (said.Name words name) = line_of words.now name.now
 said_line (said.Number words number) = line_of words.now (decimal number)
 said_line (said.Rule words line rule) = ruled_line words.now line rule.now
 said_line (said.Fault words rule at) = fault_line words.now rule.now at
-
--- the words of the rules of setup files
-abbrev pub setup_word : SetupRule → List ℕ
-setup_word setup.Key = codes "key"
-setup_word setup.Text = codes "text"
-setup_word setup.Id = codes "id"
-setup_word setup.Number = codes "number"
-setup_word setup.Zones = codes "zones"
-setup_word setup.Kind = codes "kind"
-setup_word setup.Rules = codes "rules"
-setup_word setup.Name = codes "name"
-setup_word setup.Order = codes "order"
-setup_word setup.Many = codes "many"
-setup_word setup.Missing = codes "missing"
 
 -- the line that names the open packet with the greatest number, if one is open
 abbrev pub nopacket_line : Option ℕ → List ℕ

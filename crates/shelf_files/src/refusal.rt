@@ -1,5 +1,5 @@
 ghost use Rattle.std.specs.Prelude.{◌≡◌};
-ghost use Rattle.shelf_files.specs.Refusals.{nopacket_line, said_line, setup_word as setup_word_of};
+ghost use Rattle.shelf_files.specs.Refusals.{nopacket_line, said_line};
 
 use crate::said::Said;
 use door_outside::{Host, ShelfName, VoiceFault};
@@ -71,25 +71,6 @@ pub enum Refusal {
     ForeignSignature,
 }
 
-/// The word of a rule of setup files.
-fn setup_word(rule: SetupRule) -> &'static [u8]
-    ensures { result.now ≡ setup_word_of rule }
-{
-    match rule {
-        SetupRule::Key => b"key",
-        SetupRule::Text => b"text",
-        SetupRule::Id => b"id",
-        SetupRule::Number => b"number",
-        SetupRule::Zones => b"zones",
-        SetupRule::Kind => b"kind",
-        SetupRule::Rules => b"rules",
-        SetupRule::Name => b"name",
-        SetupRule::Order => b"order",
-        SetupRule::Many => b"many",
-        SetupRule::Missing => b"missing",
-    }
-}
-
 /// What is said of the open packet with the greatest number, or that none is open.
 fn packet_said(packet: Option<u32>) -> Said<'static>
     ensures { said_line result ≡ nopacket_line packet }
@@ -139,7 +120,7 @@ impl Refusal {
             Refusal::NoPacket(packet) => packet_said(*packet),
             Refusal::Uploads => Said::Words(b"uploads 100000"),
             Refusal::Count => Said::Words(b"count"),
-            Refusal::Setup { line, rule } => Said::Rule(b"setup ", *line, setup_word(*rule)),
+            Refusal::Setup { line, rule } => Said::Rule(b"setup ", *line, rule.word()),
             Refusal::Slots(count) => Said::Number(b"slots ", *count),
             Refusal::Size(bytes) => Said::Number(b"size ", *bytes),
             Refusal::Packet { rule, at } => Said::Fault(b"packet ", rule.word(), *at),

@@ -139,14 +139,14 @@ const CASES: &str = r#"
 # the length of the last file.
 0 - "" => none
 0 2 "" => new 3191 [Some(0), Some(0), Some(0), None] 12345 3 version 2
-0 2 "" 0 "" => damaged: file 0, record 0, Short
-0 2 "" 5 x => damaged: file 5, record 0, Rest
-0 2 "" 6 "" => damaged: file 6, record 0, Short
-0 2 "" 12 x => damaged: file 12, record 0, Short
-0 2 "" 14 x => damaged: file 14, record 0, Rest
-0 2 "" 257 x => damaged: file 257, record 0, Rest
-0 2 E 5 \xF3\x70\xCA\x1C\x01\0\0\0\0\0\0\0\0\0\0\0 => damaged: file 0, record 4, High
-0 2 E 5 \xF3\x70\xCA\x1C\x01\0\0\0\0\0\0\0\0\0\0\0 255 x => damaged: file 255, record 0, Rest
+0 2 "" 0 "" => damaged: LEDGER.DAT, record 0: short
+0 2 "" 5 x => damaged: C00.JLR, record 0: rest
+0 2 "" 6 "" => damaged: C01.JHR, record 0: short
+0 2 "" 12 x => damaged: C02.JDX, record 0: short
+0 2 "" 14 x => damaged: C03.JHR, record 0: rest
+0 2 "" 257 x => damaged: C63.JLR, record 0: rest
+0 2 E 5 \xF3\x70\xCA\x1C\x01\0\0\0\0\0\0\0\0\0\0\0 => damaged: LEDGER.DAT, record 4: high
+0 2 E 5 \xF3\x70\xCA\x1C\x01\0\0\0\0\0\0\0\0\0\0\0 255 x => damaged: C63.JDT, record 0: rest
 1 2 "" => disk fault
 258 2 "" => disk fault
 260 2 "" => disk fault
@@ -157,22 +157,22 @@ const CASES: &str = r#"
 0 1 "" => old 3191 [Some(0), Some(0), Some(0), None] 12345 3 version 2
 0 1 B 5 \x91\x64\x92\xC6\x01\0\0\0\0\0\0\0\0\0\0\0 => old 3293 [Some(0), Some(0), Some(0), None] 12345 3 version 2
 0 2 B 5 \x91\x64\x92\xC6\x01\0\0\0\0\0\0\0\0\0\0\0 => new 3293 [Some(0), Some(0), Some(0), None] 12345 3 version 2
-0 1 B => damaged: file 5, record 0, Short
-0 1 E 5 \xF3\x70\xCA\x1C\x01\0\0\0\0\0\0\0\0\0\0\0 => damaged: file 0, record 4, High
-0 3 "" => damaged: file 0, record 0, Version
-0 1 "" 257 x => damaged: file 257, record 0, Rest
+0 1 B => damaged: C00.JLR, record 0: short
+0 1 E 5 \xF3\x70\xCA\x1C\x01\0\0\0\0\0\0\0\0\0\0\0 => damaged: LEDGER.DAT, record 4: high
+0 3 "" => damaged: LEDGER.DAT, record 0: version
+0 1 "" 257 x => damaged: C63.JLR, record 0: rest
 258 1 "" => disk fault
 259 1 "" => disk fault
 529 1 "" => disk fault
 # The size comes before all. Its limit is 34,603,008 bytes.
-0 2 "" 3 \0\{34599818} => damaged: file 0, record 0, Size
-0 2 "" 3 \0\{34599817} => damaged: file 3, record 1, Rest
+0 2 "" 3 \0\{34599818} => damaged: LEDGER.DAT, record 0: size
+0 2 "" 3 \0\{34599817} => damaged: C00.JDT, record 1: rest
 # With a ledger of version 1 the limit is 33,554,432 bytes.
-0 1 "" 3 \0\{33551242} => damaged: file 0, record 0, Size
-0 1 "" 3 \0\{33551241} => damaged: file 3, record 1, Rest
+0 1 "" 3 \0\{33551242} => damaged: LEDGER.DAT, record 0: size
+0 1 "" 3 \0\{33551241} => damaged: C00.JDT, record 1: rest
 # It is that where file 0 has 24 bytes and begins as one of version 1, whatever else is wrong in it.
-0 2 "" 0 QMDL\x01\0\0\{18} 3 \0\{33551360} => damaged: file 0, record 0, Size
-0 2 "" 0 QMDL\x01\0\0\{17} 3 \0\{33551360} => damaged: file 0, record 0, Short
+0 2 "" 0 QMDL\x01\0\0\{18} 3 \0\{33551360} => damaged: LEDGER.DAT, record 0: size
+0 2 "" 0 QMDL\x01\0\0\{17} 3 \0\{33551360} => damaged: LEDGER.DAT, record 0: short
 "#;
 
 #[test]
