@@ -1,3 +1,4 @@
+pub mod Allowance
 pub mod Cause
 pub mod Disk
 pub mod File

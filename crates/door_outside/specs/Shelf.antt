@@ -1,10 +1,9 @@
 -- What a shelf holds, and what its calls do.
-use Rattle.std.specs.Prelude.{◌≡◌, ◌⊎◌, ℕ, ◌≤◌, nat_le, if◌then◌else◌, List, [], ◌++◌, length, take, Option, Some, None, unwrap_or, Result, MatchResult}
+use Rattle.std.specs.Prelude.{◌≡◌, ◌⊎◌, ℕ, ◌-◌, ◌≤◌, nat_le, if◌then◌else◌, List, [], ◌++◌, length, take, drop, Option, Some, None, unwrap_or, Result, MatchResult}
 use Rattle.std.specs.Cmp.Lexicographic.{slice_cmp}
 use Rattle.std.specs.Ordering.{nat_cmp}
 use Rattle.std.specs.FinMap as map
 use Rattle.std.specs.List.{Contains}
-use Rattle.door_outside.specs.Disk.{read_count, read_into}
 use Rattle.door_outside.specs.declared.shelf.Piece.{Piece}
 use Rattle.door_outside.specs.declared.shelf.Piece.TheVariants.{Missing, Count}
 use Rattle.door_outside.specs.declared.fetch.Fetched.{Fetched}
@@ -21,12 +20,20 @@ abbrev pub PieceWithin : ℕ → Piece → Type 0
 PieceWithin room Missing = Unit {0}
 PieceWithin room (Count n) = n ≤ room
 
+-- So many bytes of a file from a place on, first in the buffer: no more than there is room for, and none only where there
+-- is no room or the file ends there.
+pub record IsPieceOf (file : List ℕ) (at : ℕ) (old new : List ℕ) (n : ℕ) : Type 0 where
+  pub within : n ≤ length old
+  pub there : n ≤ length file - at
+  pub ends : n ≡ 0 → (length old ≡ 0) ⊎ (length file ≤ at)
+  pub bytes : take n new ≡ take n (drop at file)
+
 -- what a piece of a file is
 abbrev pub PieceIs : Option (List ℕ) → ℕ → List ℕ → List ℕ → Piece → Type 0
 PieceIs None at old new Missing = Unit {0}
 PieceIs None at old new (Count n) = ⊥
 PieceIs (Some file) at old new Missing = ⊥
-PieceIs (Some file) at old new (Count n) = (n ≡ read_count file at (length old)) × (new ≡ read_into file at old)
+PieceIs (Some file) at old new (Count n) = IsPieceOf file at old new n
 
 -- the file is made empty, or left as it was
 abbrev pub BeginsFile : {E : Type 0} → List ℕ → Files → Files → Result (Unit {0}) E → Type 0

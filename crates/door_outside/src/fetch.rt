@@ -2,6 +2,7 @@ ghost use Rattle.std.specs.Prelude.{◌≡◌, ◌<◌, ◌≤◌, ◌^◌, leng
 ghost use Rattle.door_outside.specs.Cause.{Rose};
 ghost use Rattle.door_outside.specs.Shelf.{held, fetched, FetchedWithin};
 
+use crate::allowance::Allowance;
 use crate::fault::ShelfFault;
 use crate::name::ShelfName;
 use crate::shelf::{Piece, Shelf};
@@ -74,12 +75,11 @@ fn fetch_by<S: Shelf>(
     ensures kept { OnOk result (S.faults shelf.new ≡ S.faults shelf.old) }
     ensures starved { IsErrOf result FetchError.OutOfMemory → S.faults shelf.new ≡ S.faults shelf.old }
 {
-    let most = max as usize;
+    let mut allowance = Allowance::new(max + 1);
     let mut whole = Bytes::new(alloc);
-    while whole.as_slice().len() <= most {
-        let at = whole.as_slice().len();
-        let wanted = (most + 1 - at).min(room.len());
-        match shelf.piece(name, at as u32, &mut room[..wanted])? {
+    while allowance.left() > 0 {
+        let wanted = allowance.left().min(room.len());
+        match allowance.ask(shelf, name, &mut room[..wanted])? {
             Piece::Missing => return Ok(Fetched::Missing),
             Piece::Count(0) => return Ok(Fetched::Whole(whole)),
             Piece::Count(count) => whole.add(&room[..count])?,

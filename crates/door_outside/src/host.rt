@@ -8,9 +8,9 @@ use crate::file::FileId;
 /// A disk of 258 files that a crash may tear, and a voice. The clauses on what the files hold stand behind
 /// `tells`; those on counts of faults hold for every host.
 ///
-/// Between two successful syncs of a file each range that was written, and everything from the file's
-/// shortest length since that sync on, may hold any bytes after a crash, and its length is any between the
-/// shortest and the longest. Other bytes stay. What was said stays said.
+/// Between two successful syncs of a file each range that was written may hold any bytes after a crash,
+/// and so may everything from the file's shortest length since the first of them on. Its length is any
+/// between the shortest and the longest since then. Other bytes stay. What was said stays said.
 pub trait Host {
     /// Whether hosts of this type tell what they hold.
     ghost tells: { Bool };

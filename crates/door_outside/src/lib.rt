@@ -2,6 +2,7 @@
 //! trait whose clauses say what a call does, leaves and counts.
 #![tactic(auto)]
 
+mod allowance;
 mod fault;
 mod fetch;
 mod file;
@@ -12,6 +13,7 @@ mod packet_names;
 mod shelf;
 mod writing;
 
+pub use allowance::Allowance;
 pub use byte_lists::{Bytes, Duplicate, Lines, List};
 pub use fault::{DiskFault, ShelfFault, VoiceFault};
 pub use fetch::{FetchError, Fetched, fetch_whole};

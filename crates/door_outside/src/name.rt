@@ -69,7 +69,7 @@ fn has_parts(text: &[u8], most: usize) -> bool
 }
 
 impl ShelfName {
-    /// The name that a text is, or None where it is no shelf name.
+    /// The name that a text is, or None where it is no shelf name. The error comes where there is no memory.
     pub fn parse(alloc: Global, text: &[u8]) -> Result<Option<ShelfName>, AllocError>
         ensures { IfOk result (λ found. MatchOption found (¬ IsShelfName text.now) (λ name. IsShelfName text.now × (name ≡ text.now))) }
     {
@@ -94,7 +94,8 @@ impl ShelfName {
         Ok(Some(ShelfName { text }))
     }
 
-    /// The name of a file in this folder.
+    /// The name of a file in this folder, which has at most 3 parts. The part is one of a name. The error comes where there is
+    /// no memory.
     pub fn file(&self, alloc: Global, part: &[u8]) -> Result<ShelfName, AllocError>
         requires folder { HasParts 3 self.now }
         requires part { IsNamePart part.now }
@@ -121,7 +122,7 @@ impl ShelfName {
         self.text.as_slice()
     }
 
-    /// An equal name.
+    /// An equal name. The error comes where there is no memory.
     pub fn copy(&self, alloc: Global) -> Result<ShelfName, AllocError>
         ensures { IfOk result (λ copy. copy ≡ self.now) }
     {

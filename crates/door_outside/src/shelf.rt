@@ -26,8 +26,8 @@ pub trait Shelf {
     /// How many calls failed. It never falls.
     ghost faults: { Self → ℕ };
 
-    /// Fills the buffer from the byte at a place of the file, as far as the file goes. No bytes into a
-    /// buffer that has room are the end of the file.
+    /// Puts bytes of the file, from a place on, first into the buffer, and answers how many it gave. They may be fewer
+    /// than there is room for. No bytes into a buffer that has room are the end of the file.
     fn piece(&mut self, name: &ShelfName, at: u32, buf: &mut [u8]) -> Result<Piece, ShelfFault>
         ensures bound { IfOk result (PieceWithin (length buf.old)) }
         ensures value { IsTrue tells → IfOk result (PieceIs (held (files self.old) name.now) at buf.old buf.new) }

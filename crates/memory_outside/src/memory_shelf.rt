@@ -1,4 +1,4 @@
-ghost use Rattle.std.specs.Prelude.{◌≡◌, ◌≤◌, ◌++◌, [], true, length, unwrap_or, IfOk, OnOk, OnErr, IsTrue, ◌↔◌};
+ghost use Rattle.std.specs.Prelude.{◌≡◌, ◌≤◌, ◌<◌, ◌++◌, [], true, length, unwrap_or, IfOk, OnOk, OnErr, IsTrue, ◌↔◌};
 ghost use Rattle.std.specs.FinMap as map;
 ghost use Rattle.std.specs.Option.{option_map};
 ghost use Rattle.door_outside.specs.Cause.{HasCause};
@@ -21,6 +21,8 @@ pub struct MemoryShelf {
     files: BTreeMap<ShelfName, Bytes>,
     faults: u64,
     calls: Calls,
+    /// How many bytes a piece has at most.
+    longest: usize,
 }
 
 impl Model for MemoryShelf {
@@ -44,7 +46,15 @@ impl MemoryShelf {
             files: BTreeMap::new(alloc),
             faults: 0,
             calls: Calls::new(plan),
+            longest: usize::MAX,
         }
+    }
+
+    /// From now on a piece has at most so many bytes, and one at least: a shelf may give fewer than there is room for.
+    pub fn shorten_pieces(&mut self, longest: usize)
+        ensures { self.new ≡ self.old }
+    {
+        self.longest = longest.max(1);
     }
 
     /// Gives the file of that name these bytes, and makes it where it is missing. It is no call of the
@@ -116,14 +126,16 @@ impl MemoryShelf {
     }
 }
 
-/// A piece of a file, where there is one.
-fn piece_of(file: Option<&[u8]>, at: u32, buf: &mut [u8]) -> Piece
+/// A piece of a file, where there is one. It has at most so many bytes.
+fn piece_of(file: Option<&[u8]>, at: u32, buf: &mut [u8], longest: usize) -> Piece
+    requires { 0 < longest }
     ensures bound { PieceWithin (length buf.old) result }
     ensures value { PieceIs (option_map (λ bytes. bytes.now) file.entry) at buf.old buf.new result }
 {
+    let room = buf.len().min(longest);
     match file {
         None => Piece::Missing,
-        Some(file) => Piece::Count(read_piece(file, at, buf)),
+        Some(file) => Piece::Count(read_piece(file, at, &mut buf[..room])),
     }
 }
 
@@ -146,7 +158,8 @@ impl Shelf for MemoryShelf {
         if self.fails() {
             return Err(self.fault());
         }
-        Ok(piece_of(self.get(name), at, buf))
+        let longest = self.longest.max(1);
+        Ok(piece_of(self.get(name), at, buf, longest))
     }
 
     fn begin(&mut self, name: &ShelfName) -> Result<(), ShelfFault>

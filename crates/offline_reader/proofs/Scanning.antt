@@ -81,23 +81,23 @@ FedUpto None at r = at ≡ 0
 FedUpto (Some file) at r = (at ≤ length file) × HasFed r (take at file)
 
 -- one more piece of it
-pub piece_fed : (held : Option (List ℕ)) (old new : ReaderState) (at n : ℕ) (buf got rest : List ℕ) → FedUpto held at old → PieceIs held at buf got (piece.Count n) → n ≤ length (got ++ rest)
+pub piece_fed : (held : Option (List ℕ)) (old new : ReaderState) (at n : ℕ) (buf got rest : List ℕ) → length got ≡ length buf → FedUpto held at old → PieceIs held at buf got (piece.Count n) → n ≤ length (got ++ rest)
     → ((s : List ℕ) → HasFed old s → HasFed new (s ++ take n (got ++ rest))) → FedUpto held (at + n) new
-piece_fed None old new at n buf got rest fed is long more = absurd is
-piece_fed (Some file) old new at n buf got rest (le, fed) is long more =
+piece_fed None old new at n buf got rest size fed is long more = absurd is
+piece_fed (Some file) old new at n buf got rest size (le, fed) is long more =
     let here : length (take at file) ≡ at = omega (arith, length-take at file) in
     let front : take at file ≡ take (length (take at file)) file = ap (λ k. take k file) (sym here) in
     let piece : PieceIs (Some file) (length (take at file)) buf got (piece.Count n) = subst (λ (k : ℕ). PieceIs (Some file) k buf got (piece.Count n)) (sym here) is in
-    let all : take at file ++ take n (got ++ rest) ≡ take (length (take at file ++ take n (got ++ rest))) file = front_more (Some file) (take at file) buf got rest n front piece in
+    let all : take at file ++ take n (got ++ rest) ≡ take (length (take at file ++ take n (got ++ rest))) file = front_more (Some file) (take at file) buf got rest n size front piece in
     let len : length (take at file ++ take n (got ++ rest)) ≡ at + n = omega (arith, length-append (take at file) (take n (got ++ rest)), length-take n (got ++ rest)) in
-    (omega (arith, is.0, le), subst (HasFed new) (all ∙ ap (λ k. take k file) len) (more (take at file) fed))
+    (omega (arith, is.there, le), subst (HasFed new) (all ∙ ap (λ k. take k file) len) (more (take at file) fed))
 
 -- the end of the file
 pub end_found : (held : Option (List ℕ)) (r : ReaderState) (at most : ℕ) (buf got : List ℕ) (found : Scanned) → FedUpto held at r → PieceIs held at buf got (piece.Count 0) → 0 < length buf → at ≤ most
     → ((file : List ℕ) → HasFed r file → length file ≤ most → ScanFinds most (Some file) found) → ScanFinds most held found
 end_found None r at most buf got found fed is some le ends = absurd is
 end_found (Some file) r at most buf got found (within, fed) is some le ends =
-    let end : length file ≤ at = omega (arith, is.0) in
+    let end : length file ≤ at = elim (is.ends refl) [ inl none ↦ omega (arith, none, some) | inr past ↦ past ] in
     ends file (subst (HasFed r) (take_all at file end) fed) (omega arith)
 
 -- one thing is found at most

@@ -9,6 +9,8 @@ use qwk_control::Control;
 use std::alloc::{AllocError, Global};
 
 /// The listing of a packet's folder: `board BOARD`, `user USER`, and the listing of its messages.
+///
+/// The error comes where there is no memory.
 pub fn list_folder(
     alloc: Global,
     control: &Control,

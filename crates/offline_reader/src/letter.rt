@@ -15,7 +15,7 @@ use thiserror::Error;
 #[derive(Clone, Copy, Debug, PartialEq, Eq, Error)]
 pub enum ShowError {
     /// The packet has no message in that place.
-    #[error("no message")]
+    #[error("the packet has no message in this place")]
     NoMessage,
     /// There is no memory for the text.
     #[error("out of memory")]

@@ -3,7 +3,7 @@ ghost use Rattle.offline_reader.specs.Listing.{kind, place_text, kind_text, name
 
 use crate::print::{add_number, add_printed};
 use byte_lists::Bytes;
-use long_names::plain;
+use long_names::{plain, reads_as_is};
 use qwk_blocks::{Header, QwkMessage, QwkMessages};
 use std::alloc::{AllocError, Global};
 use text_fields::add_decimal;
@@ -87,6 +87,9 @@ fn add_line(
 ) -> Result<(), AllocError>
     ensures { OnOk result (page.new ≡ page.old ++ listing_line (place, message.now)) }
 {
+    if reads_as_is(message) {
+        return add_plain_line(page, place, message);
+    }
     let read = plain(alloc, message)?;
     add_plain_line(page, place, &read)
 }
@@ -111,6 +114,8 @@ pub fn add_listing(
 /// The listing of a packet: a line `PLACE CONFERENCE/NUMBER KIND FROM > TO: SUBJECT [LINES]` for each
 /// message, where places count from 1, and then `N messages`. Long names and subjects are whole, and the
 /// lines that give them don't count.
+///
+/// The error comes where there is no memory.
 pub fn list_packet(alloc: Global, messages: &QwkMessages) -> Result<Bytes, AllocError>
     ensures { IfOk result (λ text. text ≡ listing messages.now) }
 {

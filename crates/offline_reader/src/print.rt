@@ -1,5 +1,5 @@
 //! Parts of a page, each added at its end.
-ghost use Rattle.std.specs.Prelude.{◌≡◌, ◌++◌, OnOk};
+ghost use Rattle.std.specs.Prelude.{◌≡◌, ◌++◌, IsTrue, OnOk};
 ghost use Rattle.offline_reader.specs.Printed as spec;
 ghost use Rattle.offline_reader.specs.Printed.{printed, printed_number, printed_line};
 
@@ -13,10 +13,25 @@ fn printed_byte(b: u8) -> u8
     if b < 32 || b == 127 { b'?' } else { b }
 }
 
+/// Whether a text is printed as it is.
+fn is_printed(text: &[u8]) -> bool
+    ensures { IsTrue result → printed text.now ≡ text.now }
+{
+    for b in text {
+        if printed_byte(*b) != *b {
+            return false;
+        }
+    }
+    true
+}
+
 /// Adds a text of the packet, whose control bytes become `?`.
 pub fn add_printed(page: &mut Bytes, text: &[u8]) -> Result<(), AllocError>
     ensures { OnOk result (page.new ≡ page.old ++ printed text.now) }
 {
+    if is_printed(text) {
+        return page.add(text);
+    }
     for b in text {
         page.add(&[printed_byte(*b)])?;
     }

@@ -4,7 +4,7 @@ ghost use Rattle.door_outside.specs.Shelf.{held};
 ghost use Rattle.offline_reader.specs.Scan.{ScanFinds, HasFed};
 ghost use Rattle.offline_reader.specs.declared.scan.Scanned.{Scanned};
 
-use door_outside::{Piece, Shelf, ShelfFault, ShelfName};
+use door_outside::{Allowance, Piece, Shelf, ShelfFault, ShelfName};
 use qwk_blocks::{BlockReader, QwkFault};
 
 /// How many bytes are asked for at once.
@@ -49,7 +49,8 @@ fn outcome_of(reader: &BlockReader) -> Scanned
 }
 
 /// How many messages MESSAGES.DAT of that name has, where it has at most `max` bytes, or its first fault.
-/// It takes no memory but an array of 4,096 bytes, and asks for `max` + 1 bytes at most.
+/// It takes no memory but an array of 4,096 bytes, and asks for `max` + 1 bytes at most. `max` is at most
+/// 1,073,741,824.
 ///
 /// `ShelfFault` comes only where the shelf's count of faults rose.
 pub fn scan_packet<S: Shelf>(
@@ -70,16 +71,13 @@ pub fn scan_packet<S: Shelf>(
 {
     let mut room = [0u8; PIECE];
     let mut reader = BlockReader::new();
-    let mut at = 0;
-    while at <= max {
-        let wanted = PIECE.min((max + 1 - at) as usize);
-        match shelf.piece(name, at, &mut room[..wanted])? {
+    let mut allowance = Allowance::new(max + 1);
+    while allowance.left() > 0 {
+        let wanted = PIECE.min(allowance.left());
+        match allowance.ask(shelf, name, &mut room[..wanted])? {
             Piece::Missing => return Ok(Scanned::Missing),
             Piece::Count(0) => return Ok(outcome_of(&reader)),
-            Piece::Count(count) => {
-                feed_all(&mut reader, &room[..count]);
-                at += count as u32;
-            }
+            Piece::Count(count) => feed_all(&mut reader, &room[..count]),
         }
     }
     Ok(Scanned::TooLarge)

@@ -1,8 +1,8 @@
 //! Runs of batches.
-use example_runs::{Miss, expect_transcripts};
+use example_runs::{Miss, expect_transcripts, played};
 
-/// What the day says, and the first subfields of its reply, which names the msgid of what it answers: forty headers of
-/// 76 bytes with subfields of 57 and 58 stand before it, nine of them with numbers of one digit.
+/// What the day says, and the first subfields of its reply, which names the msgid of what it answers. Forty headers of
+/// 76 bytes stand before it, with subfields of 57 and 58. Nine of them have numbers of one digit.
 const SAID: &str = r#"
 * day
 > batch day
@@ -97,4 +97,14 @@ usage line 2
 #[test]
 fn batches_are_carried_out(rt: HostRuntime) -> Result<(), Miss> {
     expect_transcripts(rt.alloc(), &[SAID, LINE_RULES, GOES_ON])
+}
+
+#[test]
+fn a_batch_is_carried_out_by_files_in_short_pieces(rt: HostRuntime) -> Result<(), Miss> {
+    for longest in [1, 2, 4095] {
+        let mut stage = played(rt.alloc(), "\n")?;
+        stage.shelf.shorten_pieces(longest);
+        stage.play(rt.alloc(), SAID)?;
+    }
+    Ok(())
 }

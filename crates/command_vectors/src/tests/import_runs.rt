@@ -124,6 +124,30 @@ refused slots 10001
 imported 1 into 7
 "#;
 
+/// One message more behind 1,000 makes the data files 156 bytes longer, and its run writes at most
+/// 2 * (156 + 200 * 2) bytes.
+const BEHIND: &str = r#"
+* board B
+* add many 1000 From: Bob Ray\nTo: All\nSubject: Hello\n\nFirst line\n.\n
+> import 0 many
+imported 1000 into 0
+> check
+board TESTBBS
+0 GENERAL: 1000 slots, 1000 live
+1 NETMAIL: 0 slots, 0 live
+7 NEWS: 0 slots, 0 live
+4 users, 0 uploads, 158557 bytes
+> import 0 one
+imported 1 into 0
+* wrote 1112
+> check
+board TESTBBS
+0 GENERAL: 1001 slots, 1001 live
+1 NETMAIL: 0 slots, 0 live
+7 NEWS: 0 slots, 0 live
+4 users, 0 uploads, 158713 bytes
+"#;
+
 /// A damaged index is named.
 const INDEX: &str = r#"
 * board B
@@ -166,7 +190,7 @@ usage
 fn sheets_are_imported_or_refused(rt: HostRuntime) -> Result<(), Miss> {
     expect_transcripts(
         rt.alloc(),
-        &[LINKED, DATED, REFUSED, SLOTS, INDEX, OTHER_WORDS],
+        &[LINKED, DATED, REFUSED, SLOTS, BEHIND, INDEX, OTHER_WORDS],
     )
 }
 

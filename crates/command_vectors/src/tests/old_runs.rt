@@ -1,5 +1,5 @@
 //! Boards that version 1.0 of the program left, and what the commands make of them.
-use example_runs::{Miss, OLD_BOARD, OLD_LEDGER, Stage, played};
+use example_runs::{Miss, OLD_BOARD, OLD_LEDGER, Stage, expect_transcript, played};
 use memory_outside::MemoryHost;
 use std::alloc::Global;
 
@@ -44,6 +44,22 @@ acknowledged 3
 packet 4: 26 messages
 "#;
 
+/// The board B with a ledger of version 1, of 272 bytes: the first command finds it with the bytes that it has in version
+/// 2, in which its users have 192 more, and leaves it so.
+const B: &str = r#"
+* board B
+* ledger QMDL\x01\0\x03\0\x04\0\x02\0\0\0\0\0\0\xCA\x9A;90\0\0\x0A\0Test Board\x0B\0Springfield\x08\0555-0100\x09\0Sam Sysop\x07\0TESTBBS\x01\0\x02\0\0\0\0\x02\x07\0GENERAL\x01\0\x02\0\x07\0NETMAIL\x07\0\0\x01\x04\0NEWS\x07\0Ann Lee\x01\0\0\0\0\0\0\0\0\x07\0\0\0\0\0\0\0\0\0\0\0\0\0\0\0\0\0\0\0\x07\0Bob Ray\0\0\0\0\0\0\0\0\0\x01\0\0\0\0\0\0\0\0\0\0\0\0\0\0\0\0\0\0\0\x09\0Sam Sysop\x01\0\0\0\0\0\0\0\0\x07\0\0\0\0\0\0\0\0\0\0\0\0\0\0\0\0\0\0\0\x06\0Cy Day\0\0\0\0\0\0\0\0\0\x01\0\0\0\0\0\0\0\0\0\0\0\0\0\0\0\0\0\0\0
+* data 0 has 272
+> check
+board TESTBBS
+0 GENERAL: 0 slots, 0 live
+1 NETMAIL: 0 slots, 0 live
+7 NEWS: 0 slots, 0 live
+4 users, 0 uploads, 3664 bytes
+* data 0 has 464
+* data 0 from 0 QMDL\x02\0
+"#;
+
 /// The first offer of a user is the last packet or none in version 1.
 const DAMAGED: &str = "
 * damage 0 becomes 133 1
@@ -61,6 +77,7 @@ fn expect_old(alloc: Global, board: &MemoryHost, transcript: &str) -> Result<(),
 #[test]
 fn an_old_board_is_migrated(rt: HostRuntime) -> Result<(), Miss> {
     let alloc = rt.alloc();
+    expect_transcript(alloc, B)?;
     let stage = played(alloc, OLD_BOARD)?;
     expect_old(alloc, &stage.host, MIGRATED)?;
     expect_old(alloc, &stage.host, ACKNOWLEDGED)?;

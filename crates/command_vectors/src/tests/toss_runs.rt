@@ -67,9 +67,16 @@ posted 0 refused 1
 
 /// The same packet cut short: its first 57, 144, 146 and 145 bytes. What is refused leaves the board as it was.
 const CUT: &str = r#"
-* add short.pkt 57 \0
+* add short.pkt 18 \0
+* add short.pkt 1 \x02\0
+* add short.pkt 14 \0
+* add short.pkt 1 \x02\0\x02\0
+* add short.pkt 19 \0
+* length short.pkt 57
 > toss short.pkt
 refused packet short 0
+* add short.pkt 1 \0
+* same short.pkt header
 * join cut.pkt 1 header
 * join cut.pkt 1 message
 * add cut.pkt 1 AREA:FIDO\r\x01MSGID: 2:5020/400 1\rHello\r

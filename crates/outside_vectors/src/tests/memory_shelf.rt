@@ -1,6 +1,7 @@
 //! A shelf in memory: what its calls do.
-use super::examples::{Example, Miss, answered, ends, is_number, parted, play};
+use super::examples::{Example, Miss, answered, ends, expect, is_number, parted, play};
 use super::memory_host::plan;
+use byte_lists::Bytes;
 use door_outside::{Fetched, Piece, Shelf, ShelfName, fetch_whole};
 use memory_outside::{FaultPlan, MemoryShelf};
 use std::alloc::Global;
@@ -105,4 +106,45 @@ fn a_shelf_keeps_what_was_appended(rt: HostRuntime) -> Result<(), Miss> {
 #[test]
 fn calls_of_a_shelf_fail_by_plan(rt: HostRuntime) -> Result<(), Miss> {
     play_on(rt.alloc(), plan(rt.alloc(), &[1, 3], Some(5))?, FAILED)
+}
+
+/// A file of so many bytes, each unlike its neighbours.
+fn long_file(alloc: Global, length: u32) -> Option<Bytes> {
+    let mut file = Bytes::new(alloc);
+    for place in 0..length {
+        file.add(&[(place % 251) as u8]).ok()?;
+    }
+    Some(file)
+}
+
+/// Whether a file of 5,000 bytes is fetched whole, is too large for one byte fewer, and another is missing.
+fn fetches_long(alloc: Global, shelf: &mut MemoryShelf) -> Option<bool> {
+    let there = ShelfName::parse(alloc, b"there").ok()??;
+    let missing = ShelfName::parse(alloc, b"missing").ok()??;
+    let file = long_file(alloc, 5000)?;
+    shelf.put(&there, file.as_slice()).ok()?;
+    let whole = match fetch_whole(alloc, shelf, &there, 5000).ok()? {
+        Fetched::Whole(whole) => whole.as_slice() == file.as_slice(),
+        _ => false,
+    };
+    let large = matches!(
+        fetch_whole(alloc, shelf, &there, 4999).ok()?,
+        Fetched::TooLarge
+    );
+    let none = matches!(
+        fetch_whole(alloc, shelf, &missing, 5000).ok()?,
+        Fetched::Missing
+    );
+    Some(whole && large && none)
+}
+
+#[test]
+fn a_file_is_fetched_in_short_pieces(rt: HostRuntime) -> Result<(), Miss> {
+    for longest in [1u32, 2, 4095] {
+        let mut shelf = MemoryShelf::new(rt.alloc(), plan(rt.alloc(), &[], None)?);
+        shelf.shorten_pieces(longest as usize);
+        let fetched = fetches_long(rt.alloc(), &mut shelf);
+        expect(fetched, "pieces of at most so many bytes", longest)?;
+    }
+    Ok(())
 }

@@ -1,7 +1,9 @@
-//! The names of a shelf's files, and the numbers of a host's.
+//! The names of a shelf's files, and the names and numbers of a host's.
 use super::examples::{Example, Miss, answered, is_number, parted, play, says};
 use door_outside::{FileId, ShelfName};
-use std::alloc::Global;
+use folder_hosts::{data_path, file_number};
+use std::alloc::{AllocError, Global};
+use std::test::Fail;
 
 /// Texts, and the names that they are.
 const PARSED: &str = "\
@@ -40,6 +42,27 @@ jdt 63 = 255
 jdx 63 = 256
 jlr 63 = 257
 ";
+
+/// Names in a folder, and the numbers of the files that they are.
+const NAMED: &str = "\
+named LEDGER.DAT = 0
+named journal.dat = 1
+named C00.JHR = 2
+named c00.jdt = 3
+named C01.JDX = 8
+named C63.JLR = 257
+named C64.JHR = none
+named C1.JHR = none
+named C001.JHR = none
+named C00.JHRX = none
+named C00.JH = none
+named LEDGER = none
+named LOCK = none
+named = none
+";
+
+#[derive(Drop)]
+struct Named;
 
 #[derive(Drop)]
 struct Names {
@@ -117,10 +140,42 @@ impl Example for Numbers {
     }
 }
 
+impl Example for Named {
+    fn is_so(&mut self, line: &str) -> Option<bool> {
+        let (call, answer) = answered(line);
+        let (_, name) = parted(call);
+        match file_number(name.as_bytes()) {
+            Some(number) => Some(is_number(number as u64, answer)),
+            None => Some(answer == "none"),
+        }
+    }
+}
+
 #[test]
 fn names_and_files_follow_their_rules(rt: HostRuntime) -> Result<(), Miss> {
     let mut names = Names { alloc: rt.alloc() };
     play(&mut names, PARSED, 0)?;
     play(&mut names, JOINED, 0)?;
-    play(&mut Numbers, NUMBERS, 0)
+    play(&mut Numbers, NUMBERS, 0)?;
+    play(&mut Named, NAMED, 0)
+}
+
+/// Whether each file's name has the file's number.
+fn are_numbered(alloc: Global) -> Result<bool, AllocError> {
+    for number in 0..258u16 {
+        let path = data_path(alloc, "", number)?;
+        let Some(name) = path.as_str().strip_prefix('/') else {
+            return Ok(false);
+        };
+        if file_number(name.as_bytes()) != Some(usize::from(number)) {
+            return Ok(false);
+        }
+    }
+    Ok(true)
+}
+
+#[test]
+fn each_name_has_its_number(rt: HostRuntime) -> Result<(), Fail> {
+    assert!(rt; are_numbered(rt.alloc())?);
+    Ok(())
 }

@@ -93,11 +93,39 @@ const SCANS: &str = r#"
 20 640 640 BIG => Ok(Fault(BadBlocks { at: 384 })) starved 0
 02 640 639 BIG => Ok(TooLarge) starved 0
 222222222222222222222222222222220 8576 8576 BIG => Ok(Fault(BadBlocks { at: 8320 })) starved 0
+222222222222222222222222222222222 8576 8576 BIG X => Ok(Count(33)) Ok(Missing) starved 0
+222222222222222222222222222222222 8576 8575 BIG => Ok(TooLarge) starved 0
 "#;
 
 #[test]
 fn scans_find_messages_or_the_first_fault(rt: HostRuntime) -> Result<(), Miss> {
     expect_cases(rt.alloc(), SCANS, scan)
+}
+
+/// On a shelf that gives pieces of at most so many bytes.
+fn scan_pieces(alloc: Global, words: &[Bytes], longest: usize) -> Result<String, Miss> {
+    let mut shelf = shelf(alloc, CallNumbers::new(alloc));
+    shelf.shorten_pieces(longest);
+    scan_on(alloc, &mut shelf, words)
+}
+
+#[test]
+fn scans_find_the_same_in_short_pieces(rt: HostRuntime) -> Result<(), Miss> {
+    expect_cases(
+        rt.alloc(),
+        SCANS,
+        |alloc, words| scan_pieces(alloc, words, 1),
+    )?;
+    expect_cases(
+        rt.alloc(),
+        SCANS,
+        |alloc, words| scan_pieces(alloc, words, 2),
+    )?;
+    expect_cases(
+        rt.alloc(),
+        SCANS,
+        |alloc, words| scan_pieces(alloc, words, 4095),
+    )
 }
 
 /// On a shelf where the second call fails.
