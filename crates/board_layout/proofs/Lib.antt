@@ -9,6 +9,7 @@ pub mod HighLaws
 pub mod ConferenceLaws
 pub mod BoardParts
 pub mod BoardLaws
+pub mod TestedBoards
 pub mod BoardLookups
 pub mod ReadingBases
 pub mod ReadingParts

@@ -5,6 +5,7 @@ pub mod Layout
 pub mod OldLayout
 pub mod Valid
 pub mod Damage
+pub mod BoardTests
 pub mod Rules
 pub mod Outlines
 pub use Rattle.jam_base.specs as jam_base

@@ -13,7 +13,7 @@ use thiserror::Error;
 #[derive(Debug, Clone, Copy, PartialEq, Eq, Error)]
 pub enum ReadError {
     /// The data files are the layout of no board. This is the first rule that they break.
-    #[error("damaged: file {file}, record {item}, {rule:?}", file = .0.file, item = .0.item, rule = .0.rule)]
+    #[error("damaged: {0}")]
     Damaged(Damage),
     /// A file call of the host failed. The host's count of disk faults says how often.
     #[error("disk fault")]

@@ -1,5 +1,8 @@
-//! The laws of the data files of a board, the contract of a function that does nothing.
-ghost use Rattle.std.specs.Prelude.{◌≡◌, ◌↔◌, None, Ok};
+//! The laws of the data files of a board, each the contract of a function that does nothing.
+ghost use Rattle.std.specs.Prelude.{◌≡◌, ◌↔◌, None, Ok, Some};
+ghost use Rattle.board_ledger.specs.damage_rules.Tests.{AllHold, IsFirstBroken};
+ghost use Rattle.board_layout.specs.BoardTests.{board_tests};
+ghost use Rattle.jam_records.specs.declared.damage.Damage.{Damage};
 ghost use Rattle.board_ledger.specs.intent_journal.Patches.{Files};
 ghost use Rattle.board_layout.specs.Board.{Board};
 ghost use Rattle.board_layout.specs.Damage.{board_of, board_damage};
@@ -20,4 +23,11 @@ pub fn unique_board()
     ensures bytes { (b : Board) (files : Files) → IsBoard b → IsStoredIn b files → AreFileBytes files }
     ensures some { (b : Board) (files : Files) → IsBoard b → IsStoredIn b files → ¬ AreEmpty files }
     ensures empty { (files : Files) → (data_size files ≡ 0) ↔ AreEmpty files }
+{}
+
+/// The damage of data files is the first of their rules that is broken, in the order of the parts, the files and their
+/// records, and there is none where all hold.
+pub fn named_damage()
+    ensures first { (files : Files) (d : Damage) → (board_damage files ≡ Some d) ↔ IsFirstBroken (board_tests files) d }
+    ensures none { (files : Files) → (board_damage files ≡ None) ↔ AllHold (board_tests files) }
 {}

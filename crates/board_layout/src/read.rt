@@ -105,9 +105,11 @@ fn read_parts<H: Host>(alloc: Global, host: &mut H) -> Result<FoundBoard, ReadEr
 /// The outline of the board whose layout the data files are, with the ledger in version 1 or 2, or None where all of
 /// them are empty.
 ///
-/// `Damaged` comes where they are neither, with the first rule that they break: the size of all files, the
-/// ledger, the four files of each place, and then the highs of the users' open offers. `DiskFault` comes only where
-/// the host's count of disk faults rose. `OutOfMemory` comes where there is no memory; it hides no fault.
+/// `Damaged` comes where they are neither, with the first rule that they break. In order the rules look at the size of
+/// all files, the ledger, the four files of each place, and the highs of the users' open offers.
+///
+/// `DiskFault` comes only where the host's count of disk faults rose. `OutOfMemory` comes where there is no memory; it
+/// hides no fault.
 pub fn read_board<H: Host>(alloc: Global, host: &mut H) -> Result<Option<FoundBoard>, ReadError>
     ensures unchanged { IsTrue H.tells → Unchanged (H.disk host.old) (H.disk host.new) }
     ensures gives { IsTrue H.tells → GivesSo (AreFoundOf (H.disk host.old).files) result (board_in (H.disk host.old).files) }

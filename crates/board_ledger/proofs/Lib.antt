@@ -15,6 +15,7 @@ pub mod ConferenceLaws
 pub mod UserLaws
 pub mod OpeningLaws
 pub mod LedgerLaws
+pub mod TestedLedgers
 pub mod ReadingClauses
 pub mod LedgerBounds
 pub mod LedgerParts

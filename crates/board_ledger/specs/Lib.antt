@@ -8,6 +8,7 @@ pub mod Conferences
 pub mod Users
 pub mod Uploads
 pub mod Ledger
+pub mod LedgerTests
 pub mod Valid
 pub mod OneFile
 pub mod UploadPuts

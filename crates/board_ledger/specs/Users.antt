@@ -1,5 +1,5 @@
 -- A user's record in a ledger: text name, u8 flags (bit 0 net), u32 last packet. Then version 1 has u32 offered packet
--- or 0, u64 member set (bit k for place k) and one u32 high per conference; version 2 has the member set, and four
+-- or 0, u64 member set (bit k for place k) and one u32 high per conference. Version 2 has the member set, and four
 -- offers, each u32 number or 0 and one u32 high per conference.
 use Rattle.std.specs.Prelude.{ℕ, ◌+◌, ◌^◌, List, [], ◌∷◌, ◌++◌, length, map, slice_index, Bool, IsTrue, Result, not, ◌&&◌, ◌==◌, nat_lt, if◌then◌else◌}
 use Rattle.std.specs.List.{flat_map, list_any}

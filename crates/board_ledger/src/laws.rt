@@ -1,5 +1,8 @@
-//! The law of the ledger, the contract of a function that does nothing.
-ghost use Rattle.std.specs.Prelude.{◌≡◌, ◌↔◌, ◌<◌, ◌^◌, ℕ, List, length, All, None};
+//! The laws of the ledger, each the contract of a function that does nothing.
+ghost use Rattle.std.specs.Prelude.{◌≡◌, ◌↔◌, ◌<◌, ◌^◌, ℕ, List, length, All, None, Some};
+ghost use Rattle.jam_records.specs.declared.damage.Damage.{Damage};
+ghost use Rattle.damage_rules.specs.Tests.{AllHold, IsFirstBroken};
+ghost use Rattle.board_ledger.specs.LedgerTests.{ledger_tests};
 ghost use Rattle.jam_records.specs.byte_lists.Byte.{IsByte};
 ghost use Rattle.board_ledger.specs.Ledger.{ledger_text, ledger_damage, stored_text};
 ghost use Rattle.board_ledger.specs.Valid.{IsLedger, IsStored, today};
@@ -19,4 +22,11 @@ pub fn same_today()
     ensures valid { (l : Ledger) → IsStored l → IsLedger (today l) }
     ensures text { (l : Ledger) → ledger_text (today l) ≡ ledger_text l }
     ensures written { (l : Ledger) → IsLedger l → stored_text l ≡ ledger_text l }
+{}
+
+/// The damage of a ledger is the first of its rules that is broken, in the order of its records, and there is none where
+/// all hold.
+pub fn named_damage()
+    ensures first { (bytes : List ℕ) (d : Damage) → (ledger_damage bytes ≡ Some d) ↔ IsFirstBroken (ledger_tests bytes) d }
+    ensures none { (bytes : List ℕ) → (ledger_damage bytes ≡ None) ↔ AllHold (ledger_tests bytes) }
 {}

@@ -20,9 +20,12 @@ pub const USER_LIMIT: usize = 500;
 /// How many upload records a board may keep.
 pub const UPLOAD_LIMIT: usize = 100_000;
 
-/// All of a board but its messages. A valid ledger has version 2, a valid setup, at most 500 users whose names differ
-/// ignoring ASCII case, and at most 100,000 upload records of these users, no two of one user and digest. One of version
-/// 1 is valid but for its version, and in it each user has at most one open offer, which is that of his last packet.
+/// All of a board but its messages. A valid ledger has version 2 and a valid setup. It has at most 500 users, whose
+/// names differ ignoring ASCII case. It has at most 100,000 upload records of these users, no two of one user and
+/// digest.
+///
+/// A ledger of version 1 is valid but for its version. In it each user has at most one open offer, which is that of his
+/// last packet.
 #[derive(Debug, Drop)]
 pub struct Ledger {
     /// The version of its file: 1 or 2 where it was read, and 2 where it is made.
@@ -40,8 +43,9 @@ pub struct Ledger {
 impl Ledger {
     /// The ledger whose text the bytes are, in version 1 or 2.
     ///
-    /// `Damaged` comes where they are the text of no such ledger, with the first rule that they break, in file
-    /// 0: record 0 is all before the conferences, then there is one record for each conference, user and upload.
+    /// `Damaged` comes where they are the text of no such ledger, with the first rule that they break, in file 0.
+    /// Record 0 is all before the conferences. Then there is one record for each conference, user and upload.
+    ///
     /// `OutOfMemory` comes where there is no memory. Where both meet, either may be answered.
     pub fn read(alloc: Global, bytes: &[u8]) -> Result<Ledger, LedgerError>
         ensures ok { IfOk result (λ l. IsStored l × (bytes.now ≡ stored_text l)) }
@@ -59,7 +63,7 @@ impl Ledger {
         self.version
     }
 
-    /// The text in version 2 of the ledger, which is valid or of version 1.
+    /// The text of the ledger in version 2. The ledger is valid, or is of version 1.
     ///
     /// The error comes where there is no memory.
     pub fn write(&self, alloc: Global) -> Result<Bytes, AllocError>
@@ -69,7 +73,8 @@ impl Ledger {
         text_of(alloc, self)
     }
 
-    /// How many bytes the text in version 2 of the ledger has, which is valid or of version 1. It takes no memory.
+    /// How many bytes the text of the ledger in version 2 has. The ledger is valid, or is of version 1. The call takes
+    /// no memory.
     pub fn size(&self) -> u64
         requires { IsStored self.now }
         ensures { result ≡ length (ledger_text self.now) }

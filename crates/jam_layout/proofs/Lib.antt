@@ -35,3 +35,8 @@ pub mod BareSteps
 pub mod BareLaws
 pub mod SlotSizes
 pub mod OutlineLaws
+pub mod TestedWalks
+pub mod TestedHeaders
+pub mod TestedBodies
+pub mod TestedIndex
+pub mod TestedBases

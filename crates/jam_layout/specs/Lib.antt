@@ -1,5 +1,6 @@
 pub mod Address
 pub mod Bare
+pub mod BaseTests
 pub mod Bodies
 pub mod Conference
 pub mod Fields

@@ -36,9 +36,9 @@ pub record IsTyped (m : Message) : Type 0 where
   pub received : IsU32 m.received
   pub processed : IsU32 m.processed
 
--- names of 1 to 36 bytes, a subject of at most 72, a msgid of 1 to 80 and a replyid of at most 80, none
--- with a byte below 20h; addresses as they are stored; a body of at most 16,384 bytes; private in a net
--- conference
+-- It has names of 1 to 36 bytes, a subject of at most 72, a msgid of 1 to 80 and a replyid of at most
+-- 80, none with a byte below 20h. Its addresses are as they are stored, and its body has at most 16,384
+-- bytes. In a net conference it is private.
 pub record IsMessage (kind : Kind) (m : Message) : Type 0 where
   pub bytes : AreBytes m
   pub origin : EmptyOr is_address m.origin

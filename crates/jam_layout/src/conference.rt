@@ -10,11 +10,11 @@ pub const SLOT_LIMIT: usize = 9999;
 /// What a conference holds.
 #[derive(Debug, Drop)]
 pub struct Conference {
-    /// How often it was changed.
+    /// How often it was changed, up to 4,294,967,295 (ModCounter).
     pub counter: u32,
     /// Its slots. The one in place i, from 0, has the message number i + 1.
     pub slots: Slots,
-    /// The last-read pointers of its readers, in the order of the readers.
+    /// The last-read pointers of its readers, in the order of the readers: each a message number, or 0.
     pub pointers: List<u32>,
 }
 

@@ -9,7 +9,7 @@ use thiserror::Error;
 #[derive(Debug, Clone, Copy, PartialEq, Eq, Error)]
 pub enum BaseError {
     /// They are the layout of no conference of that shape. This is the first rule that they break.
-    #[error("damaged: file {file}, record {item}, {rule:?}", file = .0.file, item = .0.item, rule = .0.rule)]
+    #[error("damaged: {0}")]
     Damaged(Damage),
     /// There is no memory for the conference.
     #[error("out of memory")]

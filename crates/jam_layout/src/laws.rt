@@ -1,5 +1,8 @@
 //! Laws of the files of a conference, each the contract of a function that does nothing.
-ghost use Rattle.std.specs.Prelude.{◌≡◌, ◌↔◌, ◌<◌, ◌^◌, ℕ, List, length, All, None};
+ghost use Rattle.std.specs.Prelude.{◌≡◌, ◌↔◌, ◌<◌, ◌^◌, ℕ, List, length, All, None, Some};
+ghost use Rattle.jam_records.specs.declared.damage.Damage.{Damage};
+ghost use Rattle.damage_rules.specs.Tests.{AllHold, IsFirstBroken};
+ghost use Rattle.jam_layout.specs.BaseTests.{base_tests};
 ghost use Rattle.jam_records.specs.byte_lists.Byte.{IsByte};
 ghost use Rattle.jam_records.specs.Subfields.{subfields_text};
 ghost use Rattle.jam_records.specs.declared.subfield.Subfield.{Subfield};
@@ -37,4 +40,11 @@ pub fn outlines()
     ensures conference { (shape : Shape) (c : Conference) → IsConference shape c → IsConference shape (outline c) }
     ensures files { (shape : Shape) (c : Conference) → layout shape (outline c) ≡ record (layout shape c) { jdt = (layout shape (outline c)).jdt } }
     ensures long { (shape : Shape) (c : Conference) → length (layout shape (outline c)).jdt ≡ length (layout shape c).jdt }
+{}
+
+/// The damage of four files is the first of their rules that is broken, in the order of the files and their records, and
+/// there is none where all hold.
+pub fn named_damage()
+    ensures first { (shape : Shape) (files : BaseFiles) (d : Damage) → (base_damage shape files ≡ Some d) ↔ IsFirstBroken (base_tests shape files) d }
+    ensures none { (shape : Shape) (files : BaseFiles) → (base_damage shape files ≡ None) ↔ AllHold (base_tests shape files) }
 {}

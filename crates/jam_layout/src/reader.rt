@@ -4,9 +4,9 @@ use std::alloc::{AllocError, Global};
 /// A reader of a conference.
 #[derive(Debug, Drop)]
 pub struct Reader {
-    /// The user's id on the board.
+    /// The user's id on the board, from 1.
     pub id: u32,
-    /// The name.
+    /// The user's name, of which .JLR has the checksum.
     pub name: Bytes,
 }
 

@@ -111,4 +111,4 @@ with_threads-requires c =
     let texts = texts_read c.args.shape.now c.args.files.now c.in_ok-entries.entries c.in_ok-lengths.lengths c.as_slice-headers.ensures.bytes c.requires.jhr headers (sym (lengths_is c.args.shape.now c.args.files.now c.as_slice-3.result.now c.as_slice-2.result.now c.in_ok-entries.entries c.as_slice-3.ensures.same c.as_slice-2.ensures) ∙ c.in_ok-lengths.ensures) in
     let index = index_read c.args.shape.now c.args.files.now c.in_ok-entries.entries c.in_ok-lengths.lengths c.in_ok-slots.slots _ texts c.as_slice-4.ensures.bytes second (sym (slots_is c.args.shape.now c.args.files.now c.as_slice-4.result.now c.in_ok-entries.entries c.in_ok-entries.entries c.as_slice-4.ensures.same refl) ∙ c.in_ok-slots.ensures) in
     let made : AreThreads (slots_of 1 c.in_ok-entries.entries) c.in_ok-threads.threads = subst (λ (es : List Entry). AreThreads (slots_of 1 es) c.in_ok-threads.threads) c.as_slice.ensures c.in_ok-threads.ensures.threads in
-    spread_threads c.in_ok-entries.entries c.in_ok-slots.slots _ _ c.len-count.ensures (subst (λ (es : List Entry). Spread es c.in_ok-slots.slots) texts.bared index.spread) (c.in_ok-fill.ensures (slots_of 1 c.in_ok-entries.entries) made)
+    spread_threads c.in_ok-entries.entries c.in_ok-slots.slots _ _ c.len-count.ensures (subst (λ (es : List Entry). Spread es c.in_ok-slots.slots) texts.bared index.spread) (c.in_ok-fill.ensures.added (slots_of 1 c.in_ok-entries.entries) made)
