@@ -1,4 +1,4 @@
-ghost use Rattle.std.specs.Prelude.{◌≡◌, ℕ, List, ◌==◌, ◌&&◌, if◌then◌else◌, IfOk, OnOk};
+ghost use Rattle.std.specs.Prelude.{◌≡◌, ℕ, List, ◌==◌, ◌&&◌, if◌then◌else◌, IfOk, OnOk, OnErr};
 ghost use Rattle.std.specs.BTreeMap.{get};
 ghost use Rattle.std.specs.Ordering.{nat_cmp};
 ghost use Rattle.std.specs.Str.{bytes_eq};
@@ -85,7 +85,8 @@ impl IdNumbers {
     #[tactic(auto, unfolding(crate::specs::Numbers::mapped_number))]
     fn put_other(&mut self, alloc: Global, id: &[u8], number: u32) -> Result<(), AllocError>
         requires { mapped_number self.old id.now ≡ 0 }
-        ensures { OnOk result ((other : List ℕ) → mapped_number self.new other ≡ (if bytes_eq id.now other then number else mapped_number self.old other)) }
+        ensures ok { OnOk result ((other : List ℕ) → mapped_number self.new other ≡ (if bytes_eq id.now other then number else mapped_number self.old other)) }
+        ensures err { OnErr result ((other : List ℕ) → mapped_number self.new other ≡ mapped_number self.old other) }
     {
         let key = Vec::from_slice(alloc, id)?;
         self.others.insert(key, number)?;
@@ -95,7 +96,8 @@ impl IdNumbers {
     /// Puts the number of an id where no id has its mix yet, and answers whether it did.
     #[tactic(auto, unfolding(crate::specs::Numbers::mapped_number))]
     fn put_first(&mut self, alloc: Global, id: &[u8], number: u32) -> Result<bool, AllocError>
-        ensures { IfOk result (λ put. (other : List ℕ) → mapped_number self.new other ≡ (if put && (mapped_number self.old other == 0 && bytes_eq id.now other) then number else mapped_number self.old other)) }
+        ensures ok { IfOk result (λ put. (other : List ℕ) → mapped_number self.new other ≡ (if put && (mapped_number self.old other == 0 && bytes_eq id.now other) then number else mapped_number self.old other)) }
+        ensures err { OnErr result ((other : List ℕ) → mapped_number self.new other ≡ mapped_number self.old other) }
     {
         let mix = mixed(id);
         let first = MixedId {
@@ -113,9 +115,10 @@ impl IdNumbers {
 
     /// Gives an id a number, unless it has one. Most ids have none, so that one is put before it is known.
     ///
-    /// The error comes where there is no memory.
+    /// The error comes where there is no memory. Each id has the number then that it had before.
     pub fn add(&mut self, alloc: Global, id: &[u8], number: u32) -> Result<(), AllocError>
-        ensures { OnOk result ((other : List ℕ) → mapped_number self.new other ≡ (if mapped_number self.old other == 0 && bytes_eq id.now other then number else mapped_number self.old other)) }
+        ensures ok { OnOk result ((other : List ℕ) → mapped_number self.new other ≡ (if mapped_number self.old other == 0 && bytes_eq id.now other then number else mapped_number self.old other)) }
+        ensures err { OnErr result ((other : List ℕ) → mapped_number self.new other ≡ mapped_number self.old other) }
     {
         if self.put_first(alloc, id, number)? || self.number(id) != 0 {
             return Ok(());

@@ -1,6 +1,6 @@
 -- The one link number that a message at the end changes, and the threads of slots.
 use Rattle.std.proofs.Common.{◌≡◌, ℕ, suc, ◌+◌, ◌-◌, ◌<◌, ◌≤◌, ◌==◌, List, [], ◌∷◌, ◌++◌, length, take, get_or, true, cond, Option, Some, None, refl, sym, ap, ◌∙◌, arith, subst, inl, inr}
-use Rattle.std.specs.Prelude.{OnOk, Result, Ok, Err}
+use Rattle.std.specs.Prelude.{OnOk, OnErr, Result, Ok, Err}
 use Rattle.std.specs.List.{slice_get, position}
 use Rattle.std.proofs.lemmas.Bool.{cond-true, cond-false, cases_eq, eq-eqb, true≢false}
 use Rattle.std.proofs.lemmas.Option.{slice_get-get_or}
@@ -158,6 +158,10 @@ pub on_ok : {A E : Type 0} (P Q : Type 0) (r : Result A E) → (P → Q) → OnO
 on_ok P Q (Ok x) f p = f p
 on_ok P Q (Err e) f p = tt
 
+pub on_err : {A E : Type 0} (P : Type 0) (r : Result A E) → P → OnErr r P
+on_err P (Ok x) p = tt
+on_err P (Err e) p = p
+
 pub change_none : (slots : List Slot) (replyid : List ℕ) → original_behind slots replyid ≡ 0 → None ≡ link_change slots replyid
 unfolding link_change
 change_none slots replyid none = sym (cond-true (original_behind slots replyid == 0) _ _ (eq-eqb (original_behind slots replyid) 0 none))
@@ -173,3 +177,11 @@ last_answer slots links lasts o d chains some within =
     let count = chains.count_lasts in
     let one : suc (o - 1) ≡ o = omega (arith, some) in
     get_or_default_zero lasts (o - 1) d (omega (arith, some, within, count)) ∙ chains.last (o - 1) (omega (arith, some, within)) ∙ ap (λ k. last_in (children slots k)) one
+
+-- threads of the same slots, by equal numbers and links
+pub same_threads : (slots : List Slot) (old new : Threads) → new.links.items ≡ old.links.items → new.last_answers.items ≡ old.last_answers.items → ((id : List ℕ) → kept_number new.firsts id ≡ kept_number old.firsts id) → AreThreads slots old → AreThreads slots new
+same_threads slots old new links lasts firsts are = record {
+  few = are.few;
+  firsts = λ id. firsts id ∙ are.firsts id;
+  chains = subst (λ (xs : List Link). AreChains slots xs new.last_answers.items) (sym links) (subst (λ (ns : List ℕ). AreChains slots old.links.items ns) (sym lasts) are.chains);
+}

@@ -1,5 +1,5 @@
 -- What a value of `Threads` is, of a list of slots.
-use Rattle.std.specs.Prelude.{◌+◌, ◌<◌, ◌^◌, List, length}
+use Rattle.std.specs.Prelude.{ℕ, ◌+◌, ◌≤◌, ◌<◌, ◌^◌, List, length, vec_capacity, vec_len}
 use Rattle.jam_records.specs.declared.message.Slot.{Slot}
 use Rattle.jam_threads.specs.Chains.{AreFirsts, AreChains}
 use Rattle.jam_threads.specs.FirstNumbers.{kept_number}
@@ -15,3 +15,7 @@ pub record AreThreads (slots : List Slot) (threads : Threads) : Type 0 where
 pub record AreOfSlots (threads : Threads) : Type 0 where
   pub slots : List Slot
   pub are : AreThreads slots threads
+
+-- the links of so many slots more need no memory
+abbrev pub HasRoom : ℕ → Threads → Type 0
+HasRoom count threads = (vec_len threads.links + count ≤ vec_capacity threads.links) × (vec_len threads.last_answers + count ≤ vec_capacity threads.last_answers)

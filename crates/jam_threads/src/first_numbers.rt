@@ -1,4 +1,4 @@
-ghost use Rattle.std.specs.Prelude.{◌≡◌, ℕ, List, [], Some, length, fold, ◌==◌, ◌&&◌, if◌then◌else◌, IfOk, IfErr, OnOk};
+ghost use Rattle.std.specs.Prelude.{◌≡◌, ℕ, List, [], Some, length, fold, ◌==◌, ◌&&◌, if◌then◌else◌, IfOk, OnOk, OnErr};
 ghost use Rattle.std.specs.Str.{bytes_eq};
 ghost use Rattle.jam_threads.specs.FirstNumbers.{kept_number, number_or, older_number as number_among};
 ghost use Rattle.id_numbers.specs.Numbers.{mapped_number};
@@ -7,7 +7,6 @@ use id_numbers::IdNumbers;
 use jam_records::{Bytes, Duplicate, List as Items};
 use shared_lists::Shared;
 use std::alloc::{AllocError, Global};
-use std::mem;
 
 /// How many ids a copy copies at most. When there are more, they come to the older ones, which copies share.
 const NEWER_LIMIT: usize = 64;
@@ -69,54 +68,87 @@ fn newer_number(found: u32, newer: &[IdNumber], id: &[u8]) -> u32
     number
 }
 
-/// A map of the older ids, where no copy shares it; or else the handle again.
-fn unshared(alloc: Global, older: Option<Shared<IdNumbers>>) -> Result<IdNumbers, Shared<IdNumbers>>
-    ensures map { IfOk result (λ numbers. (id : List ℕ) → mapped_number numbers id ≡ number_among older id) }
-    ensures back { IfErr result (λ shared. older ≡ Some shared) }
+/// Puts newer ids among older ones.
+fn add_all(alloc: Global, numbers: &mut IdNumbers, newer: &[IdNumber]) -> Result<(), AllocError>
+    ensures ok { OnOk result ((id : List ℕ) → mapped_number numbers.new id ≡ fold (number_or id) (mapped_number numbers.old id) newer.now) }
+    ensures err { OnErr result ((id : List ℕ) → fold (number_or id) (mapped_number numbers.new id) newer.now ≡ fold (number_or id) (mapped_number numbers.old id) newer.now) }
 {
-    match older {
-        None => Ok(IdNumbers::new(alloc)),
-        Some(shared) => shared.into_value(),
-    }
-}
-
-/// A map of the older ids, which isn't copied where no other has it.
-fn owned(alloc: Global, older: Option<Shared<IdNumbers>>) -> Result<IdNumbers, AllocError>
-    ensures { IfOk result (λ numbers. (id : List ℕ) → mapped_number numbers id ≡ number_among older id) }
-{
-    match unshared(alloc, older) {
-        Ok(numbers) => Ok(numbers),
-        Err(shared) => shared.get().copy(),
-    }
-}
-
-/// A map with a message more, to be shared.
-fn with_message(
-    alloc: Global,
-    numbers: IdNumbers,
-    id: &[u8],
-    number: u32,
-) -> Result<Shared<IdNumbers>, AllocError>
-    ensures { IfOk result (λ shared. (other : List ℕ) → mapped_number shared other ≡ (if mapped_number numbers other == 0 && bytes_eq id.now other then number else mapped_number numbers other)) }
-{
-    let mut more = numbers;
-    more.add(alloc, id, number)?;
-    Shared::new(alloc, more)
-}
-
-/// A map of the older ids and the newer ones.
-fn together(
-    alloc: Global,
-    older: Option<Shared<IdNumbers>>,
-    newer: &[IdNumber],
-) -> Result<IdNumbers, AllocError>
-    ensures { IfOk result (λ numbers. (id : List ℕ) → mapped_number numbers id ≡ fold (number_or id) (number_among older id) newer.now) }
-{
-    let mut numbers = owned(alloc, older)?;
     for one in newer {
         numbers.add(alloc, one.id.get().as_slice(), one.number)?;
     }
-    Ok(numbers)
+    Ok(())
+}
+
+/// Puts newer ids among the older ones where no copy shares these, and answers whether it did.
+fn add_all_here(
+    alloc: Global,
+    older: &mut Option<Shared<IdNumbers>>,
+    newer: &[IdNumber],
+) -> Result<bool, AllocError>
+    ensures ok { IfOk result (λ here. (id : List ℕ) → number_among older.new id ≡ (if here then fold (number_or id) (number_among older.old id) newer.now else number_among older.old id)) }
+    ensures err { OnErr result ((id : List ℕ) → fold (number_or id) (number_among older.new id) newer.now ≡ fold (number_or id) (number_among older.old id) newer.now) }
+{
+    let Some(shared) = older else {
+        return Ok(false);
+    };
+    let Some(numbers) = shared.value_mut() else {
+        return Ok(false);
+    };
+    add_all(alloc, numbers, newer)?;
+    Ok(true)
+}
+
+/// Puts an id among the older ones where no copy shares these, and answers whether it did.
+fn add_here(
+    alloc: Global,
+    older: &mut Option<Shared<IdNumbers>>,
+    id: &[u8],
+    number: u32,
+) -> Result<bool, AllocError>
+    ensures ok { IfOk result (λ here. (other : List ℕ) → number_among older.new other ≡ (if here && (number_among older.old other == 0 && bytes_eq id.now other) then number else number_among older.old other)) }
+    ensures err { OnErr result ((other : List ℕ) → number_among older.new other ≡ number_among older.old other) }
+{
+    let Some(shared) = older else {
+        return Ok(false);
+    };
+    let Some(numbers) = shared.value_mut() else {
+        return Ok(false);
+    };
+    numbers.add(alloc, id, number)?;
+    Ok(true)
+}
+
+/// A map of the older ids of its own.
+fn copied(alloc: Global, older: &Option<Shared<IdNumbers>>) -> Result<IdNumbers, AllocError>
+    ensures { IfOk result (λ numbers. (id : List ℕ) → mapped_number numbers id ≡ number_among older.now id) }
+{
+    match older {
+        None => Ok(IdNumbers::new(alloc)),
+        Some(shared) => shared.get().copy(),
+    }
+}
+
+/// A map of the older ids and the newer ones of its own.
+fn together(
+    alloc: Global,
+    older: &Option<Shared<IdNumbers>>,
+    newer: &[IdNumber],
+) -> Result<Shared<IdNumbers>, AllocError>
+    ensures { IfOk result (λ numbers. (id : List ℕ) → mapped_number numbers id ≡ fold (number_or id) (number_among older.now id) newer.now) }
+{
+    let mut numbers = copied(alloc, older)?;
+    add_all(alloc, &mut numbers, newer)?;
+    Shared::new(alloc, numbers)
+}
+
+/// Sees to it that there is a map of the older ids.
+fn begin(alloc: Global, older: &mut Option<Shared<IdNumbers>>) -> Result<(), AllocError>
+    ensures { (id : List ℕ) → number_among older.new id ≡ number_among older.old id }
+{
+    if older.is_none() {
+        *older = Some(Shared::new(alloc, IdNumbers::new(alloc))?);
+    }
+    Ok(())
 }
 
 impl FirstNumbers {
@@ -149,21 +181,21 @@ impl FirstNumbers {
         self.number(replyid)
     }
 
-    /// Makes the newer ids older ones.
+    /// Makes the newer ids older ones. Each id keeps its number, whatever the answer.
     #[tactic(auto, unfolding(crate::specs::FirstNumbers::kept_number))]
     fn settle(&mut self, alloc: Global) -> Result<(), AllocError>
-        ensures { OnOk result ((id : List ℕ) → kept_number self.new id ≡ kept_number self.old id) }
+        ensures { (id : List ℕ) → kept_number self.new id ≡ kept_number self.old id }
     {
-        let older = mem::replace(&mut self.older, None);
-        let numbers = together(alloc, older, self.newer.as_slice())?;
-        self.older = Some(Shared::new(alloc, numbers)?);
+        if !add_all_here(alloc, &mut self.older, self.newer.as_slice())? {
+            self.older = Some(together(alloc, &self.older, self.newer.as_slice())?);
+        }
         self.newer = Items::new(alloc);
         Ok(())
     }
 
-    /// Makes the newer ids older ones, where there are many.
+    /// Makes the newer ids older ones, where there are many. Each id keeps its number, whatever the answer.
     fn make_room(&mut self, alloc: Global) -> Result<(), AllocError>
-        ensures { OnOk result ((id : List ℕ) → kept_number self.new id ≡ kept_number self.old id) }
+        ensures { (id : List ℕ) → kept_number self.new id ≡ kept_number self.old id }
     {
         if self.newer.len() < NEWER_LIMIT {
             return Ok(());
@@ -173,7 +205,8 @@ impl FirstNumbers {
 
     /// Adds an id that isn't there behind the others.
     fn push(&mut self, alloc: Global, id: &[u8], number: u32) -> Result<(), AllocError>
-        ensures { OnOk result ((other : List ℕ) → kept_number self.new other ≡ (if kept_number self.old other == 0 && bytes_eq id.now other then number else kept_number self.old other)) }
+        ensures ok { OnOk result ((other : List ℕ) → kept_number self.new other ≡ (if kept_number self.old other == 0 && bytes_eq id.now other then number else kept_number self.old other)) }
+        ensures err { OnErr result ((other : List ℕ) → kept_number self.new other ≡ kept_number self.old other) }
     {
         let id = Shared::new(alloc, Bytes::from_slice(alloc, id)?)?;
         self.newer.add(IdNumber { id, number })
@@ -181,7 +214,8 @@ impl FirstNumbers {
 
     /// Adds a message behind the others to the newer ids.
     fn add_newer(&mut self, alloc: Global, id: &[u8], number: u32) -> Result<(), AllocError>
-        ensures { OnOk result ((other : List ℕ) → kept_number self.new other ≡ (if kept_number self.old other == 0 && bytes_eq id.now other then number else kept_number self.old other)) }
+        ensures ok { OnOk result ((other : List ℕ) → kept_number self.new other ≡ (if kept_number self.old other == 0 && bytes_eq id.now other then number else kept_number self.old other)) }
+        ensures err { OnErr result ((other : List ℕ) → kept_number self.new other ≡ kept_number self.old other) }
     {
         if self.number(id) != 0 {
             return Ok(());
@@ -190,25 +224,25 @@ impl FirstNumbers {
     }
 
     /// Adds a message behind the others where there are no newer ids: to the older ones, where no copy shares these.
+    #[tactic(auto, unfolding(crate::specs::FirstNumbers::kept_number))]
     fn add_older(&mut self, alloc: Global, id: &[u8], number: u32) -> Result<(), AllocError>
         requires { self.old.newer ≡ [] }
-        ensures { OnOk result ((other : List ℕ) → kept_number self.new other ≡ (if kept_number self.old other == 0 && bytes_eq id.now other then number else kept_number self.old other)) }
+        ensures ok { OnOk result ((other : List ℕ) → kept_number self.new other ≡ (if kept_number self.old other == 0 && bytes_eq id.now other then number else kept_number self.old other)) }
+        ensures err { OnErr result ((other : List ℕ) → kept_number self.new other ≡ kept_number self.old other) }
     {
-        match unshared(alloc, mem::replace(&mut self.older, None)) {
-            Ok(numbers) => {
-                self.older = Some(with_message(alloc, numbers, id, number)?);
-                Ok(())
-            }
-            Err(shared) => {
-                self.older = Some(shared);
-                self.add_newer(alloc, id, number)
-            }
+        begin(alloc, &mut self.older)?;
+        if add_here(alloc, &mut self.older, id, number)? {
+            return Ok(());
         }
+        self.add_newer(alloc, id, number)
     }
 
     /// Adds a message behind the others.
+    ///
+    /// The error comes where there is no memory. Each id has the number then that it had before.
     pub(crate) fn add(&mut self, alloc: Global, id: &[u8], number: u32) -> Result<(), AllocError>
-        ensures { OnOk result ((other : List ℕ) → kept_number self.new other ≡ (if kept_number self.old other == 0 && bytes_eq id.now other then number else kept_number self.old other)) }
+        ensures ok { OnOk result ((other : List ℕ) → kept_number self.new other ≡ (if kept_number self.old other == 0 && bytes_eq id.now other then number else kept_number self.old other)) }
+        ensures err { OnErr result ((other : List ℕ) → kept_number self.new other ≡ kept_number self.old other) }
     {
         self.make_room(alloc)?;
         if self.newer.len() == 0 {

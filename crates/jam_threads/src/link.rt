@@ -7,7 +7,7 @@ use jam_records::Duplicate;
 use std::alloc::{AllocError, Global};
 use std::marker::Model;
 
-/// The links of a message. Each is a message number, or 0 for none.
+/// The links of a message (JAM message base proposal, revision 1). Each is a message number, from 1, or 0 for none.
 #[derive(Debug, Clone, Copy, PartialEq, Eq)]
 pub struct Link {
     /// ReplyTo: the message that this one answers.
@@ -30,11 +30,11 @@ pub enum LinkField {
 /// A link number of a message, and what it becomes.
 #[derive(Debug, Clone, Copy, PartialEq, Eq)]
 pub struct LinkPatch {
-    /// The number of the message.
+    /// The number of the message, from 1.
     pub number: u32,
     /// Which of its link numbers.
     pub field: LinkField,
-    /// What that becomes.
+    /// The message number that it becomes.
     pub value: u32,
 }
 
@@ -88,6 +88,8 @@ impl Links {
     }
 
     /// Equal links.
+    ///
+    /// The error comes where there is no memory.
     pub fn copy(&self, alloc: Global) -> Result<Links, AllocError>
         ensures { IfOk result (λ copy. copy ≡ self.now) }
     {

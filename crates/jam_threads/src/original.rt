@@ -22,8 +22,8 @@ fn first_place(id: &[u8], slots: &[Slot]) -> Option<usize>
 }
 
 /// The original of a message that is appended next and answers this id: the smallest number of a message
-/// of that id, and 0 where the id is empty or no message has it. It takes no memory. For callers of the library; the
-/// program doesn't call it.
+/// of that id, and 0 where the id is empty or no message has it. There are fewer than 4,294,967,295 slots. It takes no
+/// memory. For callers of the library; the program doesn't call it.
 #[tactic(auto, using(crate::proofs::ChildrenLemmas::original_behind_some))]
 pub fn original_of(slots: &Slots, replyid: &[u8]) -> u32
     requires { length slots.now + 1 < 2 ^ 32 }

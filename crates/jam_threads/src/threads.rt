@@ -1,4 +1,4 @@
-ghost use Rattle.std.specs.Prelude.{◌≡◌, ℕ, suc, ◌+◌, ◌-◌, ◌≤◌, ◌<◌, ◌^◌, List, [], ◌∷◌, ◌++◌, length, replicate, slice_get, slice_index, slice_index_or, slice_set, IfOk, OnOk, Some};
+ghost use Rattle.std.specs.Prelude.{◌≡◌, ℕ, suc, ◌+◌, ◌-◌, ◌≤◌, ◌<◌, ◌^◌, List, [], ◌∷◌, ◌++◌, length, replicate, slice_get, slice_index, slice_index_or, slice_set, vec_capacity, vec_len, IfOk, OnOk, OnErr, Some};
 ghost use Rattle.jam_records.specs.declared.message.Message.{Message};
 ghost use Rattle.jam_records.specs.declared.message.Slot.{Slot};
 ghost use Rattle.jam_records.specs.declared.message.Slot.TheVariants.{Gone, Held};
@@ -7,7 +7,7 @@ ghost use Rattle.jam_threads.specs.LinkChanges.{change_by, link_change};
 ghost use Rattle.jam_threads.specs.Links.{link_of};
 ghost use Rattle.jam_threads.specs.declared.link.Link.{Link};
 ghost use Rattle.jam_threads.specs.Chains.{AreChains, hung};
-ghost use Rattle.jam_threads.specs.Threading.{AreThreads, AreOfSlots};
+ghost use Rattle.jam_threads.specs.Threading.{AreThreads, AreOfSlots, HasRoom};
 
 use crate::first_numbers::FirstNumbers;
 use crate::link::{Link, LinkField, LinkPatch};
@@ -47,8 +47,20 @@ fn change(original: u32, last: u32, number: u32) -> LinkPatch
     }
 }
 
+/// Puts a value behind the others, for which there is room.
+fn put_behind<T: Drop>(values: &mut Vec<T>, value: T)
+    requires { vec_len values.old < vec_capacity values.old }
+    ensures items { values.new.items ≡ values.old.items ++ value ∷ [] }
+    ensures len { vec_len values.new ≡ vec_len values.old + 1 }
+    ensures capacity { vec_capacity values.old ≤ vec_capacity values.new }
+{
+    if values.push(value).is_err() {
+        unreachable!();
+    }
+}
+
 impl Threads {
-    /// Those of no slots. It takes no memory.
+    /// The threads of no slots. It takes no memory.
     #[tactic(auto, using(crate::proofs::ChangeLemmas::no_threads))]
     pub fn new(alloc: Global) -> Threads
         ensures { AreThreads [] result }
@@ -61,7 +73,9 @@ impl Threads {
         }
     }
 
-    /// Those of these slots.
+    /// The threads of these slots, which are fewer than 4,294,967,295.
+    ///
+    /// The error comes where there is no memory.
     pub fn of(alloc: Global, slots: &Slots) -> Result<Threads, AllocError>
         requires { length slots.now + 1 < 2 ^ 32 }
         ensures { IfOk result (λ threads. AreThreads slots.now threads) }
@@ -95,38 +109,65 @@ impl Threads {
         self.last_answers[place] = number;
     }
 
-    /// Adds the links of a slot at the end that has this number and this original, or 0.
-    fn add_link(&mut self, original: u32, number: u32) -> Result<(), AllocError>
+    /// Takes the memory for the links of so many slots more.
+    fn reserve(&mut self, count: usize) -> Result<(), AllocError>
+        ensures links { self.new.links.items ≡ self.old.links.items }
+        ensures lasts { self.new.last_answers.items ≡ self.old.last_answers.items }
+        ensures firsts { self.new.firsts ≡ self.old.firsts }
+        ensures room { OnOk result (HasRoom count self.new) }
+    {
+        self.links.reserve(count)?;
+        self.last_answers.reserve(count)
+    }
+
+    /// Adds the links of a slot at the end that has this number and this original, or 0, where there is room for them.
+    fn add_link(&mut self, original: u32, number: u32)
         requires slots { (slots : List Slot) × AreChains slots self.old.links.items self.old.last_answers.items }
         requires within { original ≤ length self.old.links.items }
-        ensures chains { OnOk result ((slots : List Slot) (s : Slot) → AreChains slots self.old.links.items self.old.last_answers.items → original ≡ slot_original slots (Some s) → number ≡ suc (length slots) → AreChains (slots ++ s ∷ []) self.new.links.items self.new.last_answers.items) }
+        requires room { HasRoom 1 self.old }
+        ensures chains { (slots : List Slot) (s : Slot) → AreChains slots self.old.links.items self.old.last_answers.items → original ≡ slot_original slots (Some s) → number ≡ suc (length slots) → AreChains (slots ++ s ∷ []) self.new.links.items self.new.last_answers.items }
         ensures firsts { self.new.firsts ≡ self.old.firsts }
+        ensures room { original ≡ 0 → (count : ℕ) → HasRoom (count + 1) self.old → HasRoom count self.new }
     {
         let link = Link {
             to: original,
             first: 0,
             next: 0,
         };
-        self.links.push(link)?;
-        self.last_answers.push(0)?;
+        put_behind(&mut self.links, link);
+        put_behind(&mut self.last_answers, 0);
         if original != 0 {
             self.hang(original, number);
         }
-        Ok(())
     }
 
     /// Adds a message of these ids at the end. The list with it has fewer than 4,294,967,295 slots.
     ///
-    /// The error comes where there is no memory. They are of no use then.
+    /// The error comes where there is no memory. They are those of the same slots then.
     pub fn add(&mut self, msgid: &[u8], replyid: &[u8]) -> Result<(), AllocError>
         requires slots { AreOfSlots self.old }
         requires few { (slots : List Slot) → AreThreads slots self.old → length slots + 2 < 2 ^ 32 }
-        ensures { OnOk result ((slots : List Slot) (m : Message) → AreThreads slots self.old → m.msgid ≡ msgid.now → m.replyid ≡ replyid.now → AreThreads (slots ++ Held m ∷ []) self.new) }
+        ensures added { OnOk result ((slots : List Slot) (m : Message) → AreThreads slots self.old → m.msgid ≡ msgid.now → m.replyid ≡ replyid.now → AreThreads (slots ++ Held m ∷ []) self.new) }
+        ensures same { OnErr result ((slots : List Slot) → AreThreads slots self.old → AreThreads slots self.new) }
     {
         let original = self.firsts.original(replyid);
         let number = self.links.len() as u32 + 1;
+        self.reserve(1)?;
         self.firsts.add(self.alloc, msgid, number)?;
-        self.add_link(original, number)
+        self.add_link(original, number);
+        Ok(())
+    }
+
+    /// Adds a slot at the end that holds no message, where there is room for its links.
+    fn add_gone(&mut self)
+        requires slots { AreOfSlots self.old }
+        requires few { (slots : List Slot) → AreThreads slots self.old → length slots + 2 < 2 ^ 32 }
+        requires room { HasRoom 1 self.old }
+        ensures added { (slots : List Slot) → AreThreads slots self.old → AreThreads (slots ++ Gone ∷ []) self.new }
+        ensures room { (count : ℕ) → HasRoom (count + 1) self.old → HasRoom count self.new }
+    {
+        let number = self.links.len() as u32 + 1;
+        self.add_link(0, number);
     }
 
     /// Adds a slot at the end.
@@ -137,8 +178,9 @@ impl Threads {
     {
         match slot {
             Slot::Gone => {
-                let number = self.links.len() as u32 + 1;
-                self.add_link(0, number)
+                self.reserve(1)?;
+                self.add_gone();
+                Ok(())
             }
             Slot::Held(message) => self.add(message.msgid.as_slice(), message.replyid.as_slice()),
         }
@@ -146,15 +188,17 @@ impl Threads {
 
     /// Adds slots at the end that hold no message, up to this many.
     ///
-    /// The error comes where there is no memory. They are of no use then.
+    /// The error comes where there is no memory. They are those of the same slots then.
     pub fn fill(&mut self, count: usize) -> Result<(), AllocError>
         requires slots { AreOfSlots self.old }
         requires few { count + 1 < 2 ^ 32 }
-        ensures { OnOk result ((slots : List Slot) → AreThreads slots self.old → AreThreads (slots ++ replicate (count - length slots) Gone) self.new) }
+        ensures added { OnOk result ((slots : List Slot) → AreThreads slots self.old → AreThreads (slots ++ replicate (count - length slots) Gone) self.new) }
+        ensures same { OnErr result ((slots : List Slot) → AreThreads slots self.old → AreThreads slots self.new) }
     {
         let missing = count.saturating_sub(self.links.len());
+        self.reserve(missing)?;
         for _ in 0..missing {
-            self.add_slot(&Slot::Gone)?;
+            self.add_gone();
         }
         Ok(())
     }
@@ -183,7 +227,7 @@ impl Threads {
         Some(change(original, last, number))
     }
 
-    /// The links of the slot in a place from 0.
+    /// The links of the slot in a place from 0, which is there.
     pub fn link(&self, place: usize) -> Link
         requires { (slots : List Slot) × AreThreads slots self.now × (place < length slots) }
         ensures { (slots : List Slot) → AreThreads slots self.now → result ≡ link_of slots (place + 1) }
@@ -213,6 +257,8 @@ impl Threads {
     }
 
     /// Threads of the same slots.
+    ///
+    /// The error comes where there is no memory.
     pub fn copy(&self, alloc: Global) -> Result<Threads, AllocError>
         ensures { IfOk result (λ copy. (slots : List Slot) → AreThreads slots self.now → AreThreads slots copy) }
     {

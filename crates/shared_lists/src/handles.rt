@@ -1,11 +1,11 @@
-ghost use Rattle.std.specs.Prelude.{◌≡◌, IfOk, IfErr};
+ghost use Rattle.std.specs.Prelude.{◌≡◌, IfOk, IfErr, IfSome};
 
 use byte_lists::Duplicate;
 use std::alloc::{AllocError, Global};
 use std::marker::Model;
 use std::rc::Rc;
 
-/// A value that is never changed, and that copies share. Contracts see the value.
+/// A value that copies share, and that is changed only where none does. Contracts see the value.
 #[derive(Debug, Drop)]
 pub struct Shared<T> {
     value: Rc<T, Global>,
@@ -18,11 +18,22 @@ impl<T> Model for Shared<T> {
 }
 
 impl<T> Shared<T> {
+    ghost use Rattle.std.specs.Borrow.{sem};
+    ghost use Rattle.shared_lists.specs.Lending.{lends_value};
+
     /// The value.
     pub fn get(&self) -> &T
         ensures { result.now ≡ self.now }
     {
         self.value.as_ref()
+    }
+
+    /// The value, to write to, or None where a copy shares it.
+    pub fn value_mut(&mut self) -> Option<&mut T>
+        ensures* writes_back { sem 𝓛 (lends_value T.row self.entry result) }
+        ensures value { IfSome result (λ value. value.now ≡ self.old) }
+    {
+        Rc::get_mut(&mut self.value)
     }
 }
 
@@ -58,17 +69,6 @@ impl<T: Drop> Shared<T> {
         Ok(Shared {
             value: self.value.clone()?,
         })
-    }
-
-    /// The value, which is moved, or the handle again where it is shared.
-    pub fn into_value(self) -> Result<T, Shared<T>>
-        ensures ok { IfOk result (λ value. value ≡ self) }
-        ensures err { IfErr result (λ shared. shared ≡ self) }
-    {
-        match Rc::try_unwrap(self.value) {
-            Ok(value) => Ok(value),
-            Err(value) => Err(Shared { value }),
-        }
     }
 }
 

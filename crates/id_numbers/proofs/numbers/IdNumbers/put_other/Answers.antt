@@ -1,4 +1,4 @@
-use Rattle.std.proofs.Common.{◌≡◌, ℕ, List, ap, cond, ◌∙◌, sym, subst, true}
+use Rattle.std.proofs.Common.{◌≡◌, ℕ, List, ap, cond, ◌∙◌, subst, true}
 use Rattle.std.specs.Prelude.{unwrap_or}
 use Rattle.std.specs.BTreeMap.{get, get_by}
 use Rattle.std.specs.Cmp.Lexicographic.{slice_cmp, bytes_decides}
@@ -10,9 +10,9 @@ use Rattle.id_numbers.proofs.ByteMaps.{number_updates}
 use Rattle.id_numbers.proofs.NumberLemmas.{other_put}
 use Rattle.id_numbers.proofs.numbers.IdNumbers.put_other.Goals as goal
 
-pub returns : goal.returns
+pub returns-clause-ok : goal.returns-clause-ok
 unfolding mapped_number
-returns c = λ other.
+returns-clause-ok c = λ other.
     let here : ℕ = number_here other (get nat_cmp c.args.self.now.firsts (mix_of other)) in
     let old : ℕ = unwrap_or (get_by (λ key. slice_cmp nat_cmp other key.items) c.args.self.now.others) 0 in
     let put = number_updates (λ key. key.items) c.in_ok-key.key.items c.args.self.now.others c.insert.new.self c.args.number c.in_ok-insert.ensures.updates other

@@ -7,9 +7,9 @@ use Rattle.jam_threads.specs.declared.first_numbers.IdNumber.{IdNumber}
 use Rattle.jam_threads.proofs.ChangeLemmas.{on_ok}
 use Rattle.jam_threads.proofs.first_numbers.FirstNumbers.push.Goals as goal
 
-pub returns : goal.returns
+pub returns-clause-ok : goal.returns-clause-ok
 unfolding kept_number
-returns c = on_ok _ _ c.add.result (λ added other.
+returns-clause-ok c = on_ok _ _ c.add.result (λ added other.
     let old : ℕ = kept_number c.args.self.now other in
     ap (λ (newer : List IdNumber). fold (number_or other) (older_number c.args.self.now.older other) newer) added
     ∙ (fold_push (number_or other) (older_number c.args.self.now.older other) c.args.self.now.newer (record { id = c.in_ok-id.id; number = c.args.number })
