@@ -1,10 +1,12 @@
 //! The command `adopt`.
-ghost use Rattle.std.specs.Prelude.{◌≡◌, ◌<◌, ◌++◌, ℕ, List, codes, length, Ok, IfOk, IsTrue};
+ghost use Rattle.std.specs.Prelude.{◌≡◌, ◌<◌, ◌++◌, ℕ, List, codes, length, Ok, IfOk, IsTrue, IsErrOf};
 ghost use Rattle.message_commands.specs.board_commands.Causes.{HaveCauses};
 ghost use Rattle.message_commands.specs.board_commands.Halts.{told};
+ghost use Rattle.message_commands.specs.board_commands.Keeping.{KeepsFiles, went};
 ghost use Rattle.message_commands.specs.board_commands.Kept.{AreSure, IsKept, unread};
 ghost use Rattle.message_commands.specs.board_commands.State.{State, Stores};
-ghost use Rattle.message_commands.specs.board_commands.WriteBound.{KeepsWriteBound};
+ghost use Rattle.message_commands.specs.board_commands.declared.halt.BoardHalt.TheVariants.{DiskFault};
+ghost use Rattle.message_commands.specs.board_commands.WriteBound.{FilesKeepBound, KeepsWriteBound};
 ghost use Rattle.board_layout.specs.Board as Boards;
 ghost use Rattle.board_layout.specs.Valid.{IsBoard};
 ghost use Rattle.door_outside.specs.Name.{IsShelfName};
@@ -44,7 +46,7 @@ fn ended_with(adopted: Adopted, count: usize) -> Result<Adopting, AllocError>
     Ok(Adopting { change, reply })
 }
 
-/// The change by which the records of a base come into the conference of a number in a place.
+/// The change that takes the records of a base into the conference of this number, which has this place.
 fn prepared(
     alloc: Global,
     board: &Board,
@@ -64,15 +66,18 @@ fn prepared(
     Ok(ended_with(adopted, count)?)
 }
 
-/// Appends the messages of another tool's base to the conference of a number in one change, in the order of its .JDX,
-/// and answers a line for each record that isn't passed over, and one with the counts. The base is the files of the
+/// Appends the messages of another tool's base to the conference of a number in one change, in the order of its .JDX.
+/// It answers a line for each record that isn't passed over, and one with the counts. The base is the files of the
 /// shelf with this prefix and the endings .JHR, .JDX and .JDT, each of at most 16,777,216 bytes (JAM message base
-/// proposal, revision 1); .JLR isn't read. A message without a MSGID that can be kept gets the one that is generated
-/// for its number, and in a net conference all are private. One for which the conference or the board has no room
+/// proposal, revision 1). .JLR isn't read. A message without a MSGID that can be kept gets the one that is generated
+/// for its number. In a net conference all are private. A message for which the conference or the board has no room
 /// behind those before it is refused as `full`.
 ///
-/// It is refused where there is no board, then as the first of these applies: no conference has the number; .JHR, .JDX,
-/// .JDT, in this order, isn't there or is too long; .JHR has fewer than 1,024 bytes, or another signature.
+/// It is refused where there is no board, and else for the first of these that applies:
+///
+/// - No conference has the number.
+/// - .JHR, .JDX or .JDT, in this order, isn't there or is too long.
+/// - .JHR has fewer than 1,024 bytes, or another signature.
 pub fn adopt<H: Host, S: Shelf>(
     alloc: Global,
     host: &mut H,
@@ -87,7 +92,9 @@ pub fn adopt<H: Host, S: Shelf>(
     ensures works { IsTrue H.tells → IsTrue S.tells → (world : World State) → IsAt Stores unread world (H.disk host.old) (S.files shelf.old) → Works Stores (adopts conference prefix.now) unread world (H.disk host.old) (H.disk host.new) (S.files shelf.new) (told (λ text. text) result) }
     ensures kept { IsTrue H.tells → IsKept kept.new (H.disk host.new) }
     ensures sure { AreSure kept.new }
+    ensures keeps { IsTrue H.tells → KeepsFiles (H.disk host.old) (H.disk host.new) (went result) }
     ensures wrote { IsTrue H.tells → IsTrue S.tells → IsClosed ((H.disk host.old).files 1) → KeepsWriteBound (adopts conference prefix.now) (H.disk host.old) (H.disk host.new) (S.files shelf.old) }
+    ensures wrote_between { IsTrue H.tells → IsClosed ((H.disk host.old).files 1) → ¬ IsErrOf result DiskFault → FilesKeepBound (H.disk host.old) (H.disk host.new) }
     ensures causes { HaveCauses H.disk_faults H.voice_faults S.faults host.old host.new shelf.old shelf.new (ended (told (λ text. text) result)) }
 {
     find(alloc, host, kept)?;

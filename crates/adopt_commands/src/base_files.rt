@@ -12,7 +12,7 @@ use jam_adopt::{Foreign, ForeignError, read_foreign};
 use shelf_files::{FOREIGN_LIMIT, Halt, Refusal, file_in};
 use std::alloc::{AllocError, Global};
 
-/// The shelf name of a prefix and an ending, which are one together.
+/// The shelf name that a prefix and an ending make together.
 fn name_of(alloc: Global, prefix: &[u8], ending: &[u8]) -> Result<ShelfName, AllocError>
     requires { IsShelfName (prefix.now ++ ending.now) }
     ensures { IfOk result (λ name. name ≡ prefix.now ++ ending.now) }
@@ -53,8 +53,8 @@ fn halt_of(error: ForeignError) -> Halt
     }
 }
 
-/// What the records of the base of a prefix come to, in the order of its .JDX, refused where one of its files isn't
-/// there or is too long, .JHR first, then .JDX, then .JDT, and where .JHR is no base header.
+/// What the records of the base of a prefix come to, in the order of its .JDX. It is refused where one of its files
+/// isn't there or is too long: .JHR first, then .JDX, then .JDT. Then it is refused where .JHR is no base header.
 pub(crate) fn base_in<S: Shelf>(
     alloc: Global,
     shelf: &mut S,

@@ -52,7 +52,7 @@ stands_moves NotMade f g same stands = empty_moves f g same stands
 stands_moves (Ready held) f g same stands = record { board = stands.board; valid = stands.valid; alike = stands.alike; layout = layout_moves stands.board f g same stands.layout }
 
 -- it stands in the data files too
-stands_in_data : (loaded : Loaded) (files : Files) → StandsIn files loaded → StandsIn (data_files files) loaded
+pub stands_in_data : (loaded : Loaded) (files : Files) → StandsIn files loaded → StandsIn (data_files files) loaded
 stands_in_data loaded files stands = stands_moves loaded files (data_files files) (sym (data_twice files)) stands
 
 recovered_data : (files : Files) → data_files (recovered files) ≡ recovered files
@@ -86,11 +86,11 @@ loaded_stores loaded old new s stands opened stores =
     subst (λ (m : State). Stores m (data_files new.files)) (sym (opened_is real s (recovered old.files) (data_files new.files) here opened stores)) here
 
 -- what is kept
-kept_calm : (loaded : Loaded) (disk : Disk) → IsKept (Some loaded) disk → IsCalm disk
+pub kept_calm : (loaded : Loaded) (disk : Disk) → IsKept (Some loaded) disk → IsCalm disk
 kept_calm NotMade disk kept = kept.0
 kept_calm (Ready held) disk kept = kept.calm
 
-kept_stands : (loaded : Loaded) (disk : Disk) → IsKept (Some loaded) disk → StandsIn disk.files loaded
+pub kept_stands : (loaded : Loaded) (disk : Disk) → IsKept (Some loaded) disk → StandsIn disk.files loaded
 kept_stands NotMade disk kept = kept.1
 kept_stands (Ready held) disk kept = kept.stands
 

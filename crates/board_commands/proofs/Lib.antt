@@ -5,6 +5,7 @@ pub mod EnrollLaws
 pub mod Exits
 pub mod FindLaws
 pub mod InitExits
+pub mod KeepingLaws
 pub mod ReportLaws
 pub mod StateLaws
 pub mod TurnLaws

@@ -1,27 +1,36 @@
 -- A command that looks for the board and makes one change of it, which posts messages, writes no more than it may.
-use Rattle.std.proofs.Common.{◌≡◌, ◌≢◌, ℕ, ◌+◌, ◌≤◌, List, [], ◌∷◌, Option, Some, refl, sym, ◌∙◌, ap, subst, arith}
+use Rattle.std.proofs.Common.{◌≡◌, ◌≢◌, ℕ, ◌+◌, ◌≤◌, List, [], ◌∷◌, Option, Some, Ok, refl, sym, ◌∙◌, ap, subst, arith}
 use Rattle.std.specs.Prelude.{◌==◌, if◌then◌else◌}
 use Rattle.std.proofs.lemmas.Bool.{cond-false, ne_eqb}
 use Rattle.door_outside.specs.Disk.{Disk}
 use Rattle.door_outside.specs.Shelf as Shelf
 use Rattle.entry_runs.specs.Door.{Act, World, here}
+use Rattle.entry_runs.specs.Entry.{Changes, Finds}
 use Rattle.entry_runs.specs.Runs.{Stepped}
 use Rattle.intent_journal.specs.Journal.{IsClosed, intent_of, open_patches}
 use Rattle.intent_journal.specs.Patches.{Files, are_within, byte_count}
 use Rattle.intent_journal.specs.Recovered.{recovered}
+use Rattle.intent_journal.specs.declared.recovery.JournalError.{JournalError}
+use Rattle.intent_journal.specs.declared.recovery.JournalError.TheVariants as journal
 use Rattle.board_layout.specs.Board.{Board}
+use Rattle.board_layout.specs.Layout.{board_size}
 use Rattle.board_layout.specs.Valid.{IsBoard}
 use Rattle.mail_board.proofs.EachBound.{bound_alike}
+use Rattle.mail_board.proofs.EachNext.{changed_alike}
+use Rattle.mail_board.specs.Changes.{changed}
 use Rattle.mail_board.specs.Held.{AreAlike}
 use Rattle.mail_board.specs.Loading.{AreOld}
-use Rattle.mail_board.specs.Written.{KeepsBoundOf}
+use Rattle.mail_board.specs.Written.{KeepsBoundOf, slot_total}
+use Rattle.mail_board.specs.declared.change.Change.{Change}
 use Rattle.board_commands.proofs.BoardActs.{AreTurns}
-use Rattle.board_commands.proofs.LikeLaws.{some_outlined}
+use Rattle.board_commands.proofs.LikeLaws.{real_stored, some_outlined}
 use Rattle.board_commands.proofs.StateLaws.{one_state}
-use Rattle.board_commands.specs.Kept.{IsOutlined}
-use Rattle.board_commands.specs.State.{State, Made, Old, Stores, migrated, state_of}
+use Rattle.board_commands.specs.Halts.{of_journal}
+use Rattle.board_commands.specs.Kept.{IsOutlined, unread}
+use Rattle.board_commands.specs.State.{State, NotMade, Made, Old, Spoiled, Stores, migrated, state_of}
 use Rattle.board_commands.specs.Turns.{Turn, on_board}
-use Rattle.board_commands.specs.WriteBound.{KeepsWriteBound, WritesWithin}
+use Rattle.board_commands.specs.declared.halt.BoardHalt.TheVariants as halt
+use Rattle.board_commands.specs.WriteBound.{FilesKeepBound, KeepsWriteBound, WritesWithin, size_of_board, slots_of_board}
 
 -- behind a closed gate there is nothing to carry out
 closed_patches : (journal : List ℕ) → IsClosed journal → open_patches journal ≡ []
@@ -71,3 +80,55 @@ module _ (turns : Shelf.Files → Option Board → Turn → Type 0) (laws : AreT
       let one = takes real.board real.valid real.alike in
       subst (λ (s : State). (stepped : Stepped (World State)) → (on_board turns).Step (here s shelf) stepped → WritesWithin s stepped.world.state old.wrote new.wrote) (sym made)
       (of_made real.board (next real.board) (turn real.board) one.0 one.1 (bound_alike real.board b (next real.board) (next b) mid.wrote new.wrote real.alike (each real.board real.alike) bound) (not_old state (recovered old.files) stores today))
+
+-- ---- whatever the shelf holds
+size_migrated : (s : State) → size_of_board (migrated s) ≡ size_of_board s
+size_migrated NotMade = refl
+size_migrated (Made b) = refl
+size_migrated (Old b) = refl
+size_migrated (Spoiled held) = refl
+
+slots_migrated : (s : State) → slots_of_board (migrated s) ≡ slots_of_board s
+slots_migrated NotMade = refl
+slots_migrated (Made b) = refl
+slots_migrated (Old b) = refl
+slots_migrated (Spoiled held) = refl
+
+module _ (old : Disk) (closed : IsClosed (old.files 1)) where
+  -- only the board was looked for
+  pub found_bound : (new : Disk) → WritesFound old new.wrote → FilesKeepBound old new
+  found_bound new found state next stores today after =
+      omega (arith, closed_found old new.wrote closed (found (not_old state (recovered old.files) stores today)))
+
+  -- where memory ran out, nothing was written behind that
+  pub unmade_bound : (mid new : Disk) (e : JournalError) → of_journal e ≢ halt.DiskFault → (e ≡ journal.OutOfMemory → new.wrote ≡ mid.wrote) → WritesFound old mid.wrote → FilesKeepBound old new
+  unmade_bound mid new journal.DiskFault sound same found = absurd (sound refl)
+  unmade_bound mid new journal.OutOfMemory sound same found = found_bound new (subst (WritesFound old) (sym (same refl)) found)
+
+  module _ (mid new : Disk) (found : WritesFound old mid.wrote) (kept : Option Board) (stands : (state : State) → Stores state (recovered old.files) → IsOutlined (migrated state) kept) (b : Board) (kept_is : kept ≡ Some b) where
+    -- a board with this outline came after the one that was kept, by what keeps the bound
+    to_next : (next_b : Board) → KeepsBoundOf b next_b mid.wrote new.wrote → (state : State) → Stores state (recovered old.files) → migrated state ≡ state → (n : State) (c : Board) → migrated n ≡ Made c → AreAlike c next_b → WritesWithin state n old.wrote new.wrote
+    to_next next_b bound state stores today n c is alike =
+        let real = some_outlined (migrated state) kept b kept_is (stands state stores) in
+        let made : state ≡ Made real.board = sym today ∙ real.is in
+        let few = bound_alike real.board b c next_b mid.wrote new.wrote real.alike alike bound in
+        let size : size_of_board n ≡ board_size c = sym (size_migrated n) ∙ ap size_of_board is in
+        let slots : slots_of_board n ≡ slot_total c = sym (slots_migrated n) ∙ ap slots_of_board is in
+        subst (λ (s : State). WritesWithin s n old.wrote new.wrote) (sym made)
+        (omega (arith, few, size, slots, closed_found old mid.wrote closed (found (not_old state (recovered old.files) stores today))))
+
+    -- the board that is kept then stands for what the files do
+    pub kept_bound : (after : Option Board) → ((next : State) → Stores next (recovered new.files) → IsOutlined (migrated next) after) → (c : Board) → after ≡ Some c → KeepsBoundOf b c mid.wrote new.wrote → FilesKeepBound old new
+    kept_bound after ends c after_is bound state next stores today reached =
+        let real = some_outlined (migrated next) after c after_is (ends next reached) in
+        to_next c bound state stores today next real.board real.is real.alike
+
+    -- a change was made of whichever board has the outline of the one that is kept
+    pub changed_bound : {T E : Type 0} {value : T} (change : Change) → ((state : State) → Stores state (recovered old.files) → Finds Stores unread state (migrated state) old mid (Ok (tt {0})))
+        → ((real : Board) → Stores (Made real) (recovered mid.files) → Changes Stores {E = E} unread (Made real) (Made (changed change real)) mid new (Ok value))
+        → KeepsBoundOf b (changed change b) mid.wrote new.wrote → FilesKeepBound old new
+    changed_bound change finds changes bound state next stores today reached =
+        let real = some_outlined (migrated state) kept b kept_is (stands state stores) in
+        let made = (changes real.board (real_stored (finds state stores) real.board real.is)).done.0.stores in
+        let end : next ≡ Made (changed change real.board) = one_state (recovered new.files) next (Made (changed change real.board)) reached made in
+        to_next (changed change b) bound state stores today next (changed change real.board) (ap migrated end) (changed_alike real.board b real.alike change)

@@ -4,6 +4,7 @@ pub mod Enroll
 pub mod Enrolling
 pub mod Halts
 pub mod Init
+pub mod Keeping
 pub mod Kept
 pub mod State
 pub mod Turns

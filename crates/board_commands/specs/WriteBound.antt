@@ -33,3 +33,10 @@ abbrev pub KeepsWriteBound : Act State → Disk → Disk → Files → Type 0
 KeepsWriteBound act old new shelf =
     (state : State) → Stores state (recovered old.files) → migrated state ≡ state → (stepped : Stepped (World State)) → act.Step (here state shelf) stepped
     → WritesWithin state stepped.world.state old.wrote new.wrote
+
+-- So they did from the state for which the files at entry stand to that for which they stand at exit. That asks nothing of
+-- the shelf.
+abbrev pub FilesKeepBound : Disk → Disk → Type 0
+FilesKeepBound old new =
+    (state next : State) → Stores state (recovered old.files) → migrated state ≡ state → Stores next (recovered new.files)
+    → WritesWithin state next old.wrote new.wrote

@@ -6,6 +6,7 @@ ghost use Rattle.entry_runs.specs.Promise.{ended};
 ghost use Rattle.board_commands.specs.Causes.{HaveCauses};
 ghost use Rattle.board_commands.specs.Halts.{told};
 ghost use Rattle.board_commands.specs.Init.{inits, made_line};
+ghost use Rattle.board_commands.specs.Keeping.{KeepsFiles, went};
 ghost use Rattle.board_commands.specs.Kept.{AreSure, IsKept, unread};
 ghost use Rattle.board_commands.specs.State.{State, Stores};
 
@@ -33,6 +34,7 @@ pub fn init<H: Host, S: Shelf>(
     ensures works { IsTrue H.tells → IsTrue S.tells → (world : World State) → IsAt Stores unread world (H.disk host.old) (S.files shelf.old) → Works Stores (inits file.now now) unread world (H.disk host.old) (H.disk host.new) (S.files shelf.new) (told made_line result) }
     ensures kept { IsTrue H.tells → IsKept kept.new (H.disk host.new) }
     ensures sure { AreSure kept.new }
+    ensures keeps { IsTrue H.tells → KeepsFiles (H.disk host.old) (H.disk host.new) (went result) }
     ensures causes { HaveCauses H.disk_faults H.voice_faults S.faults host.old host.new shelf.old shelf.new (ended (told made_line result)) }
 {
     find(alloc, host, kept)?;

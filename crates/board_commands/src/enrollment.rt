@@ -62,8 +62,13 @@ fn change_of(
     })
 }
 
-/// Why a user isn't enrolled by a change: the first that applies of a name that is no user name or is taken, a number
-/// of no conference, as many users as there may be, and files that would be too long.
+/// The first reason of these why a change doesn't enroll a user:
+///
+/// - The name is no user name.
+/// - A user has it.
+/// - A number is that of no conference.
+/// - There are as many users as there may be.
+/// - The files would be too long.
 fn refusal_of(
     board: &Board,
     name: &[u8],
@@ -130,8 +135,13 @@ fn prepared(
 /// Enrolls a user of a name behind the others, a member of the conferences that the word CONFS names, and answers the
 /// id. The user may write net mail where the word FLAGS is `n`.
 ///
-/// It is refused where there is no board, then as the first of these applies: the name is no user name, a user has
-/// it, a number is that of no conference, there are 500 users, or the files would be too long.
+/// It is refused where there is no board, and else for the first of these that applies:
+///
+/// - The name is no user name.
+/// - A user has it.
+/// - A number is that of no conference.
+/// - There are 500 users.
+/// - The files would be too long.
 pub fn enroll<H: Host>(
     alloc: Global,
     host: &mut H,

@@ -1,5 +1,5 @@
 // Changes of the board that is kept.
-ghost use Rattle.std.specs.Prelude.{◌≡◌, ◌≢◌, Some, None, IsErrOf, IsTrue};
+ghost use Rattle.std.specs.Prelude.{◌≡◌, ◌≢◌, Some, None, IsErrOf, IsTrue, OnOk};
 ghost use Rattle.mail_board.specs.board_changes.Changed.{made};
 ghost use Rattle.board_layout.specs.Board as Boards;
 ghost use Rattle.entry_runs.specs.Entry.{Changes};
@@ -9,7 +9,7 @@ ghost use Rattle.mail_board.specs.Changes.{changed, Fits};
 ghost use Rattle.mail_board.specs.Written.{WritesFew};
 ghost use Rattle.mail_board.specs.declared.loading.Loaded.TheVariants as loaded;
 ghost use Rattle.setup_file.specs.Valid.{IsSetup};
-ghost use Rattle.board_commands.specs.Kept.{AreSure, IsKept, kept_board, unread};
+ghost use Rattle.board_commands.specs.Kept.{AreSure, IsBoardRead, IsKept, kept_board, unread};
 ghost use Rattle.board_commands.specs.State.{NotMade, Made, Stores};
 
 use door_outside::Host;
@@ -34,6 +34,7 @@ pub fn make_change<H: Host>(
     ensures changes { IsTrue H.tells → (b : Boards.Board) → Stores (Made b) (recovered (H.disk host.old).files) → Changes Stores unread (Made b) (Made (changed change.now b)) (H.disk host.old) (H.disk host.new) result }
     ensures kept { IsTrue H.tells → IsKept kept.new (H.disk host.new) }
     ensures sure { AreSure kept.new }
+    ensures read { OnOk result (IsBoardRead kept.new) }
     ensures unchanged { IsErrOf result JournalError.OutOfMemory → host.new ≡ host.old }
     ensures wrote { IsTrue H.tells → (b : Boards.Board) → kept_board kept.old ≡ Some b → WritesFew change.now b (H.disk host.old).wrote (H.disk host.new).wrote }
     ensures cause { HasFault JournalError.DiskFault (H.disk_faults host.old) (H.disk_faults host.new) result }
@@ -70,6 +71,7 @@ pub(crate) fn make_board<H: Host>(
     ensures changes { IsTrue H.tells → Changes Stores unread NotMade (Made (made setup now)) (H.disk host.old) (H.disk host.new) result }
     ensures kept { IsTrue H.tells → IsKept kept.new (H.disk host.new) }
     ensures sure { AreSure kept.new }
+    ensures read { OnOk result (IsBoardRead kept.new) }
     ensures unchanged { IsErrOf result JournalError.OutOfMemory → host.new ≡ host.old }
     ensures cause { HasFault JournalError.DiskFault (H.disk_faults host.old) (H.disk_faults host.new) result }
     ensures voice { H.voice_faults host.new ≡ H.voice_faults host.old }

@@ -2,7 +2,7 @@
 use Rattle.std.proofs.Common.{◌≡◌, ℕ, List, [], ◌++◌, take, drop, refl, sym, ◌∙◌, ap, subst, append_assoc, ◌+◌, ◌<◌, length, get_or}
 use Rattle.std.proofs.lemmas.List.{append-nil, take-append-drop, drop_more}
 use Rattle.std.specs.Prelude.{Result, Ok, Err, OnOk}
-use Rattle.door_outside.specs.Disk.{Disk, Image, AllNow, Between, Passes, Reached, Says, as_read}
+use Rattle.door_outside.specs.Disk.{Disk, Image, AllNow, Passes, Reached, Says, as_read}
 use Rattle.door_outside.proofs.Moments.{still, joined, weaker, by_call}
 use Rattle.intent_journal.specs.Hosts.{IsCalm, IsFirm, IsSettled}
 use Rattle.intent_journal.specs.Journal.{IsClosed}
@@ -159,78 +159,89 @@ module _ {T E : Type 0} {before piece after : List ℕ} where
       on_ok (Ok x) = is
       on_ok (Err e) = tt
 
--- So far a front of a text in pieces was gathered, and what isn't gathered any more was said.
-pub record SaidSoFar (front gathered : List ℕ) (old now : Disk) : Type 0 where
-  pub part : List ℕ
-  pub whole : front ≡ part ++ gathered
-  pub said : now.said ≡ old.said ++ part
-  pub moments : Between old now (SaysIn part old)
-  pub images : AllNow now (SaysIn part old)
-  pub files : now.files ≡ old.files
-  pub wrote : now.wrote ≡ old.wrote
+module _ {before : List ℕ} where
+  -- nothing is added
+  pub gathers_nothing : {T E : Type 0} {value : T} (disk : Disk) → Gathers {E = E} before [] before disk disk (Ok value)
+  gathers_nothing disk = record { part = []; rest = before; whole = append-nil before; voiced = voiced_none disk; gathered = refl }
 
--- nothing was gathered yet
-pub said_none : (disk : Disk) → SaidSoFar [] [] disk disk
-said_none disk =
-    let none = voiced_none {T = Unit {0}} {E = Unit {0}} {value = tt} disk in
-    record { part = []; whole = refl; said = none.done; moments = none.moments; images = none.now; files = none.files; wrote = none.wrote }
+  -- one text by another name
+  pub gathers_as : {T E : Type 0} {a b after : List ℕ} {old new : Disk} {result : Result T E} → a ≡ b → Gathers before a after old new result → Gathers before b after old new result
+  gathers_as {after = after} {old = old} {new = new} {result = result} is gathers = subst (λ (text : List ℕ). Gathers before text after old new result) is gathers
 
-voiced_so_far : {front gathered : List ℕ} {old now : Disk} (so_far : SaidSoFar front gathered old now) → Voiced {T = Unit {0}} {E = Unit {0}} so_far.part old now (Ok tt)
-voiced_so_far so_far = record { moments = so_far.moments; now = so_far.images; files = so_far.files; wrote = so_far.wrote; done = so_far.said }
-
-module _ {T E : Type 0} {front gathered : List ℕ} {old now : Disk} (so_far : SaidSoFar front gathered old now) where
-  module _ {piece after : List ℕ} {new : Disk} {result : Result T E} (gathers : Gathers gathered piece after now new result) where
-    whole_on : front ++ piece ≡ (so_far.part ++ gathers.part) ++ gathers.rest
-    whole_on =
-        ap (λ (l : List ℕ). l ++ piece) so_far.whole
-        ∙ append_assoc so_far.part gathered piece
-        ∙ ap (λ (l : List ℕ). so_far.part ++ l) gathers.whole
-        ∙ sym (append_assoc so_far.part gathers.part gathers.rest)
-
-    both : Voiced (so_far.part ++ gathers.part) old new result
-    both = voiced_on (voiced_so_far so_far) so_far.said gathers.voiced
-
-  -- a piece more was gathered
-  pub said_more : {piece after : List ℕ} {new : Disk} {value : T} → Gathers {E = E} gathered piece after now new (Ok value) → SaidSoFar (front ++ piece) after old new
-  said_more gathers = record {
-    part = so_far.part ++ gathers.part;
-    whole = whole_on gathers ∙ ap (λ (l : List ℕ). (so_far.part ++ gathers.part) ++ l) (sym gathers.gathered);
-    said = (both gathers).done;
-    moments = (both gathers).moments;
-    images = (both gathers).now;
-    files = (both gathers).files;
-    wrote = (both gathers).wrote;
+  -- it was added, whatever else the call answers
+  pub gathers_done : {T E U F : Type 0} {value : T} {other : U} {a after : List ℕ} {old new : Disk} → Gathers {E = E} before a after old new (Ok value) → Gathers {E = F} before a after old new (Ok other)
+  gathers_done gathers = record {
+    part = gathers.part;
+    rest = gathers.rest;
+    whole = gathers.whole;
+    voiced = record { moments = gathers.voiced.moments; now = gathers.voiced.now; files = gathers.voiced.files; wrote = gathers.voiced.wrote; done = gathers.voiced.done };
+    gathered = gathers.gathered;
   }
 
-  -- a piece more wasn't said whole, and nothing more is said of the text
-  pub said_cut : {piece after text : List ℕ} (back : List ℕ) {new : Disk} {fault : E} → text ≡ (front ++ piece) ++ back → Gathers {T = T} gathered piece after now new (Err fault) → Voiced {T = T} text old new (Err fault)
-  said_cut back is gathers =
-      voiced_as (sym (is ∙ ap (λ (l : List ℕ). l ++ back) (whole_on gathers) ∙ append_assoc (so_far.part ++ gathers.part) gathers.rest back)) (voiced_front (gathers.rest ++ back) (both gathers) tt)
+  -- one text was added, and then another, whole or not
+  pub gathers_on : {T E U F : Type 0} {value : T} {a b mid after : List ℕ} {old now new : Disk} {result : Result U F}
+      → Gathers {E = E} before a mid old now (Ok value) → Gathers mid b after now new result → Gathers before (a ++ b) after old new result
+  gathers_on {a = a} {b = b} first second = record {
+    part = first.part ++ second.part;
+    rest = second.rest;
+    whole =
+        sym (append_assoc before a b)
+        ∙ ap (λ (l : List ℕ). l ++ b) first.whole
+        ∙ append_assoc first.part first.rest b
+        ∙ ap (λ (l : List ℕ). first.part ++ (l ++ b)) (sym first.gathered)
+        ∙ ap (λ (l : List ℕ). first.part ++ l) second.whole
+        ∙ sym (append_assoc first.part second.part second.rest);
+    voiced = voiced_on first.voiced first.voiced.done second.voiced;
+    gathered = second.gathered;
+  }
 
-  -- what was gathered at the end is said
-  pub said_all : {text : List ℕ} {new : Disk} {spoken : Result T E} → text ≡ front → Voiced gathered now new spoken → Voiced text old new spoken
-  said_all is voiced = voiced_as (sym (is ∙ so_far.whole)) (voiced_on (voiced_so_far so_far) so_far.said voiced)
+  -- the first text wasn't said whole, and nothing more is added
+  pub gathers_front : {T E U F : Type 0} {fault : E} {other : F} {a mid after : List ℕ} (b : List ℕ) {old new : Disk}
+      → Gathers {T = T} before a mid old new (Err fault) → Gathers {T = U} before (a ++ b) after old new (Err other)
+  gathers_front {a = a} b first = record {
+    part = first.part;
+    rest = first.rest ++ b;
+    whole = sym (append_assoc before a b) ∙ ap (λ (l : List ℕ). l ++ b) first.whole ∙ append_assoc first.part first.rest b;
+    voiced = record { moments = first.voiced.moments; now = first.voiced.now; files = first.voiced.files; wrote = first.voiced.wrote; done = tt };
+    gathered = tt;
+  }
+
+-- a text was gathered from nothing on, and what isn't said yet is said
+pub voiced_rest : {T E U F : Type 0} {value : T} {before text left : List ℕ} {old now new : Disk} {spoken : Result U F}
+    → before ≡ [] → Gathers {E = E} before text left old now (Ok value) → Voiced left now new spoken → Voiced text old new spoken
+voiced_rest {text = text} none gathers voiced =
+    voiced_as (sym gathers.whole ∙ ap (λ (l : List ℕ). l ++ text) none) (voiced_on gathers.voiced gathers.voiced.done (voiced_as gathers.gathered voiced))
+
+-- it wasn't said whole before
+pub voiced_cut : {T E U F : Type 0} {fault : E} {other : F} {before text left : List ℕ} {old new : Disk}
+    → before ≡ [] → Gathers {T = T} before text left old new (Err fault) → Voiced {T = U} text old new (Err other)
+voiced_cut {text = text} none gathers = voiced_as (sym gathers.whole ∙ ap (λ (l : List ℕ). l ++ text) none) (voiced_front gathers.rest gathers.voiced tt)
 
 -- the text of the pieces from one on
 pub text_from : (pieces : List (Bor (List ℕ))) (i : ℕ) (piece : Bor (List ℕ)) → i < length pieces → text_of_pieces (drop i pieces) ≡ (get_or pieces i piece).now ++ text_of_pieces (drop (i + 1) pieces)
 text_from pieces i piece below = ap text_of_pieces (drop_more pieces i piece below)
 
--- The pieces before one were gathered, and what isn't gathered any more was said. This is the invariant of saying them all.
-abbrev pub PiecesSaid : List (Bor (List ℕ)) → ℕ → List ℕ → Disk → Disk → Type 0
-PiecesSaid pieces i gathered old now = (front : List ℕ) × (text_of_pieces pieces ≡ front ++ text_of_pieces (drop i pieces)) × SaidSoFar front gathered old now
+-- The pieces before one were gathered behind what was gathered before. This is the invariant of gathering them all.
+abbrev pub PiecesGathered : List (Bor (List ℕ)) → ℕ → List ℕ → List ℕ → Disk → Disk → Type 0
+PiecesGathered pieces i before gathered old now =
+    (front : List ℕ) × (text_of_pieces pieces ≡ front ++ text_of_pieces (drop i pieces)) × Gathers {T = Unit {0}} {E = Unit {0}} before front gathered old now (Ok tt)
 
-module _ (pieces : List (Bor (List ℕ))) (i : ℕ) where
-  module _ {gathered : List ℕ} {old now : Disk} (piece : Bor (List ℕ)) (so_far : PiecesSaid pieces i gathered old now) (below : i < length pieces) where
+-- no piece was yet
+pub no_pieces : (pieces : List (Bor (List ℕ))) (before : List ℕ) (disk : Disk) → PiecesGathered pieces 0 before before disk disk
+no_pieces pieces before disk = ([], refl, gathers_nothing disk)
+
+module _ (pieces : List (Bor (List ℕ))) (i : ℕ) {before gathered : List ℕ} {old now : Disk} (so_far : PiecesGathered pieces i before gathered old now) where
+  module _ (piece : Bor (List ℕ)) (below : i < length pieces) where
     next_piece : text_of_pieces pieces ≡ (so_far.0 ++ (get_or pieces i piece).now) ++ text_of_pieces (drop (i + 1) pieces)
     next_piece = so_far.1 ∙ ap (λ (l : List ℕ). so_far.0 ++ l) (text_from pieces i piece below) ∙ sym (append_assoc so_far.0 (get_or pieces i piece).now (text_of_pieces (drop (i + 1) pieces)))
 
-    pub pieces_more : {E : Type 0} {after : List ℕ} {new : Disk} {value : Unit {0}} → Gathers {E = E} gathered (get_or pieces i piece).now after now new (Ok value) → PiecesSaid pieces (i + 1) after old new
-    pieces_more gathers = (so_far.0 ++ (get_or pieces i piece).now, next_piece, said_more so_far.2 gathers)
+    pub pieces_more : {E : Type 0} {after : List ℕ} {new : Disk} {value : Unit {0}} → Gathers {E = E} gathered (get_or pieces i piece).now after now new (Ok value) → PiecesGathered pieces (i + 1) before after old new
+    pieces_more gathers = (so_far.0 ++ (get_or pieces i piece).now, next_piece, gathers_done (gathers_on so_far.2 gathers))
 
-    pub pieces_cut : {E : Type 0} {after : List ℕ} {new : Disk} {fault : E} → Gathers {T = Unit {0}} gathered (get_or pieces i piece).now after now new (Err fault) → Voiced {T = Unit {0}} (text_of_pieces pieces) old new (Err fault)
-    pieces_cut gathers = said_cut so_far.2 (text_of_pieces (drop (i + 1) pieces)) next_piece gathers
+    pub pieces_cut : {E : Type 0} {mid after : List ℕ} {new : Disk} {fault : E} → Gathers {T = Unit {0}} gathered (get_or pieces i piece).now mid now new (Err fault) → Gathers {T = Unit {0}} before (text_of_pieces pieces) after old new (Err fault)
+    pieces_cut gathers = gathers_as (sym next_piece) (gathers_front (text_of_pieces (drop (i + 1) pieces)) (gathers_on so_far.2 gathers))
 
   -- no piece is left
-  pub pieces_all : {T E : Type 0} {gathered : List ℕ} {old now new : Disk} {spoken : Result T E} → PiecesSaid pieces i gathered old now
-      → drop i pieces ≡ [] → Voiced gathered now new spoken → Voiced (text_of_pieces pieces) old new spoken
-  pieces_all so_far none voiced = said_all so_far.2 (so_far.1 ∙ ap (λ (ps : List (Bor (List ℕ))). so_far.0 ++ text_of_pieces ps) none ∙ append-nil so_far.0) voiced
+  pub all_pieces : {E : Type 0} {value : Unit {0}} → drop i pieces ≡ [] → Gathers {E = E} before (text_of_pieces pieces) gathered old now (Ok value)
+  all_pieces none =
+      gathers_as (sym (so_far.1 ∙ ap (λ (ps : List (Bor (List ℕ))). so_far.0 ++ text_of_pieces ps) none ∙ append-nil so_far.0)) (gathers_done so_far.2)

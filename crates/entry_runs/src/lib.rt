@@ -9,7 +9,7 @@ mod stop;
 mod wording;
 
 pub use class::Class;
-pub use saying::say_all;
+pub use saying::{Gathered, say_all};
 pub use status::Status;
 pub use stop::Stop;
 pub use wording::{AsText, Wording};

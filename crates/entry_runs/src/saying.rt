@@ -1,47 +1,82 @@
 //! Saying a text that is given in pieces.
-ghost use Rattle.std.specs.Prelude.{◌≡◌, IsTrue};
+ghost use Rattle.std.specs.Prelude.{◌≡◌, [], IsTrue};
 ghost use Rattle.door_outside.specs.Cause.{HasCause};
 ghost use Rattle.entry_runs.specs.Saying.{Voiced, Gathers, text_of_pieces};
 
 use arrayvec::ArrayVec;
 use door_outside::{Host, VoiceFault};
+use std::marker::Model;
 
 /// So many bytes of a text are gathered at most before they are said.
-const ROOM: usize = 256;
+const ROOM: usize = 4096;
 
-/// Says what is gathered, where that is something.
-fn say_gathered<H: Host>(host: &mut H, gathered: &[u8]) -> Result<(), VoiceFault>
-    ensures voiced { IsTrue H.tells → Voiced gathered.now (H.disk host.old) (H.disk host.new) result }
-    ensures cause { HasCause (H.voice_faults host.old) (H.voice_faults host.new) result }
-    ensures disk { H.disk_faults host.new ≡ H.disk_faults host.old }
-{
-    if gathered.is_empty() {
-        Ok(())
-    } else {
-        host.say(gathered)
-    }
+/// What is gathered of a text before it is said, in a fixed array: so many short pieces are said in few calls, and it
+/// takes no memory. Contracts see the bytes that are gathered and not said yet.
+#[derive(Debug, Drop)]
+pub struct Gathered {
+    bytes: ArrayVec<u8, ROOM>,
 }
 
-/// Gathers a piece. Where there is no room for it, what is gathered is said first; a piece that the room
-/// can't hold is said behind it.
-fn add_piece<H: Host>(
-    host: &mut H,
-    gathered: &mut ArrayVec<u8, ROOM>,
-    piece: &[u8],
-) -> Result<(), VoiceFault>
-    ensures gathers { IsTrue H.tells → Gathers gathered.old.items piece.now gathered.new.items (H.disk host.old) (H.disk host.new) result }
-    ensures cause { HasCause (H.voice_faults host.old) (H.voice_faults host.new) result }
-    ensures disk { H.disk_faults host.new ≡ H.disk_faults host.old }
-{
-    if gathered.try_extend_from_slice(piece).is_ok() {
-        return Ok(());
+impl Model for Gathered {
+    ghost use Rattle.std.specs.Prelude.{ℕ, List};
+
+    ghost Value = { List ℕ };
+
+    ghost view = { λ g. g.bytes.items };
+}
+
+impl Gathered {
+    /// Nothing is gathered yet.
+    pub fn new() -> Gathered
+        ensures { result ≡ [] }
+    {
+        Gathered {
+            bytes: ArrayVec::new(),
+        }
     }
-    say_gathered(host, gathered.as_slice())?;
-    gathered.clear();
-    if gathered.try_extend_from_slice(piece).is_ok() {
-        return Ok(());
+
+    /// Gathers a piece. Where there is no room for it, what is gathered is said first; a piece that the room can't hold
+    /// is said behind it.
+    fn add_piece<H: Host>(&mut self, host: &mut H, piece: &[u8]) -> Result<(), VoiceFault>
+        ensures gathers { IsTrue H.tells → Gathers self.old piece.now self.new (H.disk host.old) (H.disk host.new) result }
+        ensures cause { HasCause (H.voice_faults host.old) (H.voice_faults host.new) result }
+        ensures disk { H.disk_faults host.new ≡ H.disk_faults host.old }
+    {
+        if self.bytes.try_extend_from_slice(piece).is_ok() {
+            return Ok(());
+        }
+        self.say(host)?;
+        self.bytes.clear();
+        if self.bytes.try_extend_from_slice(piece).is_ok() {
+            return Ok(());
+        }
+        host.say(piece)
     }
-    host.say(piece)
+
+    /// Gathers a text that is given in pieces, and says what there is no room for.
+    pub fn add<H: Host>(&mut self, host: &mut H, pieces: &[&[u8]]) -> Result<(), VoiceFault>
+        ensures gathers { IsTrue H.tells → Gathers self.old (text_of_pieces pieces.now) self.new (H.disk host.old) (H.disk host.new) result }
+        ensures cause { HasCause (H.voice_faults host.old) (H.voice_faults host.new) result }
+        ensures disk { H.disk_faults host.new ≡ H.disk_faults host.old }
+    {
+        for piece in pieces {
+            self.add_piece(host, piece)?;
+        }
+        Ok(())
+    }
+
+    /// Says what is gathered, where that is something.
+    pub fn say<H: Host>(&self, host: &mut H) -> Result<(), VoiceFault>
+        ensures voiced { IsTrue H.tells → Voiced self.now (H.disk host.old) (H.disk host.new) result }
+        ensures cause { HasCause (H.voice_faults host.old) (H.voice_faults host.new) result }
+        ensures disk { H.disk_faults host.new ≡ H.disk_faults host.old }
+    {
+        if self.bytes.is_empty() {
+            Ok(())
+        } else {
+            host.say(self.bytes.as_slice())
+        }
+    }
 }
 
 /// Says a text that is given in pieces. It takes no memory: the pieces are gathered in a fixed array, so that
@@ -51,9 +86,7 @@ pub fn say_all<H: Host>(host: &mut H, pieces: &[&[u8]]) -> Result<(), VoiceFault
     ensures cause { HasCause (H.voice_faults host.old) (H.voice_faults host.new) result }
     ensures disk { H.disk_faults host.new ≡ H.disk_faults host.old }
 {
-    let mut gathered = ArrayVec::new();
-    for piece in pieces {
-        add_piece(host, &mut gathered, piece)?;
-    }
-    say_gathered(host, gathered.as_slice())
+    let mut gathered = Gathered::new();
+    gathered.add(host, pieces)?;
+    gathered.say(host)
 }

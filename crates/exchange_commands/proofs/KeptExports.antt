@@ -1,7 +1,10 @@
 -- What is kept of the board after an export, and after an acknowledgement.
-use Rattle.std.proofs.Common.{◌≡◌, ◌⊎◌, inl, inr, Bool, true, false, cond, Some, None, Ok, Err, refl, ◌∙◌}
+use Rattle.std.proofs.Common.{◌≡◌, ◌⊎◌, inl, inr, Bool, true, false, cond, Some, None, Ok, Err, refl, ◌∙◌, ap}
 use Rattle.std.specs.Prelude.{Result, IfOk, IsErrOf, OnOk}
+use Rattle.board_commands.proofs.KeepingLaws.{IsSound, fault_keeps, refused_keeps, shelf_keeps, starved_keeps, value_keeps}
 use Rattle.board_commands.proofs.KeptLaws.{doubted, next_kept, next_sure, none_kept, none_sure, same_kept, same_sure}
+use Rattle.board_commands.specs.Halts.{halted}
+use Rattle.board_commands.specs.Keeping.{KeepsFiles, went}
 use Rattle.board_commands.specs.Kept.{AreSure, IsKept, unless_doubtful}
 use Rattle.board_layout.specs.Board.{Board}
 use Rattle.board_layout.specs.Valid.{IsBoard}
@@ -13,6 +16,8 @@ use Rattle.door_export.specs.declared.exporting.ExportError.{ExportError}
 use Rattle.door_export.specs.declared.exporting.ExportError.TheVariants as error
 use Rattle.door_export.specs.declared.exporting.Exported.{Exported}
 use Rattle.door_outside.specs.Disk.{Disk}
+use Rattle.exchange_commands.specs.Exporting.{export_halt}
+use Rattle.jam_records.specs.declared.damage.Damage.{Damage}
 use Rattle.intent_journal.specs.Hosts.{IsSettled}
 use Rattle.board_commands.specs.mail_board.Held.{Follows, HeldBoard, RestsOn}
 use Rattle.board_commands.specs.mail_board.declared.loading.Loaded.TheVariants.{Ready}
@@ -43,6 +48,22 @@ module _ (before after : HeldBoard) (next : Board) (certain : before.doubtful �
   export_sure (Err (error.Damaged d)) ok board same fault = same_sure before after certain (same tt) ok
   export_sure (Err error.ShelfFault) ok board same fault = next_sure before after certain next (board tt)
   export_sure (Err error.OutOfMemory) ok board same fault = same_sure before after certain (same tt) ok
+
+  -- unless the disk failed, the host holds a board
+  left_certain : after ≡ before → after.doubtful ≡ false
+  left_certain same = ap (λ (h : HeldBoard). h.doubtful) same ∙ certain
+
+  pub export_keeps : (result : Result Exported ExportError) {old new : Disk} → (export.KeepsOffer result → Follows next after) → (export.ExportLeavesAll result → after ≡ before) → ((d : Damage) → ¬ (result ≡ Err (error.Damaged d)))
+      → (after.doubtful ≡ false → IsSound new) → KeepsFiles old new (went (halted export_halt result))
+  export_keeps (Ok e) board same undamaged sound = value_keeps (sound (board tt).sure)
+  export_keeps (Err error.NoUser) board same undamaged sound = refused_keeps (sound (left_certain (same tt)))
+  export_keeps (Err error.Limit) board same undamaged sound = refused_keeps (sound (left_certain (same tt)))
+  export_keeps (Err error.Packets) board same undamaged sound = refused_keeps (sound (left_certain (same tt)))
+  export_keeps (Err error.DiskFault) board same undamaged sound = fault_keeps
+  export_keeps (Err error.Doubt) board same undamaged sound = fault_keeps
+  export_keeps (Err (error.Damaged d)) board same undamaged sound = absurd (undamaged d refl)
+  export_keeps (Err error.ShelfFault) board same undamaged sound = shelf_keeps (sound (board tt).sure).firm
+  export_keeps (Err error.OutOfMemory) board same undamaged sound = starved_keeps (λ before. (sound (left_certain (same tt))).firm)
 
   pub ack_kept : (result : Result (Unit {0}) AckError) (disk : Disk) → OnOk result (Follows next after) → OnOk result (RestsOn after.board disk) → (ack.AckLeavesAll result → after ≡ before) → (ack.AckLeavesAll result → RestsOn before.board disk)
       → (IsErrOf result ack_error.DiskFault → after ≡ doubted before) → IsSettled disk → IsKept (unless_doubtful after) disk

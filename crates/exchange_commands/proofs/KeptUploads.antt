@@ -1,10 +1,15 @@
 -- What is kept of the board after an upload.
 use Rattle.std.proofs.Common.{◌≡◌, ◌⊎◌, inl, inr, ⊎_elim, false, Err, Ok, refl, ap}
 use Rattle.std.specs.Prelude.{Result, IsErrOf, OnOk}
+use Rattle.board_commands.proofs.KeepingLaws.{IsSound, fault_keeps, refused_keeps, starved_keeps, value_keeps}
 use Rattle.board_commands.proofs.KeptLaws.{doubted, next_kept, next_sure, none_kept, none_sure, same_kept, same_sure}
+use Rattle.board_commands.specs.Halts.{halted}
+use Rattle.board_commands.specs.Keeping.{KeepsFiles, went}
 use Rattle.board_commands.specs.Kept.{AreSure, IsKept, unless_doubtful}
 use Rattle.board_layout.specs.Valid.{IsBoard}
 use Rattle.door_outside.specs.Disk.{Disk}
+use Rattle.exchange_commands.specs.Uploading.{upload_halt}
+use Rattle.jam_records.specs.declared.damage.Damage.{Damage}
 use Rattle.door_upload.specs.Upload.{Upload, UploadRefusal, after_upload}
 use Rattle.door_upload.specs.Uploading.{UploadLeavesAll}
 use Rattle.door_upload.specs.declared.answer.UploadError.{UploadError}
@@ -14,7 +19,7 @@ use Rattle.intent_journal.specs.Hosts.{IsSettled}
 use Rattle.board_commands.specs.mail_board.Held.{Follows, HeldBoard, RestsOn}
 
 -- an error that isn't a disk fault leaves all
-early_or_fault : (e : UploadError) → UploadLeavesAll (Err e) ⊎ (e ≡ DiskFault)
+pub early_or_fault : (e : UploadError) → UploadLeavesAll (Err e) ⊎ (e ≡ DiskFault)
 early_or_fault NoUser = inl tt
 early_or_fault (Broken fault) = inl tt
 early_or_fault NoBoardId = inl tt
@@ -25,6 +30,20 @@ early_or_fault DiskFault = inr refl
 early_or_fault Doubt = inl tt
 early_or_fault (Damaged damage) = inl tt
 early_or_fault OutOfMemory = inl tt
+
+-- unless the disk failed, the host holds a board
+pub upload_keeps : (result : Result Uploaded UploadError) {old new : Disk} → (UploadLeavesAll result → IsSound new) → OnOk result (IsSound new) → ((d : Damage) → ¬ (result ≡ Err (Damaged d))) → KeepsFiles old new (went (halted upload_halt result))
+upload_keeps (Ok x) early sound undamaged = value_keeps sound
+upload_keeps (Err NoUser) early sound undamaged = refused_keeps (early tt)
+upload_keeps (Err (Broken fault)) early sound undamaged = refused_keeps (early tt)
+upload_keeps (Err NoBoardId) early sound undamaged = refused_keeps (early tt)
+upload_keeps (Err OtherBoard) early sound undamaged = refused_keeps (early tt)
+upload_keeps (Err Uploads) early sound undamaged = refused_keeps (early tt)
+upload_keeps (Err (Size bytes)) early sound undamaged = refused_keeps (early tt)
+upload_keeps (Err DiskFault) early sound undamaged = fault_keeps
+upload_keeps (Err Doubt) early sound undamaged = fault_keeps
+upload_keeps (Err (Damaged d)) early sound undamaged = absurd (undamaged d refl)
+upload_keeps (Err OutOfMemory) early sound undamaged = starved_keeps (λ before. (early tt).firm)
 
 -- the board before, the one that is held after it, and what the bytes come to
 module _ (before after : HeldBoard) (certain : before.doubtful ≡ false) (Gives : Result Upload UploadRefusal → Type 0) where

@@ -1,17 +1,26 @@
 -- An upload writes no more than the messages that it posts may.
-use Rattle.std.proofs.Common.{◌≡◌, ℕ, List, Option, Some, Result, Ok, Err, refl, sym, ◌∙◌, subst}
-use Rattle.board_commands.proofs.WriteLaws.{turned_within, WritesFound}
+use Rattle.std.proofs.Common.{◌≡◌, ◌⊎◌, inl, inr, ⊎_elim, ap, ℕ, List, Option, Some, Result, Ok, Err, refl, sym, ◌∙◌, subst}
+use Rattle.std.specs.Prelude.{IsErrOf, OnOk}
+use Rattle.board_commands.proofs.FindLaws.{kept_is}
+use Rattle.board_commands.proofs.WriteLaws.{found_bound, kept_bound, turned_within, WritesFound}
+use Rattle.board_commands.proofs.mail_board.EachBound.{bound_alike}
 use Rattle.board_commands.specs.Kept.{IsOutlined}
 use Rattle.board_commands.specs.State.{State, Stores, migrated}
-use Rattle.board_commands.specs.WriteBound.{KeepsWriteBound}
+use Rattle.board_commands.specs.WriteBound.{FilesKeepBound, KeepsWriteBound}
 use Rattle.board_layout.specs.Board.{Board}
 use Rattle.door_outside.specs.Disk.{Disk}
 use Rattle.door_outside.specs.Shelf as Shelf
 use Rattle.door_upload.proofs.UploadAlike.{SameUpload, each_upload, id_alike}
 use Rattle.door_upload.specs.Upload.{Again, Judged, Upload, UploadRefusal, UploadsFor, after_upload}
+use Rattle.board_commands.specs.mail_board.declared.loading.Loaded.TheVariants.{Ready}
+use Rattle.door_upload.specs.Uploading.{UploadLeavesAll}
+use Rattle.door_upload.specs.declared.answer.UploadError.{UploadError}
+use Rattle.door_upload.specs.declared.answer.UploadError.TheVariants.{DiskFault, OutOfMemory}
+use Rattle.door_upload.specs.declared.answer.Uploaded.{Uploaded}
+use Rattle.exchange_commands.proofs.KeptUploads.{early_or_fault}
 use Rattle.intent_journal.specs.Journal.{IsClosed}
 use Rattle.intent_journal.specs.Recovered.{recovered}
-use Rattle.board_commands.specs.mail_board.Held.{AreAlike}
+use Rattle.board_commands.specs.mail_board.Held.{AreAlike, Follows, HeldBoard, RestsOn}
 use Rattle.board_commands.specs.mail_board.Readers.{user_id}
 use Rattle.board_commands.specs.mail_board.Written.{KeepsBoundOf}
 use Rattle.shelf_files.specs.ShelfFile.{file_within, rep_limit}
@@ -48,3 +57,18 @@ module _ (name file : List ℕ) (now : ℕ) (old mid new : Disk) (shelf : Shelf.
               (subst (λ (read : Result (List ℕ) Refusal). UploadsRead id now real read (turn_of real (each.comes real))) (sym bytes_is) (each.comes real, each.gives real alike, refl)),
           turn_board real (each.comes real),
         )) (subst (λ (x : Result Upload UploadRefusal). KeepsBoundOf b (after_upload b x) mid.wrote new.wrote) (sym each.own) bound)
+
+-- whatever the shelf holds
+module _ (old mid new : Disk) (closed : IsClosed (old.files 1)) (found : WritesFound old mid.wrote) (kept : Option Board) (stands : (state : State) → Stores state (recovered old.files) → IsOutlined (migrated state) kept)
+    (before after : HeldBoard) (before_is : kept ≡ Some before.board) (Gives : Result Upload UploadRefusal → Type 0) where
+  pub upload_bound : (result : Result Uploaded UploadError) → ¬ IsErrOf result DiskFault → (result ≡ Err OutOfMemory) ⊎ ((r : Result Upload UploadRefusal) × Gives r) → (UploadLeavesAll result → new.wrote ≡ mid.wrote)
+      → OnOk result ((r : Result Upload UploadRefusal) → Gives r → Follows (after_upload before.board r) after) → OnOk result (RestsOn after.board new)
+      → ((r : Result Upload UploadRefusal) → Gives r → KeepsBoundOf before.board (after_upload before.board r) mid.wrote new.wrote) → FilesKeepBound old new
+  upload_bound (Ok x) sound (inl starved) same follows rests bound = absurd (cc starved)
+  upload_bound (Ok x) sound (inr (r, gives)) same follows rests bound =
+      kept_bound old closed mid new found kept stands before.board before_is (Some after.board) (λ next stores. kept_is (Ready after) new next rests stores) after.board refl
+      (bound_alike before.board before.board after.board (after_upload before.board r) mid.wrote new.wrote refl (follows r gives).alike (bound r gives))
+  upload_bound (Err e) sound given same follows rests bound = ⊎_elim
+      (λ early. found_bound old closed new (subst (WritesFound old) (sym (same early)) found))
+      (λ is. absurd (sound (ap Err is)))
+      (early_or_fault e)

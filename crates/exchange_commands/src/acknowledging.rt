@@ -33,9 +33,9 @@ fn answered(acknowledged: Result<(), AckError>) -> Result<(), BoardHalt>
     }
 }
 
-/// Acknowledges a packet for the user of a name, ignoring ASCII case: in each conference where its offer has a high
-/// above his last-read pointer the messages to him up to that high are marked read at a moment in Unix seconds, and the
-/// pointer is the high. That offer goes, and the others stay.
+/// Acknowledges a packet for the user of a name, ignoring ASCII case. It changes each conference where the packet's
+/// offer has a high above his last-read pointer. There the messages to him up to that high are marked read at a moment
+/// in Unix seconds, and then the pointer is the high. That offer goes, and the others stay.
 ///
 /// It is refused where there is no board, then where no user has the name, then where no open offer of his has the
 /// number of the packet.

@@ -2,6 +2,7 @@
 ghost use Rattle.std.specs.Prelude.{◌≡◌, ◌≢◌, Err, IsTrue};
 ghost use Rattle.board_commands.specs.Causes.{HaveCauses};
 ghost use Rattle.board_commands.specs.Halts.{halted, told};
+ghost use Rattle.board_commands.specs.Keeping.{KeepsFiles, went};
 ghost use Rattle.board_commands.specs.Kept.{AreSure, IsKept, unread};
 ghost use Rattle.board_commands.specs.State.{State, Stores};
 ghost use Rattle.door_export.specs.declared.exporting.ExportError.TheVariants.{Doubt};
@@ -59,6 +60,7 @@ pub fn export<H: Host, S: Shelf>(
     ensures works { IsTrue H.tells → IsTrue S.tells → (world : World State) → IsAt Stores unread world (H.disk host.old) (S.files shelf.old) → Works Stores (exports user.now limit folder.now now) unread world (H.disk host.old) (H.disk host.new) (S.files shelf.new) (told packet_line result) }
     ensures kept { IsTrue H.tells → IsKept kept.new (H.disk host.new) }
     ensures sure { AreSure kept.new }
+    ensures keeps { IsTrue H.tells → KeepsFiles (H.disk host.old) (H.disk host.new) (went result) }
     ensures causes { HaveCauses H.disk_faults H.voice_faults S.faults host.old host.new shelf.old shelf.new (ended (told packet_line result)) }
 {
     find(alloc, host, kept)?;

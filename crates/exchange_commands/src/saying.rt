@@ -1,19 +1,24 @@
-// The reply of an upload: a line for each message, and the counts.
+// The reply of an upload: a line for each message, and the counts. All of it is gathered, so that it is said in few calls.
 ghost use Rattle.std.specs.Prelude.{◌≡◌, ◌++◌, IsTrue};
 ghost use Rattle.door_outside.specs.Cause.{HasCause};
-ghost use Rattle.entry_runs.specs.Saying.{Voiced};
+ghost use Rattle.entry_runs.specs.Saying.{Gathers, Voiced};
 ghost use Rattle.mail_intake.specs.Lines.{counts_line};
 ghost use Rattle.mail_intake.specs.packet_verdicts.Judged.{refused_count};
 ghost use Rattle.exchange_commands.specs.Upload.{outcome_line, outcome_lines, tally, uploaded_text};
 
 use door_outside::{Host, VoiceFault};
 use door_upload::{Outcome, Outcomes, Uploaded};
-use entry_runs::say_all;
+use entry_runs::Gathered;
 use itoa::Buffer;
 
-/// Says what became of the message in a place, from 1.
-fn say_outcome<H: Host>(host: &mut H, place: u64, outcome: &Outcome) -> Result<(), VoiceFault>
-    ensures voiced { IsTrue H.tells → Voiced (outcome_line place outcome.now) (H.disk host.old) (H.disk host.new) result }
+/// Gathers what became of the message in a place, from 1.
+fn add_outcome<H: Host>(
+    host: &mut H,
+    gathered: &mut Gathered,
+    place: u64,
+    outcome: &Outcome,
+) -> Result<(), VoiceFault>
+    ensures gathers { IsTrue H.tells → Gathers gathered.old (outcome_line place outcome.now) gathered.new (H.disk host.old) (H.disk host.new) result }
     ensures cause { HasCause (H.voice_faults host.old) (H.voice_faults host.new) result }
     ensures disk { H.disk_faults host.new ≡ H.disk_faults host.old }
 {
@@ -25,38 +30,43 @@ fn say_outcome<H: Host>(host: &mut H, place: u64, outcome: &Outcome) -> Result<(
             let mut third = Buffer::new();
             let conference = second.format(*conference).as_bytes();
             let number = third.format(*number).as_bytes();
-            say_all(host, &[first, b" posted ", conference, b" ", number, b"\n"])
+            gathered.add(host, &[first, b" posted ", conference, b" ", number, b"\n"])
         }
-        Outcome::Refused(rule) => say_all(host, &[first, b" refused ", rule.word(), b"\n"]),
+        Outcome::Refused(rule) => { gathered.add(host, &[first, b" refused ", rule.word(), b"\n"]) }
     }
 }
 
-/// Says what became of each message.
-fn say_outcomes<H: Host>(host: &mut H, outcomes: &Outcomes) -> Result<(), VoiceFault>
-    ensures voiced { IsTrue H.tells → Voiced (outcome_lines 1 outcomes.now) (H.disk host.old) (H.disk host.new) result }
+/// Gathers what became of each message.
+fn add_outcomes<H: Host>(
+    host: &mut H,
+    gathered: &mut Gathered,
+    outcomes: &Outcomes,
+) -> Result<(), VoiceFault>
+    ensures gathers { IsTrue H.tells → Gathers gathered.old (outcome_lines 1 outcomes.now) gathered.new (H.disk host.old) (H.disk host.new) result }
     ensures cause { HasCause (H.voice_faults host.old) (H.voice_faults host.new) result }
     ensures disk { H.disk_faults host.new ≡ H.disk_faults host.old }
 {
     for (index, outcome) in outcomes.as_slice().iter().enumerate() {
-        say_outcome(host, index as u64 + 1, outcome)?;
+        add_outcome(host, gathered, index as u64 + 1, outcome)?;
     }
     Ok(())
 }
 
-/// Says how many messages were posted and refused, behind words.
-fn say_counts<H: Host>(
+/// Gathers how many messages were posted and refused, behind words.
+fn add_counts<H: Host>(
     host: &mut H,
+    gathered: &mut Gathered,
     words: &[u8],
     posted: u64,
     refused: u64,
 ) -> Result<(), VoiceFault>
-    ensures voiced { IsTrue H.tells → Voiced (words.now ++ counts_line posted refused) (H.disk host.old) (H.disk host.new) result }
+    ensures gathers { IsTrue H.tells → Gathers gathered.old (words.now ++ counts_line posted refused) gathered.new (H.disk host.old) (H.disk host.new) result }
     ensures cause { HasCause (H.voice_faults host.old) (H.voice_faults host.new) result }
     ensures disk { H.disk_faults host.new ≡ H.disk_faults host.old }
 {
     let mut first = Buffer::new();
     let mut second = Buffer::new();
-    say_all(
+    gathered.add(
         host,
         &[
             words,
@@ -80,15 +90,41 @@ fn count_refused(outcomes: &Outcomes) -> usize
         .count()
 }
 
-/// Says how many of the messages were posted and refused.
-fn say_tally<H: Host>(host: &mut H, outcomes: &Outcomes) -> Result<(), VoiceFault>
-    ensures voiced { IsTrue H.tells → Voiced (tally outcomes.now) (H.disk host.old) (H.disk host.new) result }
+/// Gathers how many of the messages were posted and refused.
+fn add_tally<H: Host>(
+    host: &mut H,
+    gathered: &mut Gathered,
+    outcomes: &Outcomes,
+) -> Result<(), VoiceFault>
+    ensures gathers { IsTrue H.tells → Gathers gathered.old (tally outcomes.now) gathered.new (H.disk host.old) (H.disk host.new) result }
     ensures cause { HasCause (H.voice_faults host.old) (H.voice_faults host.new) result }
     ensures disk { H.disk_faults host.new ≡ H.disk_faults host.old }
 {
     let refused = count_refused(outcomes);
     let posted = outcomes.len().saturating_sub(refused);
-    say_counts(host, b"", posted as u64, refused as u64)
+    add_counts(host, gathered, b"", posted as u64, refused as u64)
+}
+
+/// Gathers what became of a reply packet.
+fn add_uploaded<H: Host>(
+    host: &mut H,
+    gathered: &mut Gathered,
+    uploaded: &Uploaded,
+) -> Result<(), VoiceFault>
+    ensures gathers { IsTrue H.tells → Gathers gathered.old (uploaded_text uploaded.now) gathered.new (H.disk host.old) (H.disk host.new) result }
+    ensures cause { HasCause (H.voice_faults host.old) (H.voice_faults host.new) result }
+    ensures disk { H.disk_faults host.new ≡ H.disk_faults host.old }
+{
+    match uploaded {
+        Uploaded::Again(counts) => {
+            let (posted, refused) = (u64::from(counts.posted), u64::from(counts.refused));
+            add_counts(host, gathered, b"again ", posted, refused)
+        }
+        Uploaded::Judged(outcomes) => {
+            add_outcomes(host, gathered, outcomes)?;
+            add_tally(host, gathered, outcomes)
+        }
+    }
 }
 
 /// Says what became of a reply packet: a line for each message, in their order, and then how many were posted and
@@ -98,16 +134,7 @@ pub(crate) fn say_uploaded<H: Host>(host: &mut H, uploaded: &Uploaded) -> Result
     ensures cause { HasCause (H.voice_faults host.old) (H.voice_faults host.new) result }
     ensures disk { H.disk_faults host.new ≡ H.disk_faults host.old }
 {
-    match uploaded {
-        Uploaded::Again(counts) => say_counts(
-            host,
-            b"again ",
-            u64::from(counts.posted),
-            u64::from(counts.refused),
-        ),
-        Uploaded::Judged(outcomes) => {
-            say_outcomes(host, outcomes)?;
-            say_tally(host, outcomes)
-        }
-    }
+    let mut gathered = Gathered::new();
+    add_uploaded(host, &mut gathered, uploaded)?;
+    gathered.say(host)
 }

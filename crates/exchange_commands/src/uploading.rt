@@ -1,11 +1,12 @@
 //! The command `upload`.
-ghost use Rattle.std.specs.Prelude.{◌≡◌, ◌≢◌, Err, IsSome, IsTrue, MatchResult, None};
+ghost use Rattle.std.specs.Prelude.{◌≡◌, ◌≢◌, Err, IsSome, IsTrue, MatchResult, None, IsErrOf};
 ghost use Rattle.board_commands.specs.Causes.{HaveCauses};
 ghost use Rattle.board_commands.specs.Halts.{halted, told};
+ghost use Rattle.board_commands.specs.Keeping.{KeepsFiles, went};
 ghost use Rattle.board_commands.specs.Kept.{AreSure, IsKept, unread};
 ghost use Rattle.board_commands.specs.State.{State, Stores};
-ghost use Rattle.board_commands.specs.WriteBound.{KeepsWriteBound};
-ghost use Rattle.board_commands.specs.declared.halt.BoardHalt.TheVariants.{Refused};
+ghost use Rattle.board_commands.specs.WriteBound.{FilesKeepBound, KeepsWriteBound};
+ghost use Rattle.board_commands.specs.declared.halt.BoardHalt.TheVariants.{DiskFault, Refused};
 ghost use Rattle.door_upload.specs.declared.answer.UploadError.TheVariants.{Doubt};
 ghost use Rattle.entry_runs.specs.Door.{World};
 ghost use Rattle.entry_runs.specs.Entry.{IsAt, Works};
@@ -52,12 +53,18 @@ fn answered(uploaded: Result<Uploaded, UploadError>) -> Result<Uploaded, BoardHa
     }
 }
 
-/// Takes in the reply packet of a file for the user of a name, ignoring ASCII case, at a moment in Unix seconds: its
+/// Takes in the reply packet of a file for the user of a name, ignoring ASCII case, at a moment in Unix seconds. Its
 /// accepted messages are posted, and its record is kept, once for each user and SHA-256.
 ///
-/// It is refused where there is no board, then where no user has the name, then where the file isn't there or has more
-/// than 1,048,576 bytes, then for the packet's first fault, a missing board id, another board's, and then, where the
-/// user didn't send it before, where there are 100,000 records or the files would be too long with one more.
+/// It is refused where there is no board, and else for the first of these that applies:
+///
+/// - No user has the name.
+/// - The file isn't there or has more than 1,048,576 bytes.
+/// - The packet is shorter than a block, else has no board id, else has another fault.
+/// - It is another board's.
+///
+/// Then, where the user didn't send the packet before, it is refused where there are 100,000 records, and else where
+/// the files would be too long with one more.
 pub fn upload<H: Host, S: Shelf>(
     alloc: Global,
     host: &mut H,
@@ -72,7 +79,9 @@ pub fn upload<H: Host, S: Shelf>(
     ensures works { IsTrue H.tells → IsTrue S.tells → (world : World State) → IsAt Stores unread world (H.disk host.old) (S.files shelf.old) → Works Stores (uploads user.now file.now now) unread world (H.disk host.old) (H.disk host.new) (S.files shelf.new) (told uploaded_text result) }
     ensures kept { IsTrue H.tells → IsKept kept.new (H.disk host.new) }
     ensures sure { AreSure kept.new }
+    ensures keeps { IsTrue H.tells → KeepsFiles (H.disk host.old) (H.disk host.new) (went result) }
     ensures wrote { IsTrue H.tells → IsTrue S.tells → IsClosed ((H.disk host.old).files 1) → KeepsWriteBound (uploads user.now file.now now) (H.disk host.old) (H.disk host.new) (S.files shelf.old) }
+    ensures wrote_between { IsTrue H.tells → IsClosed ((H.disk host.old).files 1) → ¬ IsErrOf result DiskFault → FilesKeepBound (H.disk host.old) (H.disk host.new) }
     ensures causes { HaveCauses H.disk_faults H.voice_faults S.faults host.old host.new shelf.old shelf.new (ended (told uploaded_text result)) }
 {
     find(alloc, host, kept)?;

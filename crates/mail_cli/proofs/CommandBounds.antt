@@ -4,7 +4,10 @@ use Rattle.std.proofs.lemmas.List.{drop_all}
 use Rattle.std.specs.Prelude.{Result, Ok, Err}
 use Rattle.board_commands.specs.WriteBound.{KeepsWriteBound, WritesWithin}
 use Rattle.door_commands.proofs.OneCommand.{command_unique}
-use Rattle.door_commands.specs.Entries.{EntriesRead}
+use Rattle.door_commands.specs.Entries.{AreEntries, EntriesFrom, EntriesRead}
+use Rattle.board_commands.specs.shelf_files.ShelfFile.{file_within}
+use Rattle.board_commands.specs.shelf_files.declared.refusal.Refusal.{Refusal}
+use Rattle.door_commands.specs.Batch.{batch_limit}
 use Rattle.door_commands.specs.Words.{CommandReads}
 use Rattle.door_commands.specs.declared.command.Command.{Command}
 use Rattle.door_commands.specs.declared.command.Command.TheVariants as command
@@ -16,7 +19,7 @@ use Rattle.entry_runs.specs.Entry.{Reply}
 use Rattle.entry_runs.specs.Saying.{Spoken, Voiced}
 use Rattle.entry_runs.specs.declared.class.Class.{Class}
 use Rattle.entry_runs.specs.declared.stop.Stop.{Stop}
-use Rattle.mail_cli.specs.CommandBound.{CommandKeepsBound, EntryKeepsBound, OneKeepsBound, PostsMessages, RunKeepsBound}
+use Rattle.mail_cli.specs.CommandBound.{CommandFilesKeepBound, CommandKeepsBound, EntryFilesKeepBound, EntryKeepsBound, OneFilesKeepBound, OneKeepsBound, PostsMessages, RunFilesKeepBound, RunKeepsBound}
 use Rattle.mail_cli.specs.Step.{does}
 
 -- nothing was written
@@ -57,11 +60,29 @@ module _ (now : ℕ) where
 
   -- ---- words
   -- the entries of words that are a command that posts messages
-  entries_are : (words : List (List ℕ)) (shelf : Shelf.Files) (entries : List Entry) → EntriesRead words shelf entries → (c : Command) → CommandReads words c → PostsMessages c → entries ≡ Run c ∷ []
-  entries_are words shelf entries (inl (other, reads, single, is)) c taken posts = is ∙ ap (λ (x : Command). Run x ∷ []) (command_unique words other c reads taken)
-  entries_are words shelf entries (inr (inl (file, reads, lines))) c taken posts = absurd (subst PostsMessages (command_unique words c (command.Batch file) taken reads) posts)
-  entries_are words shelf entries (inr (inr (never, is))) c taken posts = absurd (never c taken)
+  entries_are : (words : List (List ℕ)) (read : List ℕ → Result (List ℕ) Refusal) (entries : List Entry) → EntriesFrom words read entries → (c : Command) → CommandReads words c → PostsMessages c → entries ≡ Run c ∷ []
+  entries_are words read entries (inl (other, reads, single, is)) c taken posts = is ∙ ap (λ (x : Command). Run x ∷ []) (command_unique words other c reads taken)
+  entries_are words read entries (inr (inl (file, reads, lines))) c taken posts = absurd (subst PostsMessages (command_unique words c (command.Batch file) taken reads) posts)
+  entries_are words read entries (inr (inr (never, is))) c taken posts = absurd (never c taken)
 
   pub run_bound : (words : List (List ℕ)) (old new : Disk) (shelf later : Shelf.Files) (entries : List Entry) → later ≡ shelf → EntriesRead words shelf entries → OneKeepsBound now entries old new later → RunKeepsBound now words old new shelf
   run_bound words old new shelf later entries same reads kept c taken posts closed =
-      subst (λ (files : Shelf.Files). KeepsWriteBound (does now c) old new files) same (kept c (entries_are words shelf entries reads c taken posts) posts closed)
+      subst (λ (files : Shelf.Files). KeepsWriteBound (does now c) old new files) same (kept c (entries_are words (λ file. file_within shelf file batch_limit) entries reads c taken posts) posts closed)
+
+  -- ---- whatever the shelf holds
+  pub unwritten_between : (words : List (List ℕ)) (disk : Disk) → RunFilesKeepBound words disk disk
+  unwritten_between words disk c reads posts closed state next stores today after = omega arith
+
+  pub entry_between : (c : Command) (old new : Disk) → CommandFilesKeepBound c old new → EntryFilesKeepBound (Run c) old new
+  entry_between c old new kept other is =
+      let same : c ≡ other = cc in
+      subst (λ (x : Command). CommandFilesKeepBound x old new) same kept
+
+  pub one_between : {Host : Type 0} (disk : Host → Disk) (entries back : List Entry) (item : Entry) (index : ℕ) → drop index entries ≡ item ∷ back → {old mid : Host} → (index ≡ 0 → mid ≡ old) → (new : Host)
+      → EntryFilesKeepBound item (disk mid) (disk new) → OneFilesKeepBound entries (disk old) (disk new)
+  one_between disk entries back item index more unbegun new kept c is =
+      let here = alone entries back item index more (Run c) is in
+      subst (λ host. CommandFilesKeepBound c (disk host) (disk new)) (unbegun here.0) (kept c here.1)
+
+  pub run_between : (words : List (List ℕ)) (old new : Disk) (entries : List Entry) → AreEntries words entries → OneFilesKeepBound entries old new → RunFilesKeepBound words old new
+  run_between words old new entries are kept c taken posts closed = kept c (entries_are words are.0 entries are.1 c taken posts) posts closed

@@ -5,9 +5,7 @@ use Rattle.std.proofs.lemmas.Bool.{true≢false}
 use Rattle.board_laws.proofs.adopt_commands.AdoptActs.{adopt_turns}
 use Rattle.board_layout.specs.Board.{Board}
 use Rattle.door_outside.specs.Shelf as Shelf
-use Rattle.entry_runs.specs.Door.{Act, World, AreLawful, IsLawful}
-use Rattle.entry_runs.specs.Runs.{Stepped}
-use Rattle.entry_runs.specs.declared.class.Class.TheVariants.{Damaged}
+use Rattle.entry_runs.specs.Door.{Act, AreLawful, IsLawful}
 use Rattle.entry_runs.proofs.ShelfLaws.{IsLawfulOnShelf, lawful_look, lawful_on_shelf, lawful_saying}
 use Rattle.entry_runs.specs.Entry.{ShelfAct, on_shelf}
 use Rattle.board_laws.proofs.exchange_commands.ExportActs.{ack_turns, keeps_exports, lawful_exports}
@@ -93,11 +91,8 @@ suits now (Refuse why) = by_shelf (says (refused why)) (lawful_saying (refused w
 pub lawful : (now : ℕ) → AreLawful (door now)
 lawful now entry = (suits now entry).lawful
 
-pub only_spoiled : (now : ℕ) (world : World State) (entry : Entry) (stepped : Stepped (World State)) → (act now entry).Step world stepped → stepped.class ≡ Damaged → IsSpoiled world.state
-only_spoiled now world entry stepped step damaged = (suits now entry).keeps.only_spoiled world stepped step damaged
-
-pub still_spoiled : (now : ℕ) (world : World State) (entry : Entry) (stepped : Stepped (World State)) → (act now entry).Step world stepped → IsSpoiled stepped.world.state → IsSpoiled world.state
-still_spoiled now world entry stepped step spoiled = (suits now entry).keeps.still_spoiled world stepped step spoiled
+pub entry_keeps_state : (now : ℕ) (entry : Entry) → KeepsState (act now entry)
+entry_keeps_state now entry = (suits now entry).keeps
 
 -- every entry that touches the board migrates it in the one way
 pub one_migration : (now : ℕ) (entry : Entry) (state : State) → IsTrue (act now entry).reach.board → (act now entry).migrated state ≡ migrated state

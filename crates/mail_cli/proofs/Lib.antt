@@ -1,3 +1,4 @@
+pub mod AnyShelf
 pub mod Arms
 pub mod BoardEntries
 pub mod EntryLaws

@@ -25,7 +25,7 @@ use Rattle.intent_journal.specs.Hosts.{IsSettled}
 use Rattle.intent_journal.specs.Patches.{Files, data_files}
 use Rattle.intent_journal.specs.Recovered.{recovered}
 use Rattle.mail_cli.proofs.BoardEntries.{are_commands}
-use Rattle.mail_cli.proofs.EntryLaws.{lawful, one_migration, still_spoiled}
+use Rattle.mail_cli.proofs.EntryLaws.{entry_keeps_state, lawful, one_migration}
 use Rattle.mail_cli.proofs.Histories.{IsEither, all_moved, from_either, with_one, runs_more, stand_for}
 use Rattle.mail_cli.proofs.Reading.{read_leaves, read_survives, unread_leaves, unread_survives}
 use Rattle.mail_cli.specs.BoardEntry.{board_command, steps}
@@ -284,7 +284,7 @@ runs_unspoiled : (now : ℕ) (entries : List Entry) (world : World State) (outco
 runs_unspoiled now [] world outcome runs none = subst (λ (w : World State). ¬ IsSpoiled w.state) (sym (ap (λ (o : Outcome (World State)). o.world) runs)) none
 runs_unspoiled now (entry ∷ entries) world outcome runs none =
     subst (λ (w : World State). ¬ IsSpoiled w.state) (sym (ap (λ (o : Outcome (World State)). o.world) runs.4))
-    (runs_unspoiled now entries runs.0.world runs.1 runs.3 (λ spoiled. none (still_spoiled now world entry runs.0 runs.2 spoiled)))
+    (runs_unspoiled now entries runs.0.world runs.1 runs.3 (λ spoiled. none ((entry_keeps_state now entry).still_spoiled world runs.0 runs.2 spoiled)))
 
 brings_unspoiled : {run : Begun} {before behind : Files} {so_far said : List ℕ} → Brings run before behind so_far said → ¬ AreSpoiled before → ¬ AreSpoiled behind
 brings_unspoiled {run} {before} {behind} brings none =
@@ -297,7 +297,7 @@ never_spoiled start begins deeds history (suc n) = by (never_spoiled start begin
   where
     by : ¬ IsSpoiled (after start deeds n) → (o : Option (Deed Entry)) → slice_get deeds n ≡ o → ¬ IsSpoiled (left_by (after start deeds n) o)
     by none None is spoiled = none spoiled
-    by none (Some d) is spoiled = none (still_spoiled d.now (here (after start deeds n) d.shelf) d.entry d.stepped (history n d is) spoiled)
+    by none (Some d) is spoiled = none ((entry_keeps_state d.now d.entry).still_spoiled (here (after start deeds n) d.shelf) d.stepped (history n d is) spoiled)
 
 pub run_spoils_none : {run : Begun} {old new : Disk} {result : Status} {later : Shelf.Files} → IsOnePassage run old new result later → NeverSpoils old new
 run_spoils_none {run} {old} {new} one none = record {

@@ -1,23 +1,19 @@
 -- A run whose entries were read, and one whose entries weren't.
-use Rattle.std.proofs.Common.{◌≡◌, ◌≢◌, ◌⊎◌, inl, inr, ⊎_elim, ℕ, List, [], refl, ◌∙◌, ap, subst}
+use Rattle.std.proofs.Common.{◌≡◌, ◌⊎◌, inl, inr, ⊎_elim, ℕ, List, [], refl, subst}
 use Rattle.std.specs.Prelude.{Ok}
 use Rattle.door_commands.specs.Entries.{EntriesRead, UnreadCauses}
 use Rattle.door_commands.specs.declared.entry.Entry.{Entry}
 use Rattle.door_outside.specs.Disk.{Disk}
 use Rattle.door_outside.specs.Shelf.{Files}
 use Rattle.entry_runs.proofs.Running.{completes, starts, survives}
-use Rattle.entry_runs.specs.Door.{World, here}
+use Rattle.entry_runs.specs.Door.{here}
 use Rattle.entry_runs.specs.Promise.{Counts, HasCauses, Leaves, Survives, counts}
 use Rattle.entry_runs.specs.Runs.{stopped_status}
 use Rattle.entry_runs.specs.declared.status.Status.{Status}
-use Rattle.entry_runs.specs.declared.status.Status.TheVariants.{DiskFault}
 use Rattle.entry_runs.specs.declared.stop.Stop.{Stop}
 use Rattle.entry_runs.specs.declared.stop.Stop.TheVariants.{OutOfMemory, ShelfFault}
-use Rattle.intent_journal.specs.Hosts.{IsFirm, IsSettled}
-use Rattle.intent_journal.specs.Recovered.{recovered}
-use Rattle.board_commands.proofs.StateLaws.{some_state}
+use Rattle.intent_journal.specs.Hosts.{IsSettled}
 use Rattle.board_commands.specs.Kept.{unread}
-use Rattle.board_commands.specs.State.{State, Stores}
 use Rattle.mail_cli.proofs.EntryLaws.{lawful}
 use Rattle.mail_cli.specs.Run.{EntriesLeave, EntriesSurvive, RunCompletes, RunLeaves, RunSurvives}
 use Rattle.mail_cli.specs.Step.{door}
@@ -68,13 +64,3 @@ read_kept entries causes = ⊎_elim (λ fault. absurd (cc fault)) (λ kept. kept
 
 pub read_causes : (disk voice old between : ℕ) (after : Counts) (result : Status) → between ≡ old → HasCauses (counts disk voice between) after result → HasCauses (counts disk voice old) after result
 read_causes disk voice old between after result same causes = subst (λ (shelf : ℕ). HasCauses (counts disk voice shelf) after result) same causes
-
--- a firm host stays firm, unless the disk failed
-pub stays_firm : (now : ℕ) (words : List (List ℕ)) (result : Status) (old new : Disk) (shelf later : Files) → RunLeaves now words result old new shelf later → result ≢ DiskFault → IsFirm old → IsFirm new
-stays_firm now words result old new shelf later leaves sound firm =
-    let start : (state : State) × Stores state (recovered old.files) = some_state (recovered old.files) in
-    ⊎_elim (λ read. by_end (here start.0 shelf) read.0 read.2) (λ unread. unread.rests firm) (leaves start.0 start.1)
-  where
-    by_end : (world : World State) (entries : List Entry) → Leaves (door now) result world entries old new later → IsFirm new
-    by_end world entries (inl whole) = whole.rests (inl firm)
-    by_end world entries (inr cut) = cut.rests (λ is. sound (cut.status_is ∙ ap stopped_status is)) (inl firm)

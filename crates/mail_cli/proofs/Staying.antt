@@ -3,12 +3,13 @@ use Rattle.std.proofs.Common.{◌≡◌, inl, inr, ℕ, Bool, true, false, List,
 use Rattle.std.proofs.lemmas.Bool.{true≢false}
 use Rattle.std.specs.List.{list_any}
 use Rattle.std.specs.Prelude.{◌||◌, Result, Ok, Err}
-use Rattle.door_commands.specs.Entries.{AreEntries}
+use Rattle.door_commands.specs.Entries.{AreEntries, EntriesRead}
 use Rattle.door_commands.specs.Words.{CommandReads}
 use Rattle.door_commands.specs.declared.command.Command.TheVariants as command
 use Rattle.door_commands.specs.declared.entry.Entry.{Entry}
 use Rattle.door_outside.proofs.Moments.{still, joined, weaker}
 use Rattle.door_outside.specs.Disk.{Disk}
+use Rattle.door_outside.specs.Shelf.{Files}
 use Rattle.entry_runs.proofs.Voice.{as_before, as_now}
 use Rattle.entry_runs.specs.Entry.{Reply}
 use Rattle.entry_runs.specs.Promise.{AsThen}
@@ -64,3 +65,9 @@ pub none_uses_shelf : (words : List (List ℕ)) (entries : List Entry) → NameN
 none_uses_shelf words entries none (read, inl (c, reads, single, is)) = ap any_uses_shelf is ∙ one_alone (uses_shelf c) (none c reads)
 none_uses_shelf words entries none (read, inr (inl (file, reads, lines))) = absurd (names_no_batch words none file reads)
 none_uses_shelf words entries none (read, inr (inr (never, is))) = ap any_uses_shelf is
+
+-- their entries are read so from every shelf
+pub read_anywhere : (words : List (List ℕ)) (entries : List Entry) → NameNoFile words → AreEntries words entries → (shelf : Files) → EntriesRead words shelf entries
+read_anywhere words entries none (read, inl one) shelf = inl one
+read_anywhere words entries none (read, inr (inl (file, reads, lines))) shelf = absurd (names_no_batch words none file reads)
+read_anywhere words entries none (read, inr (inr never)) shelf = inr (inr never)

@@ -1,6 +1,6 @@
 -- How much a run of one command writes that posts messages.
 use Rattle.std.specs.Prelude.{◌≡◌, ℕ, List, [], ◌∷◌}
-use Rattle.board_commands.specs.WriteBound.{KeepsWriteBound}
+use Rattle.board_commands.specs.WriteBound.{FilesKeepBound, KeepsWriteBound}
 use Rattle.door_commands.specs.Words.{CommandReads}
 use Rattle.door_commands.specs.declared.command.Command.{Command}
 use Rattle.door_commands.specs.declared.command.Command.TheVariants as command
@@ -49,3 +49,18 @@ module _ (now : ℕ) where
   -- and words that are one command
   abbrev pub RunKeepsBound : List (List ℕ) → Disk → Disk → Files → Type 0
   RunKeepsBound words old new shelf = (c : Command) → CommandReads words c → CommandKeepsBound c old new shelf
+
+-- Where the command posts messages, and no change was under way at entry, the bound is kept between the boards for which the
+-- files at entry and at exit stand.
+abbrev pub CommandFilesKeepBound : Command → Disk → Disk → Type 0
+CommandFilesKeepBound c old new = PostsMessages c → IsClosed (old.files 1) → FilesKeepBound old new
+
+-- so it is of an entry, of a list of one, and of words that are one command
+abbrev pub EntryFilesKeepBound : Entry → Disk → Disk → Type 0
+EntryFilesKeepBound one old new = (c : Command) → one ≡ Run c → CommandFilesKeepBound c old new
+
+abbrev pub OneFilesKeepBound : List Entry → Disk → Disk → Type 0
+OneFilesKeepBound entries old new = (c : Command) → entries ≡ Run c ∷ [] → CommandFilesKeepBound c old new
+
+abbrev pub RunFilesKeepBound : List (List ℕ) → Disk → Disk → Type 0
+RunFilesKeepBound words old new = (c : Command) → CommandReads words c → CommandFilesKeepBound c old new

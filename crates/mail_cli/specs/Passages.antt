@@ -47,7 +47,7 @@ pub record Passage : Type 0 where
 abbrev pub passage : Begun → List Entry → Outcome (World State) → Passage
 passage run entries outcome = record { run = run; entries = entries; outcome = outcome }
 
--- From the state for which some data files stand, these entries come to that for which others do: where the run was cut
+-- From the state for which some data files stand, these entries come to that for which others do. Where the run was cut
 -- short, the next entry may have migrated it.
 pub record IsPassage (before : Files) (p : Passage) (behind : Files) : Type 0 where
   pub start : State
@@ -92,8 +92,8 @@ module _ (run : Begun) (old new : Disk) where
     pub all_said : brings.heard ≡ brings.outcome.replies
     pub shelf_is : later ≡ brings.outcome.world.shelf
 
-  -- It was stopped, as the status says: the shelf is as the entries in the passage leave it, but for names that an entry may
-  -- write in which it was stopped.
+  -- It was stopped, as the status says. The shelf is as the entries in the passage leave it, but for names that an
+  -- entry may write in which it was stopped.
   pub record EndsStopped (result : Status) (later : Shelf.Files) : Type 0 where
     pub brings : BringsToExit
     pub stop : Stop
@@ -109,8 +109,8 @@ module _ (run : Begun) (old new : Disk) where
     pub brings : Brings run (recovered before.files) (recovered image.files) old.said image.said
     pub off_board : any_touches (door run.now) brings.entries ≡ false
 
-  -- A run is a passage, at its exit, and where a crash came at any moment of it. That a crash leaves files as it could have
-  -- left them at entry is so from a host alone that is only settled.
+  -- A run is a passage, at its exit, and where a crash came at any moment of it. From a host that is only settled, and
+  -- from no other, a crash may also leave files as it could have left them at entry.
   pub record IsOnePassage (result : Status) (later : Shelf.Files) : Type 0 where
     pub exit : EndsWhole result later ⊎ EndsStopped result later
     pub each : AllSince old new (λ image. BringsToImage image ⊎ BringsAsThen image)
@@ -143,24 +143,26 @@ pub record RunJoins (run : Begun) (old new : Disk) : Type 0 where
       → AllNow new (λ image. HaveBrought first (runs ++ run ∷ []) (recovered image.files))
 
 -- ---- what is kept along them
--- Behind a history they are one more, of all their entries in order, which leads to the state for which the last files stand,
--- migrated or not.
+-- Behind a history they are one more, of all their entries in order. It leads to the state for which the last files
+-- stand, migrated or not.
 pub record AreTold (start : State) (deeds : List (Deed Entry)) (passages : List Passage) (last : Files) : Type 0 where
   pub more : List (Deed Entry)
   pub entries_are : map (λ (deed : Deed Entry). deed.entry) more ≡ flat_map (λ (p : Passage). p.entries) passages
   pub history : IsHistory steps start (deeds ++ more)
   pub stores : StandFor (reached start (deeds ++ more)) last
 
--- Until acknowledged: what was offered to a user after the first i deeds, and is live on the board for which the files stand
--- at the end, is offered again by that, where none of the deeds since then acknowledges a packet of his.
+-- Until acknowledged: what was offered to a user after the first i deeds is offered again by the board for which the
+-- files stand at the end. That is so where the message is live on that board, and none of the deeds since then
+-- acknowledges a packet of his.
 abbrev pub OffersUntilAcknowledged : State → List (Deed Entry) → Files → Type 0
 OffersUntilAcknowledged start deeds files =
     (state : State) (last : Board) → Stores state files → migrated state ≡ Made last → (i : ℕ) → i ≤ length deeds → (then : Board) → LeadsTo start deeds i then
     → (user : ℕ) → NoAckBetween board_command start deeds i (length deeds) user → (limit : ℕ) (m : OfferedMessage) → Contains (offered then user limit) m → IsLive last m
     → (most : ℕ) → slot_total last ≤ most → Contains (offered last user most) m
 
--- Passed: each live message that a user may see on the board for which the files stand at the end, with a number at most his
--- pointer, was in the offered list of an export among the deeds, and he acknowledged its packet. The deeds are from no board on.
+-- Passed: take a live message that a user may see on the board for which the files stand at the end, with a number at
+-- most his pointer. It was in the offered list of an export among the deeds, and he acknowledged its packet. The deeds
+-- are from no board on.
 abbrev pub PassesAcknowledged : List (Deed Entry) → Files → Type 0
 PassesAcknowledged deeds files =
     (state : State) (last : Board) → Stores state files → migrated state ≡ Made last → (user : ℕ) (m : OfferedMessage) → IsTrue (sees last user m.place m.number)
@@ -172,8 +174,8 @@ PostsOnce start deeds =
     (user : ℕ) (digest : List ℕ) (i j : ℕ) → IsUploadDeed board_command start deeds i user digest → ChangesBoard start deeds i
     → IsUploadDeed board_command start deeds j user digest → ChangesBoard start deeds j → i ≡ j
 
--- Runs and crashes, one behind the other: one history, of all entries that were carried out, by which what is offered is
--- offered until acknowledged, nothing else is passed, and each packet is posted once. The files are never spoiled.
+-- Runs and crashes, one behind the other, are one history, of all entries that were carried out. By it what is offered
+-- is offered until acknowledged, nothing else is passed, and each packet is posted once. The files are never spoiled.
 pub record KeepPromises (start : State) (passages : List Passage) (last : Files) : Type 0 where
   pub told : AreTold start [] passages last
   pub offers : OffersUntilAcknowledged start told.more last

@@ -1,8 +1,8 @@
 -- What a run of the door promises.
-use Rattle.std.specs.Prelude.{◌≡◌, ◌⊎◌, ℕ, List, [], false, IsTrue, Result}
+use Rattle.std.specs.Prelude.{◌≡◌, ◌⊎◌, ℕ, List, [], ◌∷◌, false, IsTrue, Result}
 use Rattle.door_outside.specs.Disk.{Disk, AllNow, Between}
 use Rattle.door_outside.specs.Shelf.{Files}
-use Rattle.entry_runs.specs.Door.{World, here, any_touches}
+use Rattle.entry_runs.specs.Door.{World, here, touches, any_touches}
 use Rattle.entry_runs.specs.Entry as Owed
 use Rattle.entry_runs.specs.Promise as Promise
 use Rattle.entry_runs.specs.Promise.{AllSince, Counts}
@@ -12,12 +12,13 @@ use Rattle.entry_runs.specs.declared.status.Status.TheVariants as status
 use Rattle.entry_runs.specs.declared.stop.Stop.{Stop}
 use Rattle.intent_journal.specs.Recovered.{recovered}
 use Rattle.board_commands.specs.Kept.{unread}
-use Rattle.board_commands.specs.State.{State, AreSpoiled, Stores, IsSpoiled}
+use Rattle.board_commands.specs.State.{State, AreSpoiled, Stores}
 use Rattle.mail_cli.specs.Step.{act, door, uses_shelf}
 use Rattle.door_commands.specs.Entries.{AreEntries, EntriesRead, HasWrong}
 use Rattle.door_commands.specs.Words.{CommandReads}
 use Rattle.door_commands.specs.declared.command.Command.{Command}
 use Rattle.door_commands.specs.declared.entry.Entry.{Entry}
+use Rattle.door_commands.specs.declared.entry.Entry.TheVariants.{Run}
 
 -- words that are no command were answered so, unless the saying failed or memory ran out
 abbrev pub AnswersUsage : Status → Type 0
@@ -28,12 +29,23 @@ AnswersUsage result = (result ≡ status.Usage) ⊎ ((result ≡ status.VoiceFau
 abbrev pub FromEntry : Disk → Files → (World State → Type 0) → Type 0
 FromEntry old shelf P = (state : State) → Stores state (recovered old.files) → P (here state shelf)
 
--- it ends as damaged only where the data files at entry are neither all empty nor a board
-abbrev pub DamagedOnlyIfSpoiled : Status → Disk → Files → Type 0
-DamagedOnlyIfSpoiled result old shelf = FromEntry old shelf (λ start. result ≡ status.Damaged → IsSpoiled start.state)
+-- the last entry that a run came to was carried out, refused or answered, though perhaps not all of its reply was said
+abbrev pub IsAnswered : Status → Type 0
+IsAnswered status.Done = Unit {0}
+IsAnswered status.Refused = Unit {0}
+IsAnswered status.Usage = Unit {0}
+IsAnswered status.Damaged = Unit {0}
+IsAnswered status.DiskFault = ⊥
+IsAnswered status.ShelfFault = ⊥
+IsAnswered status.VoiceFault = Unit {0}
+IsAnswered status.OutOfMemory = ⊥
 
--- It leaves data files that are those of no board or of a valid one, and so does a crash at any moment; or, from a host that is
--- only settled, that leaves files as it could have left them at entry.
+-- the first of the entries touches the board
+abbrev pub BeginsTouching : ℕ → List Entry → Type 0
+BeginsTouching now entries = (entry : Entry) × (others : List Entry) × (entries ≡ entry ∷ others) × IsTrue (touches (door now) entry)
+
+-- It leaves data files that are those of no board or of a valid one, and so does a crash at any moment. From a host
+-- that is only settled, a crash may also leave files as it could have left them at entry.
 pub record SpoilsNone (old new : Disk) : Type 0 where
   pub exit : ¬ AreSpoiled (recovered new.files)
   pub each : AllSince old new (λ image. (¬ AreSpoiled (recovered image.files)) ⊎ Promise.AsThen old image)
@@ -95,6 +107,10 @@ module _ (now : ℕ) (words : List (List ℕ)) where
   -- of the entries that were read one touches the board
   abbrev pub ReadTouching : Files → Type 0
   ReadTouching shelf = (entries : List Entry) × EntriesRead words shelf entries × IsTrue (any_touches (door now) entries)
+
+  -- the words are a command that touches the board
+  abbrev pub AreTouching : Type 0
+  AreTouching = (c : Command) × CommandReads words c × IsTrue (touches (door now) (Run c))
 
   -- an entry of the words touches the board, whatever was read of a batch
   abbrev pub TouchBoard : Type 0

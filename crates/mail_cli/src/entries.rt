@@ -1,12 +1,15 @@
 //! A run over a list of entries.
-ghost use Rattle.std.specs.Prelude.{◌≡◌, ◌≤◌, false, IsTrue, All};
+ghost use Rattle.std.specs.Prelude.{◌≡◌, ◌≢◌, ◌≤◌, false, IsTrue, All};
+ghost use Rattle.door_outside.specs.Shelf.{Files};
 ghost use Rattle.entry_runs.specs.Door.{any_touches};
 ghost use Rattle.board_commands.specs.Causes.{HaveCauses};
 ghost use Rattle.board_commands.specs.Kept.{AreSure, IsKept};
-ghost use Rattle.intent_journal.specs.Hosts.{IsSettled};
+ghost use Rattle.board_commands.specs.State.{AreSpoiled};
+ghost use Rattle.intent_journal.specs.Hosts.{IsFirm, IsSettled};
+ghost use Rattle.intent_journal.specs.Recovered.{recovered};
 ghost use Rattle.door_commands.specs.Entries.{EntryCanRun, HasWrong, BeginsWrong};
-ghost use Rattle.mail_cli.specs.CommandBound.{OneKeepsBound};
-ghost use Rattle.mail_cli.specs.Run.{EntriesLeave, EntriesSurvive, DamagedOnlyIfSpoiled, AnswersUsage, LeavesFiles};
+ghost use Rattle.mail_cli.specs.CommandBound.{OneFilesKeepBound, OneKeepsBound};
+ghost use Rattle.mail_cli.specs.Run.{EntriesLeave, EntriesSurvive, AnswersUsage, BeginsTouching, IsAnswered, LeavesFiles};
 ghost use Rattle.mail_cli.specs.Step.{any_uses_shelf, door};
 
 use crate::perform::perform;
@@ -34,7 +37,13 @@ pub fn run_entries<H: Host, S: Shelf>(
     ensures leaves { IsTrue H.tells → IsTrue S.tells → EntriesLeave now entries.now result (H.disk host.old) (H.disk host.new) (S.files shelf.old) (S.files shelf.new) }
     ensures survives { IsTrue H.tells → IsTrue S.tells → EntriesSurvive now entries.now (H.disk host.old) (H.disk host.new) (S.files shelf.old) }
     ensures later { IsTrue H.tells → IsTrue S.tells → (H.disk host.old).clock ≤ (H.disk host.new).clock }
-    ensures damaged { IsTrue H.tells → IsTrue S.tells → DamagedOnlyIfSpoiled result (H.disk host.old) (S.files shelf.old) }
+    ensures leaves_any { any_uses_shelf entries.now ≡ false → IsTrue H.tells → (files : Files) → EntriesLeave now entries.now result (H.disk host.old) (H.disk host.new) files files }
+    ensures survives_any { any_uses_shelf entries.now ≡ false → IsTrue H.tells → (files : Files) → EntriesSurvive now entries.now (H.disk host.old) (H.disk host.new) files }
+    ensures later_any { any_uses_shelf entries.now ≡ false → IsTrue H.tells → (H.disk host.old).clock ≤ (H.disk host.new).clock }
+    ensures firm { IsTrue H.tells → result ≢ Status.DiskFault → IsFirm (H.disk host.old) → IsFirm (H.disk host.new) }
+    ensures rests { IsTrue H.tells → IsAnswered result → BeginsTouching now entries.now → IsFirm (H.disk host.new) }
+    ensures damaged_rests { IsTrue H.tells → result ≡ Status.Damaged → IsFirm (H.disk host.new) }
+    ensures damaged { IsTrue H.tells → result ≡ Status.Damaged → AreSpoiled (recovered (H.disk host.old).files) }
     ensures touched { result ≡ Status.Damaged → IsTrue (any_touches (door now) entries.now) }
     ensures causes { HaveCauses H.disk_faults H.voice_faults S.faults host.old host.new shelf.old shelf.new result }
     ensures usage { result ≡ Status.Usage → HasWrong entries.now }
@@ -43,6 +52,8 @@ pub fn run_entries<H: Host, S: Shelf>(
     ensures disk_faults_stay { any_touches (door now) entries.now ≡ false → H.disk_faults host.new ≡ H.disk_faults host.old }
     ensures shelf_stays { any_uses_shelf entries.now ≡ false → shelf.new ≡ shelf.old }
     ensures wrote { IsTrue H.tells → IsTrue S.tells → OneKeepsBound now entries.now (H.disk host.old) (H.disk host.new) (S.files shelf.old) }
+    ensures wrote_any { any_uses_shelf entries.now ≡ false → IsTrue H.tells → (files : Files) → OneKeepsBound now entries.now (H.disk host.old) (H.disk host.new) files }
+    ensures wrote_between { IsTrue H.tells → result ≢ Status.DiskFault → OneFilesKeepBound entries.now (H.disk host.old) (H.disk host.new) }
 {
     let mut status = Status::Done;
     for entry in entries {

@@ -1,11 +1,13 @@
 //! One entry of a run.
-ghost use Rattle.std.specs.Prelude.{◌≡◌, ◌≢◌, ◌↔◌, false, IsTrue, IfOk, IfErr};
+ghost use Rattle.std.specs.Prelude.{◌≡◌, ◌≢◌, ◌↔◌, false, IsTrue, IfOk, IfErr, IsErrOf};
+ghost use Rattle.door_outside.specs.Shelf.{Files};
 ghost use Rattle.entry_runs.specs.Door.{touches};
 ghost use Rattle.entry_runs.specs.Promise.{ended};
 ghost use Rattle.board_commands.specs.Causes.{HaveCauses};
+ghost use Rattle.board_commands.specs.Keeping.{KeepsFiles};
 ghost use Rattle.board_commands.specs.Kept.{AreSure, IsKept};
 ghost use Rattle.door_commands.specs.Entries.{CanRun, EntryCanRun, IsWrong};
-ghost use Rattle.mail_cli.specs.CommandBound.{CommandKeepsBound, EntryKeepsBound};
+ghost use Rattle.mail_cli.specs.CommandBound.{CommandFilesKeepBound, CommandKeepsBound, EntryFilesKeepBound, EntryKeepsBound};
 ghost use Rattle.mail_cli.specs.Run.{LeavesFiles, PerformsEntry};
 ghost use Rattle.mail_cli.specs.Step.{does, door, entry_uses_shelf, uses_shelf};
 ghost use Rattle.door_commands.specs.declared.entry.Entry.TheVariants.{Run};
@@ -37,6 +39,8 @@ fn perform_command<H: Host, S: Shelf>(
     ensures sure { AreSure kept.new }
     ensures kept { IsTrue H.tells → IsKept kept.new (H.disk host.new) }
     ensures performs { IsTrue H.tells → IsTrue S.tells → PerformsEntry now (Run command.now) (H.disk host.old) (H.disk host.new) (S.files shelf.old) (S.files shelf.new) result }
+    ensures performs_any { uses_shelf command.now ≡ false → IsTrue H.tells → (files : Files) → PerformsEntry now (Run command.now) (H.disk host.old) (H.disk host.new) files files result }
+    ensures keeps { IsTrue (does now command.now).reach.board → IsTrue H.tells → KeepsFiles (H.disk host.old) (H.disk host.new) result }
     ensures causes { HaveCauses H.disk_faults H.voice_faults S.faults host.old host.new shelf.old shelf.new (ended result) }
     ensures usage { IfOk result (λ class. class ≢ Class.Usage) }
     ensures damaged { IfOk result (λ class. class ≡ Class.Damaged → IsTrue (does now command.now).reach.board) }
@@ -44,6 +48,8 @@ fn perform_command<H: Host, S: Shelf>(
     ensures disk_faults_stay { (does now command.now).reach.board ≡ false → H.disk_faults host.new ≡ H.disk_faults host.old }
     ensures shelf_stays { uses_shelf command.now ≡ false → shelf.new ≡ shelf.old }
     ensures wrote { IsTrue H.tells → IsTrue S.tells → CommandKeepsBound now command.now (H.disk host.old) (H.disk host.new) (S.files shelf.old) }
+    ensures wrote_any { uses_shelf command.now ≡ false → IsTrue H.tells → (files : Files) → CommandKeepsBound now command.now (H.disk host.old) (H.disk host.new) files }
+    ensures wrote_between { IsTrue H.tells → ¬ IsErrOf result Stop.DiskFault → CommandFilesKeepBound command.now (H.disk host.old) (H.disk host.new) }
 {
     match command {
         Command::Compose {
@@ -171,6 +177,8 @@ pub fn perform<H: Host, S: Shelf>(
     ensures sure { AreSure kept.new }
     ensures kept { IsTrue H.tells → IsKept kept.new (H.disk host.new) }
     ensures performs { IsTrue H.tells → IsTrue S.tells → PerformsEntry now entry.now (H.disk host.old) (H.disk host.new) (S.files shelf.old) (S.files shelf.new) result }
+    ensures performs_any { entry_uses_shelf entry.now ≡ false → IsTrue H.tells → (files : Files) → PerformsEntry now entry.now (H.disk host.old) (H.disk host.new) files files result }
+    ensures keeps { IsTrue (touches (door now) entry.now) → IsTrue H.tells → KeepsFiles (H.disk host.old) (H.disk host.new) result }
     ensures causes { HaveCauses H.disk_faults H.voice_faults S.faults host.old host.new shelf.old shelf.new (ended result) }
     ensures usage { IfOk result (λ class. (class ≡ Class.Usage) ↔ IsWrong entry.now) }
     ensures wrong { IsWrong entry.now → IfErr result (λ stop. stop ≡ Stop.VoiceFault) }
@@ -179,6 +187,8 @@ pub fn perform<H: Host, S: Shelf>(
     ensures disk_faults_stay { touches (door now) entry.now ≡ false → H.disk_faults host.new ≡ H.disk_faults host.old }
     ensures shelf_stays { entry_uses_shelf entry.now ≡ false → shelf.new ≡ shelf.old }
     ensures wrote { IsTrue H.tells → IsTrue S.tells → EntryKeepsBound now entry.now (H.disk host.old) (H.disk host.new) (S.files shelf.old) }
+    ensures wrote_any { entry_uses_shelf entry.now ≡ false → IsTrue H.tells → (files : Files) → EntryKeepsBound now entry.now (H.disk host.old) (H.disk host.new) files }
+    ensures wrote_between { IsTrue H.tells → ¬ IsErrOf result Stop.DiskFault → EntryFilesKeepBound entry.now (H.disk host.old) (H.disk host.new) }
 {
     match entry {
         Entry::Run(command) => perform_command(alloc, host, shelf, kept, command, now),

@@ -1,11 +1,13 @@
 //! The command `import`.
-ghost use Rattle.std.specs.Prelude.{◌≡◌, ◌<◌, ℕ, [], ◌∷◌, ◌+◌, length, nat_lt, IsTrue};
+ghost use Rattle.std.specs.Prelude.{◌≡◌, ◌<◌, ℕ, [], ◌∷◌, ◌+◌, length, nat_lt, IsTrue, IsErrOf};
 ghost use Rattle.board_commands.specs.Causes.{HaveCauses};
 ghost use Rattle.board_commands.specs.Enroll.{first_refusal};
 ghost use Rattle.board_commands.specs.Halts.{told};
+ghost use Rattle.board_commands.specs.Keeping.{KeepsFiles, went};
 ghost use Rattle.board_commands.specs.Kept.{AreSure, IsKept, unread};
 ghost use Rattle.board_commands.specs.State.{State, Stores};
-ghost use Rattle.board_commands.specs.WriteBound.{KeepsWriteBound};
+ghost use Rattle.board_commands.specs.declared.halt.BoardHalt.TheVariants.{DiskFault};
+ghost use Rattle.board_commands.specs.WriteBound.{FilesKeepBound, KeepsWriteBound};
 ghost use Rattle.board_layout.specs.Valid.{IsBoard};
 ghost use Rattle.entry_runs.specs.Door.{World};
 ghost use Rattle.entry_runs.specs.Entry.{IsAt, Works};
@@ -28,7 +30,7 @@ use jam_layout::SLOT_LIMIT;
 use jam_records::Messages;
 use std::alloc::Global;
 
-/// Why the conference in a place would have too many slots with more messages, where it would.
+/// The refusal where the conference in a place would have too many slots with these messages, or None.
 fn slots_refusal(board: &Board, place: u8, messages: &Messages) -> Option<Refusal>
     requires { place < length board.now.board.conferences }
     ensures { result ≡ first_refusal ((nat_lt slot_limit (slot_count place board.now.board + length messages.now), Slots (slot_count place board.now.board + length messages.now)) ∷ []) }
@@ -47,8 +49,8 @@ struct Importing {
     count: u32,
 }
 
-/// The import of entries into the conference in a place, or why it is refused: the first that applies of too many
-/// slots, and of files that would be too long.
+/// The import of entries into the conference in a place, or why it is refused. That is the first that applies of too
+/// many slots, and of files that would be too long.
 fn prepared(
     alloc: Global,
     board: &Board,
@@ -73,13 +75,16 @@ fn prepared(
     Ok(Importing { change, count })
 }
 
-/// Appends all messages of a sheet to the conference of a number in one change, and answers how many they are. `now` is
-/// the moment in Unix seconds at which they come into the base, and at which those without a date were written. In a
-/// net conference all are private. A sheet without messages changes nothing.
+/// Appends all messages of a sheet to the conference of a number in one change. It answers how many they are. `now` is
+/// the moment in Unix seconds at which they come into the base. A message without a date was written then too. In a net
+/// conference all are private. A sheet without messages changes nothing.
 ///
-/// It is refused where there is no board, then as the first of these applies: no conference has the number; the sheet
-/// isn't there, is too long or has a fault; the conference would have more than 9,999 slots; the files would be too
-/// long.
+/// It is refused where there is no board, and then as the first of these applies:
+///
+/// - No conference has the number.
+/// - The sheet isn't there, is too long or has a fault.
+/// - The conference would have more than 9,999 slots.
+/// - The files would be too long.
 pub fn import<H: Host, S: Shelf>(
     alloc: Global,
     host: &mut H,
@@ -94,7 +99,9 @@ pub fn import<H: Host, S: Shelf>(
     ensures works { IsTrue H.tells → IsTrue S.tells → (world : World State) → IsAt Stores unread world (H.disk host.old) (S.files shelf.old) → Works Stores (imports conference file.now now) unread world (H.disk host.old) (H.disk host.new) (S.files shelf.new) (told (imported_line conference) result) }
     ensures kept { IsTrue H.tells → IsKept kept.new (H.disk host.new) }
     ensures sure { AreSure kept.new }
+    ensures keeps { IsTrue H.tells → KeepsFiles (H.disk host.old) (H.disk host.new) (went result) }
     ensures wrote { IsTrue H.tells → IsTrue S.tells → IsClosed ((H.disk host.old).files 1) → KeepsWriteBound (imports conference file.now now) (H.disk host.old) (H.disk host.new) (S.files shelf.old) }
+    ensures wrote_between { IsTrue H.tells → IsClosed ((H.disk host.old).files 1) → ¬ IsErrOf result DiskFault → FilesKeepBound (H.disk host.old) (H.disk host.new) }
     ensures causes { HaveCauses H.disk_faults H.voice_faults S.faults host.old host.new shelf.old shelf.new (ended (told (imported_line conference) result)) }
 {
     find(alloc, host, kept)?;

@@ -1,11 +1,12 @@
 //! The command `sample`.
-ghost use Rattle.std.specs.Prelude.{◌≡◌, ◌≤◌, ◌<◌, length, map, IsTrue};
+ghost use Rattle.std.specs.Prelude.{◌≡◌, ◌≤◌, ◌<◌, length, map, IsTrue, IsErrOf};
 ghost use Rattle.board_commands.specs.Causes.{HostHasCauses};
 ghost use Rattle.board_commands.specs.Enroll.{first_refusal};
 ghost use Rattle.board_commands.specs.Halts.{told};
 ghost use Rattle.board_commands.specs.Kept.{AreSure, IsKept, unread};
 ghost use Rattle.board_commands.specs.State.{State, Stores};
-ghost use Rattle.board_commands.specs.WriteBound.{KeepsWriteBound};
+ghost use Rattle.board_commands.specs.declared.halt.BoardHalt.TheVariants.{DiskFault};
+ghost use Rattle.board_commands.specs.WriteBound.{FilesKeepBound, KeepsWriteBound};
 ghost use Rattle.board_layout.specs.Valid.{IsBoard};
 ghost use Rattle.door_outside.specs.Shelf.{Files};
 ghost use Rattle.entry_runs.specs.Door.{World};
@@ -28,7 +29,8 @@ use std::alloc::Global;
 /// How many messages a sample may have.
 const COUNT_LIMIT: u32 = 5_000;
 
-/// Why a conference, the first by place, would have too many slots with the messages of a sample, where one would.
+/// The refusal where a conference would have too many slots with the messages of a sample, or None. It tells the slots
+/// of the first such conference by place.
 fn slots_refusal(board: &StoredBoard, sampling: &Sampling) -> Option<Refusal>
     requires sampling { IsSampling board.now sampling.now }
     requires few { length sampling.now.posts ≤ 5000 }
@@ -43,8 +45,8 @@ fn slots_refusal(board: &StoredBoard, sampling: &Sampling) -> Option<Refusal>
     None
 }
 
-/// The change that appends a sample, or why it is refused: the first that applies of a count out of range, too many
-/// slots, and files that would be too long. The count is judged before memory is taken.
+/// The change that appends a sample, or why it is refused. That is the first that applies of a count out of range, too
+/// many slots, and files that would be too long. The count is judged before memory is taken.
 fn prepared(
     alloc: Global,
     board: &Board,
@@ -74,8 +76,11 @@ fn prepared(
 /// Appends so many made-up messages, which a seed determines, in one change, and answers how many they are. `now` is
 /// the moment in Unix seconds at which they come into the base.
 ///
-/// It is refused where there is no board, then as the first of these applies: the count is 0 or above 5,000; a
-/// conference would have more than 9,999 slots, of which the first by place is told; the files would be too long.
+/// It is refused where there is no board, and then as the first of these applies:
+///
+/// - The count is 0 or above 5,000.
+/// - A conference would have more than 9,999 slots. The first such conference by place is told.
+/// - The files would be too long.
 pub fn sample<H: Host>(
     alloc: Global,
     host: &mut H,
@@ -90,6 +95,7 @@ pub fn sample<H: Host>(
     ensures kept { IsTrue H.tells → IsKept kept.new (H.disk host.new) }
     ensures sure { AreSure kept.new }
     ensures wrote { IsTrue H.tells → IsClosed ((H.disk host.old).files 1) → (shelf : Files) → KeepsWriteBound (samples seed count now) (H.disk host.old) (H.disk host.new) shelf }
+    ensures wrote_between { IsTrue H.tells → IsClosed ((H.disk host.old).files 1) → ¬ IsErrOf result DiskFault → FilesKeepBound (H.disk host.old) (H.disk host.new) }
     ensures causes { HostHasCauses H.disk_faults H.voice_faults host.old host.new (ended (told sampled_line result)) }
 {
     find(alloc, host, kept)?;

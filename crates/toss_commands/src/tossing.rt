@@ -1,10 +1,12 @@
 //! The command `toss`.
-ghost use Rattle.std.specs.Prelude.{◌≡◌, ℕ, List, Ok, length, IfOk, IsTrue};
+ghost use Rattle.std.specs.Prelude.{◌≡◌, ℕ, List, Ok, length, IfOk, IsTrue, IsErrOf};
 ghost use Rattle.message_commands.specs.board_commands.Causes.{HaveCauses};
 ghost use Rattle.message_commands.specs.board_commands.Halts.{told};
+ghost use Rattle.message_commands.specs.board_commands.Keeping.{KeepsFiles, went};
 ghost use Rattle.message_commands.specs.board_commands.Kept.{AreSure, IsKept, unread};
 ghost use Rattle.message_commands.specs.board_commands.State.{State, Stores};
-ghost use Rattle.message_commands.specs.board_commands.WriteBound.{KeepsWriteBound};
+ghost use Rattle.message_commands.specs.board_commands.declared.halt.BoardHalt.TheVariants.{DiskFault};
+ghost use Rattle.message_commands.specs.board_commands.WriteBound.{FilesKeepBound, KeepsWriteBound};
 ghost use Rattle.board_layout.specs.Board as Boards;
 ghost use Rattle.board_layout.specs.Valid.{IsBoard};
 ghost use Rattle.entry_runs.specs.Door.{World};
@@ -59,11 +61,13 @@ fn prepared(
     Ok(ended_with(tossed, messages.len())?)
 }
 
-/// Puts the messages of a type 2 packet (FTS-0001) into the conferences in one change, and answers a line for each, and
-/// one with the counts. `now` is the moment in Unix seconds at which they come into the base, and at which those were
-/// written whose date doesn't read. Echomail goes to the first conference of kind echo whose name is its tag, ignoring
-/// ASCII case, net mail to the first net conference. Each is judged behind the ones accepted before it; one without a
-/// msgid gets the one that is generated for its number, and is posted again when its packet is tossed again.
+/// Puts the messages of a type 2 packet (FTS-0001) into the conferences in one change. It answers a line for each, and
+/// one with the counts. `now` is the moment in Unix seconds at which they come into the base. A message whose date
+/// doesn't read was written then too.
+///
+/// Echomail goes to the first conference of kind echo whose name is its tag, ignoring ASCII case. Net mail goes to the
+/// first net conference. Each message is judged behind the ones accepted before it. A message without a msgid gets the
+/// one that is generated for its number, and is posted again when its packet is tossed again.
 ///
 /// It is refused where there is no board, then where the file isn't there or has more than 4,194,304 bytes, then for
 /// the packet's first fault.
@@ -80,7 +84,9 @@ pub fn toss<H: Host, S: Shelf>(
     ensures works { IsTrue H.tells → IsTrue S.tells → (world : World State) → IsAt Stores unread world (H.disk host.old) (S.files shelf.old) → Works Stores (tosses file.now now) unread world (H.disk host.old) (H.disk host.new) (S.files shelf.new) (told (λ text. text) result) }
     ensures kept { IsTrue H.tells → IsKept kept.new (H.disk host.new) }
     ensures sure { AreSure kept.new }
+    ensures keeps { IsTrue H.tells → KeepsFiles (H.disk host.old) (H.disk host.new) (went result) }
     ensures wrote { IsTrue H.tells → IsTrue S.tells → IsClosed ((H.disk host.old).files 1) → KeepsWriteBound (tosses file.now now) (H.disk host.old) (H.disk host.new) (S.files shelf.old) }
+    ensures wrote_between { IsTrue H.tells → IsClosed ((H.disk host.old).files 1) → ¬ IsErrOf result DiskFault → FilesKeepBound (H.disk host.old) (H.disk host.new) }
     ensures causes { HaveCauses H.disk_faults H.voice_faults S.faults host.old host.new shelf.old shelf.new (ended (told (λ text. text) result)) }
 {
     find(alloc, host, kept)?;

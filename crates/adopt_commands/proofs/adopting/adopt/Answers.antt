@@ -3,7 +3,10 @@ use Rattle.std.specs.Prelude.{Result}
 use Rattle.message_commands.proofs.board_commands.CauseLaws.{no_fault}
 use Rattle.message_commands.proofs.board_commands.Exits.{unfound}
 use Rattle.message_commands.proofs.board_commands.FindLaws.{same_host}
-use Rattle.message_commands.proofs.board_commands.WriteLaws.{found_within}
+use Rattle.message_commands.proofs.board_commands.KeepingLaws.{keeps_as, read_sound, refused_as, stopped_keeps, unfound_keeps, unmade_keeps, unopened_keeps, value_keeps}
+use Rattle.intent_journal.specs.Hosts.{IsFirm}
+use Rattle.message_commands.proofs.board_commands.WriteLaws.{changed_bound, found_bound, found_within, unmade_bound}
+use Rattle.message_commands.proofs.mail_board.PostedSlots.{posting_keeps}
 use Rattle.message_commands.specs.board_commands.Halts.{told, halt_of_read, of_shelf, of_journal}
 use Rattle.message_commands.specs.board_commands.Kept.{kept_board, unread}
 use Rattle.message_commands.specs.board_commands.State.{Stores}
@@ -14,7 +17,7 @@ use Rattle.entry_runs.specs.Entry.{Works}
 use Rattle.entry_runs.specs.Promise.{Counts, HasCauses, counts, ended}
 use Rattle.entry_runs.specs.declared.status.Status.TheVariants as status
 use Rattle.message_commands.specs.mail_board.Changes.{Fits}
-use Rattle.shelf_files.specs.declared.refusal.Refusal.TheVariants.{NoConference}
+use Rattle.shelf_files.specs.declared.refusal.Refusal.TheVariants.{NoConference, NotMade}
 use Rattle.message_commands.proofs.Exits.{refused_on, unmade_by}
 use Rattle.message_commands.proofs.PlaceAlike.{place_alike}
 use Rattle.adopt_commands.proofs.AdoptExits.{Turns, adopted, no_base, said, unadopted, unplaced, unprepared}
@@ -128,3 +131,65 @@ returns-clause-wrote g c tells shelf_tells closed =
     adopt_within (g.H.Host.disk c.args.host.now) (g.H.Host.disk c.find.new.host) (g.H.Host.disk c.make_change.new.host) (g.S.Shelf.files c.args.shelf.now) closed (c.find.ensures.wrote tells) (kept_board c.find.new.kept) (c.in_ok-find.ensures.state tells) b c.in_ok-board.ensures.board c.in_ok-board.ensures.valid c.args.conference c.args.prefix.now
     c.in_ok-place.place c.in_ok-place.ensures.place c.in_ok-records.records (c.in_ok-records.ensures.base shelf_tells) c.in_ok-adopting.adopting c.in_ok-adopting.ensures.may c.in_ok-adopting.ensures.change
     (c.make_change.ensures.wrote tells b c.in_ok-board.ensures.board)
+
+pub returns-in_err-find-clause-keeps : goal.returns-in_err-find-clause-keeps
+returns-in_err-find-clause-keeps g c tells =
+    let is : c.from_residual.result ≡ Err (halt_of_read c.in_err-find.field-0.0) = search rules in
+    keeps_as is (unfound_keeps c.find.new.kept c.in_err-find.field-0.0 (c.in_err-find.ensures.finds tells) (c.in_err-find.ensures.state tells))
+
+pub returns-in_err-board-clause-keeps : goal.returns-in_err-board-clause-keeps
+returns-in_err-board-clause-keeps g c tells =
+    let is : c.from_residual-in_err-board.result ≡ Err c.in_err-board.field-0.0 = search rules in
+    keeps_as is (refused_as c.in_err-board.field-0.0 NotMade c.in_err-board.ensures.board.0 (read_sound c.find.new.kept (g.H.Host.disk c.find.new.host) c.in_ok-find.ensures.read (c.in_ok-find.ensures.kept tells)))
+
+pub returns-in_err-place-clause-keeps : goal.returns-in_err-place-clause-keeps
+returns-in_err-place-clause-keeps g c tells =
+    let is : c.from_residual-in_err-place.result ≡ Err c.in_err-place.field-0.0 = search rules in
+    keeps_as is (refused_as c.in_err-place.field-0.0 NoConference c.in_err-place.ensures.place.0 (read_sound c.find.new.kept (g.H.Host.disk c.find.new.host) c.in_ok-find.ensures.read (c.in_ok-find.ensures.kept tells)))
+
+pub returns-in_err-records-clause-keeps : goal.returns-in_err-records-clause-keeps
+returns-in_err-records-clause-keeps g c tells =
+    let is : c.from_residual-in_err-records.result ≡ Err (of_shelf c.in_err-records.field-0.0) = search rules in
+    keeps_as is (unopened_keeps c.in_err-records.field-0.0 (read_sound c.find.new.kept (g.H.Host.disk c.find.new.host) c.in_ok-find.ensures.read (c.in_ok-find.ensures.kept tells)))
+
+pub returns-in_err-adopting-clause-keeps : goal.returns-in_err-adopting-clause-keeps
+returns-in_err-adopting-clause-keeps g c tells =
+    let is : c.from_residual-in_err-adopting.result ≡ Err c.in_err-adopting.field-0.0 = search rules in
+    keeps_as is (stopped_keeps _ c.in_err-adopting.field-0.0 (c.in_err-adopting.ensures.may) (read_sound c.find.new.kept (g.H.Host.disk c.find.new.host) c.in_ok-find.ensures.read (c.in_ok-find.ensures.kept tells)))
+
+pub returns-in_err-make_change-clause-keeps : goal.returns-in_err-make_change-clause-keeps
+returns-in_err-make_change-clause-keeps g c tells =
+    let is : c.from_residual-in_err-make_change.result ≡ Err (of_journal c.in_err-make_change.field-0.0) = search rules in
+    let sound = read_sound c.find.new.kept (g.H.Host.disk c.find.new.host) c.in_ok-find.ensures.read (c.in_ok-find.ensures.kept tells) in
+    keeps_as is (unmade_keeps c.in_err-make_change.field-0.0 (λ starved. subst (λ host. IsFirm (g.H.Host.disk host)) (sym (c.in_err-make_change.ensures.unchanged (ap Err starved))) sound.firm))
+
+pub returns-clause-keeps : goal.returns-clause-keeps
+returns-clause-keeps g c tells =
+    value_keeps (read_sound c.make_change.new.kept (g.H.Host.disk c.make_change.new.host) c.in_ok-make_change.ensures.read (c.in_ok-make_change.ensures.kept tells))
+
+pub returns-in_err-find-clause-wrote_between : goal.returns-in_err-find-clause-wrote_between
+returns-in_err-find-clause-wrote_between g c tells closed sound = found_bound (g.H.Host.disk c.args.host.now) closed (g.H.Host.disk c.find.new.host) (c.find.ensures.wrote tells)
+
+pub returns-in_err-board-clause-wrote_between : goal.returns-in_err-board-clause-wrote_between
+returns-in_err-board-clause-wrote_between g c tells closed sound = found_bound (g.H.Host.disk c.args.host.now) closed (g.H.Host.disk c.find.new.host) (c.find.ensures.wrote tells)
+
+pub returns-in_err-place-clause-wrote_between : goal.returns-in_err-place-clause-wrote_between
+returns-in_err-place-clause-wrote_between g c tells closed sound = found_bound (g.H.Host.disk c.args.host.now) closed (g.H.Host.disk c.find.new.host) (c.find.ensures.wrote tells)
+
+pub returns-in_err-records-clause-wrote_between : goal.returns-in_err-records-clause-wrote_between
+returns-in_err-records-clause-wrote_between g c tells closed sound = found_bound (g.H.Host.disk c.args.host.now) closed (g.H.Host.disk c.find.new.host) (c.find.ensures.wrote tells)
+
+pub returns-in_err-adopting-clause-wrote_between : goal.returns-in_err-adopting-clause-wrote_between
+returns-in_err-adopting-clause-wrote_between g c tells closed sound = found_bound (g.H.Host.disk c.args.host.now) closed (g.H.Host.disk c.find.new.host) (c.find.ensures.wrote tells)
+
+pub returns-in_err-make_change-clause-wrote_between : goal.returns-in_err-make_change-clause-wrote_between
+returns-in_err-make_change-clause-wrote_between g c tells closed sound =
+    let error = c.in_err-make_change.field-0.0 in
+    let is : c.from_residual-in_err-make_change.result ≡ Err (of_journal error) = search rules in
+    unmade_bound (g.H.Host.disk c.args.host.now) closed (g.H.Host.disk c.find.new.host) (g.H.Host.disk c.make_change.new.host) error (λ fault. sound (is ∙ ap Err fault)) (λ starved. ap (λ host. (g.H.Host.disk host).wrote) (c.in_err-make_change.ensures.unchanged (ap Err starved))) (c.find.ensures.wrote tells)
+
+pub returns-clause-wrote_between : goal.returns-clause-wrote_between
+returns-clause-wrote_between g c tells closed sound =
+    let b : Board = c.in_ok-board.board.now.board in
+    changed_bound (g.H.Host.disk c.args.host.now) closed (g.H.Host.disk c.find.new.host) (g.H.Host.disk c.make_change.new.host) (c.find.ensures.wrote tells) (kept_board c.find.new.kept) (c.in_ok-find.ensures.state tells) b c.in_ok-board.ensures.board c.in_ok-adopting.adopting.change (c.in_ok-find.ensures.finds tells) (c.in_ok-make_change.ensures.changes tells)
+    (posting_keeps c.in_ok-adopting.adopting.change b (g.H.Host.disk c.find.new.host).wrote (g.H.Host.disk c.make_change.new.host).wrote c.in_ok-adopting.ensures.may.2 c.in_ok-board.ensures.valid c.in_ok-adopting.ensures.may.0 (c.make_change.ensures.wrote tells b c.in_ok-board.ensures.board))

@@ -1,6 +1,7 @@
 use Rattle.std.proofs.Common.{rules, ◌≡◌, ℕ, inl, inr, true≢false, Option, Some, None, Err, refl, sym, ◌∙◌, ap, subst}
 use Rattle.std.specs.Prelude.{Result}
 use Rattle.board_commands.proofs.ChangeLaws.{stores_holds}
+use Rattle.board_commands.proofs.KeepingLaws.{keeps_as, read_sound, refused_as, unfound_keeps}
 use Rattle.board_commands.proofs.LikeLaws.{none_outlined, real_stored, some_outlined}
 use Rattle.board_commands.specs.Halts.{told, halt_of_read}
 use Rattle.board_commands.specs.Kept.{AreSure, IsKept, kept_board, unread}
@@ -12,6 +13,7 @@ use Rattle.entry_runs.specs.Promise.{HasCauses, counts, ended}
 use Rattle.board_commands.specs.mail_board.Causes.{HasFault}
 use Rattle.board_commands.specs.mail_board.Held.{RestsOn}
 use Rattle.board_commands.specs.mail_board.declared.loading.Loaded.{Loaded}
+use Rattle.board_commands.specs.mail_board.declared.loading.Loaded.TheVariants.{Ready}
 use Rattle.shelf_files.specs.declared.refusal.Refusal.TheVariants.{NotMade}
 use Rattle.door_export.proofs.ExportAlike.{answer_alike, refused_alike}
 use Rattle.door_export.specs.Export.{after_export, export_of}
@@ -21,7 +23,7 @@ use Rattle.door_export.specs.declared.exporting.Exported.{Exported}
 use Rattle.exchange_commands.proofs.Causes.{export_causes}
 use Rattle.exchange_commands.proofs.ExportExits.{works}
 use Rattle.exchange_commands.proofs.HandingExits.{answered, unfound}
-use Rattle.exchange_commands.proofs.KeptExports.{answered_alike, export_kept, export_sure}
+use Rattle.exchange_commands.proofs.KeptExports.{answered_alike, export_keeps, export_kept, export_sure}
 use Rattle.exchange_commands.specs.Export.{export_handing, exports, packet_line}
 use Rattle.exchange_commands.specs.Handing.{refused_handing}
 use Rattle.exchange_commands.proofs.exporting.export.Goals as goal
@@ -102,3 +104,24 @@ returns-clause-causes g c =
     (export_causes (gives.voice ∙ voice) packet_line c.export-exported.result
     (subst (λ (before : ℕ). HasFault DiskFault before (g.H.Host.disk_faults c.export-exported.new.host) c.export-exported.result) disk gives.disk_cause) gives.shelf_cause
     (λ doubt. true≢false (sym (gives.doubt.0 doubt).1 ∙ certain.1)))
+
+pub returns-in_err-find-clause-keeps : goal.returns-in_err-find-clause-keeps
+returns-in_err-find-clause-keeps g c tells =
+    let is : c.from_residual.result ≡ Err (halt_of_read c.in_err-find.field-0.0) = search rules in
+    keeps_as is (unfound_keeps c.find.new.kept c.in_err-find.field-0.0 (c.in_err-find.ensures.finds tells) (c.in_err-find.ensures.state tells))
+
+pub returns-in_err-board-clause-keeps : goal.returns-in_err-board-clause-keeps
+returns-in_err-board-clause-keeps g c tells =
+    let is : c.from_residual-in_err-board.result ≡ Err c.in_err-board.field-0.0 = search rules in
+    keeps_as is (refused_as c.in_err-board.field-0.0 NotMade c.in_err-board.ensures.none.0 (read_sound c.find.new.kept (g.H.Host.disk c.find.new.host) c.in_ok-find.ensures.read (c.in_ok-find.ensures.kept tells)))
+
+pub returns-clause-keeps : goal.returns-clause-keeps
+returns-clause-keeps g c tells =
+    let held = c.in_ok-board.board in
+    let here : c.find.new.kept ≡ _ = c.in_ok-board.ensures.board in
+    let certain = subst AreSure here c.in_ok-find.ensures.sure in
+    let after = c.export-exported.new.board in
+    let gives = c.export-exported.ensures in
+    keeps_as c.answered.ensures
+    (export_keeps held after (after_export held.board (export_of c.args.user.now c.args.limit c.args.now held.board)) certain.1 c.export-exported.result gives.board (λ early. (gives.unchanged early).0.board) (gives.undamaged tells)
+    (λ sure. read_sound (Some (Ready after)) (g.H.Host.disk c.export-exported.new.host) tt (gives.rests tells certain.1 sure)))

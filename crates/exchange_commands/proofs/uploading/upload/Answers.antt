@@ -3,9 +3,10 @@ use Rattle.std.specs.Prelude.{IsSome}
 use Rattle.board_commands.proofs.ChangeLaws.{stores_holds}
 use Rattle.board_commands.proofs.Exits.{answered, unfound}
 use Rattle.board_commands.proofs.FindLaws.{same_host}
+use Rattle.board_commands.proofs.KeepingLaws.{IsSound, keeps_as, read_sound, refused_as, unfound_keeps, unopened_keeps}
 use Rattle.board_commands.proofs.LikeLaws.{none_outlined, real_stored, some_outlined}
-use Rattle.board_commands.proofs.WriteLaws.{found_within, WritesFound}
-use Rattle.board_commands.specs.Halts.{told, halt_of_read, of_shelf}
+use Rattle.board_commands.proofs.WriteLaws.{found_bound, found_within, WritesFound}
+use Rattle.board_commands.specs.Halts.{halted, told, halt_of_read, of_shelf}
 use Rattle.board_commands.specs.Kept.{AreSure, IsKept, kept_board, unread}
 use Rattle.board_commands.specs.State.{Stores, migrated}
 use Rattle.board_commands.specs.Turns.{refuses}
@@ -20,11 +21,14 @@ use Rattle.entry_runs.specs.Entry.{Works}
 use Rattle.board_commands.specs.mail_board.Held.{RestsOn}
 use Rattle.board_commands.specs.mail_board.Readers.{user_id}
 use Rattle.board_commands.specs.mail_board.declared.loading.Loaded.{Loaded}
+use Rattle.board_commands.specs.mail_board.declared.loading.Loaded.TheVariants.{Ready}
 use Rattle.shelf_files.specs.ShelfFile.{file_within, rep_limit}
 use Rattle.shelf_files.specs.declared.refusal.Refusal.TheVariants.{NotMade}
-use Rattle.exchange_commands.proofs.KeptUploads.{upload_kept, upload_sure}
+use Rattle.shelf_files.specs.declared.refusal.Refusal.TheVariants as refusal
+use Rattle.exchange_commands.proofs.KeptUploads.{upload_keeps, upload_kept, upload_sure}
 use Rattle.exchange_commands.proofs.UploadExits.{no_file, on_ok, out_of_memory, some_is, unknown, works}
-use Rattle.exchange_commands.proofs.UploadBounds.{upload_within}
+use Rattle.exchange_commands.proofs.UploadBounds.{upload_bound, upload_within}
+use Rattle.exchange_commands.specs.Uploading.{upload_halt}
 use Rattle.exchange_commands.specs.Upload.{Uploads, uploaded_text, uploads}
 use Rattle.exchange_commands.proofs.uploading.upload.Goals as goal
 
@@ -158,3 +162,59 @@ returns-clause-wrote g c tells shelf_tells closed =
     (λ given. upload_within name c.args.file.now c.args.now old mid new (g.S.Shelf.files c.args.shelf.now) closed (c.find.ensures.wrote tells) (kept_board c.find.new.kept) (c.in_ok-find.ensures.state tells) held.board (ap kept_board here) him.0 him.1 bytes read given.0
     (subst (λ (o : Option ℕ). UploadsAs o bytes c.args.now held.board given.0) him.1 given.1) (gives.wrote tells given.0 given.1))
     gives.gives
+
+pub returns-in_err-find-clause-keeps : goal.returns-in_err-find-clause-keeps
+returns-in_err-find-clause-keeps g c tells =
+    let is : c.from_residual.result ≡ Err (halt_of_read c.in_err-find.field-0.0) = search rules in
+    keeps_as is (unfound_keeps c.find.new.kept c.in_err-find.field-0.0 (c.in_err-find.ensures.finds tells) (c.in_err-find.ensures.state tells))
+
+pub returns-in_err-board_in-clause-keeps : goal.returns-in_err-board_in-clause-keeps
+returns-in_err-board_in-clause-keeps g c tells =
+    let is : c.from_residual-in_err-board_in.result ≡ Err c.in_err-board_in.field-0.0 = search rules in
+    keeps_as is (refused_as c.in_err-board_in.field-0.0 NotMade c.in_err-board_in.ensures.board.0 (read_sound c.find.new.kept (g.H.Host.disk c.find.new.host) c.in_ok-find.ensures.read (c.in_ok-find.ensures.kept tells)))
+
+pub returns-in_err-look_for-clause-keeps : goal.returns-in_err-look_for-clause-keeps
+returns-in_err-look_for-clause-keeps g c tells =
+    let is : c.from_residual-in_err-look_for.result ≡ Err c.in_err-look_for.field-0.0 = search rules in
+    keeps_as is (refused_as c.in_err-look_for.field-0.0 refusal.NoUser c.in_err-look_for.ensures.0 (read_sound c.find.new.kept (g.H.Host.disk c.find.new.host) c.in_ok-find.ensures.read (c.in_ok-find.ensures.kept tells)))
+
+pub returns-in_err-bytes-clause-keeps : goal.returns-in_err-bytes-clause-keeps
+returns-in_err-bytes-clause-keeps g c tells =
+    let is : c.from_residual-in_err-bytes.result ≡ Err (of_shelf c.in_err-bytes.field-0.0) = search rules in
+    keeps_as is (unopened_keeps c.in_err-bytes.field-0.0 (read_sound c.find.new.kept (g.H.Host.disk c.find.new.host) c.in_ok-find.ensures.read (c.in_ok-find.ensures.kept tells)))
+
+pub returns-clause-keeps : goal.returns-clause-keeps
+returns-clause-keeps g c tells =
+    let held = c.in_ok-board.board in
+    let here : c.find.new.kept ≡ _ = c.in_ok-board.ensures.board in
+    let certain = subst AreSure here c.in_ok-find.ensures.sure in
+    let after = c.upload-uploaded.new.board in
+    let result = c.upload-uploaded.result in
+    let gives = c.upload-uploaded.ensures in
+    let sound = read_sound c.find.new.kept (g.H.Host.disk c.find.new.host) c.in_ok-find.ensures.read (c.in_ok-find.ensures.kept tells) in
+    keeps_as c.answered.ensures
+    (upload_keeps result (λ early. subst (λ host. IsSound (g.H.Host.disk host)) (sym (gives.unchanged early).1) sound)
+    (on_ok result (λ rests. read_sound (Some (Ready after)) (g.H.Host.disk c.upload-uploaded.new.host) tt (rests tells certain.1)) gives.rests) gives.undamaged)
+
+pub returns-in_err-find-clause-wrote_between : goal.returns-in_err-find-clause-wrote_between
+returns-in_err-find-clause-wrote_between g c tells closed sound = found_bound (g.H.Host.disk c.args.host.now) closed (g.H.Host.disk c.find.new.host) (c.find.ensures.wrote tells)
+
+pub returns-in_err-board_in-clause-wrote_between : goal.returns-in_err-board_in-clause-wrote_between
+returns-in_err-board_in-clause-wrote_between g c tells closed sound = found_bound (g.H.Host.disk c.args.host.now) closed (g.H.Host.disk c.find.new.host) (c.find.ensures.wrote tells)
+
+pub returns-in_err-look_for-clause-wrote_between : goal.returns-in_err-look_for-clause-wrote_between
+returns-in_err-look_for-clause-wrote_between g c tells closed sound = found_bound (g.H.Host.disk c.args.host.now) closed (g.H.Host.disk c.find.new.host) (c.find.ensures.wrote tells)
+
+pub returns-in_err-bytes-clause-wrote_between : goal.returns-in_err-bytes-clause-wrote_between
+returns-in_err-bytes-clause-wrote_between g c tells closed sound = found_bound (g.H.Host.disk c.args.host.now) closed (g.H.Host.disk c.find.new.host) (c.find.ensures.wrote tells)
+
+pub returns-clause-wrote_between : goal.returns-clause-wrote_between
+returns-clause-wrote_between g c tells closed sound =
+    let held = c.in_ok-board.board in
+    let here : c.find.new.kept ≡ _ = c.in_ok-board.ensures.board in
+    let certain = subst AreSure here c.in_ok-find.ensures.sure in
+    let result = c.upload-uploaded.result in
+    let gives = c.upload-uploaded.ensures in
+    upload_bound (g.H.Host.disk c.args.host.now) (g.H.Host.disk c.find.new.host) (g.H.Host.disk c.upload-uploaded.new.host) closed (c.find.ensures.wrote tells) (kept_board c.find.new.kept) (c.in_ok-find.ensures.state tells) held c.upload-uploaded.new.board (ap kept_board here)
+    (λ r. UploadGives c.args.user.now c.as_slice.result.now c.args.now held.board r) result (λ fault. sound (c.answered.ensures ∙ ap (halted upload_halt) fault)) gives.gives (λ early. ap (λ host. (g.H.Host.disk host).wrote) (gives.unchanged early).1)
+    (on_ok result (λ board. board certain.1 certain.0) gives.board) (on_ok result (λ rests. rests tells certain.1) gives.rests) (gives.wrote tells)

@@ -1,18 +1,19 @@
-use Rattle.std.proofs.Common.{rules, inl, inr, refl, sym, ◌∙◌, ap, length, arith}
+use Rattle.std.proofs.Common.{rules, ◌≡◌, inl, inr, refl, sym, ◌∙◌, ap, length, arith}
 use Rattle.std.proofs.Math.Nat.{le_trans}
 use Rattle.std.proofs.lemmas.List.{drop_all}
+use Rattle.door_outside.specs.Shelf.{Files}
 use Rattle.entry_runs.proofs.Commands.{causes_on, causes_class}
-use Rattle.entry_runs.proofs.Outcomes.{damaged_start}
 use Rattle.entry_runs.proofs.Running.{next_entry, at_next, starts, runs_on, ends_at, stops, ends, survives, survives_on, quiet_on}
 use Rattle.entry_runs.specs.Door.{touches}
 use Rattle.entry_runs.specs.Runs.{with_class}
-use Rattle.entry_runs.specs.declared.class.Class.TheVariants.{Done}
+use Rattle.entry_runs.specs.declared.class.Class.TheVariants.{Done, Damaged}
 use Rattle.board_commands.proofs.StateLaws.{some_state}
-use Rattle.board_commands.specs.State.{State, IsSpoiled, Stores}
+use Rattle.board_commands.specs.State.{State, Stores}
 use Rattle.intent_journal.specs.Recovered.{recovered}
 use Rattle.mail_cli.specs.Step.{door, entry_uses_shelf}
-use Rattle.mail_cli.proofs.EntryLaws.{lawful, only_spoiled, still_spoiled}
-use Rattle.mail_cli.proofs.CommandBounds.{one_bound}
+use Rattle.mail_cli.proofs.AnyShelf.{firm_on, rests_on, spoiled_on, stop_answered, stop_is}
+use Rattle.mail_cli.proofs.EntryLaws.{lawful}
+use Rattle.mail_cli.proofs.CommandBounds.{one_between, one_bound}
 use Rattle.mail_cli.proofs.Staying.{and_on, none_at, nothing_done}
 use Rattle.mail_cli.proofs.Wrongs.{wrong_head, not_begun, has_wrong, some_from, ends_usage, ends_damaged, quiet_usage, quiet_damaged, stopped_usage, stopped_damaged, unsaid_usage, goes_right}
 use Rattle.mail_cli.proofs.entries.run_entries.Goals as goal
@@ -25,6 +26,13 @@ loop-entry-init g c = record {
     board = record { ready = record { settled = c.requires.settled tells; calm = λ read. absurd (cc read) }; stores = stores; fits = tt };
     shelf_is = refl;
   });
+  running_any = λ none tells files state stores. starts (door c.args.now) c.args.entries.now (record {
+    board = record { ready = record { settled = c.requires.settled tells; calm = λ read. absurd (cc read) }; stores = stores; fits = tt };
+    shelf_is = refl;
+  });
+  firm = λ tells firm. firm;
+  rests = λ tells below. absurd (omega (arith, below));
+  spoiled = λ tells after. after;
   causes = search rules;
   quiet = inl refl;
   first = λ below. absurd (omega (arith, below));
@@ -33,6 +41,8 @@ loop-entry-init g c = record {
   shelf = λ none. refl;
   unbegun = λ none. (refl, refl);
   wrote = λ tells shelf_tells below. absurd (omega (arith, below));
+  wrote_any = λ none tells files below. absurd (omega (arith, below));
+  wrote_between = λ tells below. absurd (omega (arith, below));
 }
 
 pub returns-in-Err-clause-leaves : goal.returns-in-Err-clause-leaves
@@ -54,8 +64,20 @@ returns-in-Err-clause-later g c tells shelf_tells =
     let running = at_next (door c.args.now) more (c.loop-entry.invariant.running tells shelf_tells at.0 at.1) in
     le_trans running.moments.later (c.perform.ensures.performs tells shelf_tells running.outcome.world running.at).moments.later
 
+pub returns-in-Err-clause-firm : goal.returns-in-Err-clause-firm
+returns-in-Err-clause-firm g c tells sound firm =
+    firm_on (touches (door c.args.now) c.entry-item.result) (λ on. c.in-Err.ensures.keeps on tells) (λ off. c.perform.ensures.files_stay off tells) (stop_is c.status.ensures sound) (c.loop-entry.invariant.firm tells firm)
+
+pub returns-in-Err-clause-rests : goal.returns-in-Err-clause-rests
+returns-in-Err-clause-rests g c tells answered begins =
+    let more = next_entry c.args.entries.now c.loop-entry.entry-index c.entry-item.result (omega arith) c.entry-item.is in
+    rests_on c.args.now c.loop-entry.entry-index more (c.loop-entry.invariant.rests tells) (λ on. c.in-Err.ensures.keeps on tells) (λ off. c.perform.ensures.files_stay off tells) (stop_answered c.in-Err.stop c.status.ensures answered) begins
+
+pub returns-in-Err-clause-damaged_rests : goal.returns-in-Err-clause-damaged_rests
+returns-in-Err-clause-damaged_rests g c tells is = stopped_damaged c.in-Err.stop (sym c.status.ensures ∙ is)
+
 pub returns-in-Err-clause-damaged : goal.returns-in-Err-clause-damaged
-returns-in-Err-clause-damaged g c tells shelf_tells state stores is = stopped_damaged c.in-Err.stop (sym c.status.ensures ∙ is)
+returns-in-Err-clause-damaged g c tells is = stopped_damaged c.in-Err.stop (sym c.status.ensures ∙ is)
 
 pub returns-in-Err-clause-touched : goal.returns-in-Err-clause-touched
 returns-in-Err-clause-touched g c is = stopped_damaged c.in-Err.stop (sym c.status.ensures ∙ is)
@@ -105,12 +127,24 @@ returns-then-is_last-clause-later g c tells shelf_tells =
     let running = at_next (door c.args.now) more (c.loop-entry.invariant.running tells shelf_tells at.0 at.1) in
     le_trans running.moments.later (c.perform.ensures.performs tells shelf_tells running.outcome.world running.at).moments.later
 
-pub returns-then-is_last-clause-damaged : goal.returns-then-is_last-clause-damaged
-returns-then-is_last-clause-damaged g c tells shelf_tells state stores =
+pub returns-then-is_last-clause-firm : goal.returns-then-is_last-clause-firm
+returns-then-is_last-clause-firm g c tells sound firm =
+    firm_on (touches (door c.args.now) c.entry-item.result) (λ on. c.in-Ok.ensures.keeps on tells) (λ off. c.perform.ensures.files_stay off tells) (λ fault. absurd (cc fault)) (c.loop-entry.invariant.firm tells firm)
+
+pub returns-then-is_last-clause-rests : goal.returns-then-is_last-clause-rests
+returns-then-is_last-clause-rests g c tells answered begins =
     let more = next_entry c.args.entries.now c.loop-entry.entry-index c.entry-item.result (omega arith) c.entry-item.is in
-    let running = at_next (door c.args.now) more (c.loop-entry.invariant.running tells shelf_tells state stores) in
-    damaged_start (door c.args.now) IsSpoiled (only_spoiled c.args.now) (still_spoiled c.args.now) c.after-status.ensures
-    (inl (ends_at (door c.args.now) (lawful c.args.now) running (c.in-Ok.ensures.performs tells shelf_tells running.outcome.world running.at) (sym c.is_last.ensures ∙ c.if-is_last.true)))
+    rests_on c.args.now c.loop-entry.entry-index more (c.loop-entry.invariant.rests tells) (λ on. c.in-Ok.ensures.keeps on tells) (λ off. c.perform.ensures.files_stay off tells) tt begins
+
+pub returns-then-is_last-clause-damaged_rests : goal.returns-then-is_last-clause-damaged_rests
+returns-then-is_last-clause-damaged_rests g c tells is =
+    let damaged : c.in-Ok.class ≡ Damaged = ends_damaged c.loop-entry.status c.in-Ok.class c.loop-entry.invariant.quiet (sym c.after-status.ensures ∙ is) in
+    (c.in-Ok.ensures.keeps (c.in-Ok.ensures.damaged damaged) tells).rests tt
+
+pub returns-then-is_last-clause-damaged : goal.returns-then-is_last-clause-damaged
+returns-then-is_last-clause-damaged g c tells is =
+    let damaged : c.in-Ok.class ≡ Damaged = ends_damaged c.loop-entry.status c.in-Ok.class c.loop-entry.invariant.quiet (sym c.after-status.ensures ∙ is) in
+    c.loop-entry.invariant.spoiled tells ((c.in-Ok.ensures.keeps (c.in-Ok.ensures.damaged damaged) tells).only_spoiled damaged)
 
 pub returns-then-is_last-clause-touched : goal.returns-then-is_last-clause-touched
 returns-then-is_last-clause-touched g c is =
@@ -159,8 +193,17 @@ returns-clause-later g c tells shelf_tells =
     let at : (state : State) × Stores state (recovered (g.H.Host.disk c.args.host.now).files) = some_state (recovered (g.H.Host.disk c.args.host.now).files) in
     (c.loop-entry.invariant.running tells shelf_tells at.0 at.1).moments.later
 
+pub returns-clause-firm : goal.returns-clause-firm
+returns-clause-firm g c tells sound firm = c.loop-entry.invariant.firm tells firm
+
+pub returns-clause-rests : goal.returns-clause-rests
+returns-clause-rests g c tells answered begins = c.loop-entry.invariant.rests tells (omega (arith, ap length begins.2)) begins
+
+pub returns-clause-damaged_rests : goal.returns-clause-damaged_rests
+returns-clause-damaged_rests g c tells is = quiet_damaged c.loop-entry.invariant.quiet is
+
 pub returns-clause-damaged : goal.returns-clause-damaged
-returns-clause-damaged g c tells shelf_tells state stores is = quiet_damaged c.loop-entry.invariant.quiet is
+returns-clause-damaged g c tells is = quiet_damaged c.loop-entry.invariant.quiet is
 
 pub returns-clause-touched : goal.returns-clause-touched
 returns-clause-touched g c is = quiet_damaged c.loop-entry.invariant.quiet is
@@ -191,6 +234,16 @@ loop-entry-preserved g c = record {
       let more = next_entry c.args.entries.now c.loop-entry.entry-index c.entry-item.result (omega arith) c.entry-item.is in
       let running = at_next (door c.args.now) more (c.loop-entry.invariant.running tells shelf_tells state stores) in
       rw c.after-status.ensures (runs_on (door c.args.now) (lawful c.args.now) running (c.in-Ok.ensures.performs tells shelf_tells running.outcome.world running.at) (sym c.is_last.ensures ∙ c.if-is_last.false));
+  running_any = λ none tells files state stores.
+      let more = next_entry c.args.entries.now c.loop-entry.entry-index c.entry-item.result (omega arith) c.entry-item.is in
+      let off = none_at entry_uses_shelf c.args.entries.now _ c.entry-item.result c.loop-entry.entry-index more none in
+      let running = at_next (door c.args.now) more (c.loop-entry.invariant.running_any none tells files state stores) in
+      rw c.after-status.ensures (runs_on (door c.args.now) (lawful c.args.now) running (c.in-Ok.ensures.performs_any off tells files running.outcome.world running.at) (sym c.is_last.ensures ∙ c.if-is_last.false));
+  firm = λ tells firm. firm_on (touches (door c.args.now) c.entry-item.result) (λ on. c.in-Ok.ensures.keeps on tells) (λ off. c.perform.ensures.files_stay off tells) (λ fault. absurd (cc fault)) (c.loop-entry.invariant.firm tells firm);
+  rests = λ tells below begins.
+      let more = next_entry c.args.entries.now c.loop-entry.entry-index c.entry-item.result (omega arith) c.entry-item.is in
+      rests_on c.args.now c.loop-entry.entry-index more (c.loop-entry.invariant.rests tells) (λ on. c.in-Ok.ensures.keeps on tells) (λ off. c.perform.ensures.files_stay off tells) tt begins;
+  spoiled = λ tells after. c.loop-entry.invariant.spoiled tells (spoiled_on (touches (door c.args.now) c.entry-item.result) (λ on. c.in-Ok.ensures.keeps on tells) (λ off. c.perform.ensures.files_stay off tells) after);
   causes = causes_on c.loop-entry.invariant.causes c.in-Ok.ensures.causes;
   quiet = rw c.after-status.ensures (quiet_on c.loop-entry.status c.in-Ok.class c.loop-entry.invariant.quiet (sym c.is_last.ensures ∙ c.if-is_last.false));
   first =
@@ -210,6 +263,13 @@ loop-entry-preserved g c = record {
   wrote = λ tells shelf_tells below.
       let more = next_entry c.args.entries.now c.loop-entry.entry-index c.entry-item.result (omega arith) c.entry-item.is in
       one_bound c.args.now g.H.Host.disk g.S.Shelf.files c.args.entries.now _ c.entry-item.result c.loop-entry.entry-index more c.loop-entry.invariant.unbegun c.perform.new.host (c.perform.ensures.wrote tells shelf_tells);
+  wrote_any = λ none tells files below.
+      let more = next_entry c.args.entries.now c.loop-entry.entry-index c.entry-item.result (omega arith) c.entry-item.is in
+      let off = none_at entry_uses_shelf c.args.entries.now _ c.entry-item.result c.loop-entry.entry-index more none in
+      one_bound c.args.now g.H.Host.disk (λ (shelf : Files). shelf) c.args.entries.now _ c.entry-item.result c.loop-entry.entry-index more (λ first. ((c.loop-entry.invariant.unbegun first).0, refl)) c.perform.new.host (c.perform.ensures.wrote_any off tells files);
+  wrote_between = λ tells below.
+      let more = next_entry c.args.entries.now c.loop-entry.entry-index c.entry-item.result (omega arith) c.entry-item.is in
+      one_between c.args.now g.H.Host.disk c.args.entries.now _ c.entry-item.result c.loop-entry.entry-index more (λ first. (c.loop-entry.invariant.unbegun first).0) c.perform.new.host (c.in-Ok.ensures.wrote_between tells (λ fault. absurd (cc fault)));
 }
 
 pub returns-in-Err-clause-wrote : goal.returns-in-Err-clause-wrote
@@ -224,3 +284,90 @@ returns-then-is_last-clause-wrote g c tells shelf_tells =
 
 pub returns-clause-wrote : goal.returns-clause-wrote
 returns-clause-wrote g c tells shelf_tells = λ other is. c.loop-entry.invariant.wrote tells shelf_tells (omega (arith, ap length is)) other is
+
+-- ---- where no entry names a file of the shelf
+pub returns-in-Err-clause-leaves_any : goal.returns-in-Err-clause-leaves_any
+returns-in-Err-clause-leaves_any g c none tells files state stores =
+    let more = next_entry c.args.entries.now c.loop-entry.entry-index c.entry-item.result (omega arith) c.entry-item.is in
+    let off = none_at entry_uses_shelf c.args.entries.now _ c.entry-item.result c.loop-entry.entry-index more none in
+    let running = at_next (door c.args.now) more (c.loop-entry.invariant.running_any none tells files state stores) in
+    rw c.status.ensures (inr (stops (door c.args.now) (lawful c.args.now) running (c.in-Err.ensures.performs_any off tells files running.outcome.world running.at)))
+
+pub returns-in-Err-clause-survives_any : goal.returns-in-Err-clause-survives_any
+returns-in-Err-clause-survives_any g c none tells files state stores =
+    let more = next_entry c.args.entries.now c.loop-entry.entry-index c.entry-item.result (omega arith) c.entry-item.is in
+    let off = none_at entry_uses_shelf c.args.entries.now _ c.entry-item.result c.loop-entry.entry-index more none in
+    let running = at_next (door c.args.now) more (c.loop-entry.invariant.running_any none tells files state stores) in
+    survives_on (door c.args.now) (lawful c.args.now) running (c.perform.ensures.performs_any off tells files running.outcome.world running.at) stores
+
+pub returns-in-Err-clause-later_any : goal.returns-in-Err-clause-later_any
+returns-in-Err-clause-later_any g c none tells =
+    let at : (state : State) × Stores state (recovered (g.H.Host.disk c.args.host.now).files) = some_state (recovered (g.H.Host.disk c.args.host.now).files) in
+    let more = next_entry c.args.entries.now c.loop-entry.entry-index c.entry-item.result (omega arith) c.entry-item.is in
+    let off = none_at entry_uses_shelf c.args.entries.now _ c.entry-item.result c.loop-entry.entry-index more none in
+    let running = at_next (door c.args.now) more (c.loop-entry.invariant.running_any none tells (g.S.Shelf.files c.args.shelf.now) at.0 at.1) in
+    le_trans running.moments.later (c.in-Err.ensures.performs_any off tells (g.S.Shelf.files c.args.shelf.now) running.outcome.world running.at).moments.later
+
+pub returns-in-Err-clause-wrote_any : goal.returns-in-Err-clause-wrote_any
+returns-in-Err-clause-wrote_any g c none tells files =
+    let more = next_entry c.args.entries.now c.loop-entry.entry-index c.entry-item.result (omega arith) c.entry-item.is in
+    let off = none_at entry_uses_shelf c.args.entries.now _ c.entry-item.result c.loop-entry.entry-index more none in
+    one_bound c.args.now g.H.Host.disk (λ (shelf : Files). shelf) c.args.entries.now _ c.entry-item.result c.loop-entry.entry-index more (λ first. ((c.loop-entry.invariant.unbegun first).0, refl)) c.perform.new.host (c.perform.ensures.wrote_any off tells files)
+
+pub returns-then-is_last-clause-leaves_any : goal.returns-then-is_last-clause-leaves_any
+returns-then-is_last-clause-leaves_any g c none tells files state stores =
+    let more = next_entry c.args.entries.now c.loop-entry.entry-index c.entry-item.result (omega arith) c.entry-item.is in
+    let off = none_at entry_uses_shelf c.args.entries.now _ c.entry-item.result c.loop-entry.entry-index more none in
+    let running = at_next (door c.args.now) more (c.loop-entry.invariant.running_any none tells files state stores) in
+    rw c.after-status.ensures (inl (ends_at (door c.args.now) (lawful c.args.now) running (c.in-Ok.ensures.performs_any off tells files running.outcome.world running.at) (sym c.is_last.ensures ∙ c.if-is_last.true)))
+
+pub returns-then-is_last-clause-survives_any : goal.returns-then-is_last-clause-survives_any
+returns-then-is_last-clause-survives_any g c none tells files state stores =
+    let more = next_entry c.args.entries.now c.loop-entry.entry-index c.entry-item.result (omega arith) c.entry-item.is in
+    let off = none_at entry_uses_shelf c.args.entries.now _ c.entry-item.result c.loop-entry.entry-index more none in
+    let running = at_next (door c.args.now) more (c.loop-entry.invariant.running_any none tells files state stores) in
+    survives_on (door c.args.now) (lawful c.args.now) running (c.perform.ensures.performs_any off tells files running.outcome.world running.at) stores
+
+pub returns-then-is_last-clause-later_any : goal.returns-then-is_last-clause-later_any
+returns-then-is_last-clause-later_any g c none tells =
+    let at : (state : State) × Stores state (recovered (g.H.Host.disk c.args.host.now).files) = some_state (recovered (g.H.Host.disk c.args.host.now).files) in
+    let more = next_entry c.args.entries.now c.loop-entry.entry-index c.entry-item.result (omega arith) c.entry-item.is in
+    let off = none_at entry_uses_shelf c.args.entries.now _ c.entry-item.result c.loop-entry.entry-index more none in
+    let running = at_next (door c.args.now) more (c.loop-entry.invariant.running_any none tells (g.S.Shelf.files c.args.shelf.now) at.0 at.1) in
+    le_trans running.moments.later (c.in-Ok.ensures.performs_any off tells (g.S.Shelf.files c.args.shelf.now) running.outcome.world running.at).moments.later
+
+pub returns-then-is_last-clause-wrote_any : goal.returns-then-is_last-clause-wrote_any
+returns-then-is_last-clause-wrote_any g c none tells files =
+    let more = next_entry c.args.entries.now c.loop-entry.entry-index c.entry-item.result (omega arith) c.entry-item.is in
+    let off = none_at entry_uses_shelf c.args.entries.now _ c.entry-item.result c.loop-entry.entry-index more none in
+    one_bound c.args.now g.H.Host.disk (λ (shelf : Files). shelf) c.args.entries.now _ c.entry-item.result c.loop-entry.entry-index more (λ first. ((c.loop-entry.invariant.unbegun first).0, refl)) c.perform.new.host (c.perform.ensures.wrote_any off tells files)
+
+pub returns-clause-leaves_any : goal.returns-clause-leaves_any
+returns-clause-leaves_any g c none tells files state stores =
+    inl (ends (door c.args.now) (lawful c.args.now) (drop_all c.loop-entry.entry-index c.args.entries.now (omega arith)) (c.loop-entry.invariant.running_any none tells files state stores))
+
+pub returns-clause-survives_any : goal.returns-clause-survives_any
+returns-clause-survives_any g c none tells files state stores =
+    survives (door c.args.now) (lawful c.args.now) stores (c.loop-entry.invariant.running_any none tells files state stores)
+
+pub returns-clause-later_any : goal.returns-clause-later_any
+returns-clause-later_any g c none tells =
+    let at : (state : State) × Stores state (recovered (g.H.Host.disk c.args.host.now).files) = some_state (recovered (g.H.Host.disk c.args.host.now).files) in
+    (c.loop-entry.invariant.running_any none tells (g.S.Shelf.files c.args.shelf.now) at.0 at.1).moments.later
+
+pub returns-clause-wrote_any : goal.returns-clause-wrote_any
+returns-clause-wrote_any g c none tells files = λ other is. c.loop-entry.invariant.wrote_any none tells files (omega (arith, ap length is)) other is
+
+-- ---- what is written, whatever the shelf holds
+pub returns-in-Err-clause-wrote_between : goal.returns-in-Err-clause-wrote_between
+returns-in-Err-clause-wrote_between g c tells sound =
+    let more = next_entry c.args.entries.now c.loop-entry.entry-index c.entry-item.result (omega arith) c.entry-item.is in
+    one_between c.args.now g.H.Host.disk c.args.entries.now _ c.entry-item.result c.loop-entry.entry-index more (λ first. (c.loop-entry.invariant.unbegun first).0) c.perform.new.host (c.in-Err.ensures.wrote_between tells (stop_is c.status.ensures sound))
+
+pub returns-then-is_last-clause-wrote_between : goal.returns-then-is_last-clause-wrote_between
+returns-then-is_last-clause-wrote_between g c tells sound =
+    let more = next_entry c.args.entries.now c.loop-entry.entry-index c.entry-item.result (omega arith) c.entry-item.is in
+    one_between c.args.now g.H.Host.disk c.args.entries.now _ c.entry-item.result c.loop-entry.entry-index more (λ first. (c.loop-entry.invariant.unbegun first).0) c.perform.new.host (c.in-Ok.ensures.wrote_between tells (λ fault. absurd (cc fault)))
+
+pub returns-clause-wrote_between : goal.returns-clause-wrote_between
+returns-clause-wrote_between g c tells sound = λ other is. c.loop-entry.invariant.wrote_between tells (omega (arith, ap length is)) other is

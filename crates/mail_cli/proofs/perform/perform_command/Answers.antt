@@ -1,3 +1,6 @@
+use Rattle.std.proofs.Common.{refl}
+use Rattle.door_commands.specs.declared.command.Command.TheVariants as command
+use Rattle.door_commands.specs.declared.entry.Entry.TheVariants.{Run}
 use Rattle.entry_runs.proofs.Commands.{serves}
 use Rattle.entry_runs.proofs.Entries.{performs_as_said}
 use Rattle.board_commands.specs.State.{Stores}
@@ -6,8 +9,10 @@ use Rattle.packet_commands.specs.Read.{reads, shows}
 use Rattle.packet_commands.specs.Scan.{count_line, scans}
 use Rattle.reply_commands.specs.Compose.{composed_line, composes}
 use Rattle.reply_commands.specs.Reply.{replies, reply_line}
+use Rattle.mail_cli.proofs.AnyShelf.{at_some, performed_keeps, said_between, said_keeps}
 use Rattle.mail_cli.proofs.Arms.{may_be_damaged, never_damaged, shelf_causes, spoken_kept}
 use Rattle.mail_cli.proofs.CommandBounds.{spoken_bound}
+use Rattle.mail_cli.proofs.EntryLaws.{entry_keeps_state}
 use Rattle.mail_cli.proofs.Staying.{spoken_only}
 use Rattle.mail_cli.proofs.perform.perform_command.Goals as goal
 
@@ -124,6 +129,17 @@ returns-in-Scan-clause-wrote g c tells shelf_tells = rw c.in-Scan.is (λ posts c
 pub returns-in-Ack-clause-performs : goal.returns-in-Ack-clause-performs
 returns-in-Ack-clause-performs g c tells shelf_tells world at = rw (c.in-Ack.is, ← c.as_slice.ensures.same) (performs_as_said Stores _ g.H.Host.disk _ (c.ack.ensures.works tells world _ at) (c.say_told.ensures.spoken tells))
 
+pub returns-in-Ack-clause-performs_any : goal.returns-in-Ack-clause-performs_any
+returns-in-Ack-clause-performs_any g c off tells files world at = rw (c.in-Ack.is, ← c.as_slice.ensures.same) (performs_as_said Stores _ g.H.Host.disk _ (c.ack.ensures.works tells world _ at) (c.say_told.ensures.spoken tells))
+
+pub returns-in-Ack-clause-wrote_any : goal.returns-in-Ack-clause-wrote_any
+returns-in-Ack-clause-wrote_any g c off tells files = rw c.in-Ack.is (λ posts closed. absurd posts)
+
+pub returns-in-Ack-clause-keeps : goal.returns-in-Ack-clause-keeps
+returns-in-Ack-clause-keeps g c on tells =
+    let at = at_some (g.H.Host.disk c.args.host.now) c.args.kept.now (g.S.Shelf.files c.args.shelf.now) (c.requires.kept tells) in
+    performed_keeps c.say_told.result (entry_keeps_state c.args.now (Run (command.Ack c.as_slice.result.now c.in-Ack.packet))) refl at (performs_as_said Stores _ g.H.Host.disk _ (c.ack.ensures.works tells _ _ at) (c.say_told.ensures.spoken tells))
+
 pub returns-in-Ack-clause-causes : goal.returns-in-Ack-clause-causes
 returns-in-Ack-clause-causes g c = c.say_told.ensures.causes _ _ (c.ack.ensures.causes _)
 
@@ -138,6 +154,9 @@ returns-in-Ack-clause-wrote g c tells shelf_tells = rw c.in-Ack.is (λ posts clo
 
 pub returns-in-Adopt-clause-performs : goal.returns-in-Adopt-clause-performs
 returns-in-Adopt-clause-performs g c tells shelf_tells world at = rw (c.in-Adopt.is, ← c.as_slice-in-Adopt.ensures.same) (performs_as_said Stores _ g.H.Host.disk _ (c.adopt.ensures.works tells shelf_tells world at) (c.say_told-in-Adopt.ensures.spoken tells))
+
+pub returns-in-Adopt-clause-keeps : goal.returns-in-Adopt-clause-keeps
+returns-in-Adopt-clause-keeps g c on tells = said_keeps g.H.Host.disk (g.H.Host.disk c.args.host.now) _ _ _ c.say_told-in-Adopt.result c.adopt.result (c.say_told-in-Adopt.ensures.spoken tells) (c.adopt.ensures.keeps tells)
 
 pub returns-in-Adopt-clause-causes : goal.returns-in-Adopt-clause-causes
 returns-in-Adopt-clause-causes g c = c.say_told-in-Adopt.ensures.causes _ _ c.adopt.ensures.causes
@@ -155,6 +174,17 @@ returns-in-Adopt-clause-wrote g c tells shelf_tells = spoken_bound c.args.now c.
 pub returns-in-Check-clause-performs : goal.returns-in-Check-clause-performs
 returns-in-Check-clause-performs g c tells shelf_tells world at = rw c.in-Check.is (performs_as_said Stores _ g.H.Host.disk _ (c.check.ensures.works tells world _ at) (c.say_told-in-Check.ensures.spoken tells))
 
+pub returns-in-Check-clause-performs_any : goal.returns-in-Check-clause-performs_any
+returns-in-Check-clause-performs_any g c off tells files world at = rw c.in-Check.is (performs_as_said Stores _ g.H.Host.disk _ (c.check.ensures.works tells world _ at) (c.say_told-in-Check.ensures.spoken tells))
+
+pub returns-in-Check-clause-wrote_any : goal.returns-in-Check-clause-wrote_any
+returns-in-Check-clause-wrote_any g c off tells files = rw c.in-Check.is (λ posts closed. absurd posts)
+
+pub returns-in-Check-clause-keeps : goal.returns-in-Check-clause-keeps
+returns-in-Check-clause-keeps g c on tells =
+    let at = at_some (g.H.Host.disk c.args.host.now) c.args.kept.now (g.S.Shelf.files c.args.shelf.now) (c.requires.kept tells) in
+    performed_keeps c.say_told-in-Check.result (entry_keeps_state c.args.now (Run (command.Check))) refl at (performs_as_said Stores _ g.H.Host.disk _ (c.check.ensures.works tells _ _ at) (c.say_told-in-Check.ensures.spoken tells))
+
 pub returns-in-Check-clause-causes : goal.returns-in-Check-clause-causes
 returns-in-Check-clause-causes g c = c.say_told-in-Check.ensures.causes _ _ (c.check.ensures.causes _)
 
@@ -169,6 +199,17 @@ returns-in-Check-clause-wrote g c tells shelf_tells = rw c.in-Check.is (λ posts
 
 pub returns-in-Enroll-clause-performs : goal.returns-in-Enroll-clause-performs
 returns-in-Enroll-clause-performs g c tells shelf_tells world at = rw (c.in-Enroll.is, ← c.as_slice-in-Enroll.ensures.same, ← c.as_slice-in-Enroll-2.ensures.same, ← c.as_slice-in-Enroll-3.ensures.same) (performs_as_said Stores _ g.H.Host.disk _ (c.enroll.ensures.works tells world _ at) (c.say_told-in-Enroll.ensures.spoken tells))
+
+pub returns-in-Enroll-clause-performs_any : goal.returns-in-Enroll-clause-performs_any
+returns-in-Enroll-clause-performs_any g c off tells files world at = rw (c.in-Enroll.is, ← c.as_slice-in-Enroll.ensures.same, ← c.as_slice-in-Enroll-2.ensures.same, ← c.as_slice-in-Enroll-3.ensures.same) (performs_as_said Stores _ g.H.Host.disk _ (c.enroll.ensures.works tells world _ at) (c.say_told-in-Enroll.ensures.spoken tells))
+
+pub returns-in-Enroll-clause-wrote_any : goal.returns-in-Enroll-clause-wrote_any
+returns-in-Enroll-clause-wrote_any g c off tells files = rw c.in-Enroll.is (λ posts closed. absurd posts)
+
+pub returns-in-Enroll-clause-keeps : goal.returns-in-Enroll-clause-keeps
+returns-in-Enroll-clause-keeps g c on tells =
+    let at = at_some (g.H.Host.disk c.args.host.now) c.args.kept.now (g.S.Shelf.files c.args.shelf.now) (c.requires.kept tells) in
+    performed_keeps c.say_told-in-Enroll.result (entry_keeps_state c.args.now (Run (command.Enroll c.as_slice-in-Enroll.result.now c.as_slice-in-Enroll-2.result.now c.as_slice-in-Enroll-3.result.now))) refl at (performs_as_said Stores _ g.H.Host.disk _ (c.enroll.ensures.works tells _ _ at) (c.say_told-in-Enroll.ensures.spoken tells))
 
 pub returns-in-Enroll-clause-causes : goal.returns-in-Enroll-clause-causes
 returns-in-Enroll-clause-causes g c = c.say_told-in-Enroll.ensures.causes _ _ (c.enroll.ensures.causes _)
@@ -185,6 +226,9 @@ returns-in-Enroll-clause-wrote g c tells shelf_tells = rw c.in-Enroll.is (λ pos
 pub returns-in-Export-clause-performs : goal.returns-in-Export-clause-performs
 returns-in-Export-clause-performs g c tells shelf_tells world at = rw (c.in-Export.is, ← c.as_slice-in-Export.ensures.same) (performs_as_said Stores _ g.H.Host.disk _ (c.export.ensures.works tells shelf_tells world at) (c.say_told-in-Export.ensures.spoken tells))
 
+pub returns-in-Export-clause-keeps : goal.returns-in-Export-clause-keeps
+returns-in-Export-clause-keeps g c on tells = said_keeps g.H.Host.disk (g.H.Host.disk c.args.host.now) _ _ _ c.say_told-in-Export.result c.export.result (c.say_told-in-Export.ensures.spoken tells) (c.export.ensures.keeps tells)
+
 pub returns-in-Export-clause-causes : goal.returns-in-Export-clause-causes
 returns-in-Export-clause-causes g c = c.say_told-in-Export.ensures.causes _ _ c.export.ensures.causes
 
@@ -199,6 +243,9 @@ returns-in-Export-clause-wrote g c tells shelf_tells = rw c.in-Export.is (λ pos
 
 pub returns-in-Import-clause-performs : goal.returns-in-Import-clause-performs
 returns-in-Import-clause-performs g c tells shelf_tells world at = rw c.in-Import.is (performs_as_said Stores _ g.H.Host.disk _ (c.import.ensures.works tells shelf_tells world at) (c.say_told-in-Import.ensures.spoken tells))
+
+pub returns-in-Import-clause-keeps : goal.returns-in-Import-clause-keeps
+returns-in-Import-clause-keeps g c on tells = said_keeps g.H.Host.disk (g.H.Host.disk c.args.host.now) _ _ _ c.say_told-in-Import.result c.import.result (c.say_told-in-Import.ensures.spoken tells) (c.import.ensures.keeps tells)
 
 pub returns-in-Import-clause-causes : goal.returns-in-Import-clause-causes
 returns-in-Import-clause-causes g c = c.say_told-in-Import.ensures.causes _ _ c.import.ensures.causes
@@ -216,6 +263,9 @@ returns-in-Import-clause-wrote g c tells shelf_tells = spoken_bound c.args.now c
 pub returns-in-Init-clause-performs : goal.returns-in-Init-clause-performs
 returns-in-Init-clause-performs g c tells shelf_tells world at = rw c.in-Init.is (performs_as_said Stores _ g.H.Host.disk _ (c.init.ensures.works tells shelf_tells world at) (c.say_told-in-Init.ensures.spoken tells))
 
+pub returns-in-Init-clause-keeps : goal.returns-in-Init-clause-keeps
+returns-in-Init-clause-keeps g c on tells = said_keeps g.H.Host.disk (g.H.Host.disk c.args.host.now) _ _ _ c.say_told-in-Init.result c.init.result (c.say_told-in-Init.ensures.spoken tells) (c.init.ensures.keeps tells)
+
 pub returns-in-Init-clause-causes : goal.returns-in-Init-clause-causes
 returns-in-Init-clause-causes g c = c.say_told-in-Init.ensures.causes _ _ c.init.ensures.causes
 
@@ -230,6 +280,17 @@ returns-in-Init-clause-wrote g c tells shelf_tells = rw c.in-Init.is (λ posts c
 
 pub returns-in-Kill-clause-performs : goal.returns-in-Kill-clause-performs
 returns-in-Kill-clause-performs g c tells shelf_tells world at = rw c.in-Kill.is (performs_as_said Stores _ g.H.Host.disk _ (c.kill.ensures.works tells world _ at) (c.say_told-in-Kill.ensures.spoken tells))
+
+pub returns-in-Kill-clause-performs_any : goal.returns-in-Kill-clause-performs_any
+returns-in-Kill-clause-performs_any g c off tells files world at = rw c.in-Kill.is (performs_as_said Stores _ g.H.Host.disk _ (c.kill.ensures.works tells world _ at) (c.say_told-in-Kill.ensures.spoken tells))
+
+pub returns-in-Kill-clause-wrote_any : goal.returns-in-Kill-clause-wrote_any
+returns-in-Kill-clause-wrote_any g c off tells files = rw c.in-Kill.is (λ posts closed. absurd posts)
+
+pub returns-in-Kill-clause-keeps : goal.returns-in-Kill-clause-keeps
+returns-in-Kill-clause-keeps g c on tells =
+    let at = at_some (g.H.Host.disk c.args.host.now) c.args.kept.now (g.S.Shelf.files c.args.shelf.now) (c.requires.kept tells) in
+    performed_keeps c.say_told-in-Kill.result (entry_keeps_state c.args.now (Run (command.Kill c.in-Kill.conference c.in-Kill.number))) refl at (performs_as_said Stores _ g.H.Host.disk _ (c.kill.ensures.works tells _ _ at) (c.say_told-in-Kill.ensures.spoken tells))
 
 pub returns-in-Kill-clause-causes : goal.returns-in-Kill-clause-causes
 returns-in-Kill-clause-causes g c = c.say_told-in-Kill.ensures.causes _ _ (c.kill.ensures.causes _)
@@ -246,6 +307,17 @@ returns-in-Kill-clause-wrote g c tells shelf_tells = rw c.in-Kill.is (λ posts c
 pub returns-in-Pack-clause-performs : goal.returns-in-Pack-clause-performs
 returns-in-Pack-clause-performs g c tells shelf_tells world at = rw c.in-Pack.is (performs_as_said Stores _ g.H.Host.disk _ (c.pack.ensures.works tells world _ at) (c.say_told-in-Pack.ensures.spoken tells))
 
+pub returns-in-Pack-clause-performs_any : goal.returns-in-Pack-clause-performs_any
+returns-in-Pack-clause-performs_any g c off tells files world at = rw c.in-Pack.is (performs_as_said Stores _ g.H.Host.disk _ (c.pack.ensures.works tells world _ at) (c.say_told-in-Pack.ensures.spoken tells))
+
+pub returns-in-Pack-clause-wrote_any : goal.returns-in-Pack-clause-wrote_any
+returns-in-Pack-clause-wrote_any g c off tells files = rw c.in-Pack.is (λ posts closed. absurd posts)
+
+pub returns-in-Pack-clause-keeps : goal.returns-in-Pack-clause-keeps
+returns-in-Pack-clause-keeps g c on tells =
+    let at = at_some (g.H.Host.disk c.args.host.now) c.args.kept.now (g.S.Shelf.files c.args.shelf.now) (c.requires.kept tells) in
+    performed_keeps c.say_told-in-Pack.result (entry_keeps_state c.args.now (Run (command.Pack c.in-Pack.conference))) refl at (performs_as_said Stores _ g.H.Host.disk _ (c.pack.ensures.works tells _ _ at) (c.say_told-in-Pack.ensures.spoken tells))
+
 pub returns-in-Pack-clause-causes : goal.returns-in-Pack-clause-causes
 returns-in-Pack-clause-causes g c = c.say_told-in-Pack.ensures.causes _ _ (c.pack.ensures.causes _)
 
@@ -260,6 +332,18 @@ returns-in-Pack-clause-wrote g c tells shelf_tells = rw c.in-Pack.is (λ posts c
 
 pub returns-in-Sample-clause-performs : goal.returns-in-Sample-clause-performs
 returns-in-Sample-clause-performs g c tells shelf_tells world at = rw c.in-Sample.is (performs_as_said Stores _ g.H.Host.disk _ (c.sample.ensures.works tells world _ at) (c.say_told-in-Sample.ensures.spoken tells))
+
+pub returns-in-Sample-clause-performs_any : goal.returns-in-Sample-clause-performs_any
+returns-in-Sample-clause-performs_any g c off tells files world at = rw c.in-Sample.is (performs_as_said Stores _ g.H.Host.disk _ (c.sample.ensures.works tells world _ at) (c.say_told-in-Sample.ensures.spoken tells))
+
+pub returns-in-Sample-clause-wrote_any : goal.returns-in-Sample-clause-wrote_any
+returns-in-Sample-clause-wrote_any g c off tells files = spoken_bound c.args.now c.args.command.now g.H.Host.disk (g.H.Host.disk c.args.host.now) files _ _ (c.say_told-in-Sample.ensures.spoken tells)
+    (rw c.in-Sample.is (λ posts closed. c.sample.ensures.wrote tells closed _))
+
+pub returns-in-Sample-clause-keeps : goal.returns-in-Sample-clause-keeps
+returns-in-Sample-clause-keeps g c on tells =
+    let at = at_some (g.H.Host.disk c.args.host.now) c.args.kept.now (g.S.Shelf.files c.args.shelf.now) (c.requires.kept tells) in
+    performed_keeps c.say_told-in-Sample.result (entry_keeps_state c.args.now (Run (command.Sample c.in-Sample.seed c.in-Sample.count))) refl at (performs_as_said Stores _ g.H.Host.disk _ (c.sample.ensures.works tells _ _ at) (c.say_told-in-Sample.ensures.spoken tells))
 
 pub returns-in-Sample-clause-causes : goal.returns-in-Sample-clause-causes
 returns-in-Sample-clause-causes g c = c.say_told-in-Sample.ensures.causes _ _ (c.sample.ensures.causes _)
@@ -277,6 +361,9 @@ returns-in-Sample-clause-wrote g c tells shelf_tells = spoken_bound c.args.now c
 pub returns-in-Toss-clause-performs : goal.returns-in-Toss-clause-performs
 returns-in-Toss-clause-performs g c tells shelf_tells world at = rw c.in-Toss.is (performs_as_said Stores _ g.H.Host.disk _ (c.toss.ensures.works tells shelf_tells world at) (c.say_told-in-Toss.ensures.spoken tells))
 
+pub returns-in-Toss-clause-keeps : goal.returns-in-Toss-clause-keeps
+returns-in-Toss-clause-keeps g c on tells = said_keeps g.H.Host.disk (g.H.Host.disk c.args.host.now) _ _ _ c.say_told-in-Toss.result c.toss.result (c.say_told-in-Toss.ensures.spoken tells) (c.toss.ensures.keeps tells)
+
 pub returns-in-Toss-clause-causes : goal.returns-in-Toss-clause-causes
 returns-in-Toss-clause-causes g c = c.say_told-in-Toss.ensures.causes _ _ c.toss.ensures.causes
 
@@ -293,6 +380,9 @@ returns-in-Toss-clause-wrote g c tells shelf_tells = spoken_bound c.args.now c.a
 pub returns-in-Upload-clause-performs : goal.returns-in-Upload-clause-performs
 returns-in-Upload-clause-performs g c tells shelf_tells world at = rw (c.in-Upload.is, ← c.as_slice-in-Upload.ensures.same) (performs_as_said Stores _ g.H.Host.disk _ (c.upload.ensures.works tells shelf_tells world at) (c.say_told-in-Upload.ensures.spoken tells))
 
+pub returns-in-Upload-clause-keeps : goal.returns-in-Upload-clause-keeps
+returns-in-Upload-clause-keeps g c on tells = said_keeps g.H.Host.disk (g.H.Host.disk c.args.host.now) _ _ _ c.say_told-in-Upload.result c.upload.result (c.say_told-in-Upload.ensures.spoken tells) (c.upload.ensures.keeps tells)
+
 pub returns-in-Upload-clause-causes : goal.returns-in-Upload-clause-causes
 returns-in-Upload-clause-causes g c = c.say_told-in-Upload.ensures.causes _ _ c.upload.ensures.causes
 
@@ -305,3 +395,58 @@ returns-in-Upload-clause-kept g c tells = spoken_kept g.H.Host.disk _ _ c.upload
 pub returns-in-Upload-clause-wrote : goal.returns-in-Upload-clause-wrote
 returns-in-Upload-clause-wrote g c tells shelf_tells = spoken_bound c.args.now c.args.command.now g.H.Host.disk (g.H.Host.disk c.args.host.now) (g.S.Shelf.files c.args.shelf.now) _ _ (c.say_told-in-Upload.ensures.spoken tells)
     (rw (c.in-Upload.is, ← c.as_slice-in-Upload.ensures.same) (λ posts closed. c.upload.ensures.wrote tells shelf_tells closed))
+
+-- ---- what is written, whatever the shelf holds
+pub returns-in-Compose-clause-wrote_between : goal.returns-in-Compose-clause-wrote_between
+returns-in-Compose-clause-wrote_between g c tells sound = rw c.in-Compose.is (λ posts closed. absurd posts)
+
+pub returns-in-List-clause-wrote_between : goal.returns-in-List-clause-wrote_between
+returns-in-List-clause-wrote_between g c tells sound = rw c.in-List.is (λ posts closed. absurd posts)
+
+pub returns-in-Read-clause-wrote_between : goal.returns-in-Read-clause-wrote_between
+returns-in-Read-clause-wrote_between g c tells sound = rw c.in-Read.is (λ posts closed. absurd posts)
+
+pub returns-in-Reply-clause-wrote_between : goal.returns-in-Reply-clause-wrote_between
+returns-in-Reply-clause-wrote_between g c tells sound = rw c.in-Reply.is (λ posts closed. absurd posts)
+
+pub returns-in-Show-clause-wrote_between : goal.returns-in-Show-clause-wrote_between
+returns-in-Show-clause-wrote_between g c tells sound = rw c.in-Show.is (λ posts closed. absurd posts)
+
+pub returns-in-Scan-clause-wrote_between : goal.returns-in-Scan-clause-wrote_between
+returns-in-Scan-clause-wrote_between g c tells sound = rw c.in-Scan.is (λ posts closed. absurd posts)
+
+pub returns-in-Ack-clause-wrote_between : goal.returns-in-Ack-clause-wrote_between
+returns-in-Ack-clause-wrote_between g c tells sound = rw c.in-Ack.is (λ posts closed. absurd posts)
+
+pub returns-in-Check-clause-wrote_between : goal.returns-in-Check-clause-wrote_between
+returns-in-Check-clause-wrote_between g c tells sound = rw c.in-Check.is (λ posts closed. absurd posts)
+
+pub returns-in-Enroll-clause-wrote_between : goal.returns-in-Enroll-clause-wrote_between
+returns-in-Enroll-clause-wrote_between g c tells sound = rw c.in-Enroll.is (λ posts closed. absurd posts)
+
+pub returns-in-Export-clause-wrote_between : goal.returns-in-Export-clause-wrote_between
+returns-in-Export-clause-wrote_between g c tells sound = rw c.in-Export.is (λ posts closed. absurd posts)
+
+pub returns-in-Init-clause-wrote_between : goal.returns-in-Init-clause-wrote_between
+returns-in-Init-clause-wrote_between g c tells sound = rw c.in-Init.is (λ posts closed. absurd posts)
+
+pub returns-in-Kill-clause-wrote_between : goal.returns-in-Kill-clause-wrote_between
+returns-in-Kill-clause-wrote_between g c tells sound = rw c.in-Kill.is (λ posts closed. absurd posts)
+
+pub returns-in-Pack-clause-wrote_between : goal.returns-in-Pack-clause-wrote_between
+returns-in-Pack-clause-wrote_between g c tells sound = rw c.in-Pack.is (λ posts closed. absurd posts)
+
+pub returns-in-Adopt-clause-wrote_between : goal.returns-in-Adopt-clause-wrote_between
+returns-in-Adopt-clause-wrote_between g c tells sound posts closed = said_between g.H.Host.disk (g.H.Host.disk c.args.host.now) _ _ _ c.say_told-in-Adopt.result c.adopt.result (c.say_told-in-Adopt.ensures.spoken tells) sound (c.adopt.ensures.wrote_between tells closed)
+
+pub returns-in-Import-clause-wrote_between : goal.returns-in-Import-clause-wrote_between
+returns-in-Import-clause-wrote_between g c tells sound posts closed = said_between g.H.Host.disk (g.H.Host.disk c.args.host.now) _ _ _ c.say_told-in-Import.result c.import.result (c.say_told-in-Import.ensures.spoken tells) sound (c.import.ensures.wrote_between tells closed)
+
+pub returns-in-Sample-clause-wrote_between : goal.returns-in-Sample-clause-wrote_between
+returns-in-Sample-clause-wrote_between g c tells sound posts closed = said_between g.H.Host.disk (g.H.Host.disk c.args.host.now) _ _ _ c.say_told-in-Sample.result c.sample.result (c.say_told-in-Sample.ensures.spoken tells) sound (c.sample.ensures.wrote_between tells closed)
+
+pub returns-in-Toss-clause-wrote_between : goal.returns-in-Toss-clause-wrote_between
+returns-in-Toss-clause-wrote_between g c tells sound posts closed = said_between g.H.Host.disk (g.H.Host.disk c.args.host.now) _ _ _ c.say_told-in-Toss.result c.toss.result (c.say_told-in-Toss.ensures.spoken tells) sound (c.toss.ensures.wrote_between tells closed)
+
+pub returns-in-Upload-clause-wrote_between : goal.returns-in-Upload-clause-wrote_between
+returns-in-Upload-clause-wrote_between g c tells sound posts closed = said_between g.H.Host.disk (g.H.Host.disk c.args.host.now) _ _ _ c.say_told-in-Upload.result c.upload.result (c.say_told-in-Upload.ensures.spoken tells) sound (c.upload.ensures.wrote_between tells closed)

@@ -3,11 +3,12 @@ use Rattle.door_commands.proofs.Entering.{begins_wrong}
 use Rattle.door_commands.specs.Entries.{AreEntries, BeginsWrong, EntriesRead}
 use Rattle.entry_runs.specs.declared.status.Status.TheVariants as status
 use Rattle.entry_runs.specs.declared.stop.Stop.TheVariants as stop
-use Rattle.mail_cli.proofs.CommandBounds.{run_bound, unwritten}
+use Rattle.mail_cli.proofs.AnyShelf.{begins_touching}
+use Rattle.mail_cli.proofs.CommandBounds.{run_between, run_bound, unwritten, unwritten_between}
 use Rattle.mail_cli.proofs.Histories.{run_continues}
 use Rattle.mail_cli.proofs.Passages.{read_passage, run_joins, run_spoils_none, unread_passage}
-use Rattle.mail_cli.proofs.Reading.{read_causes, read_completes, read_kept, read_leaves, read_survives, stays_firm, unread_leaves, unread_survives}
-use Rattle.mail_cli.proofs.Staying.{names_no_batch, none_uses_shelf, nothing_done}
+use Rattle.mail_cli.proofs.Reading.{read_causes, read_completes, read_kept, read_leaves, read_survives, unread_leaves, unread_survives}
+use Rattle.mail_cli.proofs.Staying.{names_no_batch, none_uses_shelf, nothing_done, read_anywhere}
 use Rattle.mail_cli.proofs.running.run.Goals as goal
 
 -- ---- the entries weren't read
@@ -80,10 +81,10 @@ pub returns-in-Err-OutOfMemory-clause-shelf_stays : goal.returns-in-Err-OutOfMem
 returns-in-Err-OutOfMemory-clause-shelf_stays g c none = c.entries_of.ensures.no_batch (names_no_batch c.args.words.now none)
 
 pub returns-in-Err-ShelfFault-clause-firm : goal.returns-in-Err-ShelfFault-clause-firm
-returns-in-Err-ShelfFault-clause-firm g c tells shelf_tells sound firm = firm
+returns-in-Err-ShelfFault-clause-firm g c tells sound firm = firm
 
 pub returns-in-Err-OutOfMemory-clause-firm : goal.returns-in-Err-OutOfMemory-clause-firm
-returns-in-Err-OutOfMemory-clause-firm g c tells shelf_tells sound firm = firm
+returns-in-Err-OutOfMemory-clause-firm g c tells sound firm = firm
 
 -- ---- they were
 pub returns-clause-leaves : goal.returns-clause-leaves
@@ -145,14 +146,11 @@ returns-clause-unspoiled g c tells shelf_tells =
     run_spoils_none (read_passage c.args.now c.args.words.now c.as_slice.result.now c.run_entries.result (g.H.Host.disk c.args.host.now) (g.H.Host.disk c.run_entries.new.host) (g.S.Shelf.files c.args.shelf.now)
     (g.S.Shelf.files c.entries_of.new.shelf) (g.S.Shelf.files c.run_entries.new.shelf) (c.entries_of.ensures.unchanged shelf_tells) reads (c.run_entries.ensures.leaves tells shelf_tells) (c.run_entries.ensures.survives tells shelf_tells))
 
-pub returns-clause-firm : goal.returns-clause-firm
-returns-clause-firm g c tells shelf_tells sound firm =
+pub returns-clause-rests : goal.returns-clause-rests
+returns-clause-rests g c tells answered touching =
     let same : c.as_slice.result.now ≡ c.in-Ok.entries = search rules in
-    let reads = subst (EntriesRead c.args.words.now (g.S.Shelf.files c.args.shelf.now)) (sym same) (c.in-Ok.ensures.reads shelf_tells) in
-    stays_firm c.args.now c.args.words.now c.run_entries.result (g.H.Host.disk c.args.host.now) (g.H.Host.disk c.run_entries.new.host) (g.S.Shelf.files c.args.shelf.now) (g.S.Shelf.files c.run_entries.new.shelf)
-    (read_leaves c.args.now c.args.words.now c.as_slice.result.now (g.H.Host.disk c.args.host.now) (g.H.Host.disk c.run_entries.new.host) (g.S.Shelf.files c.args.shelf.now) (g.S.Shelf.files c.entries_of.new.shelf)
-    (c.entries_of.ensures.unchanged shelf_tells) reads c.run_entries.result (g.S.Shelf.files c.run_entries.new.shelf) (c.run_entries.ensures.leaves tells shelf_tells))
-    sound firm
+    let some = subst (AreEntries c.args.words.now) (sym same) c.in-Ok.ensures.some in
+    c.run_entries.ensures.rests tells answered (begins_touching c.args.now c.args.words.now c.as_slice.result.now some touching)
 
 -- ---- what stays
 pub returns-clause-files_stay : goal.returns-clause-files_stay
@@ -212,3 +210,143 @@ returns-clause-wrote g c tells shelf_tells =
     let reads = subst (EntriesRead c.args.words.now (g.S.Shelf.files c.args.shelf.now)) (sym same) (c.in-Ok.ensures.reads shelf_tells) in
     run_bound c.args.now c.args.words.now (g.H.Host.disk c.args.host.now) (g.H.Host.disk c.run_entries.new.host) (g.S.Shelf.files c.args.shelf.now) (g.S.Shelf.files c.entries_of.new.shelf) c.as_slice.result.now
     (c.entries_of.ensures.unchanged shelf_tells) reads (c.run_entries.ensures.wrote tells shelf_tells)
+
+-- ---- words that name no file of the shelf
+pub returns-in-Err-ShelfFault-clause-leaves_any : goal.returns-in-Err-ShelfFault-clause-leaves_any
+returns-in-Err-ShelfFault-clause-leaves_any g c tells none files =
+    unread_leaves c.args.now c.args.words.now stop.ShelfFault status.ShelfFault (g.H.Host.disk c.args.host.now) files files (inl refl) refl refl
+
+pub returns-in-Err-ShelfFault-clause-survives_any : goal.returns-in-Err-ShelfFault-clause-survives_any
+returns-in-Err-ShelfFault-clause-survives_any g c tells none files = unread_survives c.args.now c.args.words.now _ _ (c.requires tells)
+
+pub returns-in-Err-ShelfFault-clause-continues_any : goal.returns-in-Err-ShelfFault-clause-continues_any
+returns-in-Err-ShelfFault-clause-continues_any g c tells none files =
+    run_continues c.args.now c.args.words.now status.ShelfFault _ _ _ _
+    (unread_leaves c.args.now c.args.words.now stop.ShelfFault status.ShelfFault (g.H.Host.disk c.args.host.now) files files (inl refl) refl refl)
+    (unread_survives c.args.now c.args.words.now (g.H.Host.disk c.args.host.now) files (c.requires tells))
+
+pub returns-in-Err-ShelfFault-clause-passage_any : goal.returns-in-Err-ShelfFault-clause-passage_any
+returns-in-Err-ShelfFault-clause-passage_any g c tells none files = unread_passage c.args.now c.args.words.now stop.ShelfFault status.ShelfFault (g.H.Host.disk c.args.host.now) files files (inl refl) refl refl (c.requires tells)
+
+pub returns-in-Err-ShelfFault-clause-joins_any : goal.returns-in-Err-ShelfFault-clause-joins_any
+returns-in-Err-ShelfFault-clause-joins_any g c tells none files = run_joins (unread_passage c.args.now c.args.words.now stop.ShelfFault status.ShelfFault (g.H.Host.disk c.args.host.now) files files (inl refl) refl refl (c.requires tells)) (omega arith)
+
+pub returns-in-Err-ShelfFault-clause-unspoiled_any : goal.returns-in-Err-ShelfFault-clause-unspoiled_any
+returns-in-Err-ShelfFault-clause-unspoiled_any g c tells none =
+    let files = g.S.Shelf.files c.args.shelf.now in
+    run_spoils_none (unread_passage c.args.now c.args.words.now stop.ShelfFault status.ShelfFault (g.H.Host.disk c.args.host.now) files files (inl refl) refl refl (c.requires tells))
+
+pub returns-in-Err-ShelfFault-clause-wrote_any : goal.returns-in-Err-ShelfFault-clause-wrote_any
+returns-in-Err-ShelfFault-clause-wrote_any g c tells none files = unwritten c.args.now c.args.words.now (g.H.Host.disk c.args.host.now) files
+
+pub returns-in-Err-OutOfMemory-clause-leaves_any : goal.returns-in-Err-OutOfMemory-clause-leaves_any
+returns-in-Err-OutOfMemory-clause-leaves_any g c tells none files =
+    unread_leaves c.args.now c.args.words.now stop.OutOfMemory status.OutOfMemory (g.H.Host.disk c.args.host.now) files files (inr refl) refl refl
+
+pub returns-in-Err-OutOfMemory-clause-survives_any : goal.returns-in-Err-OutOfMemory-clause-survives_any
+returns-in-Err-OutOfMemory-clause-survives_any g c tells none files = unread_survives c.args.now c.args.words.now _ _ (c.requires tells)
+
+pub returns-in-Err-OutOfMemory-clause-continues_any : goal.returns-in-Err-OutOfMemory-clause-continues_any
+returns-in-Err-OutOfMemory-clause-continues_any g c tells none files =
+    run_continues c.args.now c.args.words.now status.OutOfMemory _ _ _ _
+    (unread_leaves c.args.now c.args.words.now stop.OutOfMemory status.OutOfMemory (g.H.Host.disk c.args.host.now) files files (inr refl) refl refl)
+    (unread_survives c.args.now c.args.words.now (g.H.Host.disk c.args.host.now) files (c.requires tells))
+
+pub returns-in-Err-OutOfMemory-clause-passage_any : goal.returns-in-Err-OutOfMemory-clause-passage_any
+returns-in-Err-OutOfMemory-clause-passage_any g c tells none files = unread_passage c.args.now c.args.words.now stop.OutOfMemory status.OutOfMemory (g.H.Host.disk c.args.host.now) files files (inr refl) refl refl (c.requires tells)
+
+pub returns-in-Err-OutOfMemory-clause-joins_any : goal.returns-in-Err-OutOfMemory-clause-joins_any
+returns-in-Err-OutOfMemory-clause-joins_any g c tells none files = run_joins (unread_passage c.args.now c.args.words.now stop.OutOfMemory status.OutOfMemory (g.H.Host.disk c.args.host.now) files files (inr refl) refl refl (c.requires tells)) (omega arith)
+
+pub returns-in-Err-OutOfMemory-clause-unspoiled_any : goal.returns-in-Err-OutOfMemory-clause-unspoiled_any
+returns-in-Err-OutOfMemory-clause-unspoiled_any g c tells none =
+    let files = g.S.Shelf.files c.args.shelf.now in
+    run_spoils_none (unread_passage c.args.now c.args.words.now stop.OutOfMemory status.OutOfMemory (g.H.Host.disk c.args.host.now) files files (inr refl) refl refl (c.requires tells))
+
+pub returns-in-Err-OutOfMemory-clause-wrote_any : goal.returns-in-Err-OutOfMemory-clause-wrote_any
+returns-in-Err-OutOfMemory-clause-wrote_any g c tells none files = unwritten c.args.now c.args.words.now (g.H.Host.disk c.args.host.now) files
+
+pub returns-clause-leaves_any : goal.returns-clause-leaves_any
+returns-clause-leaves_any g c tells none files =
+    let same : c.as_slice.result.now ≡ c.in-Ok.entries = search rules in
+    let some = subst (AreEntries c.args.words.now) (sym same) c.in-Ok.ensures.some in
+    let reads = read_anywhere c.args.words.now c.as_slice.result.now none some files in
+    let off = none_uses_shelf c.args.words.now c.as_slice.result.now none some in
+    read_leaves c.args.now c.args.words.now c.as_slice.result.now (g.H.Host.disk c.args.host.now) (g.H.Host.disk c.run_entries.new.host) files files refl reads c.run_entries.result files (c.run_entries.ensures.leaves_any off tells files)
+
+pub returns-clause-survives_any : goal.returns-clause-survives_any
+returns-clause-survives_any g c tells none files =
+    let same : c.as_slice.result.now ≡ c.in-Ok.entries = search rules in
+    let some = subst (AreEntries c.args.words.now) (sym same) c.in-Ok.ensures.some in
+    let reads = read_anywhere c.args.words.now c.as_slice.result.now none some files in
+    let off = none_uses_shelf c.args.words.now c.as_slice.result.now none some in
+    read_survives c.args.now c.args.words.now c.as_slice.result.now (g.H.Host.disk c.args.host.now) (g.H.Host.disk c.run_entries.new.host) files files refl reads (c.run_entries.ensures.survives_any off tells files)
+
+pub returns-clause-continues_any : goal.returns-clause-continues_any
+returns-clause-continues_any g c tells none files =
+    let same : c.as_slice.result.now ≡ c.in-Ok.entries = search rules in
+    let some = subst (AreEntries c.args.words.now) (sym same) c.in-Ok.ensures.some in
+    let reads = read_anywhere c.args.words.now c.as_slice.result.now none some files in
+    let off = none_uses_shelf c.args.words.now c.as_slice.result.now none some in
+    run_continues c.args.now c.args.words.now c.run_entries.result (g.H.Host.disk c.args.host.now) (g.H.Host.disk c.run_entries.new.host) files files
+    (read_leaves c.args.now c.args.words.now c.as_slice.result.now (g.H.Host.disk c.args.host.now) (g.H.Host.disk c.run_entries.new.host) files files refl reads c.run_entries.result files (c.run_entries.ensures.leaves_any off tells files))
+    (read_survives c.args.now c.args.words.now c.as_slice.result.now (g.H.Host.disk c.args.host.now) (g.H.Host.disk c.run_entries.new.host) files files refl reads (c.run_entries.ensures.survives_any off tells files))
+
+pub returns-clause-passage_any : goal.returns-clause-passage_any
+returns-clause-passage_any g c tells none files =
+    let same : c.as_slice.result.now ≡ c.in-Ok.entries = search rules in
+    let some = subst (AreEntries c.args.words.now) (sym same) c.in-Ok.ensures.some in
+    let reads = read_anywhere c.args.words.now c.as_slice.result.now none some files in
+    let off = none_uses_shelf c.args.words.now c.as_slice.result.now none some in
+    read_passage c.args.now c.args.words.now c.as_slice.result.now c.run_entries.result (g.H.Host.disk c.args.host.now) (g.H.Host.disk c.run_entries.new.host) files files files refl reads
+    (c.run_entries.ensures.leaves_any off tells files) (c.run_entries.ensures.survives_any off tells files)
+
+pub returns-clause-joins_any : goal.returns-clause-joins_any
+returns-clause-joins_any g c tells none files =
+    let same : c.as_slice.result.now ≡ c.in-Ok.entries = search rules in
+    let some = subst (AreEntries c.args.words.now) (sym same) c.in-Ok.ensures.some in
+    let reads = read_anywhere c.args.words.now c.as_slice.result.now none some files in
+    let off = none_uses_shelf c.args.words.now c.as_slice.result.now none some in
+    run_joins (read_passage c.args.now c.args.words.now c.as_slice.result.now c.run_entries.result (g.H.Host.disk c.args.host.now) (g.H.Host.disk c.run_entries.new.host) files files files refl reads
+    (c.run_entries.ensures.leaves_any off tells files) (c.run_entries.ensures.survives_any off tells files)) (c.run_entries.ensures.later_any off tells)
+
+pub returns-clause-unspoiled_any : goal.returns-clause-unspoiled_any
+returns-clause-unspoiled_any g c tells none =
+    let files = g.S.Shelf.files c.args.shelf.now in
+    let same : c.as_slice.result.now ≡ c.in-Ok.entries = search rules in
+    let some = subst (AreEntries c.args.words.now) (sym same) c.in-Ok.ensures.some in
+    let reads = read_anywhere c.args.words.now c.as_slice.result.now none some files in
+    let off = none_uses_shelf c.args.words.now c.as_slice.result.now none some in
+    run_spoils_none (read_passage c.args.now c.args.words.now c.as_slice.result.now c.run_entries.result (g.H.Host.disk c.args.host.now) (g.H.Host.disk c.run_entries.new.host) files files files refl reads
+    (c.run_entries.ensures.leaves_any off tells files) (c.run_entries.ensures.survives_any off tells files))
+
+pub returns-clause-completes_any : goal.returns-clause-completes_any
+returns-clause-completes_any g c tells none files =
+    let same : c.as_slice.result.now ≡ c.in-Ok.entries = search rules in
+    let some = subst (AreEntries c.args.words.now) (sym same) c.in-Ok.ensures.some in
+    let reads = read_anywhere c.args.words.now c.as_slice.result.now none some files in
+    let off = none_uses_shelf c.args.words.now c.as_slice.result.now none some in
+    let kept = read_kept c.in-Ok.entries c.in-Ok.ensures.causes in
+    read_completes c.args.now c.args.words.now c.as_slice.result.now (g.H.Host.disk c.args.host.now) (g.H.Host.disk c.run_entries.new.host) files files refl reads _ _ c.run_entries.result files
+    (read_causes _ _ _ _ _ c.run_entries.result kept c.run_entries.ensures.causes) (c.run_entries.ensures.leaves_any off tells files)
+
+pub returns-clause-wrote_any : goal.returns-clause-wrote_any
+returns-clause-wrote_any g c tells none files =
+    let same : c.as_slice.result.now ≡ c.in-Ok.entries = search rules in
+    let some = subst (AreEntries c.args.words.now) (sym same) c.in-Ok.ensures.some in
+    let reads = read_anywhere c.args.words.now c.as_slice.result.now none some files in
+    let off = none_uses_shelf c.args.words.now c.as_slice.result.now none some in
+    run_bound c.args.now c.args.words.now (g.H.Host.disk c.args.host.now) (g.H.Host.disk c.run_entries.new.host) files files c.as_slice.result.now refl reads (c.run_entries.ensures.wrote_any off tells files)
+
+-- ---- what is written, whatever the shelf holds
+pub returns-in-Err-ShelfFault-clause-wrote_between : goal.returns-in-Err-ShelfFault-clause-wrote_between
+returns-in-Err-ShelfFault-clause-wrote_between g c tells sound = unwritten_between c.args.now c.args.words.now (g.H.Host.disk c.args.host.now)
+
+pub returns-in-Err-OutOfMemory-clause-wrote_between : goal.returns-in-Err-OutOfMemory-clause-wrote_between
+returns-in-Err-OutOfMemory-clause-wrote_between g c tells sound = unwritten_between c.args.now c.args.words.now (g.H.Host.disk c.args.host.now)
+
+pub returns-clause-wrote_between : goal.returns-clause-wrote_between
+returns-clause-wrote_between g c tells sound =
+    let same : c.as_slice.result.now ≡ c.in-Ok.entries = search rules in
+    let some = subst (AreEntries c.args.words.now) (sym same) c.in-Ok.ensures.some in
+    run_between c.args.now c.args.words.now (g.H.Host.disk c.args.host.now) (g.H.Host.disk c.run_entries.new.host) c.as_slice.result.now some (c.run_entries.ensures.wrote_between tells sound)

@@ -3,7 +3,8 @@ use Rattle.std.specs.Prelude.{Result}
 use Rattle.board_commands.proofs.CauseLaws.{no_fault}
 use Rattle.board_commands.proofs.Exits.{unfound}
 use Rattle.board_commands.proofs.FindLaws.{same_host}
-use Rattle.board_commands.proofs.WriteLaws.{found_within}
+use Rattle.board_commands.proofs.WriteLaws.{changed_bound, found_bound, found_within, unmade_bound}
+use Rattle.board_commands.proofs.mail_board.PostedSlots.{posting_keeps}
 use Rattle.board_commands.specs.Halts.{told, halt_of_read, of_journal}
 use Rattle.board_commands.specs.Kept.{kept_board, unread}
 use Rattle.board_commands.specs.State.{Stores}
@@ -96,3 +97,24 @@ returns-clause-wrote g c tells closed shelf =
     let b : Board = c.in_ok-board.board.now.board in
     sample_within (g.H.Host.disk c.args.host.now) (g.H.Host.disk c.find.new.host) (g.H.Host.disk c.make_change.new.host) shelf closed (c.find.ensures.wrote tells) (kept_board c.find.new.kept) (c.in_ok-find.ensures.state tells) b c.in_ok-board.ensures.board c.in_ok-board.ensures.valid c.args.seed c.args.count c.args.now
     c.in_ok-change.change c.in_ok-change.ensures (c.make_change.ensures.wrote tells b c.in_ok-board.ensures.board)
+
+pub returns-in_err-find-clause-wrote_between : goal.returns-in_err-find-clause-wrote_between
+returns-in_err-find-clause-wrote_between g c tells closed sound = found_bound (g.H.Host.disk c.args.host.now) closed (g.H.Host.disk c.find.new.host) (c.find.ensures.wrote tells)
+
+pub returns-in_err-board-clause-wrote_between : goal.returns-in_err-board-clause-wrote_between
+returns-in_err-board-clause-wrote_between g c tells closed sound = found_bound (g.H.Host.disk c.args.host.now) closed (g.H.Host.disk c.find.new.host) (c.find.ensures.wrote tells)
+
+pub returns-in_err-change-clause-wrote_between : goal.returns-in_err-change-clause-wrote_between
+returns-in_err-change-clause-wrote_between g c tells closed sound = found_bound (g.H.Host.disk c.args.host.now) closed (g.H.Host.disk c.find.new.host) (c.find.ensures.wrote tells)
+
+pub returns-in_err-make_change-clause-wrote_between : goal.returns-in_err-make_change-clause-wrote_between
+returns-in_err-make_change-clause-wrote_between g c tells closed sound =
+    let error = c.in_err-make_change.field-0.0 in
+    let is : c.from_residual-in_err-make_change.result ≡ Err (of_journal error) = search rules in
+    unmade_bound (g.H.Host.disk c.args.host.now) closed (g.H.Host.disk c.find.new.host) (g.H.Host.disk c.make_change.new.host) error (λ fault. sound (is ∙ ap Err fault)) (λ starved. ap (λ host. (g.H.Host.disk host).wrote) (c.in_err-make_change.ensures.unchanged (ap Err starved))) (c.find.ensures.wrote tells)
+
+pub returns-clause-wrote_between : goal.returns-clause-wrote_between
+returns-clause-wrote_between g c tells closed sound =
+    let b : Board = c.in_ok-board.board.now.board in
+    changed_bound (g.H.Host.disk c.args.host.now) closed (g.H.Host.disk c.find.new.host) (g.H.Host.disk c.make_change.new.host) (c.find.ensures.wrote tells) (kept_board c.find.new.kept) (c.in_ok-find.ensures.state tells) b c.in_ok-board.ensures.board c.in_ok-change.change (c.in_ok-find.ensures.finds tells) (c.in_ok-make_change.ensures.changes tells)
+    (posting_keeps c.in_ok-change.change b (g.H.Host.disk c.find.new.host).wrote (g.H.Host.disk c.make_change.new.host).wrote c.in_ok-change.ensures.2 c.in_ok-board.ensures.valid c.in_ok-change.ensures.0 (c.make_change.ensures.wrote tells b c.in_ok-board.ensures.board))

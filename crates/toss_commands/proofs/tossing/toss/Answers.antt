@@ -3,7 +3,11 @@ use Rattle.std.specs.Prelude.{Result}
 use Rattle.message_commands.proofs.board_commands.CauseLaws.{no_fault}
 use Rattle.message_commands.proofs.board_commands.Exits.{unfound}
 use Rattle.message_commands.proofs.board_commands.FindLaws.{same_host}
-use Rattle.message_commands.proofs.board_commands.WriteLaws.{found_within}
+use Rattle.message_commands.proofs.board_commands.KeepingLaws.{keeps_as, read_sound, refused_as, stopped_keeps, unfound_keeps, unmade_keeps, unopened_keeps, value_keeps}
+use Rattle.intent_journal.specs.Hosts.{IsFirm}
+use Rattle.shelf_files.specs.declared.refusal.Refusal.TheVariants.{NotMade}
+use Rattle.message_commands.proofs.board_commands.WriteLaws.{changed_bound, found_bound, found_within, unmade_bound}
+use Rattle.message_commands.proofs.mail_board.PostedSlots.{posting_keeps}
 use Rattle.message_commands.specs.board_commands.Halts.{told, halt_of_read, of_shelf, of_journal}
 use Rattle.message_commands.specs.board_commands.Kept.{kept_board, unread}
 use Rattle.message_commands.specs.board_commands.State.{Stores}
@@ -113,3 +117,57 @@ returns-clause-wrote g c tells shelf_tells closed =
     toss_within (g.H.Host.disk c.args.host.now) (g.H.Host.disk c.find.new.host) (g.H.Host.disk c.make_change.new.host) (g.S.Shelf.files c.args.shelf.now) closed (c.find.ensures.wrote tells) (kept_board c.find.new.kept) (c.in_ok-find.ensures.state tells) b c.in_ok-board.ensures.board c.in_ok-board.ensures.valid c.args.file.now c.args.now
     c.in_ok-messages.messages (c.in_ok-messages.ensures.packet shelf_tells) c.in_ok-tossing.tossing c.in_ok-tossing.ensures.may c.in_ok-tossing.ensures.change
     (c.make_change.ensures.wrote tells b c.in_ok-board.ensures.board)
+
+pub returns-in_err-find-clause-keeps : goal.returns-in_err-find-clause-keeps
+returns-in_err-find-clause-keeps g c tells =
+    let is : c.from_residual.result ≡ Err (halt_of_read c.in_err-find.field-0.0) = search rules in
+    keeps_as is (unfound_keeps c.find.new.kept c.in_err-find.field-0.0 (c.in_err-find.ensures.finds tells) (c.in_err-find.ensures.state tells))
+
+pub returns-in_err-board-clause-keeps : goal.returns-in_err-board-clause-keeps
+returns-in_err-board-clause-keeps g c tells =
+    let is : c.from_residual-in_err-board.result ≡ Err c.in_err-board.field-0.0 = search rules in
+    keeps_as is (refused_as c.in_err-board.field-0.0 NotMade c.in_err-board.ensures.board.0 (read_sound c.find.new.kept (g.H.Host.disk c.find.new.host) c.in_ok-find.ensures.read (c.in_ok-find.ensures.kept tells)))
+
+pub returns-in_err-messages-clause-keeps : goal.returns-in_err-messages-clause-keeps
+returns-in_err-messages-clause-keeps g c tells =
+    let is : c.from_residual-in_err-messages.result ≡ Err (of_shelf c.in_err-messages.field-0.0) = search rules in
+    keeps_as is (unopened_keeps c.in_err-messages.field-0.0 (read_sound c.find.new.kept (g.H.Host.disk c.find.new.host) c.in_ok-find.ensures.read (c.in_ok-find.ensures.kept tells)))
+
+pub returns-in_err-tossing-clause-keeps : goal.returns-in_err-tossing-clause-keeps
+returns-in_err-tossing-clause-keeps g c tells =
+    let is : c.from_residual-in_err-tossing.result ≡ Err c.in_err-tossing.field-0.0 = search rules in
+    keeps_as is (stopped_keeps _ c.in_err-tossing.field-0.0 (c.in_err-tossing.ensures.may) (read_sound c.find.new.kept (g.H.Host.disk c.find.new.host) c.in_ok-find.ensures.read (c.in_ok-find.ensures.kept tells)))
+
+pub returns-in_err-make_change-clause-keeps : goal.returns-in_err-make_change-clause-keeps
+returns-in_err-make_change-clause-keeps g c tells =
+    let is : c.from_residual-in_err-make_change.result ≡ Err (of_journal c.in_err-make_change.field-0.0) = search rules in
+    let sound = read_sound c.find.new.kept (g.H.Host.disk c.find.new.host) c.in_ok-find.ensures.read (c.in_ok-find.ensures.kept tells) in
+    keeps_as is (unmade_keeps c.in_err-make_change.field-0.0 (λ starved. subst (λ host. IsFirm (g.H.Host.disk host)) (sym (c.in_err-make_change.ensures.unchanged (ap Err starved))) sound.firm))
+
+pub returns-clause-keeps : goal.returns-clause-keeps
+returns-clause-keeps g c tells =
+    value_keeps (read_sound c.make_change.new.kept (g.H.Host.disk c.make_change.new.host) c.in_ok-make_change.ensures.read (c.in_ok-make_change.ensures.kept tells))
+
+pub returns-in_err-find-clause-wrote_between : goal.returns-in_err-find-clause-wrote_between
+returns-in_err-find-clause-wrote_between g c tells closed sound = found_bound (g.H.Host.disk c.args.host.now) closed (g.H.Host.disk c.find.new.host) (c.find.ensures.wrote tells)
+
+pub returns-in_err-board-clause-wrote_between : goal.returns-in_err-board-clause-wrote_between
+returns-in_err-board-clause-wrote_between g c tells closed sound = found_bound (g.H.Host.disk c.args.host.now) closed (g.H.Host.disk c.find.new.host) (c.find.ensures.wrote tells)
+
+pub returns-in_err-messages-clause-wrote_between : goal.returns-in_err-messages-clause-wrote_between
+returns-in_err-messages-clause-wrote_between g c tells closed sound = found_bound (g.H.Host.disk c.args.host.now) closed (g.H.Host.disk c.find.new.host) (c.find.ensures.wrote tells)
+
+pub returns-in_err-tossing-clause-wrote_between : goal.returns-in_err-tossing-clause-wrote_between
+returns-in_err-tossing-clause-wrote_between g c tells closed sound = found_bound (g.H.Host.disk c.args.host.now) closed (g.H.Host.disk c.find.new.host) (c.find.ensures.wrote tells)
+
+pub returns-in_err-make_change-clause-wrote_between : goal.returns-in_err-make_change-clause-wrote_between
+returns-in_err-make_change-clause-wrote_between g c tells closed sound =
+    let error = c.in_err-make_change.field-0.0 in
+    let is : c.from_residual-in_err-make_change.result ≡ Err (of_journal error) = search rules in
+    unmade_bound (g.H.Host.disk c.args.host.now) closed (g.H.Host.disk c.find.new.host) (g.H.Host.disk c.make_change.new.host) error (λ fault. sound (is ∙ ap Err fault)) (λ starved. ap (λ host. (g.H.Host.disk host).wrote) (c.in_err-make_change.ensures.unchanged (ap Err starved))) (c.find.ensures.wrote tells)
+
+pub returns-clause-wrote_between : goal.returns-clause-wrote_between
+returns-clause-wrote_between g c tells closed sound =
+    let b : Board = c.in_ok-board.board.now.board in
+    changed_bound (g.H.Host.disk c.args.host.now) closed (g.H.Host.disk c.find.new.host) (g.H.Host.disk c.make_change.new.host) (c.find.ensures.wrote tells) (kept_board c.find.new.kept) (c.in_ok-find.ensures.state tells) b c.in_ok-board.ensures.board c.in_ok-tossing.tossing.change (c.in_ok-find.ensures.finds tells) (c.in_ok-make_change.ensures.changes tells)
+    (posting_keeps c.in_ok-tossing.tossing.change b (g.H.Host.disk c.find.new.host).wrote (g.H.Host.disk c.make_change.new.host).wrote c.in_ok-tossing.ensures.may.2 c.in_ok-board.ensures.valid c.in_ok-tossing.ensures.may.0 (c.make_change.ensures.wrote tells b c.in_ok-board.ensures.board))

@@ -1,10 +1,10 @@
 use Rattle.std.proofs.Common.{◌≡◌, IsTrue}
-use Rattle.entry_runs.proofs.Voice.{PiecesSaid}
-use Rattle.entry_runs.proofs.saying.say_all.Given as goal
+use Rattle.entry_runs.proofs.Voice.{PiecesGathered}
+use Rattle.entry_runs.proofs.saying.Gathered.add.Given as goal
 
 abbrev pub invariant-loop-piece : goal.invariant-loop-piece
 invariant-loop-piece g l = record {
-  said : IsTrue g.H.Host.tells → PiecesSaid l.pieces l.piece-index l.gathered.items (g.H.Host.disk l.fn.host) (g.H.Host.disk l.host);
+  gathered : IsTrue g.H.Host.tells → PiecesGathered l.pieces l.piece-index l.fn.self l.self (g.H.Host.disk l.fn.host) (g.H.Host.disk l.host);
   voice : g.H.Host.voice_faults l.host ≡ g.H.Host.voice_faults l.fn.host;
   disk : g.H.Host.disk_faults l.host ≡ g.H.Host.disk_faults l.fn.host;
 }
