@@ -7,6 +7,9 @@ use itoa::Buffer;
 use std::alloc::{AllocError, Global};
 use text_fields::add_decimal;
 
+/// A conference's number has at most 5 digits, and a message's at most 10.
+const MOST_DIGITS: usize = 15;
+
 /// The msgid that is generated for a message number in the conference of a number.
 pub(crate) fn generated(
     alloc: Global,
@@ -17,7 +20,7 @@ pub(crate) fn generated(
     ensures { IfOk result (λ msgid. msgid ≡ generated_of conference bbsid.now number) }
 {
     let mut msgid = Bytes::new(alloc);
-    msgid.reserve(generated_len(conference, bbsid, u64::from(number)) as usize)?;
+    msgid.reserve(bbsid.len().saturating_add(MOST_DIGITS + 2))?;
     add_decimal(&mut msgid, u64::from(conference))?;
     msgid.add(b".")?;
     add_decimal(&mut msgid, u64::from(number))?;
