@@ -3,9 +3,9 @@
 # any one call ends the run with the stated status and does no other harm, and that a sync that failed keeps the next
 # run out. `.ci/run` runs it in a short form, with few calls, after the gate.
 # usage: bench/edge.sh [WORDS..]    the command that is run; without words it is `list P1`
-#        bench/edge.sh --all [EVERY]
+#        bench/edge.sh --all [EVERY [FIRST]]
 # With --all each call fails with each of some errors under every command that changes a board, and under a recovery
-# (bench/edge.py, which is Python); with EVERY only one in so many of these cases.
+# (bench/edge.py, which is Python); with EVERY only one in so many of these cases, from the one of the number FIRST on.
 # The folders that DATA_FROM and SHELF_FROM name are copied before each run, and stand for DATA and SHELF.
 # Without them there is no DATA, and SHELF is the sample. CALLS is which of the system's calls are looked at, and
 # MOST how many of them fail in turn at most; with EVERY only one in so many of them fails. PROGRAM is a program that is
@@ -29,7 +29,8 @@ if [ "$1" = --all ]; then
         echo 'edge: python3 is missing, so nothing is shown'
         exit 0
     fi
-    PROGRAM=$program exec "$top/bench/edge.py" "${2:-1}"
+    shift
+    PROGRAM=$program exec "$top/bench/edge.py" "$@"
 fi
 
 work=$(mktemp -d) || exit 1
@@ -37,7 +38,7 @@ work=$(readlink -f -- "$work")
 trap 'rm -rf -- "$work"' EXIT
 trap 'exit 1' HUP INT TERM
 place=$work/place
-calls=${CALLS:-openat,mkdir,mkdirat,stat,lstat,fstat,statx,newfstatat,read,pread64,write,pwrite64,ftruncate,fsync,flock}
+calls=${CALLS:-openat,getdents64,mkdir,mkdirat,stat,lstat,fstat,statx,newfstatat,read,pread64,write,pwrite64,ftruncate,fsync,flock}
 wrong=0
 
 if ! strace -qq -o "$work/probe" true 2>/dev/null; then

@@ -155,7 +155,7 @@ for type in ${types:-ext4 xfs}; do
     fi
     cut_runs "$type" || complain "$type: the runs ended early"
     if [ "$days" -gt 0 ]; then
-        DOOR=$program CUT=$work/cut "$top/bench/day.sh" "$days" >"$work/days" 2>&1 ||
+        QWKDOOR=$program CUT=$work/cut "$top/bench/day.py" "$days" >"$work/days" 2>&1 ||
             complain "$type: a day went wrong: $(grep WRONG "$work/days")"
         tail -n 2 "$work/days" | sed "s/^/$type, days: /"
     fi

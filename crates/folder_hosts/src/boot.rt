@@ -1,5 +1,5 @@
-//! The machine's last start. After a sync that failed, the system may drop what wasn't written and answer Ok the next
-//! time, so that until the machine is started again no sync shows anything.
+//! The machine's last start. After a sync that failed, the system may drop what wasn't written, and answer Ok the next
+//! time. So no sync shows anything until the machine is started again.
 
 ghost use Rattle.std.specs.Prelude.{◌+◌, ◌≤◌, length};
 
@@ -32,8 +32,8 @@ fn id_in(file: &File) -> io::Result<Option<BootId>> {
     Ok(if count == 36 { Some(id) } else { None })
 }
 
-/// What is kept of a failed sync in the lock's file, as text: the id of the machine's last start, and the file's device and
-/// its number there, so that a copy of the file, or one that came from another machine, says nothing.
+/// What is kept of a failed sync in the lock's file, as text: the id of the machine's last start, and the file's device
+/// and its number there. So a copy of the file says nothing, nor does one that came from another machine.
 pub type SyncMark = [u8; 71];
 
 /// The mark of a sync that fails now, or None where the system tells no id.

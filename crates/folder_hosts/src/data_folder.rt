@@ -2,8 +2,11 @@
 ghost use Rattle.std.specs.Prelude.{◌≡◌, ◌<◌, ◌≤◌, ◌^◌, length, IfOk};
 
 use crate::boot::{has_mark, keep_mark};
-use crate::data_paths::data_path;
-use crate::opening::{is_named, make_folder, open_above, open_found, open_locked, open_or_make};
+use crate::data_paths::{FILE_COUNT, data_path};
+use crate::named_files::{NamedFiles, named_files};
+use crate::opening::{
+    is_named, make_folder, open_above, open_found, open_locked, open_new, open_or_make,
+};
 use crate::placements::Placement;
 use crate::transfer::{WriterAt, read_full, write_full};
 use crate::trouble::{Part, Trouble};
@@ -46,10 +49,14 @@ pub struct DataFolder {
     folder: String,
     parent: String,
     lock_path: String,
+    /// The folder's path and a `/`.
+    inside: String,
     /// How it lies to the shelf's folder.
     placement: Placement,
     hold: Hold,
     files: Vec<DataFile>,
+    /// Which of them may have been there when the lock was taken, or were made since.
+    named: NamedFiles,
     /// Whether the names in the folder, and its own, were put on the disk since the last was made.
     names_synced: bool,
     ghost all: { length files.items ≡ 258 },
@@ -67,10 +74,10 @@ fn short_length(file: &File) -> io::Result<u32>
     }
 }
 
-/// What it means that the lock can't be taken.
+/// What it means that the lock can't be taken. Where its file came to be there while it was made, another run has begun.
 fn of_lock(error: io::Error) -> Trouble {
     match error.kind() {
-        ErrorKind::WouldBlock => Trouble::Held,
+        ErrorKind::WouldBlock | ErrorKind::AlreadyExists => Trouble::Held,
         _ => Trouble::Call(Part::Lock, error),
     }
 }
@@ -96,15 +103,18 @@ impl DataFolder {
         }
         let parent = format!(in alloc; "{folder}/..")?;
         let lock_path = format!(in alloc; "{folder}/LOCK")?;
+        let inside = format!(in alloc; "{folder}/")?;
         let folder = String::from_str(alloc, folder)?;
         Ok(DataFolder {
             rt,
             folder,
             parent,
             lock_path,
+            inside,
             placement,
             hold: Hold::Untried,
             files,
+            named: [false; FILE_COUNT],
             names_synced: false,
         })
     }
@@ -261,8 +271,14 @@ impl DataFolder {
             Ok(true) => return Err(Trouble::Unsynced),
             Err(error) => return Err(Trouble::Call(Part::Lock, error)),
         }
+        self.named = self.look_through()?;
         self.hold = Hold::Locked(lock);
         Ok(true)
+    }
+
+    /// Which files the folder has.
+    fn look_through(&self) -> Result<NamedFiles, Trouble> {
+        named_files(&self.rt, self.inside.as_str()).map_err(of_folder)
     }
 
     /// Makes the folder where it was missing, and locks it.
@@ -272,7 +288,7 @@ impl DataFolder {
         }
         make_folder(&self.rt, self.folder.as_str()).map_err(of_folder)?;
         let lock = open_locked(&self.rt, self.lock_path.as_str()).map_err(of_lock)?;
-        if self.has_any()? {
+        if self.look_through()?.contains(&true) {
             // Another run made them since this one found nothing.
             return Err(Trouble::Held);
         }
@@ -300,18 +316,6 @@ impl DataFolder {
         }
     }
 
-    /// Whether any of the files is there.
-    fn has_any(&self) -> Result<bool, Trouble> {
-        for number in 0..258usize {
-            match is_named(&self.rt, self.files[number].path.as_str()) {
-                Ok(false) => {}
-                Ok(true) => return Ok(true),
-                Err(error) => return Err(Trouble::Call(Part::Beside(number), error)),
-            }
-        }
-        Ok(false)
-    }
-
     /// The open file, if it is open.
     fn opened(&self, file: FileId) -> Option<&File> {
         match &self.files[usize::from(file.number())].handle {
@@ -320,13 +324,14 @@ impl DataFolder {
         }
     }
 
-    /// Opens the file to be read, if it is there and isn't open.
+    /// Opens the file to be read, if it is there and isn't open. One that wasn't there when the lock was taken, and that
+    /// this run didn't make, isn't asked for.
     fn open_to_read(&mut self, file: FileId) -> Result<(), Trouble> {
         if !self.is_there()? {
             return Ok(());
         }
         let number = usize::from(file.number());
-        if self.opened(file).is_none() {
+        if self.named[number] && self.opened(file).is_none() {
             if let Some(open) = open_found(&self.rt, self.files[number].path.as_str())? {
                 self.files[number].handle = Handle::Reading(open);
             }
@@ -352,6 +357,19 @@ impl DataFolder {
         Ok(())
     }
 
+    /// Opens a file to be read and written, or makes it, and says whether it was made. Where it wasn't there when the lock was
+    /// taken, it fails where something has come to have its name since.
+    fn open_or_make(&self, number: usize) -> io::Result<(File, bool)>
+        requires { number < 258 }
+    {
+        let path = self.files[number].path.as_str();
+        if self.named[number] {
+            open_or_make(&self.rt, path)
+        } else {
+            Ok((open_new(&self.rt, path)?, true))
+        }
+    }
+
     /// Opens one file to be written, and makes it where it is missing.
     fn open_one_to_write(&mut self, number: usize) -> Result<(), Trouble>
         requires { number < 258 }
@@ -359,11 +377,12 @@ impl DataFolder {
         if let Handle::Writing(_) = self.files[number].handle {
             return Ok(());
         }
-        let (open, is_new) = match open_or_make(&self.rt, self.files[number].path.as_str()) {
+        let (open, is_new) = match self.open_or_make(number) {
             Ok(opened) => opened,
             Err(error) => return Err(Trouble::Call(Part::Beside(number), error)),
         };
         if is_new {
+            self.named[number] = true;
             self.names_synced = false;
         }
         self.files[number].handle = Handle::Writing(open);

@@ -30,6 +30,8 @@ pub struct FolderShelf {
     folder_len: usize,
     /// The file of that name, while it is read piece by piece.
     reading: Option<File>,
+    /// The file of that name, while it is filled.
+    filling: Option<File>,
     faults: u64,
 }
 
@@ -99,15 +101,17 @@ impl FolderShelf {
             path,
             folder_len,
             reading: None,
+            filling: None,
             faults: 0,
         })
     }
 
-    /// Puts the name behind the folder's path, and lets go of the file that was read.
+    /// Puts the name behind the folder's path, and lets go of the file that was read or filled.
     fn turn_to(&mut self, name: &ShelfName) -> io::Result<()>
         ensures { self.new.faults ≡ self.old.faults }
     {
         self.reading = None;
+        self.filling = None;
         self.path.truncate(self.folder_len);
         self.path.extend_from_slice(name.as_slice())?;
         Ok(())
@@ -162,7 +166,7 @@ impl FolderShelf {
             .expect_outside(&self.rt, path, self.folder_len)?;
         let file = above_standard(open_in_folders(&self.rt, path, options)?)?;
         let found = file.metadata()?;
-        expect_regular(&found)?;
+        expect_stored(&self.rt, &found)?;
         self.own_files.expect_other(&self.rt, Identity::of(&found))?;
         Ok(file)
     }
@@ -173,17 +177,35 @@ impl FolderShelf {
         self.turn_to(name)?;
         let mut options = OpenOptions::new();
         options.read(true).write(true).create(true);
-        self.open_to_fill(&options)?.set_len(0)
+        let file = self.open_to_fill(&options)?;
+        file.set_len(0)?;
+        self.filling = Some(file);
+        Ok(())
+    }
+
+    /// Opens the file of that name to add to its end. What follows the beginning of a file goes into the file that was
+    /// made empty.
+    fn open_end(&mut self, name: &ShelfName) -> io::Result<()>
+        ensures { self.new.faults ≡ self.old.faults }
+    {
+        if self.filling.is_some() && self.is_at(name) {
+            return Ok(());
+        }
+        self.turn_to(name)?;
+        let mut options = OpenOptions::new();
+        options.read(true).append(true).create(true);
+        self.filling = Some(self.open_to_fill(&options)?);
+        Ok(())
     }
 
     fn try_append(&mut self, name: &ShelfName, bytes: &[u8]) -> io::Result<()>
         ensures { self.new.faults ≡ self.old.faults }
     {
-        self.turn_to(name)?;
-        let mut options = OpenOptions::new();
-        options.read(true).append(true).create(true);
-        let mut file = self.open_to_fill(&options)?;
-        write_full(&mut file, bytes)
+        self.open_end(name)?;
+        match &mut self.filling {
+            None => Err(ErrorKind::NotFound.into()),
+            Some(file) => write_full(file, bytes),
+        }
     }
 
     /// Says on standard error what a call on the last name failed by. Where standard error is closed too, the

@@ -8,6 +8,7 @@ mod folder_host;
 mod folder_shelf;
 mod identity;
 mod moment;
+mod named_files;
 mod opening;
 mod own_files;
 mod placements;
@@ -15,7 +16,7 @@ mod transfer;
 mod trouble;
 
 pub use boot::{BootId, SyncMark, boot_id, has_mark, keep_mark, sync_mark};
-pub use data_paths::data_path;
+pub use data_paths::{data_path, file_number};
 pub use folder_host::FolderHost;
 pub use folder_shelf::FolderShelf;
 pub use moment::unix_seconds;

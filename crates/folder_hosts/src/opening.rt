@@ -32,9 +32,9 @@ pub fn expect_regular(found: &Metadata) -> io::Result<()> {
     }
 }
 
-/// Opens the regular file of that path by these options. It is looked at before, since the open of a pipe would wait for
-/// its other end, and since a symbolic link isn't followed; and what was opened is looked at again, since another could
-/// have come to be there meanwhile.
+/// Opens the regular file of that path by these options. It looks at the file before it opens it, since the open of a
+/// pipe would wait for its other end, and since a symbolic link isn't followed. It looks again at what was opened,
+/// since another could have come to be there meanwhile.
 fn open_same(rt: &HostRuntime, path: &str, options: &OpenOptions) -> io::Result<File> {
     let found = fs::symlink_metadata(rt, path)?;
     expect_regular(&found)?;
@@ -57,27 +57,28 @@ pub fn open_found(rt: &HostRuntime, path: &str) -> io::Result<Option<File>> {
     }
 }
 
-/// Opens a regular file to be read and written, or makes it, private to its owner, in a folder that is
-/// there. A symbolic link isn't followed. The flag says whether it was made.
+/// Opens a regular file to be read and written, or makes it in a folder that is there. A symbolic link isn't followed. The
+/// flag says whether it was made.
 pub fn open_or_make(rt: &HostRuntime, path: &str) -> io::Result<(File, bool)> {
     let mut options = OpenOptions::new();
     options.read(true).write(true);
-    match open_new(rt, path) {
-        Ok(file) => Ok((above_standard(file)?, true)),
-        Err(error) if error.kind() == ErrorKind::AlreadyExists => {
-            Ok((open_same(rt, path, &options)?, false))
-        }
+    match open_same(rt, path, &options) {
+        Ok(file) => Ok((file, false)),
+        Err(error) if error.kind() == ErrorKind::NotFound => Ok((open_new(rt, path)?, true)),
         Err(error) => Err(error),
     }
 }
 
-fn open_new(rt: &HostRuntime, path: &str) -> io::Result<File> {
-    OpenOptions::new()
+/// Makes a file, private to its owner, in a folder that is there, and opens it to be read and written. It fails where
+/// anything has that name.
+pub fn open_new(rt: &HostRuntime, path: &str) -> io::Result<File> {
+    let file = OpenOptions::new()
         .read(true)
         .write(true)
         .create_new(true)
         .mode(0o600)
-        .open(rt, path)
+        .open(rt, path)?;
+    above_standard(file)
 }
 
 /// Opens a file, or makes it in a folder that is there, and takes its exclusive lock. It doesn't wait: a
@@ -96,9 +97,10 @@ pub fn make_folder(rt: &HostRuntime, path: &str) -> io::Result<()> {
     }
 }
 
-/// Whether anything has that name, be it a symbolic link that leads nowhere.
+/// Whether anything has that name, be it a symbolic link that leads nowhere. A `/` behind the name would follow the link.
 pub fn is_named(rt: &HostRuntime, path: &str) -> io::Result<bool> {
-    match fs::symlink_metadata(rt, path) {
+    let name = path.trim_end_matches('/');
+    match fs::symlink_metadata(rt, if name.is_empty() { path } else { name }) {
         Ok(_) => Ok(true),
         Err(error) if error.kind() == ErrorKind::NotFound => Ok(false),
         Err(error) => Err(error),
