@@ -35,7 +35,7 @@ impl Bytes {
         }
     }
 
-    /// A string of these bytes.
+    /// A string of these bytes. The error comes where there is no memory.
     pub fn from_slice(alloc: Global, bytes: &[u8]) -> Result<Bytes, AllocError>
         ensures { IfOk result (λ made. made ≡ bytes.now) }
     {
@@ -73,7 +73,7 @@ impl Bytes {
         in_range(self.inner.as_slice())
     }
 
-    /// An equal string.
+    /// An equal string, in memory of its own. The error comes where there is no memory.
     pub fn copy(&self, alloc: Global) -> Result<Bytes, AllocError>
         ensures { IfOk result (λ copy. copy ≡ self.now) }
     {

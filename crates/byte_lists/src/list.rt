@@ -87,7 +87,7 @@ impl<T: Duplicate> List<T> {
         Ok(())
     }
 
-    /// An equal list.
+    /// An equal list, in memory of its own. The error comes where there is no memory.
     pub fn copy(&self, alloc: Global) -> Result<List<T>, AllocError>
         ensures { IfOk result (λ copy. copy ≡ self.now) }
     {

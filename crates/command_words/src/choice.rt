@@ -39,7 +39,8 @@ fn are_known(conferences: &[Conference], numbers: &[u32]) -> bool
 }
 
 impl Choice {
-    /// The choice that a word is: `all`, or number words joined by commas, and None where it is neither.
+    /// The choice that a word is: `all`, or number words joined by commas, and None where it is neither. The error comes where
+    /// there is no memory.
     pub fn parse(alloc: Global, word: &[u8]) -> Result<Option<Choice>, AllocError>
         ensures { IfOk result (λ found. MatchOption found ((choice : Choices.Choice) → ¬ ChoiceReads word.now choice) (ChoiceReads word.now)) }
     {

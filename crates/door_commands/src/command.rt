@@ -445,7 +445,7 @@ impl Command {
     ghost use Rattle.std.specs.Prelude.{IfOk};
     ghost use Rattle.door_commands.specs.Words.{CommandOf};
 
-    /// The command that the words are, or None exactly where they are no command.
+    /// The command that the words are, or None exactly where they are no command. The error comes where there is no memory.
     pub fn parse(alloc: Global, words: &Words) -> Result<Option<Command>, AllocError>
         ensures { IfOk result (CommandOf words.now) }
     {

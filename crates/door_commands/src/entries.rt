@@ -46,9 +46,10 @@ fn entries_of_batch<S: Shelf>(
     }
 }
 
-/// The entries that words are: one command, or, for a batch, the commands of its file as the shelf holds it now, up to
-/// and with the first line that is none, or that it isn't there or has more than 1,048,576 bytes. Words that are no
-/// command are an entry too. The shelf is only read, and only for a batch.
+/// The entries that words are: one command, or those of a batch. A batch's are the commands of its file as the shelf
+/// holds it now, up to and with the first line that is none. Where the file isn't there or has more than 1,048,576
+/// bytes, that refusal is the one entry. Words that are no command are an entry too. The shelf is only read, and only
+/// for a batch.
 ///
 /// `ShelfFault` comes only where the shelf's count of faults rose, and `OutOfMemory` where there is no memory.
 pub fn entries_of<S: Shelf>(alloc: Global, words: &Words, shelf: &mut S) -> Result<Entries, Unread>

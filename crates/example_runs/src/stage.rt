@@ -110,6 +110,7 @@ impl Stage {
             "damage" => self.damage(alloc, words),
             "ledger" => self.put_ledger(alloc, words),
             "data" => self.expect_data(alloc, words),
+            "wrote" => self.expect_wrote(words),
             "setups" => put_setups(&mut self.shelf, alloc),
             "day" => put_day(&mut self.shelf, alloc),
             "packets" => put_packets(&mut self.shelf, alloc),
@@ -160,6 +161,15 @@ impl Stage {
             "ends" => expect_rest(&self.host, file, place, text.as_slice()),
             _ => Err(Miss::no_transcript(alloc, verb)?),
         }
+    }
+
+    /// `wrote MOST` looks whether the last run gave some bytes to writes, and at most so many.
+    fn expect_wrote(&self, most: &str) -> Result<(), Miss> {
+        let most = u64::try_from(number_of(most)?).unwrap_or(u64::MAX);
+        if 0 < self.host.wrote() && self.host.wrote() <= most {
+            return Ok(());
+        }
+        Err(Miss::Broken("a run wrote nothing, or more than it may"))
     }
 
     /// Follows a direction that names a file of the shelf, and then says what is in it: a text, `Form::Text`; a block in

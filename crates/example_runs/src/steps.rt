@@ -165,7 +165,8 @@ impl Steps {
         Ok(place)
     }
 
-    /// After how many commands the synced, the written and a mixed image of such a run leave the board: the fewest.
+    /// After how many commands the synced, the written and two mixed images of such a run leave the board: the fewest. Of
+    /// the mixed ones the first has the seed 1, and the other that of the call.
     fn fewest_after_stop(
         &mut self,
         alloc: Global,
@@ -176,8 +177,9 @@ impl Steps {
         let (_, call) = stop;
         let synced = self.after_stop(alloc, stopped, stop, ImageChoice::Synced, shelf)?;
         let written = self.after_stop(alloc, stopped, stop, ImageChoice::Written, shelf)?;
-        let mixed = self.after_stop(alloc, stopped, stop, ImageChoice::Mixed(call), shelf)?;
-        Ok(synced.min(written).min(mixed))
+        let mixed = self.after_stop(alloc, stopped, stop, ImageChoice::Mixed(1), shelf)?;
+        let other = self.after_stop(alloc, stopped, stop, ImageChoice::Mixed(call), shelf)?;
+        Ok(synced.min(written).min(mixed).min(other))
     }
 
     /// Whether a line ended before the call that was to stop it, where its images leave the board after so many commands.
@@ -195,7 +197,7 @@ impl Steps {
         }
     }
 
-    /// Stops a line, which carries out these commands, at a call of the host: the synced, the written and a mixed image
+    /// Stops a line, which carries out these commands, at a call of the host: the synced, the written and two mixed images
     /// each hold a board between the commands, and no more was said than they say. Answers whether the line ended before
     /// that call. It has then carried out all of them, and each board was left by an earlier stop.
     pub fn expect_stop(

@@ -50,8 +50,8 @@ fn high_of(highs: &Highs, place: usize) -> u32
     }
 }
 
-/// The change of a base by which the user of an id and a name acknowledges it up to a high at a moment, or None
-/// where the high isn't above the user's last-read pointer, or there is none.
+/// The change of a base by which the user of an id and a name acknowledges it up to a high at a moment. It is None
+/// where the user has no last-read pointer there, or the high isn't above it.
 fn read_up_to(
     alloc: Global,
     base: &Base,
@@ -74,8 +74,8 @@ fn read_up_to(
     Ok(Some(base.acknowledged(alloc, id, name, high, now)?))
 }
 
-/// The bases that the user of an id acknowledges up to the highs of an open offer at a moment, whose files the intent
-/// makes too.
+/// The bases that the user of an id acknowledges up to the highs of an open offer at a moment. The patches of their
+/// files are added to the intent.
 fn bases_read(
     alloc: Global,
     board: &StoredBoard,
@@ -126,11 +126,18 @@ fn offer_read(
     })
 }
 
-/// The change of a board by which the user of an id, from 1, acknowledges the packet of a number, which is offered to
-/// him, at a moment in Unix seconds: in each conference whose high in that offer is above his last-read pointer, each
-/// message to him, ignoring case, is marked read that isn't deleted, isn't read and has a number above the pointer and at
-/// most the high, and then the pointer is the high. That offer goes, and the others stay. Where the packet isn't offered
-/// to him, the board stays as it is. The user is there. The intent serves each board with the outline of this one.
+/// The change of a board by which the user of an id, from 1, acknowledges the packet of a number at a moment in Unix
+/// seconds. The user is there. Where the packet isn't offered to him, the board stays as it is. Where it is, that offer
+/// goes, and the others stay. The intent serves each board with the outline of this one.
+///
+/// Each conference changes whose high in that offer is above his last-read pointer. A message there is marked read
+/// where all of these hold:
+///
+/// - It is to him, ignoring ASCII case.
+/// - It isn't deleted and isn't read.
+/// - Its number is above the pointer, and at most the high.
+///
+/// Then the pointer is the high.
 ///
 /// The error comes where there is no memory.
 pub fn acknowledged(

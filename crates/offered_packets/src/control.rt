@@ -139,8 +139,8 @@ fn control_for(
 }
 
 /// The control of a packet of so many messages, made at a moment in Unix seconds for the user of an id, from 1, who
-/// is there: the setup's texts, the user's name in capitals and the conferences whose member the user is. With at
-/// most 999,999,999 messages it can be written.
+/// is there. It has the setup's texts, the user's name in capitals and the conferences whose member the user is. With
+/// at most 999,999,999 messages it can be written.
 ///
 /// The error comes where there is no memory.
 pub fn control_of(

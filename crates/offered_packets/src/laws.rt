@@ -18,8 +18,8 @@ ghost use Rattle.offered_packets.specs.declared.offered_message.OfferedMessage.{
 
 use qwk_moments::laws::written_bytes;
 
-/// Of a valid board each message can be written as it is shown, and fewer than 65,536 of them in fewer than 2^31
-/// bytes.
+/// Each message of a valid board can be written as it is shown. Fewer than 65,536 of them can be written in fewer than
+/// 2^31 bytes.
 pub fn shown_can_be_written()
     ensures message { (b : Board) (place number logical : ℕ) → IsBoard b → logical < 2 ^ 16 → IfSome (shown b place number logical) IsWritable }
     ensures messages { (b : Board) (messages : List OfferedMessage) → IsBoard b → length messages < 2 ^ 16 → All IsWritable (shown_all b messages) }
@@ -44,8 +44,13 @@ pub fn each_offered_is_shown()
     ensures { (b : Board) (user limit : ℕ) → length (packet b user limit) ≡ length (offered b user limit) }
 {}
 
-/// The outline of a board has all that is asked of a board to make a packet but the bodies: its messages without
-/// them, who sees which, what he is offered, the highs of that, and how a message is shown that is at hand.
+/// The outline of a board has all that is asked of a board to make a packet, but the bodies:
+///
+/// - its messages without them
+/// - which user sees which
+/// - what a user is offered
+/// - the highs of that
+/// - how a message is shown that is at hand
 pub fn outline_is_offered()
     ensures message { (b : Board) (place number : ℕ) → message_at (board_outline b) place number ≡ option_map message_outline (message_at b place number) }
     ensures sees { (b : Board) (id place number : ℕ) → sees (board_outline b) id place number ≡ sees b id place number }

@@ -36,9 +36,9 @@ fn add_new(
     Ok(())
 }
 
-/// What the user of an id, from 1, is offered: the first messages, by place and then by number, that the user
-/// sees (as `sees` says) and whose number is above the user's pointer in their conference, at most as many as
-/// the limit. It looks at each slot once at most, and at none behind the last that it offers.
+/// What the user of an id, from 1, is offered: the first new messages, by place and then by number, at most as many as
+/// the limit. A message is new where the user sees it, as `sees` says, and its number is above the user's pointer in
+/// its conference. The call looks at each slot once at most, and at none behind the last that it offers.
 ///
 /// The error comes where there is no memory.
 #[tactic(auto, unfolding(crate::specs::Offered::offered))]

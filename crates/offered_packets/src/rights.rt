@@ -24,8 +24,8 @@ fn names_user(user: &User, message: &Message) -> bool
     is_to || is_from
 }
 
-/// Whether a user may see a message of the conference in a place, from 0 to 63: the user is a member there, and the
-/// message isn't private, or is to the user or from the user, or the user is the sysop. Names are compared ignoring
+/// Whether a user may see a message of the conference in a place, from 0 to 63. The user must be a member there. A
+/// private message must be to the user or from the user, or the user must be the sysop. Names are compared ignoring
 /// ASCII case. It takes no memory.
 pub fn may_see(ledger: &Ledger, place: u8, user: &User, message: &Message) -> bool
     requires { place < 64 }
@@ -35,9 +35,10 @@ pub fn may_see(ledger: &Ledger, place: u8, user: &User, message: &Message) -> bo
     user.is_member(u32::from(place)) && is_open
 }
 
-/// Whether the user of an id, from 1, sees the message of a number, from 1, in a place, from 0: all three are
-/// there, the message isn't deleted, the user is a member of its conference, and it isn't private, or is to the
-/// user or from the user, or the user is the sysop. Names are compared ignoring ASCII case. It takes no memory.
+/// Whether the user of an id, from 1, sees the message of a number, from 1, in a place, from 0. All three must be
+/// there. The message mustn't be deleted, and the user must be a member of its conference. A private message must be to
+/// the user or from the user, or the user must be the sysop. Names are compared ignoring ASCII case. It takes no
+/// memory.
 #[tactic(auto, unfolding(crate::specs::Sees::sees))]
 pub fn sees(board: &StoredBoard, user: u32, place: u8, number: u32) -> bool
     ensures { result ≡ is_seen board.now user place number }

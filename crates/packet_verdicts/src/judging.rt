@@ -166,9 +166,9 @@ impl Judging {
 }
 
 /// What a board makes of messages that the user of an id, from 1, uploads at a moment in Unix seconds, one after the
-/// other: each is judged on the board with the drafts that were accepted before it, and `full` counts the 42 bytes of
-/// the upload record too. The user is there, and there are at most 8,191 messages. The board isn't copied, and no
-/// message goes over the others.
+/// other. It judges each on the board with the drafts that were accepted before it. The rule `full` counts the 42 bytes
+/// of the upload record too. The user is there, and there are at most 8,191 messages. The board isn't copied, and to
+/// judge a message it doesn't go over the others.
 ///
 /// The error comes where there is no memory.
 #[tactic(auto, unfolding(crate::specs::Judged::judged))]

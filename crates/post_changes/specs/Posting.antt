@@ -32,8 +32,9 @@ pub record SpentSoFar (b : Board) (posts : List (ℕ × Message)) (count : ℕ) 
 abbrev pub next_ledger : Board → BoardChange → Ledger
 next_ledger b change = unwrap_or change.ledger b.ledger
 
--- by the ledger behind the change the next board is valid, and its conferences have the same shapes; of the first places
--- the change has the bases with their posts, and the patches of their files, for each board with the outline of this one
+-- By the ledger behind the change the next board is valid, and its conferences have the same shapes. Of the first
+-- places the change has the bases with their posts. It has the patches of their files, for each board with the outline
+-- of this one.
 pub record Posting (b : Board) (posts : List (ℕ × Message)) (count : ℕ) (change : BoardChange) : Type 0 where
   pub shapes : shapes_of (next_ledger b change) ≡ shapes_of b.ledger
   pub next : IsBoard (posted_with (next_ledger b change) posts b)

@@ -21,7 +21,8 @@ fn count_in(place: u8, posts: &[Post]) -> usize
     posts.iter().filter(|post| post.0 == place).count()
 }
 
-/// Whether a conference of this kind may hold the message of a post, once it has a msgid, where it is in this place.
+/// Whether a conference of this kind may hold the message of a post, once it has a msgid. It is true of each post in
+/// another place than this one.
 fn may_hold_post(kind: Kind, place: u8, post: &Post) -> bool
     ensures { IsTrue result ↔ MayHoldIn kind place post.now }
 {
@@ -86,17 +87,23 @@ fn fits_all(board: &StoredBoard, posts: &[Post]) -> bool
 }
 
 /// Whether the place of each post is there, and the board is valid once the posts stand at the ends of their
-/// conferences, each with the msgid that is generated for its number, where it has none. It takes no memory.
+/// conferences. There a message without a msgid has the one that is generated for its number. It takes no memory.
 pub fn fits_posts(board: &StoredBoard, posts: &Posts) -> bool
     ensures { IsTrue result ↔ (ArePlaced posts.now board.now × IsBoard (spread_of posts.now board.now)) }
 {
     fits_all(board, posts.as_slice()) && size_with_posts(board, posts) <= BOARD_LIMIT
 }
 
-/// Whether the place of each post is there, and the board is valid once the posts stand so and the record of the
-/// packet of a user and a SHA-256 is kept, of which so many messages were refused: the user is there, from 1, no
-/// record of both is kept, and the record is one of at most 100,000 and counts at most 8,191 messages. It takes no
+/// Whether the place of each post is there, and the board is valid once the posts stand so and an upload record is
+/// kept. It is the record of the packet of a user and a SHA-256, of which so many messages were refused. It takes no
 /// memory.
+///
+/// The record may be kept where all of these hold:
+///
+/// - The user is there, from 1.
+/// - No record of that user and SHA-256 is kept.
+/// - With this one there are at most 100,000 records.
+/// - It counts at most 8,191 messages.
 pub fn fits_upload(
     board: &StoredBoard,
     user: u32,

@@ -16,7 +16,8 @@ use intent_journal::Intent;
 use slot_changes::{BoardChange, intent_with};
 use std::alloc::{AllocError, Global};
 
-/// The intent that puts an upload record at the end of the ledger's file, and no other. Both ledgers are valid.
+/// The intent that puts an upload record at the end of the ledger's file, and counts it. The ledger is valid without
+/// the record and with it.
 fn upload_intent(
     alloc: Global,
     ledger: &Ledger,
@@ -29,10 +30,10 @@ fn upload_intent(
     intent_with(alloc, upload_patches(alloc, ledger, upload)?)
 }
 
-/// The change of a board by a reply packet that the user of an id, from 1, sent: the messages of its posts go to the
-/// ends of their conferences, as `spread` has it, and the record of the packet stands behind the others, with its
-/// SHA-256, how many posts there are and how many messages were refused. All places are there, and the board that
-/// it makes is valid. The intent serves each board with the outline of this one. A message is copied once.
+/// The change of a board by a reply packet that the user of an id, from 1, sent. The messages of its posts go to the
+/// ends of their conferences, as `spread` has it. The record of the packet stands behind the others. It has the
+/// packet's SHA-256, how many posts there are and how many messages were refused. All places are there, and the board
+/// that the change makes is valid. The intent serves each board with the outline of this one. A message is copied once.
 ///
 /// The error comes where there is no memory.
 pub fn uploaded(

@@ -6,9 +6,9 @@ ghost use Rattle.qwk_moments.specs.Moments.{full_year, moment_of, read_date, rea
 use crate::civil_date::{CivilDate, start_of_minute};
 use crate::digits::number_of_two;
 
-/// The moment that a date field and a time field read as, in seconds since 1970, in UTC: the date as
-/// `mm-dd-yy`, or with `/` in place of both `-`, in a year from 1970 to 2069, and the time as `hh:mm`.
-/// None where one of the two doesn't read.
+/// The moment that a date field and a time field read as, in seconds since 1970, in UTC. The date is
+/// `mm-dd-yy`, or has `/` in place of both `-`, in a year from 1970 to 2069. The time is `hh:mm`. None where
+/// one of the two doesn't read.
 pub fn read_moment(date: &[u8; 8], time: &[u8; 5]) -> Option<u32>
     ensures { result ≡ moment_of date.now time.now }
 {

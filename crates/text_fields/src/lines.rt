@@ -31,7 +31,7 @@ pub fn next_line(text: &[u8]) -> Option<(&[u8], &[u8])>
     }
 }
 
-/// The lines of a text, as `next_line` takes them.
+/// The lines of a text, as `next_line` takes them. The error comes where there is no memory.
 pub fn lines_of(alloc: Global, text: &[u8]) -> Result<Lines, AllocError>
     ensures { IfOk result (λ all. all ≡ lines text.now) }
 {
@@ -54,7 +54,7 @@ pub fn is_skipped(line: &[u8]) -> bool
     }
 }
 
-/// Adds a line, and CR LF behind it.
+/// Adds a line, and CR LF behind it. The error comes where there is no memory; a part of them may have been added.
 pub fn add_line(out: &mut Bytes, line: &[u8]) -> Result<(), AllocError>
     ensures { OnOk result (out.new ≡ out.old ++ crlf_line line.now) }
 {

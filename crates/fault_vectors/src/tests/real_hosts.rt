@@ -35,8 +35,9 @@ fn begins(rt: HostRuntime, kept: &[u8]) -> Result<bool, Fail> {
     )
 }
 
-/// Whether a run can begin where the lock's file has the mark of another start or of another file, a front of this one
-/// without the whole id, or nothing; and not where it has this mark, or its id alone.
+/// Whether a run begins exactly where it may. It may where the lock's file has the mark of another start or of another
+/// file, a front of this mark without the whole id, or nothing. It may not where the file has this mark, or its id
+/// alone.
 fn begins_after_a_start(rt: HostRuntime, here: &SyncMark) -> Result<bool, Fail> {
     let (mut other_start, mut other_file) = (*here, *here);
     other_start[35] = b'x';

@@ -15,8 +15,8 @@ use std::alloc::{AllocError, Global};
 use std::test::Fail;
 
 /// Changes of the base of four readers in place 0. What is found of a change is how many slots, live messages and bytes
-/// there are then, and that it has no patches; or why it is refused. `file` looks at one of its files, which the patches
-/// of all changes since `new` made.
+/// there are then, and `unchanged` where it has no patches. Where it is refused, the reason is found. `file` looks at
+/// one of the base's files, which the patches of all changes since `new` made.
 ///
 /// Messages are named by their numbers, with that of the message that they answer. `fill` appends so many copies of the
 /// first. `cost` looks whether a commit of the last change writes at most so many bytes.
@@ -93,7 +93,7 @@ file 2 JAM\0\0\xCA\x9A;\x03\0\0\0\x04\0\0\0\xFF\xFF\xFF\xFF\x01\z\0\0\0JAM\0\x01
 file 5 \x99W\x03\x9F\x01\0\0\0\0\0\0\0\0\0\0\0\x91d\x92\xC6\x02\0\0\0\x02\0\0\0\x02\0\0\0#9\xC6m\x03\0\0\0\0\0\0\0\0\0\0\0\xAA\xFEL\x8E\x04\0\0\0\0\0\0\0\0\0\0\0 = same
 "#;
 
-/// What a message costs in place, and a conference that is full.
+/// What a message costs in place; and a conference that is full, whose messages are all received.
 const FULL: &str = r#"
 new = 0 0 1088
 fill 1000 = 1000 1000 154088
@@ -102,6 +102,13 @@ cost 1112 = true
 new = 0 0 1088
 fill 9999 = 9999 9999 1530935
 append 1 = Slots(10000)
+receive 0 9999 All = 9999 9999 1530935
+message 1 = "Bob Ray" "All" "Hello" "0.1.TESTBBS" "" "" "" "First line\r" 1000000000 1000000100 1000000000 true false true false
+message 9999 = "Bob Ray" "All" "Hello" "0.1.TESTBBS" "" "" "" "First line\r" 1000000000 1000000100 1000000000 true false true false
+receive 0 9999 All = 9999 9999 1530935 unchanged
+point 2 9999 = 9999 9999 1530935
+pointer 2 = Some(9999)
+read = 9999 9999 1530935
 "#;
 
 /// The moment at which each message was written.

@@ -14,7 +14,8 @@ use std::test::Fail;
 /// Records by their bytes, and what is read of them: the numbers, and whether what is read is written as these bytes; or
 /// why nothing is read. Numbers of 32 bits that are checksums or marks are hexadecimal.
 ///
-/// The first header is that of the message 0.1.TESTBBS from Bob Ray to All about Hello, whose subfields follow it.
+/// The first header is that of the message 0.1.TESTBBS from Bob Ray to All about Hello, whose subfields follow it. The last
+/// run of subfields has 8,250 empty ones behind the first, in more bytes than 16 bits count.
 const TABLE: &str = r#"
 header JAM\0\x01\0\0\0:\0\0\0\0\0\0\0\x01\x02\x03\x04\xFF\xFF\xFF\xFF\0\0\0\0\0\0\0\0\0\0\0\0\0\xCA\x9A;\0\0\0\0\0\xCA\x9A;\x01\0\0\0\x01\0\x80\0\0\0\0\0\0\0\0\0\x0B\0\0\0\xFF\xFF\xFF\xFF\0\0\0\0 = 58 4030201 1000000000 1 800001 11 true
 header AM\0\x01\0\0\0:\0\0\0\0\0\0\0\x01\x02\x03\x04\xFF\xFF\xFF\xFF\0\0\0\0\0\0\0\0\0\0\0\0\0\xCA\x9A;\0\0\0\0\0\xCA\x9A;\x01\0\0\0\x01\0\x80\0\0\0\0\0\0\0\0\0\x0B\0\0\0\xFF\xFF\xFF\xFF\0\0\0\0 = Short
@@ -26,6 +27,7 @@ subfields \x02\0\0\0\x07\0\0\0Bob Ray\x03\0\0\0\x03\0\0\0All\x04\0\0\0\x0B\0\0\0
 subfields \x02\0\0\0\x07\0\0\0Bob Ray\x03\0\0\0\x03\0\0\0All\x04\0\0\0\x0B\0\0\00.1.TESTBB = SubfieldEnd(26)
 subfields \x02\0\0\0\x07\0\0\0Bob Ra = SubfieldEnd(0)
 subfields \x02\0\0\0\x07\0\0 = SubfieldEnd(0)
+subfields \x02\0\0\0\x07\0\0\0Bob Ray\z\z\z\z\z\z\z\z\z\z\z\z\z\z\z\z\z\z\z\z\z\z\z\z\z\z\z\z\z\z\z\z\z\z\z\z\z\z\z\z\z\z\z\z\z\z\z\z\z\z\z\z\z\z\z\z\z\z\z\z\z\z\z\z\z\z = 8251 2 0 "Bob Ray" true
 base JAM\0\0\xCA\x9A;\x01\0\0\0\x02\0\0\0\xFF\xFF\xFF\xFF\x01\z\0\0\0 = 1000000000 1 2 ffffffff 1 true
 base JAM\0\0\xCA\x9A;\x01\0\0\0\x02\0\0\0\xFF\xFF\xFF\xFF\x01\0\0\0 = Short
 index \xD9\xC6\x0B4\0\x04\0\0 = 340bc6d9 1024 true

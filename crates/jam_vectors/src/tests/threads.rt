@@ -13,9 +13,12 @@ use std::test::Fail;
 /// Slots, each by the id of its message and the id that it answers, of one letter each: a dot is an empty id, and two
 /// dashes are a slot that is gone.
 ///
-/// `links` gives how many there are, and the links of each to the original, the first answer and the next. `next` and the
-/// id that a message answers which is added next gives its original, and the link number that it changes. `add` and such
-/// a message gives the links of those before it, and the original of each, once it is there.
+/// `links` gives how many there are, and the links of each to the original, the first answer and the next.
+///
+/// `next` takes an id. It gives the original of a message that answers this id and is added next, and the link number
+/// that the message changes.
+///
+/// `add` adds a message by its two ids. Then it gives the links of those before it, and the original of each.
 const TABLE: &str = r#"
 links  = 0
 links a. ba ca da = 4 0,2,0 1,0,3 1,0,4 1,0,0

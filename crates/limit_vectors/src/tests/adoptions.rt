@@ -1,4 +1,4 @@
-//! A base that is adopted by a board that it fills to its last byte.
+//! Bases that are adopted: one that fills the board to its last byte, and ones with long runs of subfields.
 
 /// A base of five messages, each of which takes 128 bytes and its text, on the board of `FILLED`, where 2,906 bytes are
 /// free. The texts have 2,779, 1,000, 1,651, 1,650 and no bytes, and end where .JDT does.
@@ -43,4 +43,41 @@ board FULL
 [[0 6 # C#: 255 slots, 255 live
 ]]7 C7: 312 slots, 312 live
 0 users, 0 uploads, 34603008 bytes
+"#;
+
+/// A header with 65,535 bytes of subfields, of which the last has the sender and the others nothing; and one with as many
+/// as a file may have.
+pub const SUBFIELDS: &str = r#"
+* board B
+* put base JAM\0
+* add base 1020 \0
+* put long.JHR
+* join long.JHR 1 base
+* add long.JHR 1 JAM\0\x01\0\0\0\xFF\xFF\0\0
+* add long.JHR 64 \0
+* add long.JHR 8190 \xD0\x07\0\0\0\0\0\0
+* add long.JHR 1 \x02\0\0\0\x07\0\0\0Bob Ray
+* put long.JDT
+* put long.JDX \0\0\0\0\0\x04\0\0
+> adopt 0 long
+1 posted 0 1
+posted 1 refused 0
+* put most.JHR
+* join most.JHR 1 base
+* add most.JHR 1 JAM\0\x01\0\0\0\xB4\xFB\xFF\0
+* add most.JHR 64 \0
+* add most.JHR 2097013 \xD0\x07\0\0\0\0\0\0
+* add most.JHR 1 \x02\0\0\0\x04\0\0\0Anna
+* length most.JHR 16777216
+* put most.JDT
+* put most.JDX \0\0\0\0\0\x04\0\0
+> adopt 0 most
+1 posted 0 2
+posted 1 refused 0
+> export "Ann Lee" 10 out
+packet 1: 2 messages
+> list out/MESSAGES.DAT
+1 0/1 public BOB RAY > ALL:  [0]
+2 0/2 public ANNA > ALL:  [0]
+2 messages
 "#;

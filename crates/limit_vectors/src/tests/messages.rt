@@ -253,8 +253,8 @@ fn expect_rows_after(alloc: Global, transcript: &str, rows: &'static str) -> Res
     expect_rows(alloc, &stage.host, rows)
 }
 
-/// Three messages, of which the second is deleted, and a slot behind them whose message is gone; a letter in the net
-/// conference, which Ann has read; and no message in the last.
+/// The first conference has three messages, of which the second is deleted, and a slot behind them whose message is
+/// gone. The net conference has a letter, which Ann has read. The last has no message.
 const BOARD: &str = r#"
 * board B
 * put own From: Bob Ray\nTo: All\nSubject: Own\nMsgid: mine\nReply: 0.1.TESTBBS\n\nA\n\nB\n.\n
@@ -280,9 +280,10 @@ board TESTBBS
 4 users, 0 uploads, 4271 bytes
 "#;
 
-/// A message of a place and number, with the msgid that the board generates; the same message where another host gives
-/// what stands behind the number for each file; and whether so many slots that are Gone may stand in a place in place of
-/// those that do. The first message has 11 bytes and the third 5, of which a body keeps no more than their number.
+/// Rows of three kinds. A row `message` has the message of a place and number, with the msgid that the board generates.
+/// A row `elsewhere` has the same message where another host gives what stands behind the number for each file. A row
+/// `slots` says whether so many slots that are Gone may stand in a place instead of those that do. The body of message
+/// 1 of place 0 has 11 bytes, and that of message 3 has 5. Of what the other host gives, no more is kept.
 const ROWS: &str = "message 0 0 = 0.0.TESTBBS free none
 message 0 1 = 0.1.TESTBBS held [true, false, false, false] Bob Ray > All: Hello (0.1.TESTBBS) First line\\r
 message 0 2 = 0.2.TESTBBS held [true, false, false, true] Bob Ray > All: Hello (0.2.TESTBBS) First line\\r
