@@ -2,8 +2,8 @@
 # Runs all benches of time in turn, and prints one table of what they found: the seconds of our program, and those of
 # `cat` and `sha256sum` of the same bytes where a bench takes them. What each bench says itself goes to standard error.
 # A second table has what growth.sh found: the seconds at half a size and at the whole size, and how many times as long
-# the whole takes. edge.sh, gate.sh, kill.sh, memory.sh, multimail.sh, read.sh and shelf.sh are no benches of the
-# program's time, so they are left out. It is no part of the gate.
+# the whole takes. edge.sh, gate.sh, kill.sh, memory.sh, multimail.sh, power.sh, read.sh, shelf.sh and upgrade.sh are no
+# benches of the program's time, so they are left out. It is no part of the gate.
 # usage: bench/all.sh [RUNS]    how often a command is timed, in the benches that take it
 
 top=$(dirname -- "$(readlink -f -- "$0")")/..
@@ -15,7 +15,8 @@ status=0
 
 for bench in "$top"/bench/*.sh; do
     case ${bench##*/} in
-    all.sh | best.sh | edge.sh | gate.sh | kill.sh | memory.sh | multimail.sh | read.sh | shelf.sh) continue ;;
+    all.sh | best.sh | edge.sh | gate.sh | kill.sh | memory.sh | multimail.sh) continue ;;
+    power.sh | read.sh | shelf.sh | upgrade.sh) continue ;;
     esac
     printf '%s\n' "== ${bench##*/}" >&2
     if ! sh "$bench" "$@" >&2 </dev/null; then

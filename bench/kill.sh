@@ -40,6 +40,7 @@ counts() {
 # Enrolls a user of this name in a run that is killed after so many seconds, unless it has ended. It is started
 # without `door`, whose shell would be killed in its place.
 enroll_and_kill() {
+    : >"$work/said"
     "$program" "$work/data" "$shelf" enroll "$1" n all >"$work/said" 2>/dev/null </dev/null &
     run=$!
     sleep "$2"

@@ -1,7 +1,7 @@
 #!/bin/sh
 # Kills runs of bin/qwkdoor-read at random (bench/read.py says how, and what must hold). It is no part of the gate, but
 # for its short form.
-# usage: bench/read.sh [TIMES]
+# usage: bench/read.sh [KILLS]
 # DOOR names another command that runs the program, in place of bin/qwkdoor.
 
 top=$(readlink -f -- "$(dirname -- "$(readlink -f -- "$0")")/..")

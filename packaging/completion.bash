@@ -93,9 +93,23 @@ _qwkdoor() {
     esac
 }
 
+# Completes the names of the callers' folders, of the list in whichever of the words is the shelf.
+_qwkdoor_callers() {
+    local word names=
+    local line='s/^[ \t]*"[^"]*"[ \t]*[0-9]\{1,\}[ \t]\{1,\}\([^ \t\r]*\).*/\1/p'
+    for word in "${COMP_WORDS[@]:1}"; do
+        names+=" $(sed -n "$line" "${word/#\~/$HOME}/mail/callers" 2>/dev/null)"
+    done
+    _qwkdoor_reply "$names" "$1"
+}
+
 # Completes the words of a script: its options, and paths. What follows an option isn't a path.
 _qwkdoor_script() {
     COMPREPLY=()
+    if [[ $3 = --caller ]]; then
+        _qwkdoor_callers "$2"
+        return
+    fi
     ! _qwkdoor_options "$1" | grep -q -e "^$3 " || return
     if [[ $2 = -* ]]; then
         _qwkdoor_reply "$(_qwkdoor_options "$1" | cut -d ' ' -f 1)" "$2"

@@ -11,7 +11,7 @@ import tempfile
 import unittest
 from typing import Callable, Optional, Sequence
 
-from tests.support import PROGRAM, TOP, needs_program
+from tests.support import MEMORY, PROGRAM, TOP, needs_program
 
 BIN = os.path.join(TOP, "bin")
 SETUP = ("board: Test Board", "city: Springfield", "phone: 555-0100", "sysop: Sam Sysop", "bbsid: TESTBBS", "serial: 1")
@@ -31,7 +31,7 @@ class BoardCase(unittest.TestCase):
     """A test with a board of its own, and a shelf."""
 
     def setUp(self) -> None:
-        self.top = tempfile.mkdtemp()
+        self.top = tempfile.mkdtemp(dir=MEMORY)
         self.addCleanup(shutil.rmtree, self.top)
         self.data = os.path.join(self.top, "data")
         self.shelf = os.path.join(self.top, "shelf")
@@ -85,14 +85,15 @@ def packet(*messages: bytes) -> bytes:
     return header + b"".join(messages) + b"\0\0"
 
 
-def killed_at(step: int, run: Callable[[], object]) -> Optional[int]:
+def killed_at(step: int, run: Callable[[], object], half: bool = False) -> Optional[int]:
     """Carries out a run in a process of its own, which ends as by a kill before its step of this number, from 0.
 
-    Gives None for a run that was killed so, else how it ended.
+    A file that it had written and was to sync has lost its second half then, where that is wanted. Gives None for a run
+    that was killed so, else how it ended.
     """
     child = os.fork()
     if child == 0:
-        os._exit(_status_of(step, run))
+        os._exit(_status_of(step, run, half))
     code = os.waitstatus_to_exitcode(os.waitpid(child, 0)[1])
     return None if code == _KILLED else code
 
@@ -100,14 +101,19 @@ def killed_at(step: int, run: Callable[[], object]) -> Optional[int]:
 _KILLED = 99
 
 
-def _status_of(step: int, run: Callable[[], object]) -> int:
+def _status_of(step: int, run: Callable[[], object], half: bool) -> int:
     from qwkdoor_scripts import durable
 
     steps = iter(range(step))
 
-    def kill(_name: str, _path: str) -> None:
+    written: "list[str]" = []
+
+    def kill(name: str, path: str) -> None:
         if next(steps, None) is None:
+            if half and name == "fsync" and path in written:
+                os.truncate(path, os.path.getsize(path) // 2)
             os._exit(_KILLED)
+        written[:] = [path] if name == "write" else []
 
     durable.before = kill
     with open(os.devnull, "w", encoding="ascii") as nowhere:

@@ -11,12 +11,10 @@ import tempfile
 import zipfile
 from typing import Iterator, Optional, Sequence
 
-from tests.support import PROGRAM, SHELF, TOP
+from tests.support import MEMORY, PROGRAM, SHELF, TOP
 
 # Another script may be tried by the same tests.
 SCRIPT = os.environ.get("QWKDOOR_DAY") or os.path.join(TOP, "bin", "qwkdoor-day")
-# In memory a sync takes no time. That it happens is looked at by `durable.before`.
-MEMORY = "/dev/shm" if os.access("/dev/shm", os.W_OK) else None
 CALLERS = '"Ann Lee" 2000 ann\n"Bob Ray" 100 bob\n"Cy Day" 10 cy\n'
 _USERS = 'init setup.txt\nenroll "Ann Lee" n all\nenroll "Bob Ray" - 0\nenroll "Cy Day" - 0\n'
 
@@ -62,8 +60,8 @@ def received(packet: bytes) -> list[tuple[int, int, str]]:
 class Board:
     """A board in a folder of its own, with three callers and `count` messages to all."""
 
-    def __init__(self, count: int = 3, callers: str = CALLERS) -> None:
-        self.top = tempfile.mkdtemp(prefix="day [test] ", dir=MEMORY)
+    def __init__(self, count: int = 3, callers: str = CALLERS, folder: Optional[str] = None) -> None:
+        self.top = tempfile.mkdtemp(prefix="day [test] ", dir=folder or MEMORY)
         self.data = os.path.join(self.top, "a board")
         self.shelf = os.path.join(self.top, "a shelf")
         self.mail = os.path.join(self.shelf, "mail")

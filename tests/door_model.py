@@ -11,6 +11,7 @@ import json
 import os
 from typing import Any, Callable
 
+from qwkdoor_scripts.ledger import People
 from qwkdoor_scripts.program import Program, Reply
 from tests.day_support import letter
 
@@ -36,6 +37,11 @@ class DoorModel(Program):
         """Makes a board."""
         none = {it: {"upto": 0, "last": 0, "open": {}} for it in users}
         self._keep({"subjects": subjects, "users": none, "records": {}})
+
+    def people(self, _path: str) -> People:
+        """Gives what stands in the ledger of a board."""
+        users = self.board()["users"]
+        return People(1, b"", [it.encode() for it in users], [it["last"] for it in users.values()])
 
     def _keep(self, board: dict[str, Any]) -> None:
         with open(self.data + ".part", "w", encoding="ascii") as file:

@@ -7,8 +7,6 @@ import os
 import re
 from typing import Mapping
 
-import tests.support  # noqa: F401 - it finds the package
-
 from qwkdoor_scripts import durable, packets
 from qwkdoor_scripts.program import Reply
 

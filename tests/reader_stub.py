@@ -1,4 +1,4 @@
-"""A stand-in for the program and the editor, quick enough to be killed at each step. It knows the three letters alone."""
+"""A stand-in for the program and the editor, quick enough to be killed at each step. It knows three letters alone."""
 
 from __future__ import annotations
 

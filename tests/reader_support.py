@@ -1,4 +1,4 @@
-"""A caller with a folder of his own: packets are made for him here, and the reply packets that he sends are read here."""
+"""A caller with a folder of his own: his packets are made here, and the reply packets that he sends are read here."""
 
 from __future__ import annotations
 
@@ -109,8 +109,11 @@ THREE = (
 class Caller(unittest.TestCase):
     """A test with a caller's folder. Whatever reader is tried, its archives are those below the folder."""
 
+    # Where the folder is made.
+    top: Optional[str] = None
+
     def setUp(self) -> None:
-        place = tempfile.TemporaryDirectory()
+        place = tempfile.TemporaryDirectory(dir=self.top)
         self.addCleanup(place.cleanup)
         self.home = os.path.realpath(place.name)
         self.packet = write_packet(os.path.join(self.home, "TESTBBS.QWK"), THREE)
@@ -121,7 +124,10 @@ class Caller(unittest.TestCase):
 
     def editor(self, script: str) -> str:
         """Makes an editor of a shell script, and gives its path."""
-        path = os.path.join(self.home, f"editor{len(os.listdir(self.home))}")
+        return self.editor_at(os.path.join(self.home, f"editor{len(os.listdir(self.home))}"), script)
+
+    def editor_at(self, path: str, script: str) -> str:
+        """Makes a shell script the editor at a path."""
         with open(path, "w", encoding="utf-8") as file:
             file.write(f"#!/bin/sh\n{script}\n")
         os.chmod(path, 0o700)

@@ -11,12 +11,13 @@ from typing import Callable, Optional
 from tests.installed import install_copy
 from tests.letters import reply_archive
 from tests.recipes import Machine, Person, Step, steps_of
-from tests.support import TOP, needs_program
+from tests.support import MEMORY, TOP, needs_program
 
 BOARD, ANN, BOB = Person(64200, 64200, (64201,)), Person(64201, 64201), Person(64202, 64202)
 NOT_RUN = {
     "useradd": "makes an account of the machine",
     "usermod": "changes an account of the machine",
+    "setfacl": "isn't on each machine, and tests/test_lending.py gives folders such ACLs",
     "systemctl": "asks the machine's own systemd, whose units tests/test_install.py looks at",
 }
 # The recipes on whose sessions the others stand.
@@ -63,7 +64,7 @@ class RecipeCase(unittest.TestCase):
             cls.steps = list(steps_of(file.read()))
         # The scripts set a mask of their own, also where a test calls them in this process.
         cls.addClassCleanup(os.umask, os.umask(0o022))
-        cls.root = os.path.join(tempfile.mkdtemp(), "root")
+        cls.root = os.path.join(tempfile.mkdtemp(dir=MEMORY), "root")
         cls.saved = cls.root + ".saved"
         cls.addClassCleanup(shutil.rmtree, os.path.dirname(cls.root))
         own = Person(os.geteuid(), os.getegid())

@@ -130,7 +130,7 @@ class Machine:
             text = MOMENT.sub(found[-1], text)
         for name, person in self.accounts.items():
             text = re.sub(rf"-o {name}\b", f"-o {person.user}", text)
-            text = re.sub(rf"(-g|chgrp) {name}\b", rf"\1 {person.group}", text)
+            text = re.sub(rf"(-g|chgrp|chgrp -R) {name}\b", rf"\1 {person.group}", text)
         return FOLDERS.sub(lambda match: self.root + match.group(), text)
 
     def write_shown(self, step: Step) -> None:

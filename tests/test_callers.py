@@ -6,7 +6,7 @@ import os
 import tempfile
 import unittest
 
-from tests.day_support import MEMORY
+from tests.support import MEMORY
 
 from qwkdoor_scripts import callers
 from qwkdoor_scripts.callers import Caller

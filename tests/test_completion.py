@@ -91,6 +91,16 @@ class Completion(unittest.TestCase):
             ):
                 self.assertEqual(self.complete(*door, *words), wanted, words)
 
+    def test_the_folders_of_the_callers(self) -> None:
+        with tempfile.TemporaryDirectory() as folder:
+            os.makedirs(os.path.join(folder, "a shelf/mail"))
+            with open(os.path.join(folder, "a shelf/mail/callers"), "w", encoding="ascii") as file:
+                file.write('"Ann Lee" 2000 ann\n# "Cy Day" 5 cy\n"Bob Ray"100\tbob 20 5000\r\n  "Al Fa" 5 al.1-a\n')
+            words = ("bin/qwkdoor-day", "/tmp", os.path.join(folder, "a shelf"), "--caller")
+            self.assertEqual(self.complete(*words, ""), ["al.1-a", "ann", "bob"])
+            self.assertEqual(self.complete(*words, "a"), ["al.1-a", "ann"])
+            self.assertEqual(self.complete("bin/qwkdoor-day", "--caller", "a"), [])
+
     def test_what_follows_an_option_is_no_path(self) -> None:
         self.assertEqual(self.complete("bin/qwkdoor-day", "-w", ""), [])
         self.assertIn("bin", self.complete("bin/qwkdoor-day", "bi"))

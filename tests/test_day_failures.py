@@ -9,7 +9,7 @@ import time
 import unittest
 import zipfile
 
-from tests.day_support import SCRIPT, Board, board, letter, text_in
+from tests.day_support import SCRIPT, board, letter, text_in
 from tests.support import PROGRAM, needs_program
 
 _NO_SYNC = "import errno, os\n\ndef fails(handle):\n    raise OSError(errno.EIO, 'the disk')\n\nos.fsync = fails\n"
@@ -39,20 +39,18 @@ class FailuresOfADay(unittest.TestCase):
 
     def test_a_run_waits_for_a_command_whose_script_was_killed(self) -> None:
         with board() as it:
-            slow = it.write("slow", f'#!/bin/sh\nsleep 3\nexec {PROGRAM} "$@"\n'.encode())
+            hold, begun = it.write("hold", b""), os.path.join(it.shelf, "begun")
+            waits = f': >"{begun}"\nwhile [ -e "{hold}" ]; do sleep 0.1; done\n'
+            slow = it.write("slow", f'#!/bin/sh\n{waits}exec {PROGRAM} "$@"\n'.encode())
             os.chmod(slow, 0o700)
             run = subprocess.Popen([SCRIPT, it.data, it.shelf], env={**os.environ, "QWKDOOR": slow})
-            self._await_lock(it)
+            while not os.path.exists(begun):
+                time.sleep(0.05)
             run.kill()
             run.wait()
             self.assertEqual(75, it.day("-w", "0").returncode)
+            os.remove(hold)
             self.assertEqual((0, ["TESTBBS.QWK"]), (it.day().returncode, it.names("ann/out")))
-
-    def _await_lock(self, it: Board) -> None:
-        """Waits until a command is under way."""
-        while not os.path.exists(os.path.join(it.mail, "lock")):
-            time.sleep(0.05)
-        time.sleep(0.5)
 
     def test_a_packet_that_a_power_cut_spoilt_is_made_anew(self) -> None:
         with board() as it:
@@ -74,6 +72,7 @@ class FailuresOfADay(unittest.TestCase):
             it.send_letters("ann", [letter("ANN LEE", "ALL", "A letter")])
             it.day()
             self.assertIn("A letter", it.subjects())
+            self.assertLess(len(it.subjects()), 300)
 
     def test_the_environment_spoils_no_letter_and_no_packet(self) -> None:
         with board() as it:

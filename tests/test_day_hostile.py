@@ -14,8 +14,9 @@ import zipfile
 from typing import Callable, Iterator
 from unittest import mock
 
-from tests.day_support import MEMORY, archive, letter, reply_packet
+from tests.day_support import archive, letter, reply_packet
 from tests.door_model import DoorModel
+from tests.support import MEMORY
 
 from qwkdoor_scripts import durable
 from qwkdoor_scripts.callers import Caller
@@ -52,7 +53,7 @@ class Place:
     def day(self) -> int:
         """Lets a day come to its end."""
         self.said = io.StringIO()
-        with contextlib.redirect_stderr(self.said):
+        with contextlib.redirect_stderr(self.said), mock.patch("qwkdoor_scripts.ledger.read", self.door.people):
             return Day(self.door, self.shelf, self.listed, lambda: self.now).run()
 
     def names(self, *parts: str) -> list[str]:
@@ -224,6 +225,8 @@ class HostileCallers(unittest.TestCase):
             "a folder for msg": lambda it: (it.send(_ARCHIVE), os.mkdir(it.path("bob", "work", "msg"))),
             "in leads to out": lambda it: self._lead(it, "in", "out"),
             "out leads to another's": lambda it: self._lead(it, "out", "../ann/out"),
+            "out leads to the shelf": lambda it: self._lead(it, "out", "../.."),
+            "work leads to mail": lambda it: self._lead(it, "work", ".."),
             "work leads to another's": lambda it: self._lead(it, "work", "../cy/work"),
             "no number": lambda it: self._write(it, "number", b"x\n"),
             "a number that isn't his": lambda it: self._write(it, "number", b'1\n{"user": "Ann Lee"}\n'),
@@ -260,6 +263,13 @@ class HostileCallers(unittest.TestCase):
             with open(place.path("log"), "rb") as file:
                 self.assertRegex(file.read().decode("ascii"), rf"\n2027\S+ bob in 1 {said[5:]}2027")
             self.assertEqual(["TESTBBS.QWK"], place.names("bob", "out"))
+
+    def test_an_archive_that_its_owner_lets_nobody_read_stays_his(self) -> None:
+        with _place() as place, mock.patch("os.access", return_value=False):
+            place.send(_ARCHIVE)
+            self.assertEqual(1, place.day())
+            self.assertIn("bob: can't take", place.said.getvalue())
+            self.assertEqual(["a.rep"], place.names("bob", "in"))
 
     def test_folders_that_differ_in_case_alone_are_named(self) -> None:
         with _place() as place:

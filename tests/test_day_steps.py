@@ -6,13 +6,16 @@ import contextlib
 import errno
 import io
 import os
+import re
 import shutil
 import tempfile
 import unittest
 from typing import Callable, Iterator, Optional
+from unittest import mock
 
-from tests.day_support import MEMORY, archive, letter, received, reply_packet, text_in
+from tests.day_support import archive, letter, received, reply_packet, text_in
 from tests.door_model import DoorModel, nothing
+from tests.support import MEMORY
 
 from qwkdoor_scripts import durable
 from qwkdoor_scripts.callers import Caller
@@ -35,6 +38,7 @@ class Stage:
         os.makedirs(os.path.dirname(self.folder))
         self.door = DoorModel("", os.path.join(self.top, "board"), self.shelf)
         self.door.make(["Ann Lee"], _OLD)
+        self.now = 1_800_000_000.0
         self.packets: list[bytes] = []
         self.events: list[str] = []
         self.day()
@@ -59,8 +63,8 @@ class Stage:
 
     def day(self) -> int:
         """Lets a day come to its end."""
-        with contextlib.redirect_stderr(io.StringIO()):
-            return Day(self.door, self.shelf, self.listed, lambda: 1_800_000_000.0).run()
+        with contextlib.redirect_stderr(io.StringIO()), mock.patch("qwkdoor_scripts.ledger.read", self.door.people):
+            return Day(self.door, self.shelf, self.listed, lambda: self.now).run()
 
     def fetch(self) -> bool:
         """Lets the caller take his packet away."""
@@ -140,6 +144,21 @@ def _stage() -> Iterator[Stage]:
         shutil.rmtree(made.top)
 
 
+# What is done, as the first of its kind, and what was synced before it, in this order: the table of `day`.
+_ORDER = (
+    ("command before upload", "rename work/ID.rep", "fsync in", "fsync work", "fsync work/ID.rep"),
+    ("command before upload", "fsync work/msg"),
+    ("command before upload", "fsync work/allowance.new", "rename work/allowance", "fsync work"),
+    ("rename kept/ID.rep", "command after upload", "fsync kept/ID.txt", "fsync kept"),
+    ("rename kept/ID.rep", "fsync work/ID.news.new", "rename work/ID.news", "fsync work"),
+    ("command before ack", "fsync out", "fsync work"),
+    ("command before export", "command after ack", "rename work/seen", "fsync work"),
+    ("rename work/number", "fsync work/packet.new", "rename work/packet", "fsync work", "fsync work/number.new"),
+    ("rename out/TESTBBS.QWK", "rename work/number", "fsync work/packet", "fsync work/number", "fsync work", "fsync "),
+    ("unlink work/ID.news", "rename work/number", "fsync work"),
+)
+
+
 class StepsOfADay(unittest.TestCase):
     """A day that ends at each of its steps."""
 
@@ -157,6 +176,21 @@ class StepsOfADay(unittest.TestCase):
             left = sorted(os.listdir(os.path.join(stage.folder, "work")) + os.listdir(os.path.join(stage.folder, "in")))
             self.assertEqual(["allowance", "seen"], left)
 
+    def test_what_is_synced_before_what(self) -> None:
+        events: list[str] = []
+
+        def keep(step: str, path: str) -> None:
+            name = path if step == "command" else os.path.relpath(path, stage.folder).lstrip(".")
+            events.append(f"{step} {re.sub('2027[-0-9TZ]+', 'ID', name)}")
+
+        with _stage() as stage:
+            os.remove(os.path.join(stage.folder, "in", "2.rep"))
+            stage.days_until_stopped(keep)
+        for act, *before in _ORDER:
+            rest = iter(events[: events.index(act)])
+            missing = [event for event in before if event not in rest]
+            self.assertEqual([], missing, f"{act} comes without, or before: {events}")
+
     def test_a_kill_at_each_step_loses_nothing_and_doubles_nothing(self) -> None:
         with _stage() as stage:
             place = 1
@@ -166,6 +200,18 @@ class StepsOfADay(unittest.TestCase):
                 stage.reset()
                 place += 1
             self.assertGreater(place, 60)
+
+    def test_an_upload_that_midnight_cut_short_is_told_as_it_was(self) -> None:
+        with _stage() as stage:
+            place = 1
+            while stage.killed_at(place):
+                stage.now += 86_400
+                stage.finish()
+                news = "".join(text_in(packet, "NEWS") for packet in stage.packets)
+                self.assertEqual((2, 0), (news.count("1 posted, "), news.count("it came before")), place)
+                stage.reset()
+                stage.now -= 86_400
+                place += 1
 
     def test_a_second_kill_at_the_same_step_does_neither(self) -> None:
         with _stage() as stage:

@@ -10,7 +10,7 @@ import tempfile
 import unittest
 
 from tests.installed import copy_checkout
-from tests.support import needs_program
+from tests.support import MEMORY, needs_program
 
 def below(folder: str) -> list[str]:
     """Gives the names of all files below a folder, links among them."""
@@ -20,7 +20,7 @@ def below(folder: str) -> list[str]:
 @needs_program
 class Installation(unittest.TestCase):
     def setUp(self) -> None:
-        self.folder = tempfile.mkdtemp()
+        self.folder = tempfile.mkdtemp(dir=MEMORY)
         self.addCleanup(shutil.rmtree, self.folder)
         # A blank, since nothing may rest on the names.
         self.place = os.path.join(self.folder, "a place")
@@ -101,12 +101,16 @@ class Installation(unittest.TestCase):
             self.assertIn('\nExecStart="/usr/bin/qwkdoor-day" ', file.read())
         files = below(stage)
         self.assertNotIn("usr/share/qwkdoor/installed", files)
+        # What a checkout alone needs stays there, and so does a program that nothing has proved.
+        self.assertEqual([it for it in files if "checkout" in it or "unproved" in it], [])
         for name in files:
             path = os.path.join(stage, name)
             wanted = 0o755 if name.split("/")[1] in ("bin", "libexec") else 0o644
             self.assertEqual(stat.S_IMODE(os.stat(path).st_mode), wanted, name)
             with open(path, "rb") as opened:
                 self.assertNotIn(os.fsencode(stage), opened.read(), name)
+        self.assertEqual(self.install("--uninstall", PREFIX="/usr", DESTDIR=stage).returncode, 0)
+        self.assertEqual(os.listdir(stage), [])
 
     def test_wrong_words_and_places(self) -> None:
         for words in (("a", "b"), ("--other",), ("",), ("PREFIX=a", "b"), ("DESTDIR=",), ("--uninstall", "--help")):

@@ -1,4 +1,4 @@
-"""A board's folder: what an older reader left, archives that are sent, odd ids, and packets that are none."""
+"""A board's folder: what an older reader left, odd ids, and packets that are none."""
 
 from __future__ import annotations
 
@@ -10,53 +10,10 @@ import unittest
 import zipfile
 
 from tests.reader_screen import Screen
-from tests.reader_support import READER, THREE, Caller, Letter, control, letters_of, message_bytes, messages, numbered, write_packet
+from tests.reader_support import (
+    READER, THREE, Caller, Letter, control, letters_of, message_bytes, messages, numbered, write_packet
+)
 from tests.support import needs_program
-
-
-@needs_program
-class Sending(Caller):
-    """--send, and archives of one name."""
-
-    def test_an_archive_is_sent_and_replaces_nothing(self) -> None:
-        folder = os.path.join(self.home, "in")
-        os.mkdir(folder)
-        said = self.read("r 1", "q", words=["--send", folder])
-        self.assertIn(f"sent TESTBBS-0001.REP to {folder}\n", said)
-        self.assertEqual(os.listdir(folder), ["TESTBBS-0001.REP"])
-        self.assertEqual([it.recipient for it in letters_of(os.path.join(folder, "TESTBBS-0001.REP"))], ["BOB RAY"])
-        with open(os.path.join(folder, "TESTBBS-0002.REP"), "wb") as file:
-            file.write(b"another's")
-        said = self.read("r 2", "q", words=["--send", folder], status=70)
-        self.assertIn(f"{folder}/TESTBBS-0002.REP is another file, and wasn't replaced: nothing was sent\n", said)
-        self.assertEqual([os.path.basename(it) for it in self.archives()], ["TESTBBS-0002.REP"])
-
-    def test_what_lies_there_is_sent_without_a_packet(self) -> None:
-        folder = os.path.join(self.home, "in")
-        os.mkdir(folder)
-        self.read("r 1", "q")
-        running = subprocess.run([READER, "--send", folder, "--board", "testbbs"], env=self.environment, capture_output=True)
-        self.assertEqual((running.returncode, running.stdout.decode()), (0, f"sent TESTBBS-0001.REP to {folder}\n"))
-        running = subprocess.run([READER, "--send", folder, "--board", "other"], env=self.environment, capture_output=True)
-        self.assertEqual(running.returncode, 70)
-
-    def test_a_command_sends(self) -> None:
-        os.makedirs(os.path.join(self.home, ".config", "qwkdoor"))
-        with open(os.path.join(self.home, ".config", "qwkdoor", "read.conf"), "w", encoding="utf-8") as file:
-            file.write(f'[TESTBBS]\nsend-command = cp "$1" {self.home}/copy.REP\n')
-        self.read("r 1", "q")
-        self.assertEqual(len(letters_of(os.path.join(self.home, "copy.REP"))), 1)
-        self.assertEqual(self.archives(), [])
-
-    def test_one_name_waits(self) -> None:
-        self.read("r 1", "q", words=["--one-name"])
-        said = self.read("r 2", "q", words=["--one-name"])
-        self.assertEqual([os.path.basename(it) for it in self.archives()], ["TESTBBS.REP"])
-        self.assertEqual([it.recipient for it in self.lying()], ["BOB RAY"])
-        self.assertNotIn("TESTBBS-0002", said)
-        os.unlink(self.archives()[0])
-        self.assertIn("TESTBBS.REP was taken away, so it counts as sent\n", self.read("q", words=["--one-name"]))
-        self.assertEqual([it.recipient for it in self.lying()], ["CY DAY"])
 
 
 @needs_program
@@ -99,6 +56,25 @@ class Older(Caller):
         self.old("TESTBBS.MSG", one + message_bytes(Letter(text=b"cut"), 2)[:200])
         self.read("q")
         self.assertEqual([it.text for it in self.lying()], [b"whole"])
+
+    def test_a_second_older_folder_is_taken_over_too(self) -> None:
+        """The older reader was used once more, after a run was killed that had put its folder away."""
+        self.environment["QWKDOOR_HOME"] = os.path.join(self.home, "qwk")
+        for name, text in (("TESTBBS.old", b"first"), ("TESTBBS", b"second")):
+            self.old("TESTBBS.MSG", b"TESTBBS".ljust(128) + message_bytes(Letter(text=text), 1))
+            if name != "TESTBBS":
+                os.replace(os.path.join(self.home, "qwk", "TESTBBS"), os.path.join(self.home, "qwk", name))
+        self.read("q")
+        self.assertEqual(sorted(it.text for it in self.lying()), [b"first", b"second"])
+
+    def test_what_was_taken_over_is_not_said_again(self) -> None:
+        """A run was killed behind the archive, and before the folder had its other name."""
+        rep = b"TESTBBS".ljust(128) + message_bytes(Letter(text=b"old"), 1)
+        for _ in range(2):
+            self.old("TESTBBS.MSG", rep)
+            said = self.read("q")
+        self.assertNotIn("are in", said)
+        self.assertEqual(len(self.lying()), 1)
 
     def test_a_named_folder_is_taken_over_in_place(self) -> None:
         self.old("TESTBBS.MSG", b"TESTBBS".ljust(128) + message_bytes(Letter(text=b"old"), 1))
@@ -146,6 +122,14 @@ class Odd(Caller):
         self.read("r 1", "q", packet=write_packet(os.path.join(self.home, "dots"), THREE[:1], ".."))
         self.assertTrue(os.path.exists(os.path.join(self.home, ".local/share/qwkdoor/%2E%2E/%2E%2E-0001.REP")))
 
+    def test_no_id_leads_out_of_the_folder(self) -> None:
+        """HOME has a folder `packet`, as an older reader's folder had, and the id is HOME's name below HOME/qwk."""
+        for name in ("packet", "qwk"):
+            os.mkdir(os.path.join(self.home, name))
+        before = os.listdir(self.home)
+        self.read("q", packet=write_packet(os.path.join(self.home, "dots"), THREE[:1], ".."))
+        self.assertEqual(sorted(os.listdir(self.home)), sorted([*before, "dots", ".local"]))
+
     def test_what_is_no_packet_is_one_line(self) -> None:
         def write(name: str, data: bytes) -> str:
             path = os.path.join(self.home, name)
@@ -165,11 +149,22 @@ class Odd(Caller):
         # Behind the names in the local header of the first file, so that its bytes don't have their sum.
         damaged = bytearray(whole)
         damaged[60] ^= 0xFF
-        paths = [write("none", b""), write("text", b"no archive"), write("cut", whole[:-30]), write("bad", bytes(damaged)),
-                 zipped, bomb, os.path.join(self.home, "folder"), os.path.join(self.home, "missing")]
+        paths = [
+            write("none", b""), write("text", b"no archive"), write("cut", whole[:-30]), write("bad", bytes(damaged)),
+            zipped, bomb, os.path.join(self.home, "folder"), os.path.join(self.home, "missing"),
+        ]
         for path in paths:
             said = self.read("q", packet=path, status=70)
             self.assertTrue(said.startswith("qwkdoor-read: ") and said.count("\n") == 1 and path in said, said)
+
+    def test_a_number_of_many_digits_is_refused_by_the_program(self) -> None:
+        packet = os.path.join(self.home, "digits")
+        lines = control().split(b"\r\n")
+        lines[10] = b"9" * 5000
+        with zipfile.ZipFile(packet, "w") as archive:
+            archive.writestr("CONTROL.DAT", b"\r\n".join(lines))
+            archive.writestr("MESSAGES.DAT", messages(THREE))
+        self.assertEqual(self.read("q", packet=packet, status=1), "refused control number 11\n")
 
     def test_a_packet_that_the_program_refuses(self) -> None:
         packet = os.path.join(self.home, "short")
@@ -179,7 +174,9 @@ class Odd(Caller):
         self.assertEqual(self.read("q", packet=packet, status=1), "refused broken truncated 0\n")
 
     def test_wrong_words(self) -> None:
-        for words in ([], ["a", "b"], ["--send"], ["--what", "a"], [""], ["--board", "A", "a"]):
+        many = ([], ["a", "b"], [""], ["--board", "A", "a"])
+        options = (["--send"], ["--what", "a"], ["--plain=a", "a"], ["--one-name=no", "a"])
+        for words in (*many, *options):
             running = subprocess.run([READER, *words], env=self.environment, capture_output=True)
             self.assertEqual((running.returncode, running.stderr.count(b"\n")), (2, 1), words)
 
@@ -199,7 +196,7 @@ class Odd(Caller):
         first.stdin.flush()
         while not os.path.exists(self.box("drafts", "1")):
             time.sleep(0.02)
-        self.assertIn("another run is at work in", self.read("q", status=75))
+        self.assertIn("another run was at work in", self.read("q", status=75))
         os.killpg(first.pid, 9)
         first.communicate()
 

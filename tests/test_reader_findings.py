@@ -53,6 +53,8 @@ class Findings(Caller):
         self.assertEqual(self.lying(), [])
         self.assertIn("BOB RAY", said)
         self.assertEqual([_GREEDY in it and "Found it" in it for it in self.kept_texts()], [True])
+        self.read("r 3", "q")
+        self.assertEqual([(it.recipient, _GREEDY.encode() in it.text) for it in self.lying()], [("DEE FAR", False)])
 
     def test_a_copied_archive_has_answers_that_no_other_has(self) -> None:
         """3. The archive of the second evening had the first evening's letters in it too."""

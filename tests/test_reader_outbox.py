@@ -7,13 +7,12 @@ import tempfile
 import unittest
 from typing import Callable
 
-import tests.support  # noqa: F401
+from tests.reader_support import Letter, letters_of, message_bytes
 from qwkdoor_scripts import reader_texts
 from qwkdoor_scripts.program import DONE, REFUSED, Program, Reply
 from qwkdoor_scripts.reader_outbox import Outbox
 from qwkdoor_scripts.reader_state import Box
 from qwkdoor_scripts.reader_texts import About
-from tests.reader_support import Letter, letters_of, message_bytes
 
 
 class Door(Program):
@@ -50,7 +49,7 @@ class Packing(unittest.TestCase):
             box.make()
             for place in range(1, 6):
                 about = About(reader_texts.REPLY, "P", place, 0, "BOB RAY", "Note", False, "", "")
-                reader_texts.keep(reader_texts.begin(box, about, b"text"), b"letter")
+                reader_texts.keep(reader_texts.begin(box, about, b"text"), b"text")
             outbox = Outbox(box, Door(box.path, is_refused), False)
             outbox.pack(said.append)
             archives = [[it.text for it in letters_of(outbox.path_of(archive))] for archive in outbox.lying()]

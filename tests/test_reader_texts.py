@@ -7,7 +7,7 @@ import tempfile
 import unittest
 from unittest import mock
 
-import tests.support  # noqa: F401
+from tests.reader_support import control
 from qwkdoor_scripts.reader_columns import broken, cut, is_picture, padded, width, wrapped
 from qwkdoor_scripts.reader_control import Control, read_control
 from qwkdoor_scripts.reader_letters import names_of, typed_lines, unwritable_in
@@ -18,10 +18,9 @@ from qwkdoor_scripts.reader_packet import Packet
 from qwkdoor_scripts.reader_quoting import address_line, initials, quoted
 from qwkdoor_scripts.reader_session import Session
 from qwkdoor_scripts.reader_settings import Settings, config_path, data_path, read_settings
-from qwkdoor_scripts.reader_state import Box, folder_name
+from qwkdoor_scripts.reader_state import Box, board_id_of, folder_name
 from qwkdoor_scripts.reader_terminal import encoding_of, obeyed_by_none
 from qwkdoor_scripts.failure import Failure
-from tests.reader_support import control
 
 
 def message(text: str, sender: str = "BOB RAY") -> Message:
@@ -56,16 +55,20 @@ class Columns(unittest.TestCase):
 
     def test_colours_of_pictures_are_left_out(self) -> None:
         self.assertEqual(view(["?[1;31mred?[0m and ?[x"], 40, False), ["red and ?[x"])
+        self.assertEqual(quoted(message("?[1;31mred?[0m and ?[x")), " BR> red and ?[x\n")
 
 
 class Hidden(unittest.TestCase):
     """Lines that are for programs."""
 
     def test_what_is_hidden(self) -> None:
-        lines = ["?MSGID: 1:2/3 4", "Text", "?[31mred", "--- a rule", "More", "--- Tosser 1", " * Origin: Far (2:20/30)",
-                 "SEEN-BY: 20/30 40", "?PATH: 20/30", ""]
+        lines = [
+            "?MSGID: 1:2/3 4", "Text", "?[31mred", "--- a rule", "More", "--- Tosser 1", " * Origin: Far (2:20/30)",
+            "SEEN-BY: 20/30 40", "?PATH: 20/30", "",
+        ]
         self.assertEqual(text_lines(lines), ["Text", "?[31mred", "--- a rule", "More", " * Origin: Far (2:20/30)"])
-        self.assertEqual(text_lines(["?what is this", "--- said Bob", "and more"]), ["?what is this", "--- said Bob", "and more"])
+        said = ["?what is this", "--- said Bob", "and more"]
+        self.assertEqual(text_lines(said), said)
 
 
 class Quotes(unittest.TestCase):
@@ -80,7 +83,8 @@ class Quotes(unittest.TestCase):
         long = quoted(message(" CD> " + "word " * 17)).split("\n")
         self.assertEqual(long[:2], [" CD>> " + "word " * 13 + "word", " CD>> " + "word " * 3])
         wanted = [" BR> Hello", " BR>", " CD>> old", ">> older", " BR> " + "word " * 13 + "word", " BR> " + "word " * 6]
-        self.assertEqual([it.rstrip() for it in quoted(message(text)).split("\n")], [it.rstrip() for it in [*wanted, ""]])
+        found = [it.rstrip() for it in quoted(message(text)).split("\n")]
+        self.assertEqual(found, [it.rstrip() for it in [*wanted, ""]])
 
     def test_addresses(self) -> None:
         cases = {
@@ -103,14 +107,16 @@ class Characters(unittest.TestCase):
         found = unwritable_in(["abc\u00fc", "\u20ac \u03c0", "\x1b \u20ac"], "cp437")
         self.assertEqual(names_of(found), "'\u20ac' in line 2, '\u03c0' in line 2, the character 1Bh in line 3")
         self.assertEqual(list(unwritable_in(["\u3042"], "utf-8")), ["\u3042"])
-        self.assertEqual(names_of(unwritable_in(typed_lines(b"\xff", "utf-8"), "cp437")), "bytes that are no characters in line 1")
+        odd = unwritable_in(typed_lines(b"\xff", "utf-8"), "cp437")
+        self.assertEqual(names_of(odd), "bytes that are no characters in line 1")
 
     def test_typed_lines(self) -> None:
         self.assertEqual(typed_lines(b"\xef\xbb\xbfone\r\n\ttwo \rthree\n\n", "utf-8"), ["one", "        two", "three"])
 
     def test_no_terminal_gets_what_it_obeys(self) -> None:
         every = "".join(map(chr, range(0x250))) + "\u2028\u202e\u200b\ufffe\U000e0001"
-        self.assertEqual([it for it in obeyed_by_none(every, "utf-8").decode() if it < " " or "\x7f" <= it <= "\x9f"], [])
+        text = obeyed_by_none(every, "utf-8").decode()
+        self.assertEqual([it for it in text if it < " " or "\x7f" <= it <= "\x9f"], [])
         for encoding in ("ascii", "iso8859-1", "cp437", "cp866", "koi8-r", "cp1252", "shift_jis", "gb18030"):
             data = obeyed_by_none(every, encoding)
             self.assertEqual([it for it in data if it < 0x20 or 0x7F <= it <= 0x9F], [], encoding)
@@ -120,7 +126,7 @@ class Characters(unittest.TestCase):
         cases = [
             ({"LC_ALL": "C"}, "ascii"), ({}, "ascii"), ({"LANG": "de_DE.UTF-8"}, "utf-8"),
             ({"LC_ALL": "C", "LANG": "de_DE.UTF-8"}, "ascii"), ({"LC_CTYPE": "de_DE.ISO-8859-15@euro"}, "iso8859-15"),
-            ({"LANG": "xx.NOTHING"}, "ascii"),
+            ({"LANG": "xx.NOTHING"}, "ascii"), ({"LC_ALL": "xx_YY"}, "ascii"), ({"LC_ALL": "xx.idna"}, "ascii"),
         ]
         for environment, wanted in cases:
             self.assertEqual(encoding_of(environment, ""), wanted, environment)
@@ -136,15 +142,18 @@ class Listings(unittest.TestCase):
         listing = read_listing(said, "cp437")
         self.assertEqual((listing.board, listing.user), ("Test: Board", "ANN LEE"))
         first, second = listing.entries
-        self.assertEqual((first.number, first.kind, first.sender, first.subject, first.lines), (None, "private", "B", "a: b", 12))
-        self.assertEqual((second.number, second.sender, second.recipient, second.subject), (9999999, "\u00fc", "ann lee", ""))
+        self.assertEqual((first.number, first.kind, first.sender), (None, "private", "B"))
+        self.assertEqual((first.subject, first.lines), ("a: b", 12))
+        self.assertEqual((second.number, second.sender), (9999999, "\u00fc"))
+        self.assertEqual((second.recipient, second.subject), ("ann lee", ""))
         self.assertEqual(listing.personal(), [second])
         for columns in (20, 40, 79, 200):
             self.assertLessEqual(len(list_line(first, False, columns)), max(columns, 36))
 
     def test_control(self) -> None:
         found = read_control(control("A,B/C"))
-        self.assertEqual((found.board_id, found.areas, found.news), ("A,B/C", {0: b"GENERAL", 1: b"NETMAIL", 7: b"NEWS"}, b"NEWS"))
+        self.assertEqual((found.board_id, found.news), ("A,B/C", b"NEWS"))
+        self.assertEqual(found.areas, {0: b"GENERAL", 1: b"NETMAIL", 7: b"NEWS"})
         self.assertEqual(read_control(b"").areas, {})
 
     def test_areas_of_one_name_go_by_their_numbers(self) -> None:
@@ -182,8 +191,11 @@ class Listings(unittest.TestCase):
             self.assertEqual(marks.ranges, {0: [(1, 200000)]})
 
     def test_folder_names(self) -> None:
-        names = {"TESTBBS": "TESTBBS", "a.b": "a%2Eb", "..": "%2E%2E", "A/B": "A%2FB", "%2F": "%252F", "~": "%7E", "-x": "-x"}
+        names = {
+            "TESTBBS": "TESTBBS", "a.b": "a%2Eb", "..": "%2E%2E", "A/B": "A%2FB", "%2F": "%252F", "~": "%7E", "-x": "-x"
+        }
         self.assertEqual({it: folder_name(it) for it in names}, names)
+        self.assertEqual([board_id_of(it) for it in names.values()], list(names))
         every = [folder_name(chr(it)) for it in range(0x21, 0x7F)]
         self.assertEqual(len(set(every)), len(every))
 
@@ -195,15 +207,18 @@ class SettingsFile(unittest.TestCase):
         with tempfile.TemporaryDirectory() as folder:
             path = os.path.join(folder, "read.conf")
             with open(path, "w", encoding="utf-8") as file:
-                file.write("[DEFAULT]\ncharacters = cp850\n[TESTBBS]\nsend-command = scp \"$1\" host:%s\none-name = yes\n")
+                file.write("[DEFAULT]\ncharacters = cp850\n")
+                file.write("[TESTBBS]\nsend-command = scp \"$1\" host:%s\none-name = yes\n")
             board = read_settings(path, "testbbs", {})
-            self.assertEqual((board.characters, board.send_command, board.one_name), ("cp850", 'scp "$1" host:%s', True))
+            self.assertEqual((board.characters, board.one_name), ("cp850", True))
+            self.assertEqual(board.send_command, 'scp "$1" host:%s')
             other = read_settings(path, "OTHER", {"characters": "latin-1"})
             self.assertEqual((other.characters, other.one_name, other.sends), ("latin-1", False, False))
 
     def test_what_is_wrong_is_said(self) -> None:
-        wrong = {"x = 1": "the setting x", "one-name = maybe": "one-name = maybe", "characters = ebcdic": "ebcdic",
-                 "terminal = hex": "hex", "[": "can't be read"}
+        wrong = {"x = 1": "an unknown setting: x", "one-name = maybe": "one-name = maybe",
+                 "characters = ebcdic": "ebcdic", "terminal = hex": "hex", "terminal = utf-16": "utf-16",
+                 "terminal = undefined": "undefined", "terminal = idna": "idna", "[": "can't be read"}
         for line, word in wrong.items():
             with tempfile.TemporaryDirectory() as folder:
                 path = os.path.join(folder, "read.conf")
@@ -217,7 +232,10 @@ class SettingsFile(unittest.TestCase):
         self.assertEqual(data_path({"HOME": "/h", "XDG_DATA_HOME": "/d"}), "/d/qwkdoor")
         self.assertEqual(data_path({"QWKDOOR_HOME": "/q", "XDG_DATA_HOME": "/d"}), "/q")
         self.assertEqual(config_path({"HOME": "/h", "XDG_CONFIG_HOME": "/c"}), "/c/qwkdoor/read.conf")
-        with self.assertRaisesRegex(Failure, "HOME is not set"):
+        # A path that isn't whole is none by the rules of XDG: what lies where the caller stands is no setting of his.
+        self.assertEqual(config_path({"XDG_CONFIG_HOME": "c"}), "")
+        self.assertEqual(data_path({"HOME": "/h", "XDG_DATA_HOME": "d"}), "/h/.local/share/qwkdoor")
+        with self.assertRaisesRegex(Failure, "nor HOME says where"):
             data_path({})
 
 

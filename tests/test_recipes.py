@@ -102,16 +102,13 @@ class Recipes(RecipeCase):
             for command in (f"cat {packet}", f"cat {other}", f"ls {os.path.dirname(packet)}", f"rm -f {packet}"):
                 self.assertNotEqual(self.machine.call("session", command, person=BOB)[0], 0, command)
 
-        people = {"7 * * * *": BOARD, "mv ": ANN, "install -m 640": ANN}
+        people = {"mv ": ANN, "install -m 640": ANN}
         self.run_recipe(ACCOUNTS, {"mv /srv/shelf/mail/ann/out": bob_is_kept_out}, people=people)
-        # Where her packet was she puts a link to another's, which stays shut.
-        os.symlink(other, packet)
-        lend = self.machine.path("/srv/lend")
-        self.assertEqual(self.machine.call("cron", lend, person=BOARD), (0, "", ""))
-        self.assertNotEqual(self.machine.call("session", f"cat {packet}", person=ANN)[0], 0)
-        os.unlink(packet)
         self.day(BOARD)
         self.assertEqual(self.door("check")[1], "0 GENERAL: 2 slots, 2 live")
+        # Her next packet is hers too, and nobody else's.
+        self.assertEqual(self.machine.call("session", f"cat {packet} >{packet}.read", person=ANN)[0], 0)
+        bob_is_kept_out()
 
     def test_another_tools_base(self) -> None:
         records = [base_record(number, f"Letter {number}") for number in (1, 2, 3)]

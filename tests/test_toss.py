@@ -5,10 +5,16 @@ from __future__ import annotations
 import fcntl
 import io
 import os
+import subprocess
+import time
 import unittest
 import zipfile
+from unittest import mock
 
-from tests.board_support import BoardCase, lines_of, message, packet, without_moment
+from tests.board_support import BIN, BoardCase, lines_of, message, packet, without_moment
+from tests.support import PROGRAM
+
+from qwkdoor_scripts import toss
 
 LONG_TAG = b"R50.SYSOP.HELP.AND.OTHER.THINGS"
 BOARD = ("0 local - GENERAL", "1 net - NETMAIL", "5 echo - FIDO", "6 echo - R50 SYSOP")
@@ -177,12 +183,21 @@ class TossTest(BoardCase):
         self.assertIn("bad??[2Jname.pkt", [line[3] for line in taken])
         self.assertEqual(len(taken), 5)
 
+    def test_what_cannot_be_read_stays_where_its_owner_can_mend_it(self) -> None:
+        self.comes("a.pkt", packet(area(b"FIDO", b"Hello")))
+        with mock.patch.dict(os.environ, {"QWKDOOR": PROGRAM}), mock.patch("sys.stderr", io.StringIO()):
+            with mock.patch("qwkdoor_scripts.arrivals.can_be_taken", return_value=False):
+                self.assertEqual(toss.main([self.data, self.shelf]), 1)
+        self.assertIn(b"a.pkt can't be taken: this account may not read it", self.read("ftn/log"))
+        self.assertEqual(os.listdir(self.path("ftn/in")), ["a.pkt"])
+        self.assertEqual(self.toss(0), "")
+
     def test_a_wrong_list_leaves_all_as_it_is(self) -> None:
         self.comes("a.pkt", packet(area(b"FIDO", b"Hello")))
         rows = (
-            (b"FIDO\n", "line 1: not TAG CONFERENCE"),
+            (b"FIDO\n", "line 1: a line is a tag and the name of a conference"),
             (b"\nLONG NOWHERE\n", "line 2: the board has no conference NOWHERE"),
-            (b"A FIDO\na R50 SYSOP\n", "line 2: the tag a stands there twice"),
+            (b"A FIDO\na R50 SYSOP\n", "line 2: the tag a is listed twice"),
         )
         for data, line in rows:
             self.write("ftn/areas", data)
@@ -196,6 +211,20 @@ class TossTest(BoardCase):
             self.assertIn("another run was at work", self.toss(75, "-w", "0"))
         for words in (("-w", "-1"), ("-w", "86401"), ("--never",), ("a word",)):
             self.assertTrue(self.toss(2, *words).startswith("usage: qwkdoor-toss "))
+
+    def test_a_run_waits_for_a_command_whose_script_was_killed(self) -> None:
+        self.comes("a.pkt", packet(area(b"FIDO", b"Hello")))
+        slow = self.write("slow", f'#!/bin/sh\n: >"$2/begun"\nsleep 3\nexec {PROGRAM} "$@"\n'.encode())
+        os.chmod(slow, 0o700)
+        words = [os.path.join(BIN, "qwkdoor-toss"), self.data, self.shelf]
+        run = subprocess.Popen(words, env={**os.environ, "QWKDOOR": slow})
+        while not os.path.exists(self.path("begun")):
+            time.sleep(0.05)
+        run.kill()
+        run.wait()
+        self.assertIn("another run was at work", self.toss(75, "-w", "0"))
+        self.toss(0)
+        self.assertEqual(self.slots(), {"FIDO": 1})
 
     def test_a_fault_of_the_board_ends_the_run(self) -> None:
         self.comes("a.pkt", packet(area(b"FIDO", b"Hello")))

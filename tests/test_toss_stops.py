@@ -14,8 +14,8 @@ from unittest import mock
 
 from tests.fake_board import FakeBoard
 from tests.board_support import BoardCase, killed_at, message, packet
-from tests.support import PROGRAM
-from test_toss import LONG_TAG, archive, area
+from tests.support import MEMORY, PROGRAM
+from tests.test_toss import LONG_TAG, archive, area
 
 from qwkdoor_scripts import durable, toss, upkeep
 
@@ -87,7 +87,7 @@ class EachStepTest(unittest.TestCase):
     """A board that keeps the rules of the program, and a run for each step, which stops there."""
 
     def setUp(self) -> None:
-        self.top = tempfile.mkdtemp()
+        self.top = tempfile.mkdtemp(dir=MEMORY)
         self.addCleanup(shutil.rmtree, self.top)
         self.shelf = os.path.join(self.top, "shelf")
         board = FakeBoard(self.shelf, os.path.join(self.top, "board"), {"NETMAIL": 1, "FIDO": 5, "LONG": 6})
@@ -132,6 +132,17 @@ class EachStepTest(unittest.TestCase):
             self.assertEqual(len(self.stops.packets_of("kept")), 4, step)
             step += 1
         self.assertGreater(step, 25)
+
+    def test_a_kill_at_each_step_and_then_another_toss_of_all(self) -> None:
+        """What a run had begun to set aside is never taken for whole, and takes no whole message's place."""
+        step = 0
+        while killed_at(step, self.stops.run, half=True) is None:
+            self.stops.run("--again")
+            self.stops.run()
+            self.stops.assert_done(step)
+            step += 1
+            self.begin()
+        self.assertGreater(step, 60)
 
     def test_two_kills(self) -> None:
         for first, second in itertools.product(range(0, 90, 9), range(0, 60, 7)):

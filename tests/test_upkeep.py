@@ -4,6 +4,9 @@ from __future__ import annotations
 
 import io
 import os
+import random
+import shutil
+import subprocess
 import time
 import unittest
 from unittest import mock
@@ -16,6 +19,8 @@ from qwkdoor_scripts.conferences import Conference
 from qwkdoor_scripts.upkeep_rules import Rule
 
 DAY = 86_400
+USERS = ("Ann Lee", "Bob Ray", "Sam Sysop", "Cy Day")
+PEOPLE = ("ANN LEE", "Bob Ray", "cy day", "Sam Sysop", "Far Away", "A Name Of More Than 25 Bytes")
 
 
 def sheet(days: "list[int]", to: str = "All", sender: str = "Bob Ray", private: bool = False) -> bytes:
@@ -116,6 +121,40 @@ class UpkeepTest(BoardCase):
         self.assertEqual(self.batch(rules), ["kill 1 1", "kill 1 3", "kill 1 4", "pack 1"])
         self.assertIn("not acknowledged by Bob Ray", self.upkeep(0, rules, "-n")[0])
 
+    def offers(self) -> "dict[str, list[str]]":
+        """Gives what each user is offered, from a copy of the board, each message but for its place."""
+        copy = self.data + ".copy"
+        shutil.copytree(self.data, copy)
+        found = {}
+        for user in USERS:
+            for words in (["export", user, "2000", "offer"], ["list", "offer/MESSAGES.DAT"]):
+                said = subprocess.run([PROGRAM, copy, self.shelf, *words], capture_output=True, check=True).stdout
+            found[user] = [line.split(" ", 1)[1] for line in said.decode("latin-1").splitlines()[:-1]]
+        shutil.rmtree(copy)
+        return found
+
+    def test_each_member_is_offered_the_same_before_and_after(self) -> None:
+        self.door("enroll", "Cy Day", "n", "1,7")
+        for seed in range(5):
+            draw = random.Random(seed)
+            self.acknowledge(*USERS)
+            for _ in range(draw.randrange(3, 9)):
+                conference, sender, to = draw.choice((0, 1, 7)), draw.choice(PEOPLE), draw.choice(PEOPLE)
+                days = [draw.randrange(0, 60) for _ in range(draw.randrange(1, 9))]
+                self.import_(conference, sheet(days, to, sender, conference != 7 and draw.random() < 0.6))
+                user = draw.choice(USERS)
+                packet = self.door("export", user, str(draw.randrange(1, 20)), "out")[0].split()[1].rstrip(":")
+                if draw.random() < 0.7:
+                    self.door("ack", user, packet)
+            before = self.offers()
+            live = sum(int(line.split()[-2]) for line in self.conferences())
+            rules = f"0 keep {draw.randrange(1, 9)}\n1 days 20\n7 keep 3 days 9\n"
+            self.assertEqual(self.upkeep(0, rules.encode()), [])
+            self.assertEqual(self.offers(), before, seed)
+            # What came before the first seed's letters is nothing, so that nothing of it can go.
+            self.assertLess(sum(int(line.split()[-2]) for line in self.conferences()), live + (seed == 0), seed)
+            self.assertGreater(sum(map(len, before.values())), 0, seed)
+
     def test_what_was_deleted_by_hand_is_packed(self) -> None:
         self.import_(0, sheet([3, 2, 1]))
         self.door("kill", "0", "2")
@@ -126,16 +165,16 @@ class UpkeepTest(BoardCase):
     def test_a_list_that_does_not_read_leaves_the_board(self) -> None:
         self.import_(0, sheet([400]))
         rows = (
-            (b"0\n", "line 1: not CONF keep"),
-            (b"# x\n0 keep\n", "line 2: not CONF keep"),
-            (b"0 keep 0\n", "line 1: not CONF keep"),
-            (b"0 keep 5 keep 6\n", "line 1: not CONF keep"),
-            (b"0 days -5\n", "line 1: not CONF keep"),
-            (b"0 keep 5 days 5 keep 5\n", "line 1: not CONF keep"),
+            (b"0\n", "line 1: a line is CONF keep"),
+            (b"# x\n0 keep\n", "line 2: a line is CONF keep"),
+            (b"0 keep 0\n", "line 1: a line is CONF keep"),
+            (b"0 keep 5 keep 6\n", "line 1: a line is CONF keep"),
+            (b"0 days -5\n", "line 1: a line is CONF keep"),
+            (b"0 keep 5 days 5 keep 5\n", "line 1: a line is CONF keep"),
             (b"3 keep 5\n", "line 1: the board has no conference 3"),
-            (b"0 keep 5\n\n00 days 5\n", "line 3: the conference 0 stands there twice"),
+            (b"0 keep 5\n\n00 days 5\n", "line 3: the conference 0 is listed twice"),
             (b'left "Nobody"\n', "line 1: the board has no user Nobody"),
-            (b"left Ann Lee\n", "line 1: not CONF keep"),
+            (b"left Ann Lee\n", "line 1: a line is CONF keep"),
         )
         for rules, line in rows:
             (said,) = self.upkeep(2, rules, "--unread")

@@ -19,7 +19,7 @@ MEMBER_LIMIT = 64
 RATIO_LIMIT = 1000
 # The bytes of an archive that is read: more than those of the largest packet, were it stored.
 ARCHIVE_LIMIT = 67_108_864
-# The bytes of a directory of the archive that may be looked at: 64 members with long names are less than that.
+# The bytes of a file that are taken at once.
 _CHUNK = 65536
 # Each archive has the same bytes for the same files: the first moment that a zip archive can have.
 _MOMENT = (1980, 1, 1, 0, 0, 0)
@@ -53,7 +53,7 @@ def read_member(path: str, name: str, limit: int, most: int = MEMBER_LIMIT) -> b
         with zipfile.ZipFile(data) as archive:
             return _read(archive, _found(_entries(archive, most), name), limit)
     except _FAULTS as error:
-        raise Unreadable(f"no zip archive: {error}") from error
+        raise Unreadable(f"it is no zip archive: {error}") from error
 
 
 def members(path: str, most: int = MEMBER_LIMIT) -> "list[str]":
@@ -63,7 +63,7 @@ def members(path: str, most: int = MEMBER_LIMIT) -> "list[str]":
         with zipfile.ZipFile(data) as archive:
             return [entry.filename for entry in _entries(archive, most)]
     except _FAULTS as error:
-        raise Unreadable(f"no zip archive: {error}") from error
+        raise Unreadable(f"it is no zip archive: {error}") from error
 
 
 def is_whole(path: str, names: Iterable[str]) -> bool:
@@ -74,8 +74,10 @@ def is_whole(path: str, names: Iterable[str]) -> bool:
         return False
     try:
         with zipfile.ZipFile(data) as archive:
-            return archive.testzip() is None and set(names) <= set(archive.namelist())
-    except _FAULTS:
+            entries = _entries(archive, MEMBER_LIMIT)
+            is_small = all(entry.file_size <= ARCHIVE_LIMIT for entry in entries)
+            return is_small and archive.testzip() is None and set(names) <= {entry.filename for entry in entries}
+    except (Unreadable, *_FAULTS):
         return False
 
 
@@ -91,16 +93,16 @@ def _bytes(path: str) -> io.BytesIO:
 def _entries(archive: zipfile.ZipFile, most: int) -> "list[zipfile.ZipInfo]":
     entries = archive.infolist()
     if len(entries) > most:
-        raise Unreadable(f"{len(entries)} files, where {most} are taken")
+        raise Unreadable(f"it has {len(entries)} files, and may have {most}")
     return entries
 
 
 def _found(entries: "list[zipfile.ZipInfo]", name: str) -> zipfile.ZipInfo:
     found = [entry for entry in entries if entry.filename.upper() == name.upper()]
     if not found:
-        raise Unreadable(f"no {name} in it")
+        raise Unreadable(f"it has no {name}")
     if len(found) > 1:
-        raise Unreadable(f"{len(found)} files {name} in it")
+        raise Unreadable(f"it has {len(found)} files {name}")
     return found[0]
 
 
@@ -110,9 +112,9 @@ def _read(archive: zipfile.ZipFile, entry: zipfile.ZipInfo, limit: int) -> bytes
     if entry.compress_type not in _METHODS:
         raise Unreadable(f"{entry.filename} is compressed by method {entry.compress_type}, and not stored or deflated")
     if entry.file_size > limit:
-        raise Unreadable(f"{entry.filename} has {entry.file_size} bytes, where {limit} are taken")
+        raise Unreadable(f"{entry.filename} has {entry.file_size} bytes, and may have {limit}")
     if entry.file_size > RATIO_LIMIT * max(entry.compress_size, 1):
-        raise Unreadable(f"{entry.filename} is compressed more than {RATIO_LIMIT} times")
+        raise Unreadable(f"{entry.filename} unpacks to more than {RATIO_LIMIT} times its size")
     parts = []
     left = limit
     with archive.open(entry) as member:
@@ -129,7 +131,7 @@ def _read(archive: zipfile.ZipFile, entry: zipfile.ZipInfo, limit: int) -> bytes
 def write(path: str, files: Mapping[str, bytes], mode: int = 0o600) -> None:
     """Writes an archive that isn't there yet, of files that are compressed, and its bytes to the disk."""
     handle = os.open(path, os.O_WRONLY | os.O_CREAT | os.O_EXCL | os.O_NOFOLLOW | os.O_CLOEXEC, mode)
-    with os.fdopen(handle, "wb") as file:
+    with durable.naming(path), os.fdopen(handle, "wb") as file:
         with zipfile.ZipFile(file, "w", zipfile.ZIP_DEFLATED) as archive:
             for name, data in files.items():
                 entry = zipfile.ZipInfo(name, _MOMENT)

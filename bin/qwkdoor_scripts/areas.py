@@ -33,10 +33,10 @@ def read(path: str, names: Iterable[str]) -> Areas:
 
 def _entry(words: "list[bytes]", known: "set[bytes]", found: Areas, where: str) -> "tuple[bytes, bytes]":
     if len(words) != 2:
-        raise Failure(f"{where}: not TAG CONFERENCE", WRONG_WORDS)
+        raise Failure(f"{where}: a line is a tag and the name of a conference", WRONG_WORDS)
     tag, name = words[0].lower(), words[1].strip()
     if tag in found:
-        raise Failure(f"{where}: the tag {_shown(tag)} stands there twice", WRONG_WORDS)
+        raise Failure(f"{where}: the tag {_shown(tag)} is listed twice", WRONG_WORDS)
     if name.lower() not in known:
         raise Failure(f"{where}: the board has no conference {_shown(name)}", WRONG_WORDS)
     return tag, name

@@ -6,19 +6,20 @@ import re
 from dataclasses import dataclass
 from typing import Any, Optional
 
+from . import conferences
 from .failure import Failure
 
 SLOT_LIMIT = 9_999
 BYTE_LIMIT = 34_603_008
 _BOARD = re.compile(r"board (\S+)")
-_CONFERENCE = re.compile(r"(\d+) (.*): (\d+) slots, (\d+) live")
 _LAST = re.compile(r"(\d+) users, (\d+) uploads, (\d+) bytes")
 
 
 @dataclass
 class Seen:
-    """The totals that an export saw: the slots of each conference, and how many users and uploads there were."""
+    """What an export saw: when the board was made, the slots of each conference, and its counts of users and uploads."""
 
+    created: int
     slots: dict[int, int]
     users: int
     uploads: int
@@ -26,21 +27,21 @@ class Seen:
     def as_json(self) -> dict[str, Any]:
         """Gives what JSON holds."""
         slots = {str(conference): count for conference, count in self.slots.items()}
-        return {"slots": slots, "users": self.users, "uploads": self.uploads}
+        return {"created": self.created, "slots": slots, "users": self.users, "uploads": self.uploads}
 
     @classmethod
     def of_json(cls, value: Any) -> Optional[Seen]:
         """Gives what JSON holds, and None where it isn't that."""
         try:
             slots = {int(conference): int(count) for conference, count in value["slots"].items()}
-            return cls(slots, int(value["users"]), int(value["uploads"]))
+            return cls(int(value["created"]), slots, int(value["users"]), int(value["uploads"]))
         except (AttributeError, KeyError, TypeError, ValueError):
             return None
 
 
 @dataclass
 class Totals:
-    """A board's totals."""
+    """A board's totals. When it was made is in its ledger, and not known where that doesn't read."""
 
     bbsid: str
     names: dict[int, str]
@@ -48,19 +49,21 @@ class Totals:
     users: int
     uploads: int
     bytes: int
+    created: Optional[int] = None
 
-    def seen(self) -> Seen:
-        """Gives what an export of this moment sees."""
-        return Seen(dict(self.slots), self.users, self.uploads)
+    def seen(self) -> Optional[Seen]:
+        """Gives what an export of this moment sees. None where the board isn't known for sure."""
+        return None if self.created is None else Seen(self.created, dict(self.slots), self.users, self.uploads)
 
     def has_nothing_since(self, seen: Optional[Seen]) -> bool:
         """Whether the board has had no new message since these totals were seen.
 
-        A new message takes a new slot, and no slot goes. Fewer users or uploads are those of a copy that was put back:
-        then it can't be known.
+        A new message takes a new slot, and no slot goes. Fewer users or uploads are those of a copy that was put back,
+        and another moment is that of another board: then it can't be known.
         """
         return (
             seen is not None
+            and self.created == seen.created
             and self.slots == seen.slots
             and self.users >= seen.users
             and self.uploads >= seen.uploads
@@ -84,14 +87,13 @@ def read(lines: list[bytes]) -> Totals:
     texts = [line.decode("latin-1") for line in lines]
     board = _BOARD.fullmatch(texts[0]) if texts else None
     last = _LAST.fullmatch(texts[-1]) if texts else None
-    conferences = [_CONFERENCE.fullmatch(text) for text in texts[1:-1]]
-    if board is None or last is None or None in conferences:
-        raise Failure(f"check says what isn't known: {texts[-1] if texts else 'nothing'}")
-    found = [(int(it.group(1)), it.group(2), int(it.group(3))) for it in conferences if it]
+    if board is None or last is None:
+        raise Failure(f"check gave a reply that this script doesn't know: {texts[-1] if texts else 'nothing'}")
+    found = conferences.read(lines)
     return Totals(
         board.group(1),
-        {number: name for number, name, _ in found},
-        {number: slots for number, _, slots in found},
+        {it.number: it.name for it in found},
+        {it.number: it.slots for it in found},
         int(last.group(1)),
         int(last.group(2)),
         int(last.group(3)),

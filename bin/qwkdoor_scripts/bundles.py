@@ -9,9 +9,9 @@ from __future__ import annotations
 import os
 from typing import Optional
 
-from . import archives, durable, packets
+from . import archives, arrivals, durable, packets
 from .characters import shown
-from .ftn_folders import BUNDLE, PACKET, FtnFolders, is_file
+from .ftn_folders import BUNDLE, PACKET, FtnFolders
 
 
 class _CannotBeRead(Exception):
@@ -36,7 +36,7 @@ def unpack_all(folders: FtnFolders) -> None:
 def _unpack(folders: FtnFolders, stem: str) -> "list[str]":
     """Writes the packets of a bundle. Gives what is wrong with it."""
     path = os.path.join(folders.work, stem + BUNDLE)
-    if not is_file(path):
+    if not arrivals.is_file(path):
         return ["it isn't a file"]
     try:
         names = archives.members(path)

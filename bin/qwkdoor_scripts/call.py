@@ -2,13 +2,14 @@
 
 from __future__ import annotations
 
+import contextlib
 import getopt
 import os
 import sys
 from dataclasses import dataclass
-from typing import Callable
+from typing import Callable, Mapping
 
-from .failure import DONE, FAILED, WRONG_WORDS, Failure
+from .failure import DONE, FAILED, WRONG_WORDS, Failure, reason
 
 # What a shell gives for a process that was ended by SIGINT.
 _INTERRUPTED = 130
@@ -22,31 +23,33 @@ class HelpAsked(Exception):
 
 @dataclass(frozen=True)
 class Call:
-    """The folders of a board, how long to wait for a run that is at work, and the options that were named."""
+    """The folders of a board, how long to wait for a run that is at work, and the options with their words."""
 
     data: str
     shelf: str
     seconds: int
-    options: "frozenset[str]"
+    options: Mapping[str, str]
 
 
 def read(words: "list[str]", short: str, long: "list[str]", usage: str) -> Call:
-    """Reads the words of a call: options, DATA and SHELF. Failure with the line of usage where they are others."""
+    """Reads the words of a call: options, before DATA and SHELF or behind them. Failure with the line of usage else."""
     try:
-        found, rest = getopt.getopt(words, "w:" + short, ["help", *long])
+        found, rest = getopt.gnu_getopt(words, "w:" + short, ["help", *long])
     except getopt.GetoptError:
         raise Failure(usage, WRONG_WORDS) from None
-    names = frozenset(name for name, _ in found)
-    if "--help" in names:
+    options = dict(found)
+    if "--help" in options:
         raise HelpAsked()
-    waits = [value for name, value in found if name == "-w"] or [str(USUAL_SECONDS)]
-    if len(rest) != 2 or "" in rest or not all(_is_wait(value) for value in waits):
+    if len(rest) != 2 or "" in rest:
         raise Failure(usage, WRONG_WORDS)
-    return Call(rest[0], rest[1], int(waits[-1]), names)
+    return Call(rest[0], rest[1], number(options.get("-w", str(USUAL_SECONDS)), 0, MOST_SECONDS, usage), options)
 
 
-def _is_wait(value: str) -> bool:
-    return value.isascii() and value.isdigit() and len(value) <= 5 and int(value) <= MOST_SECONDS
+def number(word: str, least: int, most: int, usage: str) -> int:
+    """Gives the number of at most five digits that a word is. Failure with the line of usage where it is none."""
+    if not (word.isascii() and word.isdigit() and len(word) <= 5 and least <= int(word) <= most):
+        raise Failure(usage, WRONG_WORDS)
+    return int(word)
 
 
 def shelf_folder(path: str) -> str:
@@ -69,25 +72,43 @@ def carried_out(name: str, page: str, work: Callable[[], int]) -> int:
     except MemoryError:
         return _say_failure(name, Failure("out of memory"))
     except OSError as error:
-        return _say_failure(name, of_system(error))
+        return _say_failure(name, Failure(reason(error), FAILED))
 
 
-def of_system(error: OSError) -> Failure:
-    """Gives the failure that an error of the system is, with the name of its file where the system names one."""
-    where = f"{error.filename}: " if error.filename else ""
-    return Failure(f"{where}{error.strerror or error}", FAILED)
+def say(text: str) -> None:
+    """Prints a text. Failure where the output takes none."""
+    try:
+        encoding = sys.stdout.encoding or "utf-8"
+        sys.stdout.write(text.encode(encoding, "replace").decode(encoding))
+        sys.stdout.flush()
+    except OSError as error:
+        raise Failure(f"can't write to standard output: {error.strerror}") from error
+
+
+def complain(line: str) -> None:
+    """Says a line on standard error, of which a terminal obeys nothing. Where nobody hears it, all else is done."""
+    with contextlib.suppress(OSError):
+        print("".join(it if it.isprintable() else "?" for it in line), file=sys.stderr, flush=True)
 
 
 def _say_page(name: str, page: str) -> int:
     try:
-        sys.stdout.write(page)
-        sys.stdout.flush()
-    except OSError as error:
-        return _say_failure(name, Failure(f"the page can't be printed: {error.strerror}"))
+        say(page)
+    except Failure as failure:
+        return _say_failure(name, failure)
     return DONE
 
 
+def _drop_output() -> None:
+    """Forgets what standard output didn't take: the exit would try it again, and end with a status of its own."""
+    try:
+        sys.stdout.flush()
+    except OSError:
+        os.dup2(os.open(os.devnull, os.O_WRONLY), sys.stdout.fileno())
+
+
 def _say_failure(name: str, failure: Failure) -> int:
+    _drop_output()
     line = str(failure)
-    print(line if line.startswith("usage: ") else f"{name}: {line}", file=sys.stderr)
+    complain(line if line.startswith("usage: ") else f"{name}: {line}")
     return failure.status

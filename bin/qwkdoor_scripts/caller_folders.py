@@ -26,6 +26,7 @@ class Folders:
     def __init__(self, mail: str, name: str) -> None:
         self.name = name
         self.mail = mail
+        self.top = os.path.join(mail, name)
         self.entry = os.path.join(mail, name, "in")
         self.out = os.path.join(mail, name, "out")
         self.kept = os.path.join(mail, name, "kept")
@@ -52,22 +53,23 @@ class Folders:
             durable.remove(path)
 
 
-def shared(mail: str, names: list[str]) -> dict[str, str]:
-    """Gives the callers who have a folder that is another's too, or twice, each with what is wrong.
+def shared(mail: str, data: str, names: list[str]) -> dict[str, str]:
+    """Gives the callers who have a folder that is another's too, or twice, or the board's, each with what is wrong.
 
     Where one of those callers has it under its own path, and the others by a link, it is his.
     """
     faults: dict[str, str] = {}
-    for paths in _owners(mail, names).values():
+    for paths in _owners(mail, data, names).values():
         if len(paths) > 1:
             faults.update(_faults(mail, paths))
     return faults
 
 
-def _owners(mail: str, names: list[str]) -> _Owners:
-    """Gives the callers and paths of each folder that is there."""
+def _owners(mail: str, data: str, names: list[str]) -> _Owners:
+    """Gives the callers and paths of each folder that is there. The board's own folders have no caller's name."""
     owners: _Owners = {}
-    for name, path in ((name, os.path.join(mail, name, part).rstrip("/")) for name in names for part in PARTS):
+    own = [("", path) for path in (data, os.path.dirname(mail), mail)]
+    for name, path in own + [(name, os.path.join(mail, name, part).rstrip("/")) for name in names for part in PARTS]:
         try:
             found = os.stat(path)
         except OSError:
@@ -78,7 +80,8 @@ def _owners(mail: str, names: list[str]) -> _Owners:
 
 def _faults(mail: str, paths: list[tuple[str, str]]) -> dict[str, str]:
     top = os.path.realpath(mail)
-    own = [it for it in paths if os.path.realpath(it[1]) == os.path.join(top, os.path.relpath(it[1], mail))]
+    as_named = {path: os.path.join(top, os.path.relpath(path, mail)) for _, path in paths}
+    own = [it for it in paths if not it[0] or os.path.realpath(it[1]) == as_named[it[1]]]
     mine = own[0] if len(own) == 1 else None
     return {
         name: f"{path} is one folder with {_other(paths, path, mine)}: this caller isn't served"

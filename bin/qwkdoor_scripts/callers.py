@@ -14,7 +14,7 @@ BYTES_A_DAY = 262_144
 _RESERVED = ("callers", "log", "lock")
 _LINE = re.compile(r'"([^"\x00-\x1f\x7f]+)"[ \t]*(.*)')
 _NAME = re.compile(r"[A-Za-z0-9_-][A-Za-z0-9._-]{0,31}")
-_FORM = 'not "USER" LIMIT NAME, or "USER" LIMIT NAME LETTERS BYTES'
+_FORM = 'a line is "USER" LIMIT NAME, and LETTERS and BYTES may follow'
 
 
 @dataclass(frozen=True)
@@ -64,7 +64,7 @@ def alike(callers: list[Caller]) -> list[tuple[str, str]]:
 
 def _once(text: str, seen: set[str], what: str) -> None:
     if text in seen:
-        raise Failure(f"{what} {text} stands there twice", WRONG_WORDS)
+        raise Failure(f"{what} {text} is listed twice", WRONG_WORDS)
     seen.add(text)
 
 
@@ -76,8 +76,8 @@ def _caller(line: str, place: str) -> Caller:
     limit, name, *day = words
     if not _NAME.fullmatch(name) or name in _RESERVED:
         raise Failure(
-            f"{place}: the folder {name} isn't 1 to 32 letters, digits, '.', '_' and '-', "
-            "or begins with '.', or is callers, log or lock",
+            f"{place}: {name} can't be a caller's folder: its name has 1 to 32 letters, digits, '.', '_' and '-', "
+            "doesn't begin with '.', and isn't callers, log or lock",
             WRONG_WORDS,
         )
     return Caller(

@@ -1,11 +1,22 @@
-"""A packet's bytes as characters that a terminal shows and doesn't obey, and back."""
+"""A packet's bytes as characters that a terminal shows and doesn't obey."""
 
 from __future__ import annotations
 
+import codecs
 import unicodedata
 from typing import Dict
 
 CHARACTERS = ("cp437", "latin-1", "cp850", "cp866", "utf-8")
+_PLAIN = b" 0123456789ABCDEFGHIJKLMNOPQRSTUVWXYZabcdefghijklmnopqrstuvwxyz"
+
+
+def terminals(name: str) -> str:
+    """Gives the usual name of a terminal's characters, in which those of ASCII are as they are there; else nothing."""
+    try:
+        is_plain = _PLAIN.decode("ascii").encode(name) == _PLAIN == _PLAIN.decode(name, "replace").encode("ascii")
+        return codecs.lookup(name).name if is_plain else ""
+    except (LookupError, ValueError):
+        return ""
 
 
 def shown(data: bytes, characters: str = "cp437") -> str:
@@ -32,21 +43,3 @@ _SHOWN = _Shown({ord("\t"): " "})
 def _is_obeyed(character: str) -> bool:
     """Whether a terminal may act on a character: the controls, and those that turn the direction of a line."""
     return unicodedata.category(character) in ("Cc", "Cf", "Cs", "Zl", "Zp")
-
-
-def unwritable(text: str, characters: str = "cp437") -> str:
-    """Gives the characters of a text, each once, that the packet's characters lack."""
-    return "".join(dict.fromkeys(it for it in text if not _has(it, characters)))
-
-
-def _has(character: str, characters: str) -> bool:
-    try:
-        character.encode(characters)
-    except UnicodeEncodeError:
-        return False
-    return True
-
-
-def written(text: str, characters: str = "cp437") -> bytes:
-    """Gives the bytes of a text in the packet's characters. One that they lack is '?'."""
-    return text.encode(characters, "replace")

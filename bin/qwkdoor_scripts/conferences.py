@@ -9,7 +9,7 @@ from typing import Optional
 from .failure import REFUSED, Failure
 from .program import FIRST_FAULT, Program, Reply
 
-_LINE = re.compile(r"([0-9]+) (.+): ([0-9]+) slots, ([0-9]+) live")
+_LINE = re.compile(r"([0-9]+) (.*): ([0-9]+) slots, ([0-9]+) live")
 
 
 @dataclass(frozen=True)
@@ -28,14 +28,19 @@ def look(program: Program) -> "list[Conference]":
     reply = program.run("check")
     end_at_fault("check", reply)
     if reply.status != 0:
-        raise Failure(f"check of {program.data} is refused: {reply.last}", REFUSED)
-    found = (_LINE.fullmatch(line.decode("latin-1")) for line in reply.lines[1:-1])
+        raise Failure(f"check of {program.data} was refused: {reply.last}", REFUSED)
+    return read(reply.lines)
+
+
+def read(lines: "list[bytes]") -> "list[Conference]":
+    """Gives the conferences of a reply of `check`, whose first line is the board's and whose last has its totals."""
+    found = (_LINE.fullmatch(line.decode("latin-1")) for line in lines[1:-1])
     return [_conference(place, match) for place, match in enumerate(found)]
 
 
 def _conference(place: int, match: "Optional[re.Match[str]]") -> Conference:
     if match is None:
-        raise Failure("check said a line that isn't of a conference")
+        raise Failure("check gave a line that this script doesn't know")
     number, name, slots, live = match.groups()
     return Conference(place, int(number), name, int(slots), int(live))
 

@@ -12,6 +12,7 @@ What a sync stands for, and what comes only after it:
     name of kept/ID.rep           the archive is done                       nothing: else it is uploaded again
     bytes and name of the packet  the packet is whole                       work/number
     bytes and name of the number  the packet is known by its number         the packet comes to `out`
+    names of the caller's folders what lies in them is there                the packet comes to `out`
     names in out and work         the caller has taken it, and for good     ack
     name of work/seen             the packet was acknowledged               the next export, where one is spared
 
@@ -28,15 +29,16 @@ import os
 import stat
 from typing import Callable, Optional
 
-from . import caller_folders, callers
+from . import caller_folders, callers, durable
 from .caller_folders import CallerFault, Folders
 from .callers import Caller
 from .day_board import DayBoard, of_machine
 from .day_intake import Intake
-from .day_log import Clock, DayLog, reason
+from .day_log import DayLog
 from .day_packets import Packets
-from .failure import WRONG_WORDS, Failure
+from .failure import WRONG_WORDS, Failure, reason
 from .program import Program
+from .runlog import Clock
 
 # The sysop's texts, which CONTROL.DAT names.
 TEXTS = ("WELCOME", "GOODBYE")
@@ -62,7 +64,9 @@ class Day:
         self.texts = {name: text for name in TEXTS for text in self._text(name)}
         self._name_alike([it.name for it in served])
         made = [it for it in served if self._guarded(it, Folders(self.mail, it.name).make)]
-        shared = caller_folders.shared(self.mail, [it.name for it in self.listed])
+        # A run that was killed may have made them, and not synced their names.
+        durable.sync_folder(self.mail)
+        shared = caller_folders.shared(self.mail, self.board.program.data, [it.name for it in self.listed])
         for caller in made:
             if caller.name in shared:
                 self.log.fault(caller.name, "folder", shared[caller.name])
@@ -110,7 +114,7 @@ class Day:
             if not stat.S_ISREG(found.st_mode):
                 return []
             if found.st_size > TEXT_LIMIT:
-                self.log.fault("-", "text", f"mail/{name} has {found.st_size} bytes, where it may have {TEXT_LIMIT}")
+                self.log.fault("-", "text", f"mail/{name} has {found.st_size} bytes, and may have {TEXT_LIMIT}")
                 return []
             with open(path, "rb") as file:
                 return [file.read(TEXT_LIMIT)]
@@ -135,8 +139,8 @@ class Day:
         self.log.note("-", "totals", self.log.status, said)
 
 
-def one_of(listed: list[Caller], name: str, path: str) -> str:
-    """Gives the name of a caller's folder, where the list has it."""
-    if name not in [it.name for it in listed]:
+def one_of(listed: list[Caller], name: Optional[str], path: str) -> Optional[str]:
+    """Gives the name of a caller's folder, where the list has it. None where no one caller is wanted."""
+    if name is not None and name not in [it.name for it in listed]:
         raise Failure(f"{path} has no caller with the folder {name}", WRONG_WORDS)
     return name

@@ -24,17 +24,23 @@ class Allowance:
         self.date = date
         self.letters = 0
         self.bytes = 0
-        self.counted: list[str] = []
+        # The archives that were counted and aren't uploaded for sure, each with the day on which it was.
+        self.counted: dict[str, str] = {}
         self.waits = ""
         self._take_over(_read(path))
 
     def _take_over(self, kept: Any) -> None:
         try:
+            self.counted = {str(it): str(date) for it, date in kept["counted"].items()}
             if kept["date"] == self.date:
                 self.letters, self.bytes = int(kept["letters"]), int(kept["bytes"])
-                self.counted, self.waits = [str(it) for it in kept["counted"]], str(kept["waits"])
-        except (KeyError, TypeError, ValueError):
+                self.waits = str(kept["waits"])
+        except (AttributeError, KeyError, TypeError, ValueError):
             return
+
+    def was_begun(self, archive: str) -> bool:
+        """Whether an archive was counted, on this day or another: it may have been uploaded then."""
+        return archive in self.counted
 
     def is_too_much(self, letters: int, size: int) -> bool:
         """Whether an archive of so many letters and bytes has more than a whole day's."""
@@ -46,14 +52,14 @@ class Allowance:
         It counts as a letter at least, so that one who leaves archives without any comes to an end too.
         """
         letters = min(max(letters, 1), self.caller.letters)
-        if archive in self.counted:
+        if self.counted.get(archive) == self.date:
             return True
         if self.letters + letters > self.caller.letters or self.bytes + size > self.caller.bytes:
             return False
         self.letters += letters
         self.bytes += size
         self._forget_done()
-        self.counted.append(archive)
+        self.counted[archive] = self.date
         self._keep()
         return True
 
@@ -65,7 +71,9 @@ class Allowance:
     def _forget_done(self) -> None:
         """Keeps the ids of those archives that aren't uploaded for sure."""
         work = os.path.dirname(self.path)
-        self.counted = [it for it in self.counted if os.path.lexists(os.path.join(work, f"{it}.rep"))]
+        done = [it for it in self.counted if not os.path.lexists(os.path.join(work, f"{it}.rep"))]
+        for archive in done:
+            del self.counted[archive]
 
     def _keep(self) -> None:
         kept = {

@@ -3,12 +3,15 @@
 from __future__ import annotations
 
 import errno
+import os
+from typing import Optional
 
-from . import board_totals
+from . import board_totals, ledger
 from .caller_folders import CallerFault
 from .day_log import DayLog
 from .day_verdicts import Verdicts
 from .failure import Failure
+from .ledger import People
 from .program import DONE, REFUSED, Program, Reply
 
 # The board is damaged, its disk failed or another run holds it, or memory ran out: no other caller would fare better.
@@ -36,6 +39,7 @@ class DayBoard:
         self.program = program
         self.log = log
         self.totals = self._checked()
+        self.people = self._people()
         self.posted = 0
         self.refused = 0
         self.handed_out = 0
@@ -46,6 +50,19 @@ class DayBoard:
         if reply.status != DONE:
             raise Failure(f"check of {self.program.data} {_ended(reply)}", reply.status)
         return board_totals.read(reply.lines)
+
+    def _people(self) -> Optional[People]:
+        """Reads the ledger, which `check` has found whole. None where it is one of another version."""
+        try:
+            people = ledger.read(os.path.join(self.program.data, "LEDGER.DAT"))
+        except (OSError, Failure):
+            return None
+        self.totals.created = people.created
+        return people
+
+    def last_packet(self, user: str) -> Optional[int]:
+        """Gives the number of the last packet that the board had offered a user when it was looked at."""
+        return self.people.last_packet(os.fsencode(user)) if self.people else None
 
     def ask(self, name: str, *words: str) -> Reply:
         """Carries out a command that touches no board. It is noted where it went wrong."""

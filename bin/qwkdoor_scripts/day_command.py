@@ -2,44 +2,45 @@
 
 from __future__ import annotations
 
-import contextlib
-import getopt
 import os
 import sys
 import time
-from dataclasses import dataclass
 from typing import Optional
 
-from . import callers, day_plan, day_report, program
+from . import call, callers, day_plan, day_report, program
+from .call import Call
 from .characters import shown
 from .day import Day, one_of
 from .day_board import DayBoard
-from .day_log import Clock, one_line, reason
-from .failure import DONE, FAILED, WRONG_WORDS, Failure
+from .day_log import one_line
+from .failure import DONE, WRONG_WORDS, Failure
 from .locks import Lock
+from .runlog import Clock
 
+_NAME = "qwkdoor-day"
 _PAGE = """\
 usage: qwkdoor-day [-n] [-w SECONDS] [--caller NAME] DATA SHELF
        qwkdoor-day --report DAYS [-w SECONDS] DATA SHELF
 
 For each caller of the list SHELF/mail/callers: uploads the reply packets that he left, acknowledges the
 packet that he took away, and hands out the next one where there is something new for him. Start it as often
-as you like, as from cron: it waits for a run that is still at work, and goes on where a run was killed. Where
+as you like, as from cron. It waits for a run that is still at work, and goes on where a run was killed. Where
 all is well it prints nothing, and else a line on standard error for each thing that went wrong.
 
 DATA, SHELF   the folders of the board, as of qwkdoor
 -w SECONDS    how long it waits for a run that is still at work: 0 to 86,400, else 600
 -n            says what it would do, and does nothing
 --caller NAME serves the caller with the folder NAME alone, as when he logs in
---report DAYS says how many letters of each caller were posted and refused and how many messages he was handed
-              out in the last 1 to 3,660 days, and what each conference and the board have left
+--report DAYS says how many letters of each caller were posted and refused in the last 1 to 3,660 days, how many
+              messages he was handed out, and what each conference and the board have left
 --help        print this page
 
 The list has a line "USER" LIMIT NAME for each caller: the name with which he is enrolled, how many messages
-a packet of his has at most, 1 to 2,000, and the name of his folder in SHELF/mail, which is 1 to 32 letters,
-digits, '.', '_' and '-', not beginning with '.'. Behind them may stand how many letters he may send a day, 0
-to 9,999, else 200, and behind that how many bytes, 0 to 99,999,999, else 262,144. Empty lines and lines that
-begin with '#' are skipped. A day is one of UTC. An archive past what is left of it waits for the next one.
+a packet of his has at most, 1 to 2,000, and the name of his folder in SHELF/mail. That name has 1 to 32
+letters, digits, '.', '_' and '-', doesn't begin with '.', and isn't callers, log or lock. Behind them may stand
+how many letters he may send a day, 0 to 9,999, else 200, and behind that how many bytes, 0 to 99,999,999, else
+262,144. Empty lines and lines that begin with '#' are skipped. A day is one of UTC. An archive past what is left
+of it waits for the next one.
 
 files of SHELF/mail:
   callers     the list
@@ -49,9 +50,9 @@ files of SHELF/mail:
               and at the end of a run one of totals
   lock        held by a run
   NAME/in     where the caller leaves archives *.REP, whole, so by a rename. They are taken away
-  NAME/out    where BBSID.QWK is put, under that name at once. It is never replaced: when the caller has taken
-              it away he has it, and only then it is acknowledged and the next one is put there. Its file NEWS
-              says what became of each letter that he sent
+  NAME/out    where BBSID.QWK is put, under that name at once. It is never replaced. Once it is gone, it counts
+              as delivered: it is acknowledged, and the next one is put there. Its file NEWS says what became of
+              each letter that he sent
   NAME/kept   each archive that was uploaded, as ID.rep, and what was said of it, as ID.txt; and what isn't
               an archive with BBSID.MSG, or has more than a day's letters, as ID.bad. Nothing is ever deleted
   NAME/work   what is under way. Leave it alone
@@ -67,108 +68,43 @@ status:
   4  a file of the board failed, or another run holds the board
   7  the program ran out of memory
  70  a disk failed or is full, a file of SHELF/mail itself couldn't be read or written, memory ran out, or the
-     program didn't run
+     program didn't run or was killed
  75  another run was at work all the time
 """
 _SHORT = "usage: qwkdoor-day [-n] [-w SECONDS] [--caller NAME] DATA SHELF (qwkdoor-day --help says more)"
 
 
-@dataclass
-class Words:
-    """The words of a call."""
-
-    data: str
-    shelf: str
-    seconds: int = 600
-    is_plan: bool = False
-    caller: Optional[str] = None
-    days: Optional[int] = None
-
-
-class WrongWords(Exception):
-    """The words are no call."""
-
-
-def parse(arguments: list[str]) -> Words:
-    """Gives the words of a call. WrongWords where they are none."""
-    try:
-        options, places = getopt.getopt(arguments, "nw:", ["caller=", "report="])
-    except getopt.GetoptError as error:
-        raise WrongWords from error
-    if len(places) != 2 or "" in places:
-        raise WrongWords
-    words = Words(places[0], places[1])
-    for name, value in options:
-        if name == "-n":
-            words.is_plan = True
-        elif name == "-w":
-            words.seconds = _number(value, 0, 86_400)
-        elif name == "--caller":
-            words.caller = value
-        else:
-            words.days = _number(value, 1, 3_660)
-    if words.days is not None and (words.is_plan or words.caller is not None):
-        raise WrongWords
-    return words
-
-
-def _number(word: str, least: int, most: int) -> int:
-    if not (word.isascii() and word.isdigit() and len(word) <= 5 and least <= int(word) <= most):
-        raise WrongWords
-    return int(word)
-
-
-def main(arguments: list[str], clock: Clock = time.time) -> int:
+def main(words: list[str], clock: Clock = time.time) -> int:
     """Carries out a call, and gives its status."""
-    try:
-        if arguments == ["--help"]:
-            _say(_PAGE)
-            return DONE
-        return _run(parse(arguments), clock)
-    except WrongWords:
-        return _fail(_SHORT, WRONG_WORDS)
-    except Failure as failure:
-        return _fail(f"qwkdoor-day: {failure}", failure.status)
-    except OSError as error:
-        return _fail(f"qwkdoor-day: {reason(error)}", FAILED)
-    except MemoryError:
-        return _fail("qwkdoor-day: out of memory", FAILED)
-    except KeyboardInterrupt:
-        return 130
+    return call.carried_out(_NAME, _PAGE, lambda: _run(call.read(words, "n", ["caller=", "report="], _SHORT), clock))
 
 
-def _fail(line: str, status: int) -> int:
-    with contextlib.suppress(OSError):
-        print("".join(it if it.isprintable() else "?" for it in line), file=sys.stderr, flush=True)
-    return status
+def _days(wanted: Call) -> Optional[int]:
+    """Gives of how many days a report is wanted. None where none is."""
+    if "--report" not in wanted.options:
+        return None
+    if len(wanted.options.keys() - {"-w"}) > 1:
+        raise Failure(_SHORT, WRONG_WORDS)
+    return call.number(wanted.options["--report"], 1, 3_660, _SHORT)
 
 
-def _say(text: str) -> None:
-    try:
-        sys.stdout.write(text)
-        sys.stdout.flush()
-    except OSError as error:
-        raise Failure(f"standard output: {error.strerror}") from error
-
-
-def _run(words: Words, clock: Clock) -> int:
+def _run(wanted: Call, clock: Clock) -> int:
     os.umask(0o077)
-    shelf = os.path.abspath(words.shelf)
+    days = _days(wanted)
+    shelf = call.shelf_folder(wanted.shelf)
     mail = os.path.join(shelf, "mail")
     path = os.path.join(mail, "callers")
-    if not os.path.isdir(shelf):
-        raise Failure(f"{words.shelf} isn't a folder that can be entered")
-    door = program.Program(program.find(sys.argv[0]), words.data, shelf)
+    door = program.Program(program.find(sys.argv[0]), wanted.data, shelf)
     listed = callers.read(path)
-    only = None if words.caller is None else one_of(listed, words.caller, path)
-    with Lock(os.path.join(mail, "lock"), words.seconds) as lock:
+    only = one_of(listed, wanted.options.get("--caller"), path)
+    with Lock(os.path.join(mail, "lock"), wanted.seconds) as lock:
         door.held = (lock.handle,)
-        if not words.is_plan and words.days is None:
+        if "-n" not in wanted.options and days is None:
             return Day(door, shelf, listed, clock).run(only)
         board = DayBoard(door, day_plan.SilentLog("", clock))
-        if words.days is not None:
-            said = day_report.lines(mail, listed, board.totals, words.days, clock)
+        if days is not None:
+            said = day_report.lines(mail, listed, board.totals, days, clock)
         else:
             said = day_plan.lines(board, mail, listed, [it for it in listed if only in (None, it.name)])
-        _say("".join(shown(one_line(line), "latin-1") + "\n" for line in said))
+        call.say("".join(shown(one_line(line), "latin-1") + "\n" for line in said))
         return DONE

@@ -12,18 +12,20 @@ An archive is in one place at a time, and each step is one rename:
 
 from __future__ import annotations
 
+import errno
 import heapq
 import os
 import re
-import stat
 
-from . import archives, day_verdicts, durable
+from . import archives, arrivals, day_verdicts, durable
 from .caller_folders import Folders
 from .callers import Caller
 from .day_allowance import FILE, Allowance
 from .day_board import DayBoard, of_machine
-from .day_log import moment, one_line, reason
+from .day_log import one_line
+from .failure import reason
 from .program import DONE, Reply
+from .runlog import moment
 
 # The bytes of an archive with a reply packet, and of the packet.
 ARCHIVE_LIMIT = 4_194_304
@@ -69,6 +71,8 @@ class Intake:
 
     def _take_one(self, path: str) -> None:
         try:
+            if not arrivals.can_be_taken(path):
+                raise PermissionError(errno.EACCES, arrivals.NOT_READABLE, path)
             durable.replace(path, self.folders.in_work(self._new_id() + ".rep"))
         except FileNotFoundError:
             # The caller has changed his mind meanwhile.
@@ -101,18 +105,18 @@ class Intake:
 
     def _is_dealt_with(self, archive: str, allowance: Allowance) -> bool:
         """Deals with an archive. False where it waits for another day, and those behind it do."""
-        was_begun = archive in allowance.counted
+        was_begun = allowance.was_begun(archive)
         listing: list[bytes] = []
         letters, size, fault = 1, 0, ""
         try:
             size = self._unpack(archive)
             listing, letters = self._listing()
             if allowance.is_too_much(letters, size):
-                fault = f"{letters} letters of {size} bytes, where {self._day()}"
+                fault = f"it has {letters} letters and {size} bytes, where {self._day()}"
         except archives.Unreadable as error:
             fault = str(error)
         if not allowance.admits(archive, 1 if fault else letters, 0 if fault else size):
-            self._let_wait(archive, allowance, f"{letters} letters of {size} bytes")
+            self._let_wait(archive, allowance, f"it has {letters} letters and {size} bytes")
             return False
         if fault:
             self._set_aside(archive, fault)
@@ -121,16 +125,16 @@ class Intake:
         return True
 
     def _day(self) -> str:
-        return f"{self.caller.letters} letters and {self.caller.bytes} bytes a day are taken"
+        return f"a day takes {self.caller.letters} and {self.caller.bytes}"
 
     def _unpack(self, archive: str) -> int:
         """Puts an archive's reply packet where the program reads it, and gives its length."""
         path = self.folders.in_work(archive + ".rep")
-        found = os.lstat(path)
-        if not stat.S_ISREG(found.st_mode):
-            raise archives.Unreadable("it is no file")
-        if found.st_size > ARCHIVE_LIMIT:
-            raise archives.Unreadable(f"it has {found.st_size} bytes, where {ARCHIVE_LIMIT} are taken")
+        if not arrivals.is_file(path):
+            raise archives.Unreadable("it isn't a file")
+        length = os.path.getsize(path)
+        if length > ARCHIVE_LIMIT:
+            raise archives.Unreadable(f"it has {length} bytes, and may have {ARCHIVE_LIMIT}")
         durable.sync_file(path)
         packet = archives.read_member(path, self.board.totals.bbsid + ".MSG", PACKET_LIMIT)
         durable.remove(self.folders.in_work("msg"))

@@ -2,27 +2,15 @@
 
 from __future__ import annotations
 
-import contextlib
-import os
-import sys
-import time
-from typing import Callable
+import re
 
+from . import call
 from .characters import shown
 from .failure import DONE, REFUSED, Failure
+from .runlog import Clock, append, moment
 
-Clock = Callable[[], float]
-
-
-def moment(clock: Clock, form: str = "%Y-%m-%dT%H:%M:%SZ") -> str:
-    """Gives the moment in UTC."""
-    return time.strftime(form, time.gmtime(clock()))
-
-
-def reason(error: OSError) -> str:
-    """Gives what the system said of a file, with its name."""
-    words = error.strerror or str(error)
-    return f"{os.fsdecode(error.filename)}: {words}" if error.filename is not None else words
+# A control character of more than one byte, where a terminal reads UTF-8.
+_OBEYED = re.compile(rb"[\x00-\x1f\x7f]|\xc2[\x80-\x9f]")
 
 
 def one_line(text: str) -> bytes:
@@ -30,7 +18,7 @@ def one_line(text: str) -> bytes:
     # A byte of a name that isn't in the system's characters is a surrogate.
     is_name = any("\udc80" <= it <= "\udcff" for it in text)
     data = text.encode("utf-8", "surrogateescape") if is_name else text.encode("latin-1", "replace")
-    return bytes(it if it >= 32 and it != 127 else 63 for it in data)
+    return _OBEYED.sub(b"?", data)
 
 
 class DayLog:
@@ -44,22 +32,17 @@ class DayLog:
 
     def note(self, name: str, command: str, status: int, text: str) -> None:
         """Adds a line. The file is opened anew, since logrotate may have moved the old one away."""
-        line = one_line(f"{moment(self.clock)} {name} {command} {status} {text}") + b"\n"
         try:
-            handle = os.open(self.path, os.O_WRONLY | os.O_APPEND | os.O_CREAT | os.O_CLOEXEC, 0o600)
-            with os.fdopen(handle, "wb") as file:
-                file.write(line)
+            append(self.path, one_line(f"{moment(self.clock)} {name} {command} {status} {text}"))
         except OSError as error:
-            raise Failure(f"can't write to {reason(error)}") from error
+            raise Failure(f"can't write to {self.path}: {error.strerror}") from error
 
     def complain(self, name: str, text: str) -> None:
         """Says on standard error what went wrong, for cron's mail. The day ends with 1 then."""
         self.faults += 1
         self.status = REFUSED
         who = "" if name == "-" else f"{name}: "
-        # Where nobody hears it, the others are served all the same.
-        with contextlib.suppress(OSError):
-            print(f"qwkdoor-day: {who}{shown(one_line(text), 'latin-1')}", file=sys.stderr, flush=True)
+        call.complain(f"qwkdoor-day: {who}{shown(one_line(text), 'latin-1')}")
 
     def fault(self, name: str, what: str, text: str) -> None:
         """Says what went wrong in both places."""

@@ -12,9 +12,10 @@ Where a packet stands is told by three files:
     yes          yes          yes            the same                          it is named, and the packet stays
 
 `number` comes by one rename, after the packet's bytes and its name were synced: so a packet with a number is whole. It
-is handed out by one rename, after `number` was synced: so one that is gone is known. It is acknowledged after its
-absence was synced in both folders. Then `number` becomes `seen` by one rename: what the last packet that was
-acknowledged had, by which it is known whether there can be anything new.
+is handed out by one rename, after `number` was synced, and with the rights that its readers need: so one that is gone
+is known, and was read by who took it. It is acknowledged after its absence was synced in both folders. Then `number`
+becomes `seen` by one rename: what the last packet that was acknowledged had, by which it is known whether there can be
+anything new.
 """
 
 from __future__ import annotations
@@ -25,7 +26,7 @@ import re
 from dataclasses import dataclass
 from typing import Any, Mapping, Optional
 
-from . import archives, day_verdicts, durable
+from . import archives, day_verdicts, durable, lending
 from .board_totals import Seen
 from .caller_folders import Folders
 from .callers import Caller, folded
@@ -136,7 +137,8 @@ class Packets:
         return True
 
     def _name_other(self) -> None:
-        self.log.fault(self.caller.name, "out", f"out/{os.path.basename(self.qwk)} isn't of this script: move it away")
+        said = f"out/{os.path.basename(self.qwk)} isn't from this script: move it away"
+        self.log.fault(self.caller.name, "out", said)
 
     def _distrust(self) -> None:
         """Forgets a packet that can't be trusted: its messages are offered again."""
@@ -194,7 +196,16 @@ class Packets:
     def has_nothing_new(self) -> bool:
         """Whether the last packet had all that the board has. Where that can't be known, the board is asked."""
         record = self.record(self.seen)
-        return record is not None and self.board.totals.has_nothing_since(record.seen)
+        return record is not None and self.has_nothing_since(record)
+
+    def has_nothing_since(self, record: PacketRecord) -> bool:
+        """Whether a packet that was acknowledged had all that the board has.
+
+        A board that has gone back behind that packet has offered him an earlier one last, and one that went on without
+        this script a later one.
+        """
+        is_last = self.board.last_packet(self.caller.user) == record.number
+        return is_last and self.board.totals.has_nothing_since(record.seen)
 
     def _pack(self, record: PacketRecord) -> None:
         part = self.packet + ".new"
@@ -216,8 +227,10 @@ class Packets:
         if os.path.lexists(self.qwk):
             self._name_other()
             return
-        # A run that was killed may have renamed them, and not synced their names.
+        lending.lend(self.packet, self.folders.out)
+        # A run that was killed may have renamed them, or made their folders, and not synced their names.
         durable.sync_file(self.packet)
         durable.sync_file(self.number)
         durable.sync_folder(self.folders.work)
+        durable.sync_folder(self.folders.top)
         durable.replace(self.packet, self.qwk)

@@ -8,8 +8,9 @@ from . import caller_folders, day_verdicts
 from .caller_folders import Folders
 from .callers import Caller
 from .day_board import DayBoard
-from .day_log import DayLog, reason
+from .day_log import DayLog
 from .day_packets import Packets
+from .failure import reason
 
 
 class SilentLog(DayLog):
@@ -24,7 +25,7 @@ class SilentLog(DayLog):
 
 def lines(board: DayBoard, mail: str, listed: list[Caller], served: list[Caller]) -> list[str]:
     """Gives a line for each thing that would be done, and one for each caller for whom nothing would be."""
-    shared = caller_folders.shared(mail, [it.name for it in listed])
+    shared = caller_folders.shared(mail, board.program.data, [it.name for it in listed])
     return [line for caller in served for line in _of(board, mail, caller, shared)]
 
 
@@ -60,8 +61,8 @@ def _packet(board: DayBoard, caller: Caller, folders: Folders) -> list[str]:
     if is_out:
         return []
     done = [f"acknowledge packet {record.number}"] if record else []
-    seen = record.seen if record else None
-    if _news(folders) or not (board.totals.has_nothing_since(seen) if record else packets.has_nothing_new()):
+    has_nothing = packets.has_nothing_since(record) if record else packets.has_nothing_new()
+    if _news(folders) or not has_nothing:
         done.append("export, where there is mail")
     return done
 

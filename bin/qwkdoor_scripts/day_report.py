@@ -10,10 +10,11 @@ import os
 import re
 from typing import Iterable
 
-from .callers import Caller
-from .day_log import Clock, moment
 from .board_totals import Totals
+from .callers import Caller
 from .day_verdicts import Verdicts
+from .failure import reason
+from .runlog import Clock, moment
 
 _EXPORT = re.compile(rb"(\S+) (\S+) export 0 packet \d+: (\d+) messages")
 _ACK = re.compile(rb"(\S+) (\S+) ack [01] .*")
@@ -32,7 +33,10 @@ def lines(mail: str, listed: list[Caller], totals: Totals, days: int, clock: Clo
 
 
 def _caller_line(mail: str, caller: Caller, from_id: str, handed_out: dict[str, int]) -> str:
-    posted, refused = _letters(os.path.join(mail, caller.name, "kept"), from_id)
+    try:
+        posted, refused = _letters(os.path.join(mail, caller.name, "kept"), from_id)
+    except OSError as error:
+        return f"{caller.name}: can't be counted: {reason(error)}"
     return f"{caller.name}: {posted} posted, {refused} refused, {handed_out.get(caller.name, 0)} handed out"
 
 

@@ -6,10 +6,13 @@ process as a kill does; so each place at which a run can stop is tried.
 
 from __future__ import annotations
 
+import contextlib
 import os
-from typing import Callable, Union
+from typing import Callable, Iterator, Union
 
 Path = Union[str, "os.PathLike[str]"]
+# The ending of what is being written, before it gets its name.
+PART = ".new"
 
 
 def _nothing(step: str, path: str) -> None:
@@ -25,10 +28,22 @@ def _step(name: str, path: Path) -> str:
     return text
 
 
+@contextlib.contextmanager
+def naming(path: Path) -> Iterator[None]:
+    """Has an error name the file, which the system does for one that couldn't be opened, and not for a full disk."""
+    try:
+        yield
+    except OSError as error:
+        if error.filename is None:
+            error.filename = os.fspath(path)
+        raise
+
+
 def _sync(path: str, flags: int) -> None:
     handle = os.open(path, flags | os.O_CLOEXEC)
     try:
-        os.fsync(handle)
+        with naming(path):
+            os.fsync(handle)
     finally:
         os.close(handle)
 
@@ -56,7 +71,7 @@ def write_new(path: Path, data: bytes, mode: int = 0o600) -> None:
     """Writes a file that isn't there yet, and its bytes to the disk. Its name is durable once its folder is synced."""
     text = _step("write", path)
     handle = os.open(text, os.O_WRONLY | os.O_CREAT | os.O_EXCL | os.O_NOFOLLOW | os.O_CLOEXEC, mode)
-    with os.fdopen(handle, "wb") as file:
+    with naming(text), os.fdopen(handle, "wb") as file:
         file.write(data)
         file.flush()
         before("fsync", text)
@@ -71,7 +86,7 @@ def replace(old: Path, new: Path) -> None:
 
 
 def rename_new(old: Path, new: Path) -> None:
-    """Renames a file to a name that nothing has, and makes both names durable. FileExistsError where something has it."""
+    """Renames a file to a name that nothing has, and makes both durable. FileExistsError where something has it."""
     target = _step("rename", new)
     os.link(old, target, follow_symlinks=False)
     before("unlink", os.fspath(old))
@@ -88,7 +103,7 @@ def _sync_names(old: str, new: str) -> None:
 def write_whole(path: Path, data: bytes, mode: int = 0o600) -> None:
     """Puts a file's new bytes in place at once: a reader, or a run after a power cut, sees the old ones or the new."""
     text = os.fspath(path)
-    part = text + ".new"
+    part = text + PART
     remove(part)
     write_new(part, data, mode)
     replace(part, text)

@@ -6,13 +6,12 @@ packet of a bundle has its number behind it, `ID-01`, and a message that is kept
 
 from __future__ import annotations
 
+import errno
 import os
 import re
-import stat
-import time
 from typing import Iterator
 
-from . import characters, durable
+from . import arrivals, characters, durable, runlog
 from .runlog import RunLog
 
 PACKET = ".pkt"
@@ -73,8 +72,11 @@ class FtnFolders:
         durable.replace(os.path.join(self.work, name), os.path.join(self.kept, name))
 
     def sweep(self) -> None:
-        """Removes the copy that the program has read."""
+        """Removes the copy that the program has read, and what a run that was killed had begun to write."""
         durable.remove(self.copy)
+        for folder in (self.work, self.kept, self.bad):
+            for name in (it for it in os.listdir(folder) if it.endswith(durable.PART)):
+                durable.remove(os.path.join(folder, name))
 
     def take(self) -> None:
         """Takes what came in, the oldest first. What its owner took away meanwhile isn't there to be taken."""
@@ -93,6 +95,8 @@ class FtnFolders:
 
     def _move(self, old: str, new: str, shown: str) -> bool:
         try:
+            if not arrivals.can_be_taken(old):
+                raise PermissionError(errno.EACCES, arrivals.NOT_READABLE, old)
             durable.replace(old, new)
         except FileNotFoundError:
             return False
@@ -106,18 +110,13 @@ class FtnFolders:
 
     def _free_ids(self) -> "Iterator[str]":
         """Gives IDs of this moment that nothing has."""
-        moment = time.strftime("%Y%m%dT%H%M%SZ", time.gmtime())
+        now = runlog.moment(form="%Y%m%dT%H%M%SZ")
         names = [name for folder in (self.work, self.kept, self.bad) for name in os.listdir(folder)]
-        matches = (_STEM.match(name) for name in names if name.startswith(moment))
+        matches = (_STEM.match(name) for name in names if name.startswith(now))
         number = max((int(match.group(2)) for match in matches if match), default=0)
         while True:
             number += 1
-            yield f"{moment}-{number:06d}"
-
-
-def is_file(path: str) -> bool:
-    """Tells whether a name is that of a file, and of no folder, link or pipe."""
-    return stat.S_ISREG(os.lstat(path).st_mode)
+            yield f"{now}-{number:06d}"
 
 
 def _came(folder: str) -> "list[str]":

@@ -103,4 +103,4 @@ def _bytes(path: str) -> bytes:
 
 
 def _not_whole(path: str) -> Failure:
-    return Failure(f"{path} isn't as check found it")
+    return Failure(f"{path} doesn't read, though check found it whole")

@@ -1,33 +1,44 @@
-"""The names in a board's ledger: of its sysop, and of its users, whose ids are their places from 1."""
+"""What the scripts read of a ledger: when the board was made, its sysop, and its users, whose ids are places from 1."""
 
 from __future__ import annotations
 
 import struct
 from dataclasses import dataclass
+from typing import Optional
 
 from .failure import Failure
 
 _MAGIC = b"QMDL"
 _VERSION = 2
 _COUNTS = struct.Struct("<4s4H")
+_CREATED_AT = 16
+_NUMBER = struct.Struct("<I")
 _TEXTS_AT = 24
 # A number, a kind and rules.
 _CONFERENCE_LENGTH = 4
 # Flags, last packet and members, and four offers, each a number and a number for each conference.
 _USER_LENGTH = 13
+_LAST_PACKET_AT = 1
 _OFFERS = 4
 
 
 @dataclass(frozen=True)
 class People:
-    """The sysop's name, and those of the users in the order of their ids."""
+    """When the board was made, the sysop's name, and the users in the order of their ids, with their last packets."""
 
+    created: int
     sysop: bytes
     users: "list[bytes]"
+    packets: "list[int]"
 
     def is_sysop(self, user: int) -> bool:
         """Tells whether the user of an id is the sysop, who sees private messages too."""
         return self.users[user - 1].lower() == self.sysop.lower()
+
+    def last_packet(self, user: bytes) -> Optional[int]:
+        """Gives the number of the last packet that a user was offered, 0 where he was offered none."""
+        found = (packet for name, packet in zip(self.users, self.packets) if name.lower() == user.lower())
+        return next(found, None)
 
 
 def read(path: str) -> People:
@@ -37,19 +48,30 @@ def read(path: str) -> People:
     try:
         return _people(data)
     except (struct.error, ValueError):
-        raise Failure(f"{path} isn't as check found it") from None
+        raise Failure(f"{path} doesn't read, though check found it whole") from None
 
 
 def _people(data: bytes) -> People:
     magic, version, conferences, users, zones = _COUNTS.unpack_from(data)
     if (magic, version) != (_MAGIC, _VERSION):
         raise ValueError("another version")
+    (created,) = _NUMBER.unpack_from(data, _CREATED_AT)
     cursor = _Cursor(data, _TEXTS_AT)
-    sysop = cursor.texts(5)[3]
+    sysop = [cursor.text(0, 0) for _ in range(5)][3]
     cursor.at += 2 * zones
-    cursor.texts(conferences, before=_CONFERENCE_LENGTH)
-    offers = _OFFERS * 4 * (1 + conferences)
-    return People(sysop, cursor.texts(users, behind=_USER_LENGTH + offers))
+    for _ in range(conferences):
+        cursor.text(_CONFERENCE_LENGTH, 0)
+    return People(created, sysop, *_users(cursor, users, _USER_LENGTH + _OFFERS * 4 * (1 + conferences)))
+
+
+def _users(cursor: _Cursor, count: int, length: int) -> "tuple[list[bytes], list[int]]":
+    """Gives the names of so many users, and their last packets. Behind each name stand so many bytes."""
+    names, packets = [], []
+    for _ in range(count):
+        names.append(cursor.text(0, length))
+        (packet,) = _NUMBER.unpack_from(cursor.data, cursor.at - length + _LAST_PACKET_AT)
+        packets.append(packet)
+    return names, packets
 
 
 class _Cursor:
@@ -59,11 +81,8 @@ class _Cursor:
         self.data = data
         self.at = at
 
-    def texts(self, count: int, before: int = 0, behind: int = 0) -> "list[bytes]":
-        """Gives so many texts, each with bytes before it and behind it that aren't looked at."""
-        return [self._text(before, behind) for _ in range(count)]
-
-    def _text(self, before: int, behind: int) -> bytes:
+    def text(self, before: int, behind: int) -> bytes:
+        """Gives a text, with so many bytes before it and behind it that aren't looked at."""
         start = self.at + before
         (length,) = struct.unpack_from("<H", self.data, start)
         end = start + 2 + length

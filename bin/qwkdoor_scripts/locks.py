@@ -25,7 +25,7 @@ class Lock:
         while not self._taken():
             if time.monotonic() >= limit:
                 os.close(self.handle)
-                raise Failure(f"another run was at work for {self.seconds:g} seconds", BUSY)
+                raise Failure(self._said(), BUSY)
             time.sleep(0.05)
         return self
 
@@ -35,6 +35,10 @@ class Lock:
         except BlockingIOError:
             return False
         return True
+
+    def _said(self) -> str:
+        waited = f" for {self.seconds:g} seconds" if self.seconds else ""
+        return f"another run was at work in {os.path.dirname(self.path)}{waited}"
 
     def __exit__(
         self,

@@ -31,6 +31,11 @@ class Reply:
         """The last line, which says how it ended, each byte as the character with its number."""
         return self.lines[-1].decode("latin-1") if self.lines else ""
 
+    @property
+    def fault(self) -> str:
+        """What was said of a fault, in one line."""
+        return " ".join((self.error.strip() or self.last).split("\n"))
+
 
 class Program:
     """qwkdoor over a board's folder and a shelf."""
@@ -69,8 +74,15 @@ class Program:
         except OSError as error:
             raise Failure(f"{self.path} didn't run: {error.strerror}") from error
         if not DONE <= ran.returncode <= LAST_FAULT:
-            raise Failure(f"{self.path} didn't run: it ended with status {ran.returncode}", FAILED)
+            raise Failure(f"{self.path} {_ended(ran)}", FAILED)
         return ran
+
+
+def _ended(ran: "subprocess.CompletedProcess[bytes]") -> str:
+    """Says how a run ended that the program itself didn't end, with the last line that it said."""
+    said = ran.stderr.decode("utf-8", "replace").strip().rpartition("\n")[2]
+    end = f"was killed by signal {-ran.returncode}" if ran.returncode < 0 else f"ended with status {ran.returncode}"
+    return f"{end}: {said}" if said else end
 
 
 def _reply(ran: "subprocess.CompletedProcess[bytes]", output: bytes) -> Reply:
@@ -83,5 +95,5 @@ def find(beside: str) -> str:
     path = os.environ.get("QWKDOOR") or os.path.join(os.path.dirname(os.path.realpath(beside)), "qwkdoor")
     found = shutil.which(path)
     if found is None:
-        raise Failure(f"{path} is missing")
+        raise Failure(f"the program {path} isn't there, or can't be run")
     return found

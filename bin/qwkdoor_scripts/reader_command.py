@@ -5,25 +5,23 @@ from __future__ import annotations
 import contextlib
 import os
 import signal
-import sys
 from dataclasses import dataclass, field
-from typing import Callable, Optional
+from typing import Any
 
-from . import durable, program
+from . import call, durable, program
 from .characters import CHARACTERS
-from .failure import BUSY, DONE, FAILED, WRONG_WORDS, Failure
-from .locks import Lock
-from .reader_control import read_control
-from .reader_editor import Ended, end_on_signals
+from .failure import DONE, REFUSED, WRONG_WORDS, Failure
 from .reader_face import Face
-from .reader_opening import finish, send_all, take_up
+from .reader_lines import PlainVoice
+from .reader_opening import finish, go_on, send_all, take_up
 from .reader_outbox import Outbox
 from .reader_packet import Refused, open_packet
-from .reader_plain import Plain, PlainVoice
+from .reader_plain import Plain
 from .reader_screens import Screens
 from .reader_session import Session
 from .reader_settings import check_characters, config_path, data_path, read_settings
-from .reader_state import Box
+from .reader_shell import Ended, end_on_signals, without_ctrl_c
+from .reader_state import Box, board_id_of
 from .reader_terminal import Hangup, Terminal, encoding_of
 from .reader_writing import Writing
 
@@ -70,14 +68,16 @@ files of a board's folder:
   packets         the packet that was read last, and those that texts and answers need
   news            what the board wrote, by packet
   read, net       the messages that were read, and the areas of net mail
-  form, lock      the form of the folder, and a file that a run holds
+  form, last      the form of the folder, and the number of the last text
+  lock            a file that a run holds
 
 status:
   0  done
   1  the packet was refused: the line 'refused ..' says why
   2  not the words of a call, or of the settings
   3 to 7  the status with which a command of qwkdoor ended
- 70  the packet has not both files, or is damaged; a file couldn't be read, written or sent, or the program didn't run
+ 70  the packet has not both files, or is damaged; a file couldn't be read, written or sent, memory ran out, or the
+     program didn't run or was killed
  75  another run is at work in the folder
 """
 
@@ -89,7 +89,7 @@ class Words:
     packet: str = ""
     board: str = ""
     plain: bool = False
-    chosen: "dict[str, object]" = field(default_factory=dict)
+    chosen: "dict[str, Any]" = field(default_factory=dict)
 
 
 _WITH_VALUE = {"--send": "send_folder", "--characters": "characters", "--terminal": "terminal"}
@@ -101,10 +101,10 @@ def parse(words: "list[str]") -> Words:
     found = Words()
     left = list(words)
     while left and left[0].startswith("-") and left[0] != "--":
-        word, _, value = left.pop(0).partition("=")
-        if word in _SWITCHES:
+        word, equals, value = left.pop(0).partition("=")
+        if word in _SWITCHES and not equals:
             found.chosen[_SWITCHES[word]] = True
-        elif word == "--plain":
+        elif word == "--plain" and not equals:
             found.plain = True
         elif word in _WITH_VALUE or word == "--board":
             _take_value(found, word, value or (left.pop(0) if left else ""))
@@ -131,49 +131,38 @@ def _take_value(found: Words, word: str, value: str) -> None:
 
 def main(words: "list[str]", script: str) -> int:
     """Carries out a call, and gives its status."""
+    return call.carried_out("qwkdoor-read", PAGE, lambda: _to_its_end(words, script))
+
+
+def _to_its_end(words: "list[str]", script: str) -> int:
     try:
         return _run(words, script)
     except Refused as error:
+        voice = PlainVoice(encoding_of(os.environ, ""))
         for line in error.reply.lines:
-            sys.stdout.buffer.write(line + b"\n")
+            voice.say(line.decode("ascii", "replace"))
+        if error.reply.status != REFUSED:
+            raise Failure(error.reply.fault, error.reply.status) from error
         return error.reply.status
-    except Failure as error:
-        line = str(error)
-        print(line if line == _USAGE else f"qwkdoor-read: {line}", file=sys.stderr)
-        return error.status
-    except OSError as error:
-        name = f"{os.fspath(error.filename)}: " if error.filename else ""
-        print(f"qwkdoor-read: {name}{error.strerror or error}", file=sys.stderr)
-        return FAILED
-    except MemoryError:
-        print("qwkdoor-read: there is too little memory", file=sys.stderr)
-        return FAILED
     except Hangup:
         return 128 + signal.SIGHUP
     except Ended as error:
         return error.status
-    except KeyboardInterrupt:
-        return 128 + signal.SIGINT
 
 
 def _run(words: "list[str]", script: str) -> int:
     if words in (["-h"], ["--help"]):
-        print(PAGE, end="")
-        return DONE
+        raise call.HelpAsked()
     if words == ["--version"]:
         print(f"qwkdoor-read {VERSION}")
         return DONE
-    call = parse(words)
+    wanted = parse(words)
     os.umask(0o077)
-    base = data_path(os.environ)
-    base = os.path.realpath(base)
+    base = os.path.realpath(data_path(os.environ))
     _make_folders(base)
     end_on_signals()
     path = program.find(script)
-    if call.packet:
-        with contextlib.ExitStack() as stack:
-            return _read(call, base, path, stack)
-    return _send(call, base, path)
+    return _read(wanted, base, path) if wanted.packet else _send(wanted, base, path)
 
 
 def _make_folders(path: str) -> None:
@@ -186,78 +175,78 @@ def _make_folders(path: str) -> None:
         durable.make_folder(folder)
 
 
-def _hold(stack: contextlib.ExitStack) -> Callable[[Box], None]:
-    def hold(box: Box) -> None:
-        try:
-            stack.enter_context(Lock(box.at("lock")))
-        except Failure as error:
-            raise Failure(f"another run is at work in {box.path}", BUSY) from error
-
-    return hold
-
-
 def _outbox(box: Box, path: str, one_name: bool) -> Outbox:
-    return Outbox(box, program.Program(path, os.path.join(box.base, "none"), box.path), one_name)
+    door = program.Program(path, os.path.join(box.base, "none"), box.path)
+    # A program whose reader was killed may write a reply packet still: the next run waits until it doesn't.
+    door.held = box.held
+    return Outbox(box, door, one_name)
 
 
-def _read(call: Words, base: str, path: str, stack: contextlib.ExitStack) -> int:
+def _read(wanted: Words, base: str, path: str) -> int:
     """Reads a packet, on a terminal or by lines."""
-    packet = open_packet(call.packet, base, path, _hold(stack))
-    settings = read_settings(config_path(os.environ), packet.box.board_id, call.chosen)
-    encoding = encoding_of(os.environ, settings.terminal)
-    outbox = _outbox(packet.box, path, settings.one_name)
-    session = Session(packet, outbox, settings, "utf-8" if encoding == "ascii" else encoding)
-    plain = PlainVoice(encoding)
-    if call.plain or not (os.isatty(0) and os.isatty(1)):
-        writing = Writing(session, plain)
-        take_up(outbox, packet.packet_id, plain.say)
-        Plain(session, writing, plain).run()
-        return finish(session, writing, plain.say)
-    terminal = Terminal(encoding)
+    with contextlib.ExitStack() as stack:
+        packet = open_packet(wanted.packet, base, path, stack)
+        settings = read_settings(config_path(os.environ), packet.box.board_id, wanted.chosen)
+        encoding = encoding_of(os.environ, settings.terminal)
+        outbox = _outbox(packet.box, path, settings.one_name)
+        session = Session(packet, outbox, settings, "utf-8" if encoding == "ascii" else encoding)
+        if wanted.plain or not _has_screens():
+            return _by_lines(session, PlainVoice(encoding))
+        return _on_screens(session, Terminal(encoding))
+
+
+def _has_screens() -> bool:
+    return os.isatty(0) and os.isatty(1) and os.environ.get("TERM") != "dumb"
+
+
+def _by_lines(session: Session, voice: PlainVoice) -> int:
+    writing = Writing(session, voice)
+    take_up(session.outbox, session.packet.packet_id, voice.say)
+    Plain(session, writing, voice).run()
+    return finish(session, writing, voice.say)
+
+
+def _on_screens(session: Session, terminal: Terminal) -> int:
     face = Face(terminal)
-    writing = Writing(session, face)
     terminal.by_key()
     try:
-        take_up(outbox, packet.packet_id, face.say)
-        Screens(session, writing, face).run()
+        take_up(session.outbox, session.packet.packet_id, face.say)
+        Screens(session, Writing(session, face), face).run()
         terminal.clear()
     finally:
         terminal.by_line()
-    return finish(session, Writing(session, plain), plain.say)
+    voice = PlainVoice(terminal.encoding)
+    return finish(session, Writing(session, voice), voice.say)
 
 
-def _send(call: Words, base: str, path: str) -> int:
-    """Packs and sends what was answered, without a packet."""
-    boxes = [it for it in _boxes(base) if not call.board or it.board_id.upper() == call.board.upper()]
+def _send(wanted: Words, base: str, path: str) -> int:
+    """Packs and sends what was answered, without a packet. A board that can't doesn't keep the others."""
+    boxes = [it for it in _boxes(base) if wanted.board.upper() in ("", it.board_id.upper())]
+    if not boxes:
+        raise Failure(f"there is no board {wanted.board}".rstrip() + f" in {base}")
+    voice = PlainVoice(encoding_of(os.environ, ""))
     status = DONE
     for box in boxes:
-        with contextlib.ExitStack() as stack:
-            _hold(stack)(box)
-            settings = read_settings(config_path(os.environ), box.board_id, call.chosen)
-            outbox = _outbox(box, path, settings.one_name)
-            voice = PlainVoice(encoding_of(os.environ, settings.terminal))
-            box.clean()
-            outbox.go_on()
-            outbox.pack(voice.say)
-            status = send_all(outbox, settings, voice.say) or status
-    if not boxes:
-        raise Failure(f"there is no board {call.board}".rstrip() + f" in {base}")
+        try:
+            status = _send_of(box, wanted, path, voice) or status
+        except Failure as error:
+            voice.say(str(error))
+            status = error.status
     return status
 
 
+def _send_of(box: Box, wanted: Words, path: str, voice: PlainVoice) -> int:
+    with contextlib.ExitStack() as stack, without_ctrl_c():
+        box.hold(stack)
+        box.make()
+        settings = read_settings(config_path(os.environ), box.board_id, wanted.chosen)
+        outbox = _outbox(box, path, settings.one_name)
+        go_on(outbox, voice.say)
+        outbox.pack(voice.say)
+        return send_all(outbox, settings, voice.say)
+
+
 def _boxes(base: str) -> "list[Box]":
-    """Gives the boards' folders. A packet that is kept in each of them says the board's id."""
-    found = [_box(base, name) for name in sorted(os.listdir(base)) if not name.startswith(".")]
-    return [it for it in found if it is not None]
-
-
-def _box(base: str, name: str) -> Optional[Box]:
-    folder = os.path.join(base, name, "packets")
-    if not os.path.exists(os.path.join(base, name, "form")):
-        return None
-    for packet in sorted(os.listdir(folder)):
-        path = os.path.join(folder, packet, "CONTROL.DAT")
-        if os.path.exists(path):
-            with open(path, "rb") as file:
-                return Box(base, read_control(file.read()).board_id)
-    return None
+    """Gives the boards' folders: those that have a form."""
+    names = [it for it in sorted(os.listdir(base)) if os.path.exists(os.path.join(base, it, "form"))]
+    return [Box(base, board_id_of(it)) for it in names]

@@ -1,6 +1,6 @@
 """The lines of a packet's CONTROL.DAT that no command of qwkdoor shows: the board id, and the areas' names.
 
-`read` has judged the file before. So nothing is refused here: a line that isn't there is empty.
+`read` judges the file. So nothing is refused here: a line that isn't there is empty.
 """
 
 from __future__ import annotations
@@ -8,6 +8,8 @@ from __future__ import annotations
 from dataclasses import dataclass
 
 _LINES_BEFORE_AREAS = 11
+# A number line has no more: the news are looked for before the program has judged the file.
+_MOST_DIGITS = 9
 
 
 @dataclass(frozen=True)
@@ -37,4 +39,4 @@ def _line(lines: "list[bytes]", at: int) -> bytes:
 
 def _number(line: bytes) -> int:
     digits = line.strip(b" ")
-    return int(digits) if digits.isdigit() else 0
+    return int(digits) if digits.isdigit() and len(digits) <= _MOST_DIGITS else 0

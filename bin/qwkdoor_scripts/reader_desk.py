@@ -62,7 +62,7 @@ class Desk:
         if key == "y":
             self.outbox.mark_sent(archive)
         elif key == "b":
-            self.outbox.take_back(archive)
+            self.writing.take_back(archive)
 
     def ask_for_drafts(self) -> None:
         """Asks of each text that isn't an answer yet what is to be done with it."""
@@ -77,7 +77,7 @@ class Desk:
         kept = self.outbox.kept()
         numbers = {it.number for it in kept}
         others = [it for it in self.outbox.all_answers() if it.number not in numbers]
-        unsent = {it for archive in self.outbox.archives() if archive.state == "ready" for it in archive.answers}
+        unsent = {it for archive in self.outbox.archives() if archive.is_put_out for it in archive.answers}
         return [
             *((f"text      {self.writing.describe(it)}", it) for it in self.writing.drafts()),
             *((f"answer    {self.writing.describe(it)}", it) for it in kept),
@@ -110,7 +110,7 @@ class Desk:
         elif item.number in {it.number for it in self.outbox.kept()}:
             self._on_answer(key, item)
         else:
-            self.face.say("it is in an archive: b on that takes it back, where it isn't sent")
+            self.face.say("it is in an archive: press b on that to take it back, unless it was sent")
 
     def _on_archive(self, key: str, archive: Archive) -> None:
         if key == "enter":

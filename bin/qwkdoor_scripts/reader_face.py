@@ -4,7 +4,7 @@ from __future__ import annotations
 
 from typing import Optional
 
-from . import reader_editor
+from . import reader_shell
 from .reader_columns import wrapped
 from .reader_terminal import Terminal
 
@@ -83,7 +83,7 @@ class Face:
         self.terminal.clear()
         self.terminal.by_line()
         try:
-            return reader_editor.edit(path)
+            return reader_shell.edit(path)
         finally:
             self.terminal.by_key()
 

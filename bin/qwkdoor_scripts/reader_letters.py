@@ -74,11 +74,9 @@ def letter_of(text: Text, lines: "list[str]", characters: str) -> bytes:
     return b"".join(_written(line, characters) + b"\n" for line in sheet)
 
 
-def keep(text: Text, letter: bytes, door: program.Program) -> "tuple[Text, program.Reply]":
-    """Has the program try a letter, and makes the draft an answer where it takes it."""
+def keep(text: Text, data: bytes, letter: bytes, door: program.Program) -> "tuple[Text, program.Reply]":
+    """Has the program try the letter of what was typed, and makes the draft an answer where it takes it."""
     durable.write_whole(text.at("letter"), letter)
     durable.remove(text.box.at("work", "trial.msg"))
     reply = write_answer(door, text, "work/trial.msg")
-    if reply.status != program.DONE:
-        return text, reply
-    return reader_texts.keep(text, letter), reply
+    return (reader_texts.keep(text, data) if reply.status == program.DONE else text), reply

@@ -70,11 +70,15 @@ def _is_for_programs(line: str) -> bool:
     return bool(_CONTROL.fullmatch(line) or _NETWORK.fullmatch(line))
 
 
+def uncoloured(line: str) -> str:
+    """Gives a line without the sequences that colour it or move in it."""
+    return _SEQUENCE.sub("", line)
+
+
 def view(lines: "list[str]", columns: int, wrap_pictures: bool) -> "list[str]":
     """Gives the lines of a text so that they fit the columns."""
     fitting: "list[str]" = []
-    for line in lines:
-        plain = _SEQUENCE.sub("", line)
+    for plain in map(uncoloured, lines):
         if is_picture(plain) and not wrap_pictures:
             fitting.extend(broken(plain, columns))
         else:

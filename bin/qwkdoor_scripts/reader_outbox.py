@@ -17,7 +17,8 @@ from .failure import FAILED, Failure
 from .reader_state import Box
 from .reader_texts import Text
 
-_STATES = ("list", "ready", "sent", "back")
+_STATES = ("list", "ready", "going", "sent", "back")
+_PUT_OUT = ("ready", "going")
 _UNSAFE = re.compile(r'[/\\:*?"<>|]')
 
 
@@ -30,6 +31,16 @@ class Archive:
     name: str
     answers: "tuple[int, ...]"
     digest: str
+
+    @property
+    def is_put_out(self) -> bool:
+        """Whether it is one that is to be sent, or was taken away."""
+        return self.state in _PUT_OUT
+
+    @property
+    def may_be_sent(self) -> bool:
+        """Whether the reader began to send it, and doesn't know what came of it."""
+        return self.state == "going"
 
 
 class Outbox:
@@ -56,7 +67,7 @@ class Outbox:
                 values = json.load(file)
             return Archive(number, state, values["name"], tuple(values["answers"]), values["digest"])
         except (ValueError, KeyError, TypeError) as error:
-            raise Failure(f"{path} isn't as it was written: {error}", FAILED) from error
+            raise Failure(f"{path} is damaged: {error}", FAILED) from error
 
     def _at(self, number: int, ending: str) -> str:
         return self.box.at("archives", f"{number:04}.{ending}")
@@ -88,7 +99,7 @@ class Outbox:
 
     def lying(self) -> "list[Archive]":
         """Gives the archives that are put out and weren't taken away."""
-        return [it for it in self.archives() if it.state == "ready" and self._lies(it)]
+        return [it for it in self.archives() if it.is_put_out and self._lies(it)]
 
     def _lies(self, archive: Archive) -> bool:
         return os.path.lexists(self.path_of(archive)) and not self._is_held(archive)
@@ -103,9 +114,9 @@ class Outbox:
             held = self._is_held(archive)
             if archive.state == "list":
                 self._put_out(self._make(archive, self._write_again(archive)))
-            elif archive.state == "ready" and held:
+            elif archive.is_put_out and held:
                 self._put_out(archive)
-            elif archive.state == "ready" and not self._lies(archive):
+            elif archive.is_put_out and not self._lies(archive):
                 gone.append(self._change(archive, "sent"))
             elif held:
                 self._lay_aside(archive)
@@ -121,7 +132,8 @@ class Outbox:
         faults: "list[str]" = []
         answers = self._write(self.kept(), faults.append)
         while answers:
-            self._put_out(self._make(*self._choose([it.number for it in answers])))
+            data = self._msg()
+            self._put_out(self._make(self._choose([it.number for it in answers], data), data))
             faults.clear()
             answers = self._write(self.kept(), faults.append)
         for fault in faults:
@@ -141,30 +153,30 @@ class Outbox:
                 say(f"answer {answer.number} isn't packed: {reply.last}")
         return written
 
-    def _choose(self, answers: "list[int]") -> "tuple[Archive, bytes]":
+    def _next(self) -> int:
+        return max((it.number for it in self.archives()), default=0) + 1
+
+    def _choose(self, answers: "list[int]", data: bytes) -> Archive:
         """Says on the disk which answers are in the next archive. From here on they are in no other."""
-        number = max((it.number for it in self.archives()), default=0) + 1
-        data = self._msg()
+        number = self._next()
         values = {
             "name": self._name(number),
             "answers": answers,
             "digest": hashlib.sha256(data).hexdigest(),
         }
         durable.write_whole(self._at(number, "list"), json.dumps(values).encode())
-        return self._load(number, "list"), data
+        return self._load(number, "list")
 
     def _name(self, number: int) -> str:
         return f"{self.box.name}.REP" if self.one_name else f"{self.box.name}-{number:04}.REP"
 
     def _msg(self) -> bytes:
-        with open(self.box.at("work", "answers.msg"), "rb") as file:
-            return file.read()
+        return self.box.read("work", "answers.msg")
 
     def _write_again(self, archive: Archive) -> bytes:
         """Writes the packet of an archive that a killed run was making. Nobody has seen the one before."""
         if not archive.answers:
-            with open(self._at(archive.number, "msg"), "rb") as file:
-                return file.read()
+            return self.box.read("archives", f"{archive.number:04}.msg")
         faults: "list[str]" = []
         answers = self.answers_of(archive)
         if self._write(answers, faults.append) != answers:
@@ -185,6 +197,14 @@ class Outbox:
         if not os.path.lexists(self.path_of(archive)):
             durable.replace(self._at(archive.number, "zip"), self.path_of(archive))
 
+    def begin_to_send(self, archive: Archive) -> Archive:
+        """Says on the disk that an archive may be sent from here on, whatever becomes of the run."""
+        return archive if archive.may_be_sent else self._change(archive, "going")
+
+    def stay(self, archive: Archive) -> None:
+        """Says that an archive, which was to be sent, wasn't."""
+        self._change(archive, "ready")
+
     def mark_sent(self, archive: Archive) -> None:
         """Takes an archive as sent. One that still lies there is laid aside."""
         self._hold(archive)
@@ -194,7 +214,7 @@ class Outbox:
     def take_back(self, archive: Archive) -> None:
         """Takes an archive back, so that its answers can be changed. Its number is used all the same."""
         if not archive.answers:
-            raise Failure(f"{archive.name} is of an older reader, and can't be taken apart", FAILED)
+            raise Failure(f"{archive.name} is from an earlier reader, and can't be taken apart", FAILED)
         if not self._hold(archive):
             raise Failure(f"{archive.name} was taken away meanwhile, so it counts as sent", FAILED)
         self._change(archive, "back")
@@ -220,10 +240,8 @@ class Outbox:
         digest = hashlib.sha256(data).hexdigest()
         if any(it.digest == digest for it in self.archives()):
             return None
-        durable.write_whole(self.box.at("work", "answers.msg"), data)
-        number = max((it.number for it in self.archives()), default=0) + 1
-        durable.write_whole(self._at(number, "msg"), data)
-        archive, _ = self._choose([])
+        durable.write_whole(self._at(self._next(), "msg"), data)
+        archive = self._choose([], data)
         self._put_out(self._make(archive, data))
         return archive.name
 
@@ -237,6 +255,5 @@ def write_answer(door: program.Program, answer: Text, rep: str) -> program.Reply
     else:
         reply = door.run("compose", packet, str(about.area), answer.shelf_name("letter"), rep)
     if reply.status > program.REFUSED:
-        said = reply.error.strip() or reply.last
-        raise Failure(f"the program ended with status {reply.status}: {said}", reply.status)
+        raise Failure(f"the program ended with status {reply.status}: {reply.fault}", reply.status)
     return reply

@@ -2,6 +2,7 @@
 
 from __future__ import annotations
 
+import contextlib
 import hashlib
 import os
 import shutil
@@ -12,7 +13,7 @@ from . import archives, durable, program
 from .failure import Failure
 from .locks import Lock
 from .reader_control import Control, read_control
-from .reader_state import Box, is_old
+from .reader_state import Box, free_name, is_old
 
 _CONTROL_LIMIT = 4194304
 _MESSAGES_LIMIT = 41943040
@@ -47,8 +48,8 @@ class Packet:
         return f"packets/{self.packet_id}"
 
 
-def open_packet(path: str, base: str, program_path: str, hold: Callable[[Box], None]) -> Packet:
-    """Reads a packet, has the program list it, and puts it into its board's folder, which `hold` locks for the run."""
+def open_packet(path: str, base: str, program_path: str, stack: contextlib.ExitStack) -> Packet:
+    """Reads a packet, has the program list it, and puts it into its board's folder, locked until the stack ends."""
     files, news = _take(path)
     scratch = os.path.join(base, ".opening")
     with Lock(os.path.join(base, ".lock"), 30):
@@ -62,9 +63,9 @@ def open_packet(path: str, base: str, program_path: str, hold: Callable[[Box], N
         if is_old(box.path):
             _put_away(box.path)
         durable.make_folder(box.path)
-        hold(box)
+        box.hold(stack)
         box.make()
-        packet_id = f"P{hashlib.sha256(files['CONTROL.DAT'] + files['MESSAGES.DAT']).hexdigest()[:16]}"
+        packet_id = f"P{hashlib.sha256(files['CONTROL.DAT'] + files['MESSAGES.DAT']).hexdigest()[:31]}"
         if not os.path.isdir(box.at("packets", packet_id)):
             durable.replace(os.path.join(scratch, "packet"), box.at("packets", packet_id))
         shutil.rmtree(scratch)
@@ -73,7 +74,7 @@ def open_packet(path: str, base: str, program_path: str, hold: Callable[[Box], N
 
 def _put_away(path: str) -> None:
     """Renames the folder of an older reader that has this one's name. What is in it is taken over later."""
-    durable.replace(path, path + ".old")
+    durable.replace(path, free_name(path + ".old"))
 
 
 def _put(folder: str, files: "dict[str, bytes]") -> None:
@@ -115,7 +116,7 @@ def _take_from_archive(path: str, name: str, limit: int) -> bytes:
 def _take_from_folder(path: str, name: str, limit: int) -> bytes:
     found = [it for it in (name, name.lower()) if os.path.isfile(os.path.join(path, it))]
     if not found:
-        raise archives.Unreadable(f"no {name} in it")
+        raise archives.Unreadable(f"it has no {name}")
     with open(os.path.join(path, found[0]), "rb") as file:
         data = file.read(limit + 1)
     if len(data) > limit:

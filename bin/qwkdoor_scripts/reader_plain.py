@@ -2,16 +2,15 @@
 
 from __future__ import annotations
 
-import sys
 from typing import Callable, Optional
 
-from . import reader_editor, reader_texts
-from .failure import Failure
+from . import reader_texts
+from .failure import Failure, reason
+from .reader_lines import PlainVoice
 from .reader_listing import Entry
 from .reader_opening import state_lines
 from .reader_outbox import Archive
 from .reader_session import Session
-from .reader_terminal import obeyed_by_none
 from .reader_texts import Text
 from .reader_writing import Writing
 
@@ -29,48 +28,6 @@ back N     takes archive N back       net AREA   says that an area is of net mai
 h          says this                  q          ends"""
 
 
-class PlainVoice:
-    """Says lines on standard output, and takes the lines of standard input."""
-
-    def __init__(self, encoding: str) -> None:
-        self.encoding = encoding
-
-    def say(self, line: str) -> None:
-        """Says a line."""
-        sys.stdout.buffer.write(obeyed_by_none(line, self.encoding) + b"\n")
-        sys.stdout.buffer.flush()
-
-    def prompt(self, text: str) -> Optional[str]:
-        """Gives the next line. None at the end of the input."""
-        sys.stdout.buffer.write(obeyed_by_none(text, self.encoding))
-        sys.stdout.buffer.flush()
-        line = sys.stdin.buffer.readline()
-        return line.decode(self.encoding, "replace").rstrip("\r\n") if line else None
-
-    def choose(self, question: str, choices: "dict[str, str]", default: str) -> str:
-        """Says why there would be a question, and takes the default."""
-        self.say(question)
-        return default
-
-    def confirm(self, warning: str) -> bool:
-        """Says what follows, and goes on."""
-        self.say(warning)
-        return True
-
-    def ask(self, question: str, default: str = "") -> Optional[str]:
-        """Takes the next line as the answer to a question."""
-        line = self.prompt(f"{question} [{default}]: " if default else f"{question}: ")
-        return None if line is None else line.strip() or default
-
-    def suggest(self, question: str, default: str) -> Optional[str]:
-        """Takes what is known."""
-        return default
-
-    def edit(self, path: str) -> int:
-        """Lets the editor change a file."""
-        return reader_editor.edit(path)
-
-
 class Plain:
     """The commands by lines."""
 
@@ -80,7 +37,7 @@ class Plain:
         self.voice = voice
         self.at = 0
         self.words: "dict[str, Callable[[str], None]]" = {
-            "l": self.list, "a": self.areas, "u": self.first_unread, "news": self.news, "t": self.texts,
+            "l": self.say_messages, "a": self.areas, "u": self.first_unread, "news": self.news, "t": self.texts,
             "h": self.help, "r": self.answer, "R": self.answer_apart, "w": self.write, "s": self.show_text,
             "g": self.go_on, "k": self.keep, "e": self.change, "x": self.drop, "for": self.assign,
             "sent": self.sent, "back": self.back, "net": self.net,
@@ -124,6 +81,8 @@ class Plain:
             self.voice.say("")
         except Failure as error:
             self.voice.say(str(error))
+        except OSError as error:
+            self.voice.say(reason(error))
 
     def say_lines(self, lines: "list[bytes]") -> None:
         """Says lines of the program in the terminal's characters."""
@@ -146,13 +105,13 @@ class Plain:
         else:
             self.voice.say("all messages are read")
 
-    def list(self, rest: str) -> None:
+    def say_messages(self, rest: str) -> None:
         """Lists the packet, or an area of it."""
         area = self.session.area_of(rest) if rest else None
         if not rest:
             self.say_lines(self.session.packet.listing)
         elif area is None:
-            self.voice.say(f"the packet has no area {rest}")
+            self._say_missing("area", rest, f"the packet has no area {rest}", "a")
         else:
             self.say_entries([it for it in self.session.listing.entries if it.area == area])
 
@@ -171,7 +130,7 @@ class Plain:
 
     def search(self, words: str) -> None:
         """Lists what has some words."""
-        self.say_entries(self.session.having(words))
+        self.say_entries(self.session.having(words, lambda place: None))
 
     def news(self, rest: str) -> None:
         """Says what the board wrote."""
@@ -192,8 +151,12 @@ class Plain:
         place = int(rest) if rest.isdigit() and len(rest) < 9 else self.at
         entry = self.session.listing.entry(place) if rest.isdigit() or not rest else None
         if entry is None:
-            self.voice.say("refused nomessage")
+            self._say_missing("message", rest, f"the packet has no message {rest}", "l")
         return entry
+
+    def _say_missing(self, what: str, rest: str, missing: str, lister: str) -> None:
+        """Says that nothing has that number or name, or that one is wanted, and which command lists them."""
+        self.voice.say(f"{missing if rest else f'say which {what}'}: {lister} lists them")
 
     def answer(self, rest: str) -> None:
         """Answers a message."""
@@ -211,7 +174,7 @@ class Plain:
         """Writes a new letter."""
         area = self.session.area_of(rest)
         if area is None:
-            self.voice.say(f"the packet has no area {rest}" if rest else "w AREA: which area?")
+            self._say_missing("area", rest, f"the packet has no area {rest}", "a")
         else:
             self.writing.letter(area)
 
@@ -219,7 +182,7 @@ class Plain:
         for text in (it for group in groups for it in group):
             if str(text.number) == rest:
                 return text
-        self.voice.say(f"there is no text {rest} for that")
+        self._say_missing("text", rest, f"there is no text {rest} for that", "t")
         return None
 
     def show_text(self, rest: str) -> None:
@@ -266,7 +229,7 @@ class Plain:
         for archive in self.session.outbox.lying():
             if rest.lstrip("0") == str(archive.number):
                 return archive
-        self.voice.say(f"there is no archive {rest} to be sent")
+        self._say_missing("archive", rest, f"no archive {rest} waits to be sent", "t")
         return None
 
     def sent(self, rest: str) -> None:
@@ -280,14 +243,14 @@ class Plain:
         """Takes an archive back."""
         archive = self._archive(rest)
         if archive:
-            self.session.outbox.take_back(archive)
-            self.voice.say(f"{archive.name} was taken back, and its answers may be changed")
+            self.writing.take_back(archive)
 
     def net(self, rest: str) -> None:
         """Turns round whether an area is one of net mail."""
         area = self.session.area_of(rest)
         if area is None:
-            self.voice.say(f"the packet has no area {rest}")
+            self._say_missing("area", rest, f"the packet has no area {rest}", "a")
             return
         self.session.say_net(area, not self.session.is_net(area))
-        self.voice.say(f"{self.session.area_name(area)} is {'' if self.session.is_net(area) else 'not '}of net mail")
+        kind = "an" if self.session.is_net(area) else "no"
+        self.voice.say(f"{self.session.area_name(area)} is {kind} area of net mail")

@@ -5,7 +5,7 @@ from __future__ import annotations
 import re
 
 from .reader_columns import QUOTED, is_picture, wrapped
-from .reader_message import Message, text_lines
+from .reader_message import Message, text_lines, uncoloured
 
 _COLUMNS = 76
 _ADDRESS = r"(\d{1,5}:\d{1,5}/\d{1,5}(?:\.\d{1,5})?)"
@@ -25,7 +25,7 @@ def quoted(message: Message) -> str:
     """Gives the text with which an answer begins."""
     mark = f" {initials(message.sender)}> "
     lines = []
-    for line in text_lines(message.lines, with_origin=False):
+    for line in map(uncoloured, text_lines(message.lines, with_origin=False)):
         lines.extend(_quoted_line(line, mark))
     return "".join(f"{line}\n" for line in lines)
 

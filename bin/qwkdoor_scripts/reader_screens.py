@@ -2,7 +2,7 @@
 
 from __future__ import annotations
 
-from .failure import Failure
+from .failure import Failure, reason
 from .reader_columns import padded
 from .reader_desk import Desk
 from .reader_face import BACK, Face
@@ -66,6 +66,8 @@ class Screens:
                 continue
             except Failure as error:
                 self.face.say(str(error))
+            except OSError as error:
+                self.face.say(reason(error))
 
     def _open(self) -> None:
         """Shows what the board wrote, and asks what is to be done with what an earlier run left."""
@@ -114,7 +116,7 @@ class Screens:
 
     def _on_areas(self, key: str, name: str, area: int, entries: "list[Entry]") -> None:
         if key in ("enter", "right"):
-            self.list(name, entries, area)
+            self.messages(name, entries, area)
         elif key == "u":
             self._first_unread()
         elif key == "m":
@@ -152,15 +154,15 @@ class Screens:
             return
         found = self.session.having(words, self._say_progress)
         if found:
-            self.list(f"'{words}'", found, area)
+            self.messages(f"'{words}'", found, area)
         else:
             self.face.say(f"nothing has '{words}'")
 
-    def _say_progress(self, done: int) -> None:
+    def _say_progress(self, place: int) -> None:
         total = len(self.session.listing.entries)
-        self.face.terminal.draw([], f"{done} of {total} texts are read; Ctrl-C stops")
+        self.face.terminal.draw([], f"text {place} of {total}; Ctrl-C stops")
 
-    def list(self, name: str, entries: "list[Entry]", area: int) -> None:
+    def messages(self, name: str, entries: "list[Entry]", area: int) -> None:
         """The screen of the messages of an area, or of those that a search found."""
         unread = self.session.unread(entries)
         at = entries.index(unread[0]) if unread else 0

@@ -3,7 +3,7 @@
 from __future__ import annotations
 
 import os
-from typing import Callable, Optional
+from typing import Optional
 
 from . import durable, program
 from .characters import shown
@@ -14,16 +14,8 @@ from .reader_message import Message, read_message
 from .reader_outbox import Outbox
 from .reader_packet import Packet
 from .reader_quoting import is_net_name
+from .reader_search import Progress, Texts
 from .reader_settings import Settings
-
-Progress = Callable[[int], None]
-# A search says how far it is each time that it has read so many messages.
-_AT_ONCE = 50
-
-
-def _quietly(done: int) -> None:
-    """Says nothing of how far a search is."""
-
 
 class Session:
     """A packet, its board's folder, and the caller's settings."""
@@ -37,7 +29,8 @@ class Session:
         self.editing = editing
         self.listing: Listing = read_listing(packet.listing, settings.characters)
         self.marks = Marks(self.box.at("read"))
-        self.texts: "dict[int, str]" = {}
+        entries = self.listing.entries
+        self.texts = Texts(self.box, self.door, packet.packet_id, entries, settings.characters)
         self.nets = self._read_nets()
 
     def area_name(self, area: int) -> str:
@@ -56,7 +49,7 @@ class Session:
         """Carries out a command that reads. Failure where the program met a fault."""
         reply = self.door.run(*words)
         if reply.status > program.REFUSED:
-            raise Failure(f"the program ended with status {reply.status}: {reply.error.strip()}", reply.status)
+            raise Failure(f"the program ended with status {reply.status}: {reply.fault}", reply.status)
         return reply.lines
 
     def read(self, place: int) -> "list[bytes]":
@@ -92,28 +85,10 @@ class Session:
             pairs = [line.split() for line in file]
         return {int(it[0]): it[1] == "yes" for it in pairs if len(it) == 2 and it[0].isdigit()}
 
-    def having(self, words: str, progress: Progress = _quietly) -> "list[Entry]":
+    def having(self, words: str, progress: Progress) -> "list[Entry]":
         """Gives the messages with these words in a name, the subject or the text."""
-        found = {it.place for it in self.listing.having(words)}
-        if self._may_have(words):
-            self._read_texts(progress)
-            found.update(place for place, text in self.texts.items() if words.casefold() in text)
+        found = {it.place for it in self.listing.having(words)} | self.texts.having(words, progress)
         return [it for it in self.listing.entries if it.place in found]
-
-    def _may_have(self, words: str) -> bool:
-        """Whether any text can have these words: where the packet's bytes don't, no text is read."""
-        path = self.box.at("packets", self.packet.packet_id, "MESSAGES.DAT")
-        with open(path, "rb") as file:
-            return words.casefold() in file.read().decode(self.settings.characters, "replace").casefold()
-
-    def _read_texts(self, progress: Progress) -> None:
-        """Reads the texts that weren't read yet. A search that is stopped keeps what it has."""
-        wanted = [it.place for it in self.listing.entries if it.place not in self.texts]
-        for at in range(0, len(wanted), _AT_ONCE):
-            progress(at)
-            for place in wanted[at : at + _AT_ONCE]:
-                lines = read_message(self.read(place), self.settings.characters).lines
-                self.texts[place] = "\n".join(lines).casefold()
 
     def news(self) -> "list[str]":
         """Keeps the packet's news, and gives its lines."""

@@ -7,21 +7,27 @@ be repeated: the packet is known by its digest, and the text by its own.
 from __future__ import annotations
 
 import os
+import re
 
 from . import durable, program, reader_texts
 from .failure import Failure
 from .locks import Lock
 from .reader_outbox import Outbox
-from .reader_state import Box, is_old
+from .reader_state import Box, free_name, is_old
 from .reader_texts import About
+
+# The ids that the first reader took.
+_OLD_ID = re.compile(r"[A-Za-z0-9_][A-Za-z0-9._-]*")
 
 
 def old_folders(box: Box) -> "list[str]":
     """Gives the folders of the first reader for this board."""
-    names = [box.path + ".old", os.path.join(box.base, box.board_id)]
+    named = re.compile(re.escape(box.name) + r"\.old(-\d+)?")
+    names = [os.path.join(box.base, it) for it in sorted(os.listdir(box.base)) if named.fullmatch(it)]
+    names.append(os.path.join(box.base, box.board_id))
     if not os.environ.get("QWKDOOR_HOME") and os.environ.get("HOME"):
         names.append(os.path.join(os.environ["HOME"], "qwk", box.board_id))
-    return [it for it in names if "/" not in box.board_id and is_old(it)]
+    return [it for it in names if _OLD_ID.fullmatch(box.board_id) and is_old(it)]
 
 
 def take_over(folder: str, outbox: Outbox) -> "list[str]":
@@ -31,27 +37,20 @@ def take_over(folder: str, outbox: Outbox) -> "list[str]":
         answers = _unsent(folder, outbox.box.board_id, outbox.door)
         if answers:
             name = outbox.take_over(answers)
-            said.append(f"the answers of an earlier reader that weren't sent are in {name}")
+            if name:
+                said.append(f"the answers from an earlier reader that weren't sent are in {name}")
         text = _read(os.path.join(folder, "answer.txt"))
         if text.strip() and not _is_there(outbox.box, text):
             about = About(reader_texts.UNKNOWN, "", 0, 0, "", "", False, "", "")
             draft = reader_texts.begin(outbox.box, about, text, is_begun=False)
-            said.append(f"text {draft.number} is of an earlier reader, which didn't say what it answers")
-        durable.replace(folder, _free(folder + ".taken"))
-    return [*said, f"{folder} was taken over, and is {os.path.basename(folder)}.taken now"]
+            said.append(f"text {draft.number} is from an earlier reader, which didn't note what it answers")
+        taken = free_name(folder + ".taken")
+        durable.replace(folder, taken)
+    return [*said, f"{folder} was taken over, and is called {os.path.basename(taken)} now"]
 
 
 def _is_there(box: Box, text: bytes) -> bool:
     return any(it.about.kind == reader_texts.UNKNOWN and it.read() == text for it in reader_texts.drafts(box))
-
-
-def _free(path: str) -> str:
-    number = 2
-    free = path
-    while os.path.lexists(free):
-        free = f"{path}-{number}"
-        number += 1
-    return free
 
 
 def _unsent(folder: str, board_id: str, door: program.Program) -> bytes:

@@ -7,7 +7,6 @@ does below 20h, or from 7Fh to 9Fh, since a terminal of 8 bits obeys those.
 from __future__ import annotations
 
 import codecs
-import errno
 import locale
 import os
 import select
@@ -16,7 +15,7 @@ import termios
 from types import FrameType
 from typing import Any, Mapping, Optional
 
-from .characters import shown
+from .characters import shown, terminals
 from .reader_columns import cut, padded
 
 _KEYS = {
@@ -38,19 +37,22 @@ class Hangup(Exception):
 def encoding_of(environment: Mapping[str, str], chosen: str) -> str:
     """Gives the terminal's characters: those of the settings, else those of the caller's language, else ASCII."""
     if chosen:
-        return codecs.lookup(chosen).name
+        return terminals(chosen)
     language = environment.get("LC_ALL") or environment.get("LC_CTYPE") or environment.get("LANG") or "C"
-    if language in ("C", "POSIX"):
-        return "ascii"
     if "." in language:
         name = language.partition(".")[2].partition("@")[0]
     else:
-        locale.setlocale(locale.LC_CTYPE, "")
-        name = locale.nl_langinfo(locale.CODESET)
+        name = _characters_of(language)
+    return terminals(name) or "ascii"
+
+
+def _characters_of(language: str) -> str:
+    """Gives the characters of a language that doesn't name them, and nothing where the machine hasn't that language."""
     try:
-        return codecs.lookup(name).name
-    except LookupError:
-        return "ascii"
+        locale.setlocale(locale.LC_CTYPE, language)
+    except locale.Error:
+        return ""
+    return locale.nl_langinfo(locale.CODESET) if language not in ("C", "POSIX") else ""
 
 
 def obeyed_by_none(text: str, encoding: str) -> bytes:
@@ -121,9 +123,7 @@ class Terminal:
             try:
                 data = data[os.write(1, data) :]
             except OSError as error:
-                if error.errno == errno.EIO:
-                    raise Hangup from error
-                raise
+                raise Hangup from error
 
     def draw(self, lines: "list[str]", bottom: str, chosen: int = -1) -> None:
         """Draws a screen: its lines, one of them chosen, and what stands in the last line."""
@@ -177,9 +177,7 @@ class Terminal:
         try:
             data = os.read(0, count)
         except OSError as error:
-            if error.errno == errno.EIO:
-                raise Hangup from error
-            raise
+            raise Hangup from error
         if not data:
             raise Hangup
         return data
@@ -189,8 +187,11 @@ class Terminal:
         self._put(b"\r\x1b[K")
         self.write(f"{question} [{default}]: " if default else f"{question}: ")
         self.by_line()
+        data = b""
         try:
-            data = self._read(_LINE)
+            # What was typed before the terminal took lines may come as a line of its own.
+            while not data.endswith(b"\n"):
+                data += self._read(_LINE)
         except (KeyboardInterrupt, Hangup):
             # Where the terminal is gone, the next key says so.
             return None

@@ -8,6 +8,7 @@ import json
 import os
 import shutil
 from dataclasses import dataclass
+from typing import Any
 
 from . import durable
 from .failure import FAILED, Failure
@@ -17,7 +18,7 @@ REPLY = "reply"
 LETTER = "letter"
 # A text of the first qwkdoor-read, which didn't say what it answered.
 UNKNOWN = "unknown"
-_OWN_FILES = frozenset(("about", "text", "letter", "was", "about.new", "letter.new", "was.new"))
+_OWN_FILES = frozenset(("about", "text", "letter", "was", "was-letter"))
 
 
 @dataclass(frozen=True)
@@ -54,24 +55,28 @@ class Text:
 
     def read(self) -> bytes:
         """Gives what the editor left. A file that is gone is an empty text."""
-        try:
-            with open(self.at("text"), "rb") as file:
-                return file.read()
-        except FileNotFoundError:
-            return b""
+        return self.bytes_of("text")
 
     def has_recovery(self) -> bool:
         """Whether an editor left a file from which it recovers what wasn't written. Its backups end with `~`."""
         names = os.listdir(os.path.dirname(self.at("about")))
-        return any(name not in _OWN_FILES and not name.endswith("~") for name in names)
+        return any(name.removesuffix(".new") not in _OWN_FILES and not name.endswith("~") for name in names)
 
     def is_as_begun(self) -> bool:
         """Whether the text is still the one with which it began."""
         return digest_of(self.read()) == self.about.begun
 
     def was_answer(self) -> bool:
-        """Whether it was an answer before it was changed."""
+        """Whether it was an answer before it was changed. An answer that was changed has its file `was` still."""
         return self.folder == "drafts" and os.path.exists(self.at("was"))
+
+    def is_as_it_was(self) -> bool:
+        """Whether it was an answer, and is still the text of that."""
+        return self.was_answer() and digest_of(self.read()) == digest_of(self.bytes_of("was"))
+
+    def bytes_of(self, name: str) -> bytes:
+        """Gives one of its files: none where it isn't there."""
+        return self.box.read(self.folder, str(self.number), name)
 
 
 def digest_of(data: bytes) -> str:
@@ -81,8 +86,7 @@ def digest_of(data: bytes) -> str:
 
 def begin(box: Box, about: About, text: bytes, is_begun: bool = True) -> Text:
     """Begins a draft. The text with which it begins is no answer, unless the caller wrote it already."""
-    used = [*box.numbers("drafts"), *box.numbers("answers")]
-    number = max(used, default=0) + 1
+    number = box.next_number()
     new = box.at("drafts", ".new")
     # Ctrl-C may have come while another one was begun.
     shutil.rmtree(new, ignore_errors=True)
@@ -102,7 +106,7 @@ def load(box: Box, folder: str, number: int) -> Text:
         with open(path, encoding="utf-8") as file:
             return Text(box, folder, number, About(**json.load(file)))
     except (ValueError, TypeError) as error:
-        raise Failure(f"{path} isn't as it was written: {error}", FAILED) from error
+        raise Failure(f"{path} is damaged: {error}", FAILED) from error
 
 
 def drafts(box: Box) -> "list[Text]":
@@ -110,34 +114,30 @@ def drafts(box: Box) -> "list[Text]":
     return [load(box, "drafts", number) for number in box.numbers("drafts")]
 
 
-def change_about(text: Text, **values: object) -> Text:
+def change_about(text: Text, **values: Any) -> Text:
     """Says anew what a draft is."""
-    about = dataclasses.replace(text.about, **values)  # type: ignore[arg-type]
+    about = dataclasses.replace(text.about, **values)
     durable.write_whole(text.at("about"), json.dumps(dataclasses.asdict(about)).encode())
     return dataclasses.replace(text, about=about)
 
 
-def keep(text: Text, letter: bytes) -> Text:
-    """Makes a draft an answer, with the bytes that go to the board. It is one once this is done, and not before."""
-    durable.write_whole(text.at("letter"), letter)
-    durable.sync_file(text.at("text"))
-    durable.remove(text.at("was"))
-    durable.sync_folder(os.path.dirname(text.at("text")))
+def keep(text: Text, data: bytes) -> Text:
+    """Makes a draft an answer: of its text, and of its letter, which is there. It is one once this is done."""
+    durable.write_whole(text.at("text"), data)
     return _move(text, "answers")
 
 
 def to_draft(answer: Text) -> Text:
-    """Makes an answer a draft again, so that it can be changed. Its text is kept beside it as it was."""
+    """Makes an answer a draft again, so that it can be changed. Its text and its letter as they were stay beside it."""
+    durable.write_whole(answer.at("was-letter"), answer.bytes_of("letter"))
     durable.write_whole(answer.at("was"), answer.read())
     return _move(answer, "drafts")
 
 
 def restore(draft: Text) -> Text:
     """Makes a draft the answer that it was before it was changed."""
-    with open(draft.at("was"), "rb") as file:
-        data = file.read()
-    durable.write_whole(draft.at("text"), data)
-    durable.remove(draft.at("was"))
+    durable.write_whole(draft.at("text"), draft.bytes_of("was"))
+    durable.write_whole(draft.at("letter"), draft.bytes_of("was-letter"))
     return _move(draft, "answers")
 
 

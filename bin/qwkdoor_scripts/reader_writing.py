@@ -16,7 +16,8 @@ from .reader_voice import Voice
 
 _KEEP, _EDIT, _DROP, _LEAVE, _UNDO = "k", "e", "x", "l", "u"
 _WORDS = {_KEEP: "keep as an answer", _EDIT: "edit again", _DROP: "drop", _LEAVE: "leave it for later"}
-_NO_REFERENCE = "a letter of its own has no reference to the message, so threads don't hang on it"
+_NO_LETTER = "no letter was begun"
+_NO_REFERENCE = "a letter of its own has no reference, so it stays out of the thread"
 
 
 class Writing:
@@ -74,13 +75,13 @@ class Writing:
         # Another area may have the same name, so the one that is proposed goes by its number.
         chosen = area if given == name else self.session.area_of(given or "")
         if chosen is None:
-            missing = f"the packet has no area {given}, or several: say its number"
-            self.voice.say("no letter" if given is None else missing)
+            missing = f"the packet has no area {given}, or several of that name: say its number"
+            self.voice.say(_NO_LETTER if given is None else missing)
             return None
         to_given = self.voice.ask("To", to)
         subject_given = self.voice.ask("Subject", subject) if to_given else None
         if not to_given or subject_given is None:
-            self.voice.say("no letter")
+            self.voice.say(_NO_LETTER)
             return None
         is_private = self.voice.ask("Private", "yes" if private else "no")
         line = self._address(chosen, address)
@@ -96,7 +97,7 @@ class Writing:
             return ""
         line = self.voice.suggest("Address line of net mail, NAME@ZONE:NET/NODE", known)
         if line == "":
-            self.voice.say("no address is known: the first line of the text is to be NAME@ZONE:NET/NODE")
+            self.voice.say("no address is known: write NAME@ZONE:NET/NODE as the first line of the text")
         return line
 
     def _begin(self, about: About, text: str) -> None:
@@ -126,15 +127,15 @@ class Writing:
         if draft.has_recovery():
             return self._ask(draft, f"the editor left a file to recover text {draft.number}, which is no answer yet")
         if not draft.read().strip():
-            self.voice.say("empty: no answer")
+            self.voice.say("the text is empty, so it is no answer")
             return _DROP
-        if draft.was_answer():
-            self.voice.say("not changed")
+        if draft.is_as_it_was():
+            self.voice.say("the text wasn't changed, so the answer stays as it was")
             return _UNDO
         if draft.is_as_begun():
-            self.voice.say("not changed: no answer")
+            self.voice.say("the text wasn't changed, so it is no answer")
             return _DROP
-        return self._ask(draft, f"not changed: text {draft.number} is no answer yet")
+        return self._ask(draft, f"the text wasn't changed, so text {draft.number} is no answer yet")
 
     def _ask(self, draft: Text, question: str) -> str:
         words = {**_WORDS, _UNDO: "put it back as it was"} if draft.was_answer() else _WORDS
@@ -152,7 +153,8 @@ class Writing:
         """Makes a draft an answer. Gives what to do with one that can't be, and nothing where it is one now."""
         if not self._is_open(draft):
             return _LEAVE
-        lines = reader_letters.typed_lines(draft.read(), self.session.editing)
+        data = draft.read()
+        lines = reader_letters.typed_lines(data, self.session.editing)
         heads = [draft.about.address] if draft.about.kind == reader_texts.REPLY else [
             draft.about.to, draft.about.subject, draft.about.address
         ]
@@ -165,7 +167,7 @@ class Writing:
             if choice != _KEEP:
                 return choice
         letter = reader_letters.letter_of(draft, lines, characters)
-        answer, reply = reader_letters.keep(draft, letter, self.session.door)
+        answer, reply = reader_letters.keep(draft, data, letter, self.session.door)
         if reply.status != program.DONE:
             return self._ask(draft, f"{reply.last}: text {draft.number} is no answer yet")
         self.voice.say(f"kept answer {answer.number} to {answer.about.to}: {answer.about.subject}")
@@ -182,7 +184,7 @@ class Writing:
     def _is_open(self, draft: Text) -> bool:
         """Whether a text says what it answers, and that is there."""
         if draft.about.kind == reader_texts.UNKNOWN:
-            self.voice.say(f"text {draft.number} doesn't say what it answers: say it first")
+            self.voice.say(f"text {draft.number} doesn't say which message it answers: say that first")
             return False
         if not os.path.isdir(self.box.at("packets", draft.about.packet)):
             self.voice.say(f"the packet that text {draft.number} answers isn't kept any more")
@@ -201,15 +203,20 @@ class Writing:
         """Lets the editor at an answer."""
         self.finish(reader_texts.to_draft(answer))
 
-    def pack(self) -> None:
-        """Puts the kept answers into an archive."""
-        self.session.outbox.pack(self.voice.say)
+    def take_back(self, archive: Archive) -> None:
+        """Takes an archive back, so that its answers can be changed."""
+        question = f"{archive.name} may have been sent: its answers may come twice if it is taken back"
+        choices = {"y": "take it back", "n": "leave it"}
+        if archive.may_be_sent and self.voice.choose(question, choices, "n") == "n":
+            return
+        self.session.outbox.take_back(archive)
+        self.voice.say(f"{archive.name} was taken back, and its answers may be changed")
 
     def describe(self, text: Text) -> str:
         """Says in a line what a text answers."""
         about = text.about
         if about.kind == reader_texts.UNKNOWN:
-            return f"{text.number} of an earlier reader, which didn't say what it answers"
+            return f"{text.number} from an earlier reader, which didn't note what it answers"
         what = "answers" if about.kind == reader_texts.REPLY else "new letter"
         private = ", private" if about.private else ""
         return f"{text.number} to {about.to}: {about.subject} ({what}, {self.session.area_name(about.area)}{private})"
@@ -218,8 +225,9 @@ class Writing:
         """Says what is in an archive."""
         answers = self.session.outbox.answers_of(archive)
         count = f"{len(answers)} answer{'' if len(answers) == 1 else 's'}"
-        count = count if answers else "answers of an earlier reader"
-        return [f"{archive.name}: {count}", *(f"  {self.describe(it)}" for it in answers)]
+        count = count if answers else "answers from an earlier reader"
+        sent = ", and it may have been sent" if archive.may_be_sent else ""
+        return [f"{archive.name}: {count}{sent}", *(f"  {self.describe(it)}" for it in answers)]
 
     def lines_of(self, text: Text) -> "list[str]":
         """Gives a text with its header, to be looked at."""

@@ -49,7 +49,7 @@ status:
      which. All others were tossed, unless check was refused
   2  not the words of a call, or of the list: a line on standard error says which
   3 to 7  the status with which a command of qwkdoor ended. Nothing was done after it
- 70  a file couldn't be written or moved, or the program didn't run
+ 70  a file couldn't be written or moved, memory ran out, or the program didn't run or was killed
  75  another run was at work all the time
 """
 
@@ -65,7 +65,8 @@ def _run(wanted: call.Call) -> int:
     door = program.Program(program.find(sys.argv[0]), wanted.data, shelf)
     mail = os.path.join(shelf, "mail")
     durable.make_folder(mail)
-    with Lock(os.path.join(mail, "lock"), wanted.seconds):
+    with Lock(os.path.join(mail, "lock"), wanted.seconds) as lock:
+        door.held = (lock.handle,)
         folders = FtnFolders(shelf)
         folders.make()
         again = "--again" in wanted.options
@@ -74,7 +75,7 @@ def _run(wanted: call.Call) -> int:
         folders.sweep()
     if folders.complaints == 0:
         return DONE
-    print(f"{NAME}: {_counted(folders.complaints)} refused or set aside: {folders.log.path} says why", file=sys.stderr)
+    call.complain(f"{NAME}: {_counted(folders.complaints)} refused or set aside: {folders.log.path} says why")
     return REFUSED
 
 

@@ -25,13 +25,13 @@ from __future__ import annotations
 import os
 from typing import Optional
 
-from . import durable, packets
+from . import arrivals, durable, packets
 from .areas import Areas
 from .characters import shown
 from .conferences import end_at_fault
 from .copies import named, parts
 from .failure import Failure
-from .ftn_folders import PACKET, FtnFolders, is_file
+from .ftn_folders import PACKET, FtnFolders
 from .packets import Message, Packet
 from .program import REFUSED, Program
 
@@ -63,7 +63,7 @@ class Tossing:
         """Tosses the packets that were taken, in the order in which they came."""
         for stem in self.folders.stems(PACKET):
             path = os.path.join(self.folders.work, stem + PACKET)
-            if is_file(path):
+            if arrivals.is_file(path):
                 self._toss_file(stem, path)
             else:
                 self.folders.set_aside(stem + PACKET, "toss", "it isn't a file")
@@ -112,7 +112,7 @@ class Tossing:
         return found
 
     def _carry_out(self, part: bytes) -> "list[str]":
-        self.folders.sweep()
+        durable.remove(self.folders.copy)
         durable.write_new(self.folders.copy, part)
         reply = self.program.run("toss", _COPY)
         end_at_fault("toss", reply)
@@ -128,13 +128,10 @@ class Tossing:
                 self._write_apart(f"{stem}.{place}", Packet(header, [message]), _reason(message, verdict))
             elif rule and rule != _DUPLICATE:
                 self.folders.complain(f"{stem}.{place}", "message", verdict)
-        durable.sync_folder(self.folders.bad)
 
     def _write_apart(self, stem: str, packet: Packet, reason: str) -> None:
         for ending, data in ((".txt", f"{reason}\n".encode("utf-8")), (PACKET, packet.data())):
-            path = os.path.join(self.folders.bad, stem + ending)
-            durable.remove(path)
-            durable.write_new(path, data)
+            durable.write_whole(os.path.join(self.folders.bad, stem + ending), data)
         self.folders.complain(stem, "message", reason.split("\n", 1)[0])
 
 

@@ -30,15 +30,15 @@ DATA, SHELF   the folders of the board, as of qwkdoor
 -w SECONDS    how long it waits for a run that is still at work: 0 to 86,400, else 600
 --help        print this page
 
-The list has a line for each conference that is looked after: its number, and how many messages stay at most,
-and how many days, as '0 keep 5000 days 365'; one of the two may lack. The day counts on which a message was
-written. For a user who calls no more a line 'left "USER"' says that nothing is held for him. Empty lines and
-lines that begin with '#' are skipped.
+The list has a line CONF keep COUNT days DAYS for each conference that is looked after, as '0 keep 5000 days
+365': its number, how many messages stay at most, and how many days. One of the two may lack. The day counts on
+which a message was written. For a user who calls no more a line 'left "USER"' says that nothing is held for
+him. Empty lines and lines that begin with '#' are skipped.
 
 files of SHELF:
   upkeep        the list
-  upkeep.log    a line for each step: the moment, the number of the conference, kill or pack, its status, and
-                how it ended
+  upkeep.log    a line for each step: the moment, the number of the conference, due, kill or pack, its status,
+                and how it ended
   upkeep.batch  the batch that is carried out
 
 It holds SHELF/mail/lock, as qwkdoor-day does, so that each waits for the other. The program is the qwkdoor
@@ -50,8 +50,8 @@ status:
      carried out, unless check was refused
   2  not the words of a call, or of the list: a line on standard error says which
   3 to 7  the status with which a command of qwkdoor ended. Nothing was done after it
- 70  a file couldn't be read or written, or the program didn't run
- 75  another run was at work all the time, or qwkdoor-toss was killed: let it go on first
+ 70  a file couldn't be read or written, memory ran out, or the program didn't run or was killed
+ 75  another run was at work all the time; or qwkdoor-toss was killed: run it first
 """
 
 
@@ -66,12 +66,13 @@ def _run(wanted: call.Call) -> int:
     door = Program(program.find(sys.argv[0]), wanted.data, shelf)
     mail = os.path.join(shelf, "mail")
     durable.make_folder(mail)
-    with Lock(os.path.join(mail, "lock"), wanted.seconds):
+    with Lock(os.path.join(mail, "lock"), wanted.seconds) as lock:
+        door.held = (lock.handle,)
         _look_at_packets(shelf)
         board = Board(wanted.data, conferences.look(door), wanted.seconds)
         works = upkeep_plan.plan(board, os.path.join(shelf, "upkeep"), "--unread" in wanted.options, int(time.time()))
         if "-n" in wanted.options:
-            sys.stdout.write("".join(f"{line}\n" for line in _lines(works)))
+            call.say("".join(f"{line}\n" for line in _lines(works)))
             return DONE
         return _Upkeep(door, shelf).carry_out(works)
 
@@ -81,7 +82,7 @@ def _look_at_packets(shelf: str) -> None:
     folders = FtnFolders(shelf)
     found = [it + ending for ending in (BUNDLE, PACKET) for it in folders.stems(ending)] if folders.is_made() else []
     if found:
-        raise Failure(f"{os.path.join(folders.work, found[0])} is under way: let qwkdoor-toss go on first", BUSY)
+        raise Failure(f"{os.path.join(folders.work, found[0])} is under way: run qwkdoor-toss first", BUSY)
 
 
 def _lines(works: "list[Work]") -> "list[str]":
@@ -107,7 +108,7 @@ class _Upkeep:
         if self.refused == 0:
             return DONE
         commands = "a command was" if self.refused == 1 else f"{self.refused} commands were"
-        print(f"{NAME}: {commands} refused: {self.log.path} says which", file=sys.stderr)
+        call.complain(f"{NAME}: {commands} refused: {self.log.path} says which")
         return REFUSED
 
     def _note_due(self, works: "list[Work]") -> None:

@@ -34,7 +34,7 @@ class Work:
         words = f"{len(self.due.numbers)} of {self.conference.live} go"
         if not self.due.held:
             return words
-        return f"{words}; due, but not acknowledged by {_listed(self.due.holders)}: {len(self.due.held)}"
+        return f"{words}; {len(self.due.held)} due, but not acknowledged by {_listed(self.due.holders)}"
 
     def commands(self) -> "list[str]":
         """Gives the commands. A message that was deleted before goes with those that are killed."""

@@ -47,7 +47,7 @@ def read(path: str, numbers: Collection[int], users: Collection[bytes]) -> Upkee
         name = _LEFT.fullmatch(line)
         if name is None:
             rule = _rule(line, at)
-            _look(rule.number not in rules, f"{at}: the conference {rule.number} stands there twice")
+            _look(rule.number not in rules, f"{at}: the conference {rule.number} is listed twice")
             _look(rule.number in numbers, f"{at}: the board has no conference {rule.number}")
             rules[rule.number] = rule
         else:
@@ -69,7 +69,8 @@ def _rule(line: str, at: str) -> Rule:
     match = _RULE.fullmatch(line)
     words = match.group(2).split() if match else []
     limits = dict(zip(words[::2], map(int, words[1::2])))
-    _look(match is not None and len(limits) == len(words) // 2, f'{at}: not CONF keep N days N, or left "USER"')
+    form = 'a line is CONF keep COUNT days DAYS, or left "USER"'
+    _look(match is not None and len(limits) == len(words) // 2, f"{at}: {form}")
     return Rule(int(line.split()[0]), limits.get("keep"), limits.get("days"))
 
 
