@@ -19,7 +19,7 @@ COMPILING = "compiling the sources without a proof"
 class Kept(ToolchainCase):
     def test_the_second_call_compiles_nothing(self) -> None:
         first, second = self.call("scan", "P1"), self.call("scan", "P1")
-        self.assertEqual((first.returncode, first.stdout), (0, "1 messages\n"))
+        self.assertEqual((first.returncode, first.stdout), (0, "1 messages\n"), first.stderr)
         self.assertEqual((second.returncode, second.stdout), (0, "1 messages\n"))
         self.assertEqual((self.compiled(), len(self.kept())), (1, 1))
         self.assertIn(COMPILING, first.stderr)
