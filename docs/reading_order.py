@@ -32,8 +32,8 @@ _SECTIONS = (
         "A board is a ledger, and a conference for each place. These files say which values it may have.",
         ("board_layout/specs/Valid.antt",),
     ),
-    ("A board's files", "The files of a board are its layout. Other files have a first damage.", ("board_commands/specs/State.antt",)),
-    ("The entries of a run", "The words of a call are one command, or the lines of a batch.", ("door_commands/specs/Entries.antt",)),
+    ("A board's files", "The files of a board are its layout. Other files have a first damage.", ("cmd_board/specs/State.antt",)),
+    ("The entries of a run", "The words of a call are one command, or the lines of a batch.", ("cmd_entries/specs/Entries.antt",)),
     (
         "What each command does, and what `run` promises",
         "Each command is an act: what it makes of the board and the shelf, and what it says.",
@@ -49,7 +49,11 @@ _SECTIONS = (
             "mail_cli/specs/Passages.antt",
         ),
     ),
-    ("What a run writes", "A command that posts messages writes little more than they add.", ("mail_cli/specs/CommandBound.antt",)),
+    (
+        "What a run writes, and its promises in one",
+        "A command that posts messages writes little more than they add.",
+        ("mail_cli/specs/CommandBound.antt", "mail_cli/specs/Promises.antt"),
+    ),
 )
 
 

@@ -151,15 +151,15 @@ class Counts(unittest.TestCase):
 
     def test_the_crates_of_this_checkout(self) -> None:
         names = [it.name for it in crates(TOP)]
-        self.assertIn("text_vectors", names)
-        self.assertIn("command_vectors", names)
+        self.assertIn("test_texts", names)
+        self.assertIn("test_commands", names)
         self.assertNotIn("byte_lists", names)
         self.assertTrue(all(os.path.isdir(it.folder) and it.may_be_left for it in crates(TOP)))
 
     def test_long_crates_begin_first_or_last(self) -> None:
         for lanes, at in ((4, 0), (2, -2)):
             names = [it.name for it in in_order(TOP, lanes)]
-            self.assertEqual((names[at], names[-1]), ("command_vectors", "limit_vectors"))
+            self.assertEqual((names[at], names[-1]), ("test_commands", "test_limits"))
             self.assertEqual(len(names), len(set(names)))
             self.assertIn("tests.test_bin_test", names)
 

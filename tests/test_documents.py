@@ -92,7 +92,7 @@ class Sizes(unittest.TestCase):
 
     def test_the_examples_of_the_library_are_short(self) -> None:
         page = text_of("docs/LIBRARY.md")
-        for name in paths("crates/*_example/src/main.rt"):
+        for name in paths("crates/example_*/src/main.rt"):
             self.assertLess(len(text_of(name).splitlines()), 60, name)
             self.assertIn(name, page)
 

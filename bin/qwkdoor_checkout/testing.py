@@ -19,10 +19,10 @@ from .unproved import end_by_signals
 _LIMIT = 360
 # This crate takes minutes by itself, since it fills conferences to their limit: so it begins first where there are
 # processors for the others beside it, and else behind them.
-_LONG = "command_vectors"
+_LONG = "test_commands"
 _MANY = 4
 # This one goes to each limit, and seldom comes to its end in time: so it takes none from the others.
-_LONGEST = "limit_vectors"
+_LONGEST = "test_limits"
 _FAILED_TEST = 1
 PAGE = """\
 usage: bin/test

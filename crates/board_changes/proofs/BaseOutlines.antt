@@ -11,13 +11,13 @@ use Rattle.board_layout.specs.Renewed.{contents_of}
 use Rattle.board_layout.specs.jam_base.Contents.{Contents, no_slots}
 use Rattle.board_layout.specs.jam_base.Outlined.{outlined}
 use Rattle.board_layout.specs.jam_layout.Outlines.{outline}
-use Rattle.board_layout.specs.jam_layout.declared.conference.Conference.{Conference}
+use Rattle.board_layout.specs.jam_layout.declared.conference.ConferenceContents.{ConferenceContents}
 use Rattle.board_layout.specs.jam_layout.declared.shape.Shape.{Shape}
-use Rattle.board_ledger.specs.setup_file.declared.setup.Setup.{Setup}
+use Rattle.board_ledger.specs.setup_file.declared.fields.SetupFields.{SetupFields}
 
 pub conferences_outlined : (bases : List Contents) → map outline (conferences_in bases) ≡ conferences_in (map outlined bases)
 conferences_outlined [] = refl
-conferences_outlined (base ∷ bases) = ap (λ (cs : List Conference). outline base.conference ∷ cs) (conferences_outlined bases)
+conferences_outlined (base ∷ bases) = ap (λ (cs : List ConferenceContents). outline base.conference ∷ cs) (conferences_outlined bases)
 
 -- the bases of a board that is its own outline
 pub own_bases : (b : Board) → board_outline b ≡ b → map outlined (contents_of b) ≡ contents_of b
@@ -35,12 +35,12 @@ pub outline_with : (b : Board) (place : ℕ) (base : Contents) → board_outline
 outline_with b place base own =
     let bases : map outlined (set (contents_of b) place base) ≡ set (contents_of b) place (outlined base) =
     map-set outlined (contents_of b) place base ∙ ap (λ (xs : List Contents). set xs place (outlined base)) (own_bases b own) in
-    ap (λ (cs : List Conference). record { ledger = b.ledger; conferences = cs }) (conferences_outlined (set (contents_of b) place base) ∙ ap conferences_in bases)
+    ap (λ (cs : List ConferenceContents). record { ledger = b.ledger; conferences = cs }) (conferences_outlined (set (contents_of b) place base) ∙ ap conferences_in bases)
 
 -- a new board has no bodies
 none_outlined : (shapes : List Shape) → map outline (empty_conferences shapes) ≡ empty_conferences shapes
 none_outlined [] = refl
-none_outlined (shape ∷ shapes) = ap (λ (cs : List Conference). no_slots shape ∷ cs) (none_outlined shapes)
+none_outlined (shape ∷ shapes) = ap (λ (cs : List ConferenceContents). no_slots shape ∷ cs) (none_outlined shapes)
 
-pub made_outline : (setup : Setup) (created : ℕ) → board_outline (made setup created) ≡ made setup created
-made_outline setup created = ap (λ (cs : List Conference). record { ledger = new_ledger setup created; conferences = cs }) (none_outlined (shapes_of (new_ledger setup created)))
+pub made_outline : (setup : SetupFields) (created : ℕ) → board_outline (made setup created) ≡ made setup created
+made_outline setup created = ap (λ (cs : List ConferenceContents). record { ledger = new_ledger setup created; conferences = cs }) (none_outlined (shapes_of (new_ledger setup created)))

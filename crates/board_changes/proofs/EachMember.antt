@@ -29,22 +29,22 @@ use Rattle.board_layout.specs.jam_base.Change.{SuitsIntent, Turns}
 use Rattle.board_layout.specs.jam_base.Contents.{Contents, with_reader}
 use Rattle.board_layout.specs.jam_base.Outlined.{outlined, TurnsEach}
 use Rattle.board_layout.specs.jam_layout.Outlines.{outline}
-use Rattle.board_layout.specs.jam_layout.declared.conference.Conference.{Conference}
+use Rattle.board_layout.specs.jam_layout.declared.conference.ConferenceContents.{ConferenceContents}
 
 -- ---- the board
-joined_one : (members place : ℕ) (c : Conference) → outline (joined_in members place c) ≡ joined_in members place (outline c)
+joined_one : (members place : ℕ) (c : ConferenceContents) → outline (joined_in members place c) ≡ joined_in members place (outline c)
 joined_one members place c = by (eqb (bit_at members place) 1)
   where
     by : (joined : Bool) → outline (cond joined (record c { pointers = c.pointers ++ 0 ∷ [] }) c) ≡ cond joined (record (outline c) { pointers = c.pointers ++ 0 ∷ [] }) (outline c)
     by true = refl
     by false = refl
 
-joined_outline : (members place : ℕ) (conferences : List Conference) → map outline (joined_from members place conferences) ≡ joined_from members place (map outline conferences)
+joined_outline : (members place : ℕ) (conferences : List ConferenceContents) → map outline (joined_from members place conferences) ≡ joined_from members place (map outline conferences)
 joined_outline members place [] = refl
 joined_outline members place (c ∷ conferences) = λ i. joined_one members place c i ∷ joined_outline members (place + 1) conferences i
 
 pub member_outline : (u : User) (b : Board) → board_outline (with_member u b) ≡ with_member u (board_outline b)
-member_outline u b = ap (λ (conferences : List Conference). record { ledger = with_user u b.ledger; conferences = conferences }) (joined_outline u.members 0 b.conferences)
+member_outline u b = ap (λ (conferences : List ConferenceContents). record { ledger = with_user u b.ledger; conferences = conferences }) (joined_outline u.members 0 b.conferences)
 
 pub member_keeps : (b : Board) (u : User) → IsBoard (with_member u b) → KeepsEach b (with_member u)
 member_keeps b u next = record {

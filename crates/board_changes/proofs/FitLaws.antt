@@ -21,16 +21,16 @@ use Rattle.board_ledger.specs.declared.ledger.Ledger.{Ledger}
 use Rattle.board_ledger.specs.open_offers.declared.offer.OpenOffer.{OpenOffer}
 use Rattle.board_ledger.specs.declared.upload.UploadRecord.{UploadRecord}
 use Rattle.board_ledger.specs.declared.user.User.{User}
-use Rattle.board_layout.specs.jam_layout.declared.conference.Conference.{Conference}
+use Rattle.board_layout.specs.jam_layout.declared.conference.ConferenceContents.{ConferenceContents}
 use Rattle.board_ledger.specs.setup_file.Texts.{is_user_name}
 
 -- ---- highs
-highs_stay : (members place : ℕ) (conferences : List Conference) (highs : List ℕ) → highs_fit (joined_from members place conferences) highs ≡ highs_fit conferences highs
+highs_stay : (members place : ℕ) (conferences : List ConferenceContents) (highs : List ℕ) → highs_fit (joined_from members place conferences) highs ≡ highs_fit conferences highs
 highs_stay members place [] highs = refl
 highs_stay members place (c ∷ conferences) [] = refl
 highs_stay members place (c ∷ conferences) (high ∷ highs) = λ i. nat_le high (length (slots_stay members place c i)) && highs_stay members (place + 1) conferences highs i
 
-offers_stay : (members place : ℕ) (conferences : List Conference) (offers : List OpenOffer) → offers_fit (joined_from members place conferences) offers ≡ offers_fit conferences offers
+offers_stay : (members place : ℕ) (conferences : List ConferenceContents) (offers : List OpenOffer) → offers_fit (joined_from members place conferences) offers ≡ offers_fit conferences offers
 offers_stay members place conferences offers = λ i. list_all (λ o. highs_stay members place conferences o.highs i) offers
 
 -- ---- the new user

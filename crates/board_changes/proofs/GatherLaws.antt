@@ -7,7 +7,7 @@ use Rattle.std.proofs.lemmas.List.Sums.{sum_by-append, sum_by-cons, sum_by-take-
 use Rattle.std.proofs.lemmas.List.Elements.{All-nil, All-cons, All-append}
 use Rattle.intent_journal.specs.door_outside.File.{ledger_file, journal_file, jhr_file, jdt_file, jdx_file, jlr_file}
 use Rattle.intent_journal.specs.Journal.{TakesPatch}
-use Rattle.intent_journal.specs.Patches.{Files, file_of, patched}
+use Rattle.intent_journal.specs.Patches.{HostFiles, file_of, patched}
 use Rattle.intent_journal.specs.declared.patch.Patch.{Patch}
 use Rattle.intent_journal.specs.declared.patch.Patch.TheVariants.{Whole}
 use Rattle.board_layout.specs.jam_base.Change.{files_of_place, IsElsewhere, Turns, SuitsIntent}
@@ -20,7 +20,7 @@ use Rattle.board_changes.proofs.JoinLaws.{patched_append, within_append, text_ap
 
 -- ---- the ledger alone
 -- a patch of the ledger leaves the files of a place
-ledger_apart : (ledger : List ℕ) (files : Files) (place : ℕ) → files_of_place place (patched (Whole ledger_file ledger ∷ []) files) ≡ files_of_place place files
+ledger_apart : (ledger : List ℕ) (files : HostFiles) (place : ℕ) → files_of_place place (patched (Whole ledger_file ledger ∷ []) files) ≡ files_of_place place files
 ledger_apart ledger files place =
     let jhr = other (jhr_file place) (omega arith) in
     let jdt = other (jdt_file place) (omega arith) in
@@ -31,7 +31,7 @@ ledger_apart ledger files place =
     other : (file : ℕ) → 0 < file → patched (Whole ledger_file ledger ∷ []) files file ≡ files file
     other file some = cond-false (file == ledger_file) ledger (files file) (ne_eqb file ledger_file (λ e. omega (arith, e, some)))
 
-pub gathered_none : (P : Files → Type 0) (ledger : List ℕ) (old new : List BaseFiles) → ((files : Files) → P files → HasBases old files) → Gathered P ledger old new 0 (Whole ledger_file ledger ∷ [])
+pub gathered_none : (P : HostFiles → Type 0) (ledger : List ℕ) (old new : List BaseFiles) → ((files : HostFiles) → P files → HasBases old files) → Gathered P ledger old new 0 (Whole ledger_file ledger ∷ [])
 gathered_none P ledger old new has = record {
   starts = λ files here. refl;
   ledger_is = λ files here. refl;
@@ -43,7 +43,7 @@ gathered_none P ledger old new has = record {
 }
 
 -- ---- a ledger that stays
-pub gathered_kept : (P : Files → Type 0) (ledger : List ℕ) (old new : List BaseFiles) → ((files : Files) → P files → HasBases old files) → ((files : Files) → P files → files ledger_file ≡ ledger) → Gathered P ledger old new 0 []
+pub gathered_kept : (P : HostFiles → Type 0) (ledger : List ℕ) (old new : List BaseFiles) → ((files : HostFiles) → P files → HasBases old files) → ((files : HostFiles) → P files → files ledger_file ≡ ledger) → Gathered P ledger old new 0 []
 gathered_kept P ledger old new has right = record {
   starts = λ files here. refl;
   ledger_is = right;
@@ -56,7 +56,7 @@ gathered_kept P ledger old new has right = record {
 
 -- ---- the files of one place
 -- patches of one place leave the others
-elsewhere : (count : ℕ) (old new : BaseFiles) (patches : List Patch) → Turns count old new patches → (files : Files) (place : ℕ) → place ≢ count → files_of_place place (patched patches files) ≡ files_of_place place files
+elsewhere : (count : ℕ) (old new : BaseFiles) (patches : List Patch) → Turns count old new patches → (files : HostFiles) (place : ℕ) → place ≢ count → files_of_place place (patched patches files) ≡ files_of_place place files
 elsewhere count old new patches turns files place ne =
     let jhr = turns.others files (jhr_file place) (away (jhr_file place) (omega arith) (omega arith)) in
     let jdt = turns.others files (jdt_file place) (away (jdt_file place) (omega arith) (omega arith)) in
@@ -72,13 +72,13 @@ elsewhere count old new patches turns files place ne =
     ]
 
 -- one place more, of which there are new files
-module _ (P : Files → Type 0) (ledger : List ℕ) (old new : List BaseFiles) (count : ℕ) (done more : List Patch) (gathered : Gathered P ledger old new count done) (place_is : count < 64) (has_new : count < length new)
+module _ (P : HostFiles → Type 0) (ledger : List ℕ) (old new : List BaseFiles) (count : ℕ) (done more : List Patch) (gathered : Gathered P ledger old new count done) (place_is : count < 64) (has_new : count < length new)
     (turns : Turns count (at_place old count) (at_place new count) more) (suits : SuitsIntent count (at_place new count) more) where
   -- those of the place are still the old ones
-  still : (files : Files) → P files → files_of_place count (patched done files) ≡ at_place old count
+  still : (files : HostFiles) → P files → files_of_place count (patched done files) ≡ at_place old count
   still files here = gathered.bases files here count place_is ∙ cond-false (nat_lt count count) (at_place new count) (at_place old count) (le-ltb count count (omega arith))
 
-  bases_then : (files : Files) → P files → (place : ℕ) → place < 64 → files_of_place place (patched more (patched done files)) ≡ mixed (count + 1) old new place
+  bases_then : (files : HostFiles) → P files → (place : ℕ) → place < 64 → files_of_place place (patched more (patched done files)) ≡ mixed (count + 1) old new place
   bases_then files here place within = elim (cases_eq place count) [
     | inl is ↦ subst (λ (k : ℕ). files_of_place k (patched more (patched done files)) ≡ mixed (count + 1) old new k) (sym is)
         (turns.base (patched done files) (still files here) ∙ sym (cond-true (nat_lt count (count + 1)) (at_place new count) (at_place old count) (lt-ltb count (count + 1) (omega arith))))
@@ -105,7 +105,7 @@ module _ (P : Files → Type 0) (ledger : List ℕ) (old new : List BaseFiles) (
   pub gathered_more : Gathered P ledger old new (count + 1) (done ++ more)
   gathered_more = record {
     starts = λ files here. within_append done more files (gathered.starts files here) (turns.starts (patched done files) (still files here));
-    ledger_is = λ files here. ap (λ (f : Files). f ledger_file) (patched_append done more files) ∙ (turns.others (patched done files) ledger_file (inl (omega arith)) ∙ gathered.ledger_is files here);
+    ledger_is = λ files here. ap (λ (f : HostFiles). f ledger_file) (patched_append done more files) ∙ (turns.others (patched done files) ledger_file (inl (omega arith)) ∙ gathered.ledger_is files here);
     bases = λ files here place within. ap (files_of_place place) (patched_append done more files) ∙ bases_then files here place within;
     no_journal = All-append (λ (p : Patch). file_of p ≢ journal_file) done more gathered.no_journal (λ k d within e. omega (arith, e, (suits.within k d within).0));
     below = All-append (λ (p : Patch). file_of p < jhr_file (count + 1)) done more (λ k d within. omega (arith, gathered.below k d within)) (λ k d within. omega (arith, (suits.within k d within).1));
@@ -124,7 +124,7 @@ module _ (P : Files → Type 0) (ledger : List ℕ) (old new : List BaseFiles) (
       }
 
 -- places whose files stay
-pub gathered_rest : (P : Files → Type 0) (ledger : List ℕ) (old new : List BaseFiles) (patches : List Patch) (count n : ℕ) → Gathered P ledger old new count patches → count + n ≤ 64 → count + n ≤ length new
+pub gathered_rest : (P : HostFiles → Type 0) (ledger : List ℕ) (old new : List BaseFiles) (patches : List Patch) (count n : ℕ) → Gathered P ledger old new count patches → count + n ≤ 64 → count + n ≤ length new
     → ((k : ℕ) → count ≤ k → k < count + n → at_place old k ≡ at_place new k) → Gathered P ledger old new (count + n) patches
 gathered_rest P ledger old new patches count zero gathered places many same = subst (λ (k : ℕ). Gathered P ledger old new k patches) (omega arith) gathered
 gathered_rest P ledger old new patches count (suc n) gathered places many same =
@@ -135,8 +135,8 @@ gathered_rest P ledger old new patches count (suc n) gathered places many same =
     subst (λ (k : ℕ). Gathered P ledger old new k patches) (omega arith) (subst (Gathered P ledger old new (here + 1)) (append-nil patches) more)
 
 -- ---- all places
-pub gathered_all : (P : Files → Type 0) (ledger : List ℕ) (old new : List BaseFiles) (patches : List Patch) → Gathered P ledger old new (length new) patches → length old ≤ length new
-    → (files : Files) → P files → HasBases new (patched patches files)
+pub gathered_all : (P : HostFiles → Type 0) (ledger : List ℕ) (old new : List BaseFiles) (patches : List Patch) → Gathered P ledger old new (length new) patches → length old ≤ length new
+    → (files : HostFiles) → P files → HasBases new (patched patches files)
 gathered_all P ledger old new patches gathered fewer files here place within = gathered.bases files here place within ∙ new_is
   where
     past : (bases : List BaseFiles) (k : ℕ) → length bases ≤ k → at_place bases k ≡ no_base

@@ -8,16 +8,16 @@ use Rattle.std.proofs.lemmas.List.Folds.{list_any-append}
 use Rattle.std.proofs.lemmas.List.Elements.{All-drop}
 use Rattle.intent_journal.specs.door_outside.File.{journal_file}
 use Rattle.intent_journal.specs.Journal.{patch_text, patches_text, journal_text, TakesPatch}
-use Rattle.intent_journal.specs.Patches.{Files, file_of, patch_offset, bytes_of, is_whole, apply, begins_within, patched, are_within, clash, is_once}
+use Rattle.intent_journal.specs.Patches.{HostFiles, file_of, patch_offset, bytes_of, is_whole, apply, begins_within, patched, are_within, clash, is_once}
 use Rattle.intent_journal.specs.declared.patch.Patch.{Patch}
 use Rattle.board_changes.specs.Gathered.{Joins}
 
 -- ---- carried out
-pub patched_append : (ps qs : List Patch) (files : Files) → patched (ps ++ qs) files ≡ patched qs (patched ps files)
+pub patched_append : (ps qs : List Patch) (files : HostFiles) → patched (ps ++ qs) files ≡ patched qs (patched ps files)
 patched_append [] qs files = refl
 patched_append (p ∷ ps) qs files = patched_append ps qs (apply p files)
 
-pub within_append : (ps qs : List Patch) (files : Files) → are_within ps files ≡ true → are_within qs (patched ps files) ≡ true → are_within (ps ++ qs) files ≡ true
+pub within_append : (ps qs : List Patch) (files : HostFiles) → are_within ps files ≡ true → are_within qs (patched ps files) ≡ true → are_within (ps ++ qs) files ≡ true
 within_append [] qs files one other = other
 within_append (p ∷ ps) qs files one other =
     let parts = and_parts (begins_within p files) (are_within ps (apply p files)) one in

@@ -16,7 +16,7 @@ use Rattle.board_ledger.specs.declared.ledger.Ledger.{Ledger}
 use Rattle.intent_journal.specs.declared.patch.Patch.{Patch}
 use Rattle.board_layout.specs.jam_layout.Valid.{IsConference}
 use Rattle.board_layout.specs.jam_layout.declared.files.BaseFiles.{BaseFiles}
-use Rattle.board_ledger.specs.setup_file.declared.setup.Setup.{Setup}
+use Rattle.board_ledger.specs.setup_file.declared.fields.SetupFields.{SetupFields}
 
 -- lists that are related item by item are as long
 pub zipped_count : {A B : Type 0} (R : A → B → Type 0) (xs : List A) (ys : List B) → AllZip R xs ys → length xs ≡ length ys
@@ -25,7 +25,7 @@ zipped_count R [] (y ∷ ys) all = absurd all
 zipped_count R (x ∷ xs) [] all = absurd all
 zipped_count R (x ∷ xs) (y ∷ ys) all = ap suc (zipped_count R xs ys all.1)
 
-pub leads_made : (setup : Setup) (created : ℕ) (patches : List Patch)
+pub leads_made : (setup : SetupFields) (created : ℕ) (patches : List Patch)
     → Gathered AreEmpty (ledger_text (new_ledger setup created)) [] (layouts (shapes_of (new_ledger setup created)) (empty_conferences (shapes_of (new_ledger setup created)))) (length (shapes_of (new_ledger setup created))) patches
     → Leads AreEmpty (made setup created) patches
 leads_made setup created patches gathered =

@@ -15,9 +15,9 @@ use Rattle.board_ledger.proofs.SetupBounds.{board_small, user_small, bbsid_small
 use Rattle.board_ledger.proofs.SizeLaws.{behind_most, ledger_length, setup_length, conference_length, user_length}
 use Rattle.board_ledger.specs.setup_file.Valid.{IsSetup, IsSetupConference}
 use Rattle.board_ledger.specs.setup_file.declared.conference.Conference.{Conference as SetupConference}
-use Rattle.board_ledger.specs.setup_file.declared.setup.Setup.{Setup}
+use Rattle.board_ledger.specs.setup_file.declared.fields.SetupFields.{SetupFields}
 
-pub setup_at_most : (s : Setup) → IsSetup s → length (setup_text s) ≤ 400
+pub setup_at_most : (s : SetupFields) → IsSetup s → length (setup_text s) ≤ 400
 setup_at_most s ok = omega (
   arith,
   setup_length s,

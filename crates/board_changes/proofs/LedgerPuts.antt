@@ -19,7 +19,7 @@ use Rattle.board_ledger.specs.declared.ledger.Ledger.{Ledger}
 use Rattle.board_ledger.specs.declared.user.User.{User}
 use Rattle.intent_journal.specs.door_outside.File.{ledger_file, jhr_file, jdt_file, jdx_file, jlr_file}
 use Rattle.intent_journal.specs.Journal.{patch_text, patches_text}
-use Rattle.intent_journal.specs.Patches.{Files, bytes_of, file_of, is_once, patched, patch_offset}
+use Rattle.intent_journal.specs.Patches.{HostFiles, bytes_of, file_of, is_once, patched, patch_offset}
 use Rattle.intent_journal.specs.declared.patch.Patch.{Patch}
 use Rattle.intent_journal.specs.declared.patch.Patch.TheVariants.{Put}
 use Rattle.board_layout.specs.jam_base.Change.{files_of_place}
@@ -44,7 +44,7 @@ begins_join next patches begins ok =
     }
 
 -- they leave the files of each place
-places_stay : (ledger next : List ℕ) (patches : List Patch) → TurnsFile ledger_file ledger next patches → (files : Files) (place : ℕ) → files_of_place place (patched patches files) ≡ files_of_place place files
+places_stay : (ledger next : List ℕ) (patches : List Patch) → TurnsFile ledger_file ledger next patches → (files : HostFiles) (place : ℕ) → files_of_place place (patched patches files) ≡ files_of_place place files
 places_stay ledger next patches turns files place =
     let jhr = turns.others files (jhr_file place) (λ e. omega (arith, e)) in
     let jdt = turns.others files (jdt_file place) (λ e. omega (arith, e)) in
@@ -52,8 +52,8 @@ places_stay ledger next patches turns files place =
     let jlr = turns.others files (jlr_file place) (λ e. omega (arith, e)) in
     λ i. record { jhr = jhr i; jdt = jdt i; jdx = jdx i; jlr = jlr i }
 
-pub begins_gather : (P : Files → Type 0) (ledger next : List ℕ) (old new : List BaseFiles) (patches : List Patch) → TurnsFile ledger_file ledger next patches → Begins next patches
-    → ((files : Files) → P files → HasBases old files) → ((files : Files) → P files → files ledger_file ≡ ledger) → Gathered P next old new 0 patches
+pub begins_gather : (P : HostFiles → Type 0) (ledger next : List ℕ) (old new : List BaseFiles) (patches : List Patch) → TurnsFile ledger_file ledger next patches → Begins next patches
+    → ((files : HostFiles) → P files → HasBases old files) → ((files : HostFiles) → P files → files ledger_file ≡ ledger) → Gathered P next old new 0 patches
 begins_gather P ledger next old new patches turns begins has right = record {
   starts = λ files here. turns.starts files (right files here);
   ledger_is = λ files here. turns.makes files (right files here);
@@ -102,6 +102,6 @@ module _ (l : Ledger) (u : User) where
   pub enroll_joins : IsLedger (with_user u l) → Joins [] (enroll_puts l u)
   enroll_joins ok = begins_join (with_user u l) (enroll_puts l u) enroll_begins ok
 
-  pub gathered_enroll : (P : Files → Type 0) (old new : List BaseFiles) → ((files : Files) → P files → HasBases old files) → ((files : Files) → P files → files ledger_file ≡ ledger_text l)
+  pub gathered_enroll : (P : HostFiles → Type 0) (old new : List BaseFiles) → ((files : HostFiles) → P files → HasBases old files) → ((files : HostFiles) → P files → files ledger_file ≡ ledger_text l)
       → Gathered P (ledger_text (with_user u l)) old new 0 (enroll_puts l u)
   gathered_enroll P old new has right = begins_gather P (ledger_text l) (ledger_text (with_user u l)) old new (enroll_puts l u) (enroll_turns l u) enroll_begins has right

@@ -38,10 +38,10 @@ use Rattle.jam_records.specs.declared.message.Kind.{Kind}
 use Rattle.jam_records.specs.record_numbers.Numbers.{IsU32}
 use Rattle.board_ledger.specs.setup_file.Valid.{IsSetup}
 use Rattle.board_ledger.specs.setup_file.declared.conference.Conference.{Conference as SetupConference}
-use Rattle.board_ledger.specs.setup_file.declared.setup.Setup.{Setup}
+use Rattle.board_ledger.specs.setup_file.declared.fields.SetupFields.{SetupFields}
 
 -- ---- the ledger
-pub new_is_ledger : (setup : Setup) (created : ℕ) → IsSetup setup → IsU32 created → IsLedger (new_ledger setup created)
+pub new_is_ledger : (setup : SetupFields) (created : ℕ) → IsSetup setup → IsU32 created → IsLedger (new_ledger setup created)
 new_is_ledger setup created ok small = record {
   version = refl;
   setup = ok;
@@ -54,7 +54,7 @@ new_is_ledger setup created ok small = record {
   pairs = tt;
 }
 
-ledger_small : (setup : Setup) (created : ℕ) → IsSetup setup → length (ledger_text (new_ledger setup created)) ≤ 2000
+ledger_small : (setup : SetupFields) (created : ℕ) → IsSetup setup → length (ledger_text (new_ledger setup created)) ≤ 2000
 ledger_small setup created ok = omega (
   arith,
   ledger_length Second (new_ledger setup created) (All-nil (λ (r : UploadRecord). length r.digest ≡ 32)),
@@ -80,12 +80,12 @@ are_conferences [] = tt
 are_conferences (shape ∷ shapes) = (new_is_conference shape, are_conferences shapes)
 
 -- no one reads them yet
-base_small : (setup : Setup) (created place : ℕ) (kind : Kind) → files_size (layout (shape_of (new_ledger setup created) place kind) (no_slots (shape_of (new_ledger setup created) place kind))) ≡ 1024
+base_small : (setup : SetupFields) (created place : ℕ) (kind : Kind) → files_size (layout (shape_of (new_ledger setup created) place kind) (no_slots (shape_of (new_ledger setup created) place kind))) ≡ 1024
 base_small setup created place kind =
     let shape : Shape = shape_of (new_ledger setup created) place kind in
     omega (arith, size_is shape (no_slots shape) (new_is_conference shape))
 
-files_small : (setup : Setup) (created place : ℕ) (conferences : List SetupConference) → let shapes = shapes_from (new_ledger setup created) place conferences in sum_by files_size (layouts shapes (empty_conferences shapes)) ≡ 1024 * length conferences
+files_small : (setup : SetupFields) (created place : ℕ) (conferences : List SetupConference) → let shapes = shapes_from (new_ledger setup created) place conferences in sum_by files_size (layouts shapes (empty_conferences shapes)) ≡ 1024 * length conferences
 files_small setup created place [] = refl
 files_small setup created place (c ∷ conferences) =
     let shapes : List Shape = shapes_from (new_ledger setup created) (place + 1) conferences in
@@ -128,7 +128,7 @@ module _ (l : Ledger) (place : ℕ) (kind : Kind) (shape : Shape) (done patches 
   fresh_gathers = gathered_more AreEmpty (ledger_text l) [] bases place done patches gathered within counted turns_here suits_here
 
 -- ---- the board
-pub new_is_board : (setup : Setup) (created : ℕ) → IsSetup setup → IsU32 created → IsBoard (made setup created)
+pub new_is_board : (setup : SetupFields) (created : ℕ) → IsSetup setup → IsU32 created → IsBoard (made setup created)
 new_is_board setup created ok small =
     let l : Ledger = new_ledger setup created in
     record {
@@ -138,7 +138,7 @@ new_is_board setup created ok small =
       small = omega (arith, ledger_small setup created ok, files_small setup created 0 setup.conferences, ok.conferences.many);
     }
 
-pub new_fits : (setup : Setup) (created : ℕ) → IsSetup setup → FitJournal (ledger_text (new_ledger setup created)) (layouts (shapes_of (new_ledger setup created)) (empty_conferences (shapes_of (new_ledger setup created))))
+pub new_fits : (setup : SetupFields) (created : ℕ) → IsSetup setup → FitJournal (ledger_text (new_ledger setup created)) (layouts (shapes_of (new_ledger setup created)) (empty_conferences (shapes_of (new_ledger setup created))))
 new_fits setup created ok =
     let l : Ledger = new_ledger setup created in
     omega (

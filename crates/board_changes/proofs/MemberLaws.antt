@@ -21,7 +21,7 @@ use Rattle.board_layout.specs.Renewed.{contents, contents_of, renewed}
 use Rattle.board_ledger.specs.declared.ledger.Ledger.{Ledger}
 use Rattle.board_ledger.specs.declared.user.User.{User}
 use Rattle.board_layout.specs.jam_base.Contents.{Contents, with_reader}
-use Rattle.board_layout.specs.jam_layout.declared.conference.Conference.{Conference}
+use Rattle.board_layout.specs.jam_layout.declared.conference.ConferenceContents.{ConferenceContents}
 use Rattle.board_layout.specs.jam_layout.declared.reader.Reader.{Reader}
 use Rattle.jam_records.specs.declared.message.Kind.{Kind}
 use Rattle.board_ledger.specs.setup_file.declared.conference.Conference.{Conference as SetupConference}
@@ -51,7 +51,7 @@ ids_below place id most (u ∷ users) fewer =
 pub next_base : Ledger → User → ℕ → Contents → Contents
 next_base l u place base = cond (eqb (bit_at u.members place) 1) (with_reader (1 + length l.users) u.name base) base
 
-base_at : (l : Ledger) (u : User) (place : ℕ) (kind : Kind) (c : Conference) → record { shape = shape_of (with_user u l) place kind; conference = joined_in u.members place c } ≡ next_base l u place (record { shape = shape_of l place kind; conference = c })
+base_at : (l : Ledger) (u : User) (place : ℕ) (kind : Kind) (c : ConferenceContents) → record { shape = shape_of (with_user u l) place kind; conference = joined_in u.members place c } ≡ next_base l u place (record { shape = shape_of l place kind; conference = c })
 unfolding next_base
 base_at l u place kind c = ap over (readers_more place 1 l.users u) ∙ by (eqb (bit_at u.members place) 1)
   where
@@ -63,7 +63,7 @@ base_at l u place kind c = ap over (readers_more place 1 l.users u) ∙ by (eqb 
     by true = refl
     by false = λ i. record { shape = record { place = place; created = l.created; kind = kind; readers = append-nil (readers_from place 1 l.users) i }; conference = c }
 
-next_from : (l : Ledger) (u : User) (place : ℕ) (cs : List SetupConference) (conferences : List Conference) (k : ℕ) (base : Contents) → slice_get (contents (shapes_from l place cs) conferences) k ≡ Some base
+next_from : (l : Ledger) (u : User) (place : ℕ) (cs : List SetupConference) (conferences : List ConferenceContents) (k : ℕ) (base : Contents) → slice_get (contents (shapes_from l place cs) conferences) k ≡ Some base
     → slice_get (contents (shapes_from (with_user u l) place cs) (joined_from u.members place conferences)) k ≡ Some (next_base l u (place + k) base)
 next_from l u place [] conferences k base is = absurd (none-some base is)
 next_from l u place (c ∷ cs) [] k base is = absurd (none-some base is)
@@ -89,7 +89,7 @@ renewed_more (o ∷ olds) (None ∷ news) old new same = ap (λ (xs : List Conte
 renewed_more (o ∷ olds) (Some n ∷ news) old new same = ap (λ (xs : List Contents). n ∷ xs) (renewed_more olds news old new (omega (arith, same)))
 
 -- ---- what stands in a place
-files_from : (shapes : List Shape) (conferences : List Conference) (k : ℕ) (base : Contents) → slice_get (contents shapes conferences) k ≡ Some base → at_place (layouts shapes conferences) k ≡ layout base.shape base.conference
+files_from : (shapes : List Shape) (conferences : List ConferenceContents) (k : ℕ) (base : Contents) → slice_get (contents shapes conferences) k ≡ Some base → at_place (layouts shapes conferences) k ≡ layout base.shape base.conference
 files_from [] conferences k base is = absurd (none-some base is)
 files_from (shape ∷ shapes) [] k base is = absurd (none-some base is)
 files_from (shape ∷ shapes) (c ∷ conferences) zero base is = ap files_of is
@@ -102,7 +102,7 @@ files_from (shape ∷ shapes) (c ∷ conferences) (suc k) base is = files_from s
 pub files_at : (b : Board) (k : ℕ) (base : Contents) → slice_get (contents_of b) k ≡ Some base → at_place (base_files b) k ≡ layout base.shape base.conference
 files_at b k base is = files_from (shapes_of b.ledger) b.conferences k base is
 
-shape_from : (l : Ledger) (place : ℕ) (cs : List SetupConference) (conferences : List Conference) (k : ℕ) (base : Contents) → slice_get (contents (shapes_from l place cs) conferences) k ≡ Some base
+shape_from : (l : Ledger) (place : ℕ) (cs : List SetupConference) (conferences : List ConferenceContents) (k : ℕ) (base : Contents) → slice_get (contents (shapes_from l place cs) conferences) k ≡ Some base
     → (base.shape.readers ≡ readers_from (place + k) 1 l.users) × (base.shape.place ≡ place + k)
 shape_from l place [] conferences k base is = absurd (none-some base is)
 shape_from l place (c ∷ cs) [] k base is = absurd (none-some base is)
@@ -126,7 +126,7 @@ readers_at b k base is = (shape_from b.ledger 0 b.ledger.setup.conferences b.con
 pub place_at : (b : Board) (k : ℕ) (base : Contents) → slice_get (contents_of b) k ≡ Some base → base.shape.place ≡ k
 place_at b k base is = omega (arith, (shape_from b.ledger 0 b.ledger.setup.conferences b.conferences k base is).1)
 
-contents_few : (shapes : List Shape) (conferences : List Conference) → length (contents shapes conferences) ≤ length shapes
+contents_few : (shapes : List Shape) (conferences : List ConferenceContents) → length (contents shapes conferences) ≤ length shapes
 contents_few [] conferences = omega arith
 contents_few (shape ∷ shapes) [] = omega arith
 contents_few (shape ∷ shapes) (c ∷ conferences) = omega (arith, contents_few shapes conferences)
@@ -167,7 +167,7 @@ pub member_fits : (b : Board) → IsBoard b → FitJournal (ledger_text b.ledger
 member_fits b ok = omega (arith, ok.small, files_count b ok, ok.ledger.setup.conferences.many)
 
 -- ---- the places one after the other
-next_count_from : (l : Ledger) (u : User) (place : ℕ) (cs : List SetupConference) (conferences : List Conference) → length (contents (shapes_from (with_user u l) place cs) (joined_from u.members place conferences)) ≡ length (contents (shapes_from l place cs) conferences)
+next_count_from : (l : Ledger) (u : User) (place : ℕ) (cs : List SetupConference) (conferences : List ConferenceContents) → length (contents (shapes_from (with_user u l) place cs) (joined_from u.members place conferences)) ≡ length (contents (shapes_from l place cs) conferences)
 next_count_from l u place [] conferences = refl
 next_count_from l u place (c ∷ cs) [] = refl
 next_count_from l u place (c ∷ cs) (d ∷ conferences) = ap suc (next_count_from l u (place + 1) cs conferences)

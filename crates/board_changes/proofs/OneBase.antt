@@ -33,24 +33,24 @@ use Rattle.board_layout.specs.jam_base.Contents.{Contents}
 use Rattle.board_layout.specs.jam_base.declared.change.BaseChange.{BaseChange}
 use Rattle.board_layout.specs.jam_layout.Layout.{files_size}
 use Rattle.board_layout.specs.jam_layout.Valid.{IsConference}
-use Rattle.board_layout.specs.jam_layout.declared.conference.Conference.{Conference}
+use Rattle.board_layout.specs.jam_layout.declared.conference.ConferenceContents.{ConferenceContents}
 use Rattle.board_layout.specs.jam_layout.declared.files.BaseFiles.{BaseFiles}
 use Rattle.board_layout.specs.jam_layout.declared.shape.Shape.{Shape}
 
 -- ---- the conferences and the shapes of which contents are made
-pub conferences_back : (shapes : List Shape) (conferences : List Conference) → AllZip IsConference shapes conferences → conferences_in (contents shapes conferences) ≡ conferences
+pub conferences_back : (shapes : List Shape) (conferences : List ConferenceContents) → AllZip IsConference shapes conferences → conferences_in (contents shapes conferences) ≡ conferences
 conferences_back [] [] all = refl
 conferences_back [] (c ∷ conferences) all = absurd all
 conferences_back (shape ∷ shapes) [] all = absurd all
-conferences_back (shape ∷ shapes) (c ∷ conferences) all = ap (λ (cs : List Conference). c ∷ cs) (conferences_back shapes conferences all.1)
+conferences_back (shape ∷ shapes) (c ∷ conferences) all = ap (λ (cs : List ConferenceContents). c ∷ cs) (conferences_back shapes conferences all.1)
 
-pub shapes_back : (shapes : List Shape) (conferences : List Conference) → AllZip IsConference shapes conferences → shapes_in (contents shapes conferences) ≡ shapes
+pub shapes_back : (shapes : List Shape) (conferences : List ConferenceContents) → AllZip IsConference shapes conferences → shapes_in (contents shapes conferences) ≡ shapes
 shapes_back [] [] all = refl
 shapes_back [] (c ∷ conferences) all = absurd all
 shapes_back (shape ∷ shapes) [] all = absurd all
 shapes_back (shape ∷ shapes) (c ∷ conferences) all = ap (λ (ss : List Shape). shape ∷ ss) (shapes_back shapes conferences all.1)
 
-pub are_bases : (shapes : List Shape) (conferences : List Conference) → AllZip IsConference shapes conferences → All IsBase (contents shapes conferences)
+pub are_bases : (shapes : List Shape) (conferences : List ConferenceContents) → AllZip IsConference shapes conferences → All IsBase (contents shapes conferences)
 are_bases [] conferences all = All-nil IsBase
 are_bases (shape ∷ shapes) [] all = All-nil IsBase
 are_bases (shape ∷ shapes) (c ∷ conferences) all = All-cons IsBase (record { shape = shape; conference = c }) (contents shapes conferences) all.0 (are_bases shapes conferences all.1)
@@ -90,7 +90,7 @@ highs_set (b ∷ bases) (suc place) old new (high ∷ highs) here more fit =
     and_from (leb high (length b.conference.slots)) (highs_fit (conferences_in (set bases place new)) highs) parts.0 (highs_set bases place old new highs here more parts.1)
 
 -- offers whose highs fit old conferences fit new ones, where all highs do
-pub still_fit : (old new : List Conference) → ((highs : List ℕ) → highs_fit old highs ≡ true → highs_fit new highs ≡ true) → (offers : List OpenOffer) → offers_fit old offers ≡ true → offers_fit new offers ≡ true
+pub still_fit : (old new : List ConferenceContents) → ((highs : List ℕ) → highs_fit old highs ≡ true → highs_fit new highs ≡ true) → (offers : List OpenOffer) → offers_fit old offers ≡ true → offers_fit new offers ≡ true
 still_fit old new still [] fit = refl
 still_fit old new still (o ∷ offers) fit =
     let parts = and_parts (highs_fit old o.highs) (offers_fit old offers) fit in
@@ -162,7 +162,7 @@ module _ (b : Board) (place : ℕ) (old new : Contents) (ok : IsBoard b) (here :
       }
     where
       still : (highs : List ℕ) → highs_fit b.conferences highs ≡ true → highs_fit (conferences_in (set (contents_of b) place new)) highs ≡ true
-      still highs fit = highs_set (contents_of b) place old new highs here more (subst (λ (cs : List Conference). highs_fit cs highs ≡ true) (sym conferences_are) fit)
+      still highs fit = highs_set (contents_of b) place old new highs here more (subst (λ (cs : List ConferenceContents). highs_fit cs highs ≡ true) (sym conferences_are) fit)
 
   new_there : slice_get (set (contents_of b) place new) place ≡ Some new
   new_there = set_there (contents_of b) place old new here

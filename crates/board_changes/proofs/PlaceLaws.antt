@@ -10,7 +10,7 @@ use Rattle.board_layout.specs.Layout.{layouts}
 use Rattle.board_ledger.specs.declared.ledger.Ledger.{Ledger}
 use Rattle.board_layout.specs.jam_base.Contents.{no_slots}
 use Rattle.board_layout.specs.jam_layout.Layout.{layout}
-use Rattle.board_layout.specs.jam_layout.declared.conference.Conference.{Conference}
+use Rattle.board_layout.specs.jam_layout.declared.conference.ConferenceContents.{ConferenceContents}
 use Rattle.board_layout.specs.jam_layout.declared.shape.Shape.{Shape}
 use Rattle.board_ledger.specs.setup_file.declared.conference.Conference.{Conference as SetupConference}
 
@@ -33,7 +33,7 @@ empty_count [] = refl
 empty_count (shape ∷ shapes) = ap suc (empty_count shapes)
 
 -- ---- files
-pub layout_in : (shapes : List Shape) (conferences : List Conference) (k : ℕ) (shape : Shape) (c : Conference) → slice_get shapes k ≡ Some shape → slice_get conferences k ≡ Some c → at_place (layouts shapes conferences) k ≡ layout shape c
+pub layout_in : (shapes : List Shape) (conferences : List ConferenceContents) (k : ℕ) (shape : Shape) (c : ConferenceContents) → slice_get shapes k ≡ Some shape → slice_get conferences k ≡ Some c → at_place (layouts shapes conferences) k ≡ layout shape c
 layout_in [] conferences k shape c is has = absurd (none-some shape is)
 layout_in (s ∷ shapes) [] k shape c is has = absurd (none-some c has)
 layout_in (s ∷ shapes) (d ∷ conferences) zero shape c is has = λ i. layout (some_in s shape is i) (some_in d c has i)
@@ -46,7 +46,7 @@ pub empty_in : (shapes : List Shape) (k : ℕ) (shape : Shape) → slice_get sha
 empty_in [] k shape is = absurd (none-some shape is)
 empty_in (s ∷ shapes) zero shape is = ap new_in is
   where
-    new_in : Option Shape → Option Conference
+    new_in : Option Shape → Option ConferenceContents
     new_in None = None
     new_in (Some other) = Some (no_slots other)
 empty_in (s ∷ shapes) (suc k) shape is = empty_in shapes k shape is

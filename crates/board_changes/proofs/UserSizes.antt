@@ -26,7 +26,7 @@ use Rattle.board_layout.proofs.jam_layout.SlotSizes.{size_is}
 use Rattle.board_layout.specs.jam_layout.Layout.{layout, files_size}
 use Rattle.board_layout.specs.jam_layout.Sizes.{slot_size}
 use Rattle.board_layout.specs.jam_layout.Valid.{IsConference}
-use Rattle.board_layout.specs.jam_layout.declared.conference.Conference.{Conference}
+use Rattle.board_layout.specs.jam_layout.declared.conference.ConferenceContents.{ConferenceContents}
 use Rattle.board_layout.specs.jam_layout.declared.reader.Reader.{Reader}
 use Rattle.board_layout.specs.jam_layout.declared.shape.Shape.{Shape}
 use Rattle.jam_records.specs.declared.message.Kind.{Kind}
@@ -35,7 +35,7 @@ use Rattle.jam_records.specs.record_numbers.Numbers.{u32_text}
 use Rattle.board_ledger.specs.setup_file.declared.conference.Conference.{Conference as SetupConference}
 
 -- ---- the conference of a place
-pub slots_stay : (members place : ℕ) (c : Conference) → (joined_in members place c).slots ≡ c.slots
+pub slots_stay : (members place : ℕ) (c : ConferenceContents) → (joined_in members place c).slots ≡ c.slots
 slots_stay members place c = by (eqb (bit_at members place) 1)
   where
     by : (b : Bool) → (cond b (record c { pointers = c.pointers ++ 0 ∷ [] }) c).slots ≡ c.slots
@@ -46,7 +46,7 @@ one_zero : (most : ℕ) → All (λ p. p ≤ most) (0 ∷ [])
 one_zero most = All-cons (λ p. p ≤ most) 0 [] (omega arith) (All-nil (λ p. p ≤ most))
 
 -- it is one of its shape, with a pointer for each reader
-joined_conference : (l : Ledger) (u : User) (place : ℕ) (kind : Kind) (c : Conference) → IsConference (shape_of l place kind) c → IsConference (shape_of (with_user u l) place kind) (joined_in u.members place c)
+joined_conference : (l : Ledger) (u : User) (place : ℕ) (kind : Kind) (c : ConferenceContents) → IsConference (shape_of l place kind) c → IsConference (shape_of (with_user u l) place kind) (joined_in u.members place c)
 joined_conference l u place kind c ok = subst (λ (rs : List Reader). IsConference (shape rs) (joined_in u.members place c)) (sym (readers_more place 1 l.users u)) (by (eqb (bit_at u.members place) 1))
   where
     shape : List Reader → Shape
@@ -75,7 +75,7 @@ readers_count place id u = by (eqb (bit_at u.members place) 1)
     by false = refl
 
 -- the files of a place have a record of the last read message more, where the user is a member
-joined_size : (l : Ledger) (u : User) (place : ℕ) (kind : Kind) (c : Conference) → IsConference (shape_of l place kind) c
+joined_size : (l : Ledger) (u : User) (place : ℕ) (kind : Kind) (c : ConferenceContents) → IsConference (shape_of l place kind) c
     → files_size (layout (shape_of (with_user u l) place kind) (joined_in u.members place c)) ≡ files_size (layout (shape_of l place kind) c) + 16 * one_if_joined u.members place
 joined_size l u place kind c ok =
     let old = size_is (shape_of l place kind) c ok in
@@ -85,7 +85,7 @@ joined_size l u place kind c ok =
     omega (arith, old, new, slots, more, length-append (readers_from place 1 l.users) (reader_of place (1 + length l.users) u), readers_count place (1 + length l.users) u)
 
 -- ---- place by place
-joined_all : (l : Ledger) (u : User) (place : ℕ) (cs : List SetupConference) (conferences : List Conference) → AllZip IsConference (shapes_from l place cs) conferences
+joined_all : (l : Ledger) (u : User) (place : ℕ) (cs : List SetupConference) (conferences : List ConferenceContents) → AllZip IsConference (shapes_from l place cs) conferences
     → AllZip IsConference (shapes_from (with_user u l) place cs) (joined_from u.members place conferences)
 joined_all l u place [] [] all = tt
 joined_all l u place [] (d ∷ conferences) all = absurd all
@@ -95,7 +95,7 @@ joined_all l u place (c ∷ cs) (d ∷ conferences) all = (joined_conference l u
 pub members_are : (b : Board) (u : User) → IsBoard b → AllZip IsConference (shapes_of (with_user u b.ledger)) (joined_from u.members 0 b.conferences)
 members_are b u ok = joined_all b.ledger u 0 b.ledger.setup.conferences b.conferences ok.conferences
 
-joined_sizes : (l : Ledger) (u : User) (place : ℕ) (cs : List SetupConference) (conferences : List Conference) → AllZip IsConference (shapes_from l place cs) conferences
+joined_sizes : (l : Ledger) (u : User) (place : ℕ) (cs : List SetupConference) (conferences : List ConferenceContents) → AllZip IsConference (shapes_from l place cs) conferences
     → sum_by files_size (layouts (shapes_from (with_user u l) place cs) (joined_from u.members place conferences)) ≡ sum_by files_size (layouts (shapes_from l place cs) conferences) + 16 * joined_count u.members place (length conferences)
 joined_sizes l u place [] [] all = refl
 joined_sizes l u place [] (d ∷ conferences) all = absurd all

@@ -7,21 +7,21 @@ use Rattle.board_ledger.specs.declared.user.User.{User}
 use Rattle.board_layout.specs.Board.{Board, shapes_of, board_with}
 use Rattle.board_layout.specs.Renewed.{contents_of}
 use Rattle.board_layout.specs.jam_base.Contents.{Contents, no_slots}
-use Rattle.board_layout.specs.jam_layout.declared.conference.Conference.{Conference}
+use Rattle.board_layout.specs.jam_layout.declared.conference.ConferenceContents.{ConferenceContents}
 use Rattle.board_layout.specs.jam_layout.declared.shape.Shape.{Shape}
-use Rattle.board_ledger.specs.setup_file.declared.setup.Setup.{Setup}
+use Rattle.board_ledger.specs.setup_file.declared.fields.SetupFields.{SetupFields}
 
 -- ---- a new board
-abbrev pub new_ledger : Setup → ℕ → Ledger
+abbrev pub new_ledger : SetupFields → ℕ → Ledger
 new_ledger setup created = record { version = 2; setup = setup; created = created; users = []; uploads = [] }
 
 -- a conference without slots for each shape
-abbrev pub empty_conferences : List Shape → List Conference
+abbrev pub empty_conferences : List Shape → List ConferenceContents
 empty_conferences [] = []
 empty_conferences (shape ∷ shapes) = no_slots shape ∷ empty_conferences shapes
 
 -- the board of a setup: no users, no slots, and all change counters 0
-abbrev pub made : Setup → ℕ → Board
+abbrev pub made : SetupFields → ℕ → Board
 made setup created = record { ledger = new_ledger setup created; conferences = empty_conferences (shapes_of (new_ledger setup created)) }
 
 -- ---- a user more
@@ -36,11 +36,11 @@ new_user name net members = record {
 }
 
 -- the pointer of a new member in this place is 0
-abbrev pub joined_in : ℕ → ℕ → Conference → Conference
+abbrev pub joined_in : ℕ → ℕ → ConferenceContents → ConferenceContents
 joined_in members place c = if bit_at members place == 1 then record c { pointers = c.pointers ++ 0 ∷ [] } else c
 
 -- so it is in the places from this one on
-abbrev pub joined_from : ℕ → ℕ → List Conference → List Conference
+abbrev pub joined_from : ℕ → ℕ → List ConferenceContents → List ConferenceContents
 joined_from members place [] = []
 joined_from members place (c ∷ conferences) = joined_in members place c ∷ joined_from members (place + 1) conferences
 

@@ -2,7 +2,7 @@
 use Rattle.std.specs.Prelude.{◌≡◌, ◌≢◌, ℕ, ◌+◌, ◌*◌, ◌<◌, ◌≤◌, ◌^◌, List, ◌++◌, length, take, slice_index_or, sum_by, All, IsTrue, nat_lt, if◌then◌else◌}
 use Rattle.intent_journal.specs.door_outside.File.{ledger_file, journal_file, jhr_file}
 use Rattle.intent_journal.specs.Journal.{journal_text, patches_text}
-use Rattle.intent_journal.specs.Patches.{Files, file_of, patch_offset, bytes_of, patched, are_within, is_once}
+use Rattle.intent_journal.specs.Patches.{HostFiles, file_of, patch_offset, bytes_of, patched, are_within, is_once}
 use Rattle.intent_journal.specs.declared.patch.Patch.{Patch}
 use Rattle.board_layout.specs.jam_base.Change.{files_of_place}
 use Rattle.board_layout.specs.jam_layout.Layout.{files_size}
@@ -14,7 +14,7 @@ abbrev pub at_place : List BaseFiles → ℕ → BaseFiles
 at_place bases place = slice_index_or bases place no_base
 
 -- the files of all places are these
-abbrev pub HasBases : List BaseFiles → Files → Type 0
+abbrev pub HasBases : List BaseFiles → HostFiles → Type 0
 HasBases bases files = (place : ℕ) → place < 64 → files_of_place place files ≡ at_place bases place
 
 -- the new files in the first places, and the old ones behind them
@@ -23,10 +23,10 @@ mixed count old new place = if nat_lt place count then at_place new place else a
 
 -- the patches make the ledger of files such as P says, or leave it where it is there, and turn the old files of the
 -- first places into the new ones
-pub record Gathered (P : Files → Type 0) (ledger : List ℕ) (old new : List BaseFiles) (count : ℕ) (patches : List Patch) : Type 0 where
-  pub starts : (files : Files) → P files → IsTrue (are_within patches files)
-  pub ledger_is : (files : Files) → P files → patched patches files ledger_file ≡ ledger
-  pub bases : (files : Files) → P files → (place : ℕ) → place < 64 → files_of_place place (patched patches files) ≡ mixed count old new place
+pub record Gathered (P : HostFiles → Type 0) (ledger : List ℕ) (old new : List BaseFiles) (count : ℕ) (patches : List Patch) : Type 0 where
+  pub starts : (files : HostFiles) → P files → IsTrue (are_within patches files)
+  pub ledger_is : (files : HostFiles) → P files → patched patches files ledger_file ≡ ledger
+  pub bases : (files : HostFiles) → P files → (place : ℕ) → place < 64 → files_of_place place (patched patches files) ≡ mixed count old new place
   pub no_journal : All (λ patch. file_of patch ≢ journal_file) patches
   pub below : All (λ patch. file_of patch < jhr_file count) patches
   pub once : IsTrue (is_once patches)

@@ -30,7 +30,7 @@ fn may_enroll(ledger: &Ledger, name: &[u8], members: u64) -> bool
     requires { length ledger.now.setup.conferences ≤ 64 }
     ensures { result ≡ enrollable ledger.now name.now members }
 {
-    let conferences = ledger.setup.conferences.len() as u16;
+    let conferences = ledger.setup.fields().conferences.len() as u16;
     is_user_name(name) && are_members(members, conferences) && is_free(ledger, name)
 }
 

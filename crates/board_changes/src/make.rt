@@ -4,10 +4,10 @@ ghost use Rattle.board_changes.specs.Changed.{made as made_of, empty_conferences
 ghost use Rattle.board_changes.specs.Gathered.{Gathered, FitJournal};
 ghost use Rattle.board_layout.specs.Board.{shape_of, shapes_of};
 ghost use Rattle.board_layout.specs.Layout.{AreEmpty, layouts};
+ghost use Rattle.board_layout.specs.Valid.{IsBoard};
 ghost use Rattle.board_ledger.specs.Ledger.{ledger_text};
 ghost use Rattle.board_ledger.specs.Valid.{IsLedger};
 ghost use Rattle.board_layout.specs.jam_base.Contents.{no_slots};
-ghost use Rattle.board_ledger.specs.setup_file.Valid.{IsSetup};
 
 use crate::gathering::{add_all, ledger_intent};
 use board_layout::{Base, Bases, StoredBoard, shape_at};
@@ -56,20 +56,28 @@ fn fresh_bases(alloc: Global, ledger: &Ledger, intent: &mut Intent) -> Result<Ba
     ensures gathers { OnOk result (Gathered AreEmpty (ledger_text ledger.now) [] (layouts (shapes_of ledger.now) (empty_conferences (shapes_of ledger.now))) (length (shapes_of ledger.now)) intent.new) }
 {
     let mut bases = Bases::new(alloc);
-    for (place, conference) in ledger.setup.conferences.as_slice().iter().enumerate() {
+    for (place, conference) in ledger
+        .setup
+        .fields()
+        .conferences
+        .as_slice()
+        .iter()
+        .enumerate()
+    {
         bases.add(fresh_base(alloc, ledger, place as u8, conference.kind, intent)?)?;
     }
     Ok(bases)
 }
 
-/// The board of a setup: no users, no slots, and all change counters 0.
+/// The board of a setup, which is valid: no users, no slots, and all change counters 0.
 ///
 /// The error comes where there is no memory.
 pub fn made(alloc: Global, setup: Setup, created: u32) -> Result<NewBoard, AllocError>
-    requires { IsSetup setup }
+    ensures valid { IsBoard (made_of setup created) }
     ensures board { IfOk result (λ new. new.board ≡ made_of setup created) }
     ensures leads { IfOk result (λ new. Leads AreEmpty (made_of setup created) new.intent) }
 {
+    let _fields = setup.fields();
     let ledger = Ledger {
         version: 2,
         setup,

@@ -41,7 +41,7 @@ fn joined_count(members: u64, count: u32) -> u64
 pub fn size_with_user(board: &StoredBoard, name: &[u8], net: bool, members: u64) -> u64
     ensures { result ≡ min (board_size (enrolled_of name.now net members board.now)) (2 ^ 64 - 1) }
 {
-    let count = board.ledger().setup.conferences.len();
+    let count = board.ledger().setup.fields().conferences.len();
     let readers = READER_SIZE * joined_count(members, count as u32);
     let record = USER_SIZE + HIGHS_SIZE * count as u64;
     (board.size() + readers + record).saturating_add(name.len() as u64)

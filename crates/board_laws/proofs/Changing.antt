@@ -19,14 +19,14 @@ use Rattle.board_ledger.specs.declared.ledger.Ledger.{Ledger}
 use Rattle.open_offers.specs.declared.offer.OpenOffer.{OpenOffer}
 use Rattle.board_ledger.specs.declared.user.User.{User}
 use Rattle.jam_base.specs.Contents.{Contents, with_acknowledged}
-use Rattle.jam_layout.specs.declared.conference.Conference.{Conference}
+use Rattle.jam_layout.specs.declared.conference.ConferenceContents.{ConferenceContents}
 use Rattle.jam_layout.specs.declared.reader.Reader.{Reader}
-use Rattle.message_commands.specs.mail_board.Changes.{changed}
-use Rattle.message_commands.specs.mail_board.declared.change.Change.{Change}
-use Rattle.message_commands.specs.mail_board.declared.change.Change.TheVariants.{Enroll, Append, Spread, Kill, Offer, Acknowledge, Upload}
+use Rattle.cmd_messages.specs.mail_board.Changes.{changed}
+use Rattle.cmd_messages.specs.mail_board.declared.change.Change.{Change}
+use Rattle.cmd_messages.specs.mail_board.declared.change.Change.TheVariants.{Enroll, Append, Spread, Kill, Offer, Acknowledge, Upload}
 use Rattle.offer_changes.proofs.ReadLaws.{all_count as read_count}
 use Rattle.offer_changes.specs.Changed.{all_read, for_user, is_high_above, offer_in, offered_to, read_up_to}
-use Rattle.message_commands.specs.packet_verdicts.Views.{nobody}
+use Rattle.cmd_messages.specs.packet_verdicts.Views.{nobody}
 use Rattle.post_changes.proofs.PostLaws.{all_count as posted_count}
 use Rattle.post_changes.specs.Posted.{all_posted}
 
@@ -44,7 +44,7 @@ setup_stays (Offer user highs) b = by (user_of user b)
 setup_stays (Acknowledge user packet now) b = after_ack (λ (c : Board). c.ledger.setup ≡ b.ledger.setup) user packet now b refl (λ u here o. refl)
 setup_stays (Upload user digest refused posts) b = refl
 
-joined_places : (members place : ℕ) (conferences : List Conference) → length (joined_from members place conferences) ≡ length conferences
+joined_places : (members place : ℕ) (conferences : List ConferenceContents) → length (joined_from members place conferences) ≡ length conferences
 joined_places members place [] = refl
 joined_places members place (c ∷ conferences) = ap suc (joined_places members (place + 1) conferences)
 
@@ -54,7 +54,7 @@ module _ (b : Board) (whole : IsWhole b) where
   conferences_count : (bases : List Contents) → length bases ≡ length (contents_of b) → length (conferences_in bases) ≡ length b.ledger.setup.conferences
   conferences_count bases same =
       length-map bases (λ (base : Contents). base.conference)
-      ∙ (same ∙ (sym (length-map (contents_of b) (λ (base : Contents). base.conference)) ∙ (ap (length {A = Conference}) (conferences_are b whole) ∙ whole.count)))
+      ∙ (same ∙ (sym (length-map (contents_of b) (λ (base : Contents). base.conference)) ∙ (ap (length {A = ConferenceContents}) (conferences_are b whole) ∙ whole.count)))
 
   pub one_count : (place : ℕ) (f : Contents → Contents) (o : Option Contents) → length (with_base place (option_map f o) b).conferences ≡ length (with_base place (option_map f o) b).ledger.setup.conferences
   one_count place f None = whole.count

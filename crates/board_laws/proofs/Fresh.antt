@@ -18,10 +18,10 @@ use Rattle.board_laws.proofs.Readers.{no_pointer}
 use Rattle.board_ledger.specs.declared.user.User.{User}
 use Rattle.jam_base.specs.Contents.{Contents, pointer_of}
 use Rattle.jam_layout.specs.Valid.{IsConference}
-use Rattle.jam_layout.specs.declared.conference.Conference.{Conference}
+use Rattle.jam_layout.specs.declared.conference.ConferenceContents.{ConferenceContents}
 use Rattle.jam_layout.specs.declared.reader.Reader.{Reader}
 use Rattle.jam_layout.specs.declared.shape.Shape.{Shape}
-use Rattle.setup_file.specs.declared.setup.Setup.{Setup}
+use Rattle.setup_file.specs.declared.fields.SetupFields.{SetupFields}
 
 empty_count : (shapes : List Shape) → length (empty_conferences shapes) ≡ length shapes
 empty_count [] = refl
@@ -33,13 +33,13 @@ empty_even (s ∷ shapes) zero base here = subst IsEven (same_Some _ base here) 
 empty_even (s ∷ shapes) (suc place) base here = empty_even shapes place base here
 
 -- ---- a valid board
-all_even : (shapes : List Shape) (conferences : List Conference) → AllZip IsConference shapes conferences → (place : ℕ) (base : Contents) → slice_get (contents shapes conferences) place ≡ Some base → IsEven base
+all_even : (shapes : List Shape) (conferences : List ConferenceContents) → AllZip IsConference shapes conferences → (place : ℕ) (base : Contents) → slice_get (contents shapes conferences) place ≡ Some base → IsEven base
 all_even [] conferences all place base here = absurd (none-some base here)
 all_even (s ∷ shapes) [] all place base here = absurd all
 all_even (s ∷ shapes) (c ∷ conferences) all zero base here = subst IsEven (same_Some _ base here) all.0.pointers.all
 all_even (s ∷ shapes) (c ∷ conferences) all (suc place) base here = all_even shapes conferences all.1 place base here
 
-zip_count : (shapes : List Shape) (conferences : List Conference) → AllZip IsConference shapes conferences → length conferences ≡ length shapes
+zip_count : (shapes : List Shape) (conferences : List ConferenceContents) → AllZip IsConference shapes conferences → length conferences ≡ length shapes
 zip_count [] [] all = refl
 zip_count [] (c ∷ conferences) all = absurd all
 zip_count (s ∷ shapes) [] all = absurd all
@@ -52,7 +52,7 @@ board_whole b ok = record {
 }
 
 -- ---- a fresh board
-module _ (setup : Setup) (now : ℕ) where
+module _ (setup : SetupFields) (now : ℕ) where
   pub fresh_whole : IsWhole (made setup now)
   fresh_whole = record {
     count = empty_count (shapes_of (new_ledger setup now)) ∙ shapes_count (new_ledger setup now) 0 setup.conferences;

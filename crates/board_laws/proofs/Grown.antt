@@ -19,14 +19,14 @@ use Rattle.open_offers.specs.declared.offer.OpenOffer.{OpenOffer}
 use Rattle.board_ledger.specs.declared.user.User.{User}
 use Rattle.jam_base.specs.Contents.{Contents, pointer_of, with_acknowledged, with_deleted, with_messages, with_reader}
 use Rattle.jam_base.specs.Slots.{has_live}
-use Rattle.jam_layout.specs.declared.conference.Conference.{Conference}
+use Rattle.jam_layout.specs.declared.conference.ConferenceContents.{ConferenceContents}
 use Rattle.jam_layout.specs.declared.reader.Reader.{Reader}
 use Rattle.jam_layout.specs.declared.shape.Shape.{Shape}
 use Rattle.jam_records.specs.declared.message.Kind.{Kind}
 use Rattle.jam_records.specs.declared.message.Message.{Message}
-use Rattle.message_commands.specs.mail_board.Changes.{changed}
-use Rattle.message_commands.specs.mail_board.declared.change.Change.{Change}
-use Rattle.message_commands.specs.mail_board.declared.change.Change.TheVariants.{Enroll, Append, Spread, Kill, Offer, Acknowledge, Upload}
+use Rattle.cmd_messages.specs.mail_board.Changes.{changed}
+use Rattle.cmd_messages.specs.mail_board.declared.change.Change.{Change}
+use Rattle.cmd_messages.specs.mail_board.declared.change.Change.TheVariants.{Enroll, Append, Spread, Kill, Offer, Acknowledge, Upload}
 use Rattle.offer_changes.proofs.LedgerLaws.{shapes_stay}
 use Rattle.offer_changes.proofs.ReadLaws.{all_shapes}
 use Rattle.offer_changes.proofs.UserLaws.{user_there}
@@ -60,16 +60,16 @@ pub record IsWhole (b : Board) : Type 0 where
   pub count : length b.conferences ≡ length b.ledger.setup.conferences
   pub even : (place : ℕ) (base : Contents) → slice_get (contents_of b) place ≡ Some base → IsEven base
 
-shapes_back : (shapes : List Shape) (conferences : List Conference) → length conferences ≡ length shapes → shapes_in (contents shapes conferences) ≡ shapes
+shapes_back : (shapes : List Shape) (conferences : List ConferenceContents) → length conferences ≡ length shapes → shapes_in (contents shapes conferences) ≡ shapes
 shapes_back [] conferences same = refl
 shapes_back (s ∷ shapes) [] same = absurd (omega (arith, same))
 shapes_back (s ∷ shapes) (c ∷ conferences) same = ap (λ (ss : List Shape). s ∷ ss) (shapes_back shapes conferences (omega (arith, same)))
 
-conferences_back : (shapes : List Shape) (conferences : List Conference) → length conferences ≡ length shapes → conferences_in (contents shapes conferences) ≡ conferences
+conferences_back : (shapes : List Shape) (conferences : List ConferenceContents) → length conferences ≡ length shapes → conferences_in (contents shapes conferences) ≡ conferences
 conferences_back [] [] same = refl
 conferences_back [] (c ∷ conferences) same = absurd (omega (arith, same))
 conferences_back (s ∷ shapes) [] same = absurd (omega (arith, same))
-conferences_back (s ∷ shapes) (c ∷ conferences) same = ap (λ (cs : List Conference). c ∷ cs) (conferences_back shapes conferences (omega (arith, same)))
+conferences_back (s ∷ shapes) (c ∷ conferences) same = ap (λ (cs : List ConferenceContents). c ∷ cs) (conferences_back shapes conferences (omega (arith, same)))
 
 pub shapes_are : (b : Board) → IsWhole b → shapes_in (contents_of b) ≡ shapes_of b.ledger
 shapes_are b whole = shapes_back (shapes_of b.ledger) b.conferences (whole.count ∙ sym (shapes_count b.ledger 0 b.ledger.setup.conferences))
@@ -103,11 +103,11 @@ module _ (b : Board) (whole : IsWhole b) (R : Contents → Contents → Type 0) 
   zip_with l bases same shapes zip = subst (AllZip R (contents_of b)) (sym (contents_with b whole l bases same shapes)) zip
 
   -- ---- a user more
-  one_member : (u : User) (place : ℕ) (kind : Kind) (c : Conference) → ((x : Contents) → IsEven x → R x (with_reader (1 + length b.ledger.users) u.name x)) → IsEven (record { shape = shape_of b.ledger place kind; conference = c })
+  one_member : (u : User) (place : ℕ) (kind : Kind) (c : ConferenceContents) → ((x : Contents) → IsEven x → R x (with_reader (1 + length b.ledger.users) u.name x)) → IsEven (record { shape = shape_of b.ledger place kind; conference = c })
       → R (record { shape = shape_of b.ledger place kind; conference = c }) (record { shape = shape_of (one_more u b.ledger) place kind; conference = joined_in u.members place c })
   one_member u place kind c joined even = subst (λ (rs : List Reader). R old (with_readers rs (joined_in u.members place c))) (sym (readers_more place 1 b.ledger.users u)) (by (eqb (bit_at u.members place) 1))
     where
-      with_readers : List Reader → Conference → Contents
+      with_readers : List Reader → ConferenceContents → Contents
       with_readers rs conference = record { shape = record { place = place; created = b.ledger.created; kind = kind; readers = rs }; conference = conference }
 
       readers : List Reader
@@ -120,7 +120,7 @@ module _ (b : Board) (whole : IsWhole b) (R : Contents → Contents → Type 0) 
       by true = joined old even
       by false = subst (λ (rs : List Reader). R old (with_readers rs c)) (sym (append-nil readers)) (itself old)
 
-  zip_joined : (u : User) → ((x : Contents) → IsEven x → R x (with_reader (1 + length b.ledger.users) u.name x)) → (place : ℕ) (cs : List SetupConference) (conferences : List Conference)
+  zip_joined : (u : User) → ((x : Contents) → IsEven x → R x (with_reader (1 + length b.ledger.users) u.name x)) → (place : ℕ) (cs : List SetupConference) (conferences : List ConferenceContents)
       → ((k : ℕ) (x : Contents) → slice_get (contents (shapes_from b.ledger place cs) conferences) k ≡ Some x → IsEven x)
       → AllZip R (contents (shapes_from b.ledger place cs) conferences) (contents (shapes_from (one_more u b.ledger) place cs) (joined_from u.members place conferences))
   zip_joined u joined place [] conferences even = tt

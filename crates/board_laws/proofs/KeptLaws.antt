@@ -3,7 +3,7 @@ use Rattle.std.proofs.Common.{◌≡◌, inl, inr, ℕ, suc, ◌<◌, ◌≤◌,
 use Rattle.std.specs.Prelude.{slice_get}
 use Rattle.std.proofs.lemmas.Bool.{and_from, and_parts}
 use Rattle.std.proofs.lemmas.Option.{none-some}
-use Rattle.message_commands.specs.board_commands.State.{State, Made}
+use Rattle.cmd_messages.specs.cmd_board.State.{State, Made}
 use Rattle.board_layout.specs.Board.{Board}
 use Rattle.board_layout.specs.Lookups.{pointer_at, user_of, slots_in, message_at}
 use Rattle.board_laws.proofs.Changing.{AcksBy}
@@ -20,8 +20,8 @@ use Rattle.board_laws.specs.BoardCommand.{BoardCommand}
 use Rattle.board_laws.specs.History.{IsBeginning, IsHistory, Deed, LeadsTo, Steps}
 use Rattle.board_laws.specs.Kept.{IsAck, IsLive, NoAckBetween, StaysMade, StaysOffered}
 use Rattle.jam_base.specs.Slots.{has_live}
-use Rattle.message_commands.specs.mail_board.declared.change.Change.{Change}
-use Rattle.message_commands.specs.mail_board.declared.change.Change.TheVariants.{Enroll, Append, Spread, Kill, Offer, Acknowledge, Upload}
+use Rattle.cmd_messages.specs.mail_board.declared.change.Change.{Change}
+use Rattle.cmd_messages.specs.mail_board.declared.change.Change.TheVariants.{Enroll, Append, Spread, Kill, Offer, Acknowledge, Upload}
 use Rattle.offered_packets.specs.Sees.{is_allowed, sees}
 use Rattle.offered_packets.specs.declared.offered_message.OfferedMessage.{OfferedMessage}
 

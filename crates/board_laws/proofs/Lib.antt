@@ -17,8 +17,8 @@ pub mod KeptLaws
 pub mod Offers
 pub mod PassedLaws
 pub mod PacketLaws
-pub use Rattle.adopt_commands.proofs as adopt_commands
-pub use Rattle.pack_commands.proofs as pack_commands
-pub use Rattle.toss_commands.proofs as toss_commands
-pub use Rattle.exchange_commands.proofs as exchange_commands
-pub use Rattle.message_commands.proofs as message_commands
+pub use Rattle.cmd_adopt.proofs as cmd_adopt
+pub use Rattle.cmd_pack.proofs as cmd_pack
+pub use Rattle.cmd_toss.proofs as cmd_toss
+pub use Rattle.cmd_exchange.proofs as cmd_exchange
+pub use Rattle.cmd_messages.proofs as cmd_messages

@@ -12,8 +12,8 @@ use Rattle.board_laws.proofs.Readers.{PointerFollows}
 use Rattle.board_laws.proofs.Users.{KeepsOffers, OffersTo, UserFollows, offers_stay, same_ledger, same_offers, same_user, same_users, user_follows}
 use Rattle.board_ledger.specs.declared.ledger.Ledger.{Ledger}
 use Rattle.jam_base.specs.Contents.{Contents}
-use Rattle.message_commands.specs.mail_board.Changes.{changed}
-use Rattle.message_commands.specs.mail_board.declared.change.Change.{Change}
+use Rattle.cmd_messages.specs.mail_board.Changes.{changed}
+use Rattle.cmd_messages.specs.mail_board.declared.change.Change.{Change}
 use Rattle.post_changes.proofs.slot_changes.PackLaws.{packed_shape}
 use Rattle.post_changes.specs.slot_changes.Packed.{packed, with_packed}
 

@@ -11,7 +11,7 @@ use Rattle.board_layout.specs.Board.{Board}
 use Rattle.board_layout.specs.Lookups.{pointer_at, slots_in}
 use Rattle.board_laws.proofs.Elements.{AreRising, In, among_first, contains_in, filter_short, from_filter, from_flat, from_map, from_range, from_take, greatest_reached, in_contains, in_filter, in_flat, in_map, in_range, rising_append, rising_filter}
 use Rattle.board_laws.proofs.Views.{seen_within}
-use Rattle.jam_layout.specs.declared.conference.Conference.{Conference}
+use Rattle.jam_layout.specs.declared.conference.ConferenceContents.{ConferenceContents}
 use Rattle.jam_records.specs.declared.message.Slot.{Slot}
 use Rattle.offered_packets.specs.Offered.{all_numbers, high_of, highs, is_above, is_new, numbers_in, offered}
 use Rattle.offered_packets.specs.Sees.{sees}
@@ -51,7 +51,7 @@ module _ (b : Board) where
   place_there place some = elim (cases_lt place (length b.conferences)) [
     | inl within ↦ within
     | inr past ↦
-        let none : slots_in b place ≡ [] = ap (λ (o : Option Conference). unwrap_or (option_map (λ (c : Conference). c.slots) o) []) (slice_get_past b.conferences place past) in
+        let none : slots_in b place ≡ [] = ap (λ (o : Option ConferenceContents). unwrap_or (option_map (λ (c : ConferenceContents). c.slots) o) []) (slice_get_past b.conferences place past) in
         absurd (omega (arith, some, ap (length {A = Slot}) none))
   ]
 
@@ -62,13 +62,13 @@ module _ (b : Board) where
       in_flat (numbers_in b) m.place m (range_with_len 0 (length b.conferences)) place (in_map (λ (n : ℕ). record { place = m.place; number = n }) m.number (range_with_len 1 (length (slots_in b m.place))) number)
 
   -- ---- as many as there are slots
-  numbers_count : (place : ℕ) (conferences : List Conference) → ((k : ℕ) (c : Conference) → slice_get conferences k ≡ Some c → slice_get b.conferences (place + k) ≡ Some c)
+  numbers_count : (place : ℕ) (conferences : List ConferenceContents) → ((k : ℕ) (c : ConferenceContents) → slice_get conferences k ≡ Some c → slice_get b.conferences (place + k) ≡ Some c)
       → length (flat_map (numbers_in b) (range_with_len place (length conferences))) ≡ sum_by (λ c. length c.slots) conferences
   numbers_count place [] there = refl
   numbers_count place (c ∷ conferences) there =
       let same : place + 0 ≡ place = omega arith in
       let at : slice_get b.conferences place ≡ Some c = subst (λ (k : ℕ). slice_get b.conferences k ≡ Some c) same (there 0 c refl) in
-      let slots : slots_in b place ≡ c.slots = ap (λ (o : Option Conference). unwrap_or (option_map (λ (c : Conference). c.slots) o) []) at in
+      let slots : slots_in b place ≡ c.slots = ap (λ (o : Option ConferenceContents). unwrap_or (option_map (λ (c : ConferenceContents). c.slots) o) []) at in
       let others = numbers_count (place + 1) conferences (λ k d is. subst (λ (n : ℕ). slice_get b.conferences n ≡ Some d) (next k) (there (suc k) d is)) in
       omega (
         arith,
@@ -76,7 +76,7 @@ module _ (b : Board) where
         length-map-range_with_len {X = OfferedMessage} (λ (n : ℕ). record { place = place; number = n }) 1 (length (slots_in b place)),
         ap (length {A = Slot}) slots,
         others,
-        sum_by-cons (λ (d : Conference). length d.slots) c conferences,
+        sum_by-cons (λ (d : ConferenceContents). length d.slots) c conferences,
       )
     where
       next : (k : ℕ) → place + suc k ≡ place + 1 + k

@@ -7,8 +7,8 @@ use Rattle.std.proofs.lemmas.Bool.{and_from, cases_eq, cases_lt, cond-true, eq-e
 use Rattle.std.proofs.lemmas.List.{append-nil}
 use Rattle.std.proofs.lemmas.Option.{none-some, same_Some}
 use Rattle.std.proofs.lemmas.Slice.Eq.{bytes_eq-Decides}
-use Rattle.message_commands.specs.board_commands.State.{State, Made, migrated, state_of}
-use Rattle.message_commands.specs.board_commands.Turns.{Turn}
+use Rattle.cmd_messages.specs.cmd_board.State.{State, Made, migrated, state_of}
+use Rattle.cmd_messages.specs.cmd_board.Turns.{Turn}
 use Rattle.board_layout.specs.Board.{Board}
 use Rattle.board_layout.specs.Lookups.{user_of}
 use Rattle.board_laws.proofs.Moves.{Makes, Move, Packs, moved}
@@ -27,18 +27,18 @@ use Rattle.board_ledger.specs.declared.user.User.{User}
 use Rattle.entry_runs.specs.Door.{here}
 use Rattle.entry_runs.specs.Entry.{Reply}
 use Rattle.entry_runs.specs.declared.class.Class.TheVariants as class
-use Rattle.exchange_commands.specs.door_upload.declared.answer.Uploaded.TheVariants as answer
+use Rattle.cmd_exchange.specs.door_upload.declared.answer.Uploaded.TheVariants as answer
 use Rattle.jam_records.specs.declared.message.Message.{Message}
-use Rattle.message_commands.specs.mail_board.Changes.{changed}
-use Rattle.message_commands.specs.mail_board.Readers.{upload_of}
-use Rattle.message_commands.specs.mail_board.declared.change.Change.{Change}
-use Rattle.message_commands.specs.mail_board.declared.change.Change.TheVariants.{Enroll, Append, Spread, Kill, Offer, Acknowledge, Upload}
+use Rattle.cmd_messages.specs.mail_board.Changes.{changed}
+use Rattle.cmd_messages.specs.mail_board.Readers.{upload_of}
+use Rattle.cmd_messages.specs.mail_board.declared.change.Change.{Change}
+use Rattle.cmd_messages.specs.mail_board.declared.change.Change.TheVariants.{Enroll, Append, Spread, Kill, Offer, Acknowledge, Upload}
 use Rattle.offer_changes.specs.Changed.{for_user, offered_to}
-use Rattle.message_commands.specs.packet_verdicts.Judged.{judged, refused_count}
+use Rattle.cmd_messages.specs.packet_verdicts.Judged.{judged, refused_count}
 use Rattle.post_changes.specs.Posted.{upload_record}
 use Rattle.sha2.specs.Sha256.{sha256}
-use Rattle.message_commands.specs.shelf_files.declared.refusal.Refusal.{Refusal}
-use Rattle.exchange_commands.specs.Upload.{UploadsFile, UploadsRead, uploaded_text}
+use Rattle.cmd_messages.specs.shelf_files.declared.refusal.Refusal.{Refusal}
+use Rattle.cmd_exchange.specs.Upload.{UploadsFile, UploadsRead, uploaded_text}
 
 -- ---- a record stays
 -- the records of a board after a change are those before it, and perhaps more

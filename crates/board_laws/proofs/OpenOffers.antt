@@ -8,7 +8,7 @@ use Rattle.board_layout.specs.Lookups.{user_of}
 use Rattle.board_laws.proofs.Elements.{In, from_drop, from_filter, in_either}
 use Rattle.open_offers.specs.declared.offer.OpenOffer.{OpenOffer}
 use Rattle.board_ledger.specs.declared.user.User.{User}
-use Rattle.message_commands.specs.mail_board.Readers.{has_open, is_offered}
+use Rattle.cmd_messages.specs.mail_board.Readers.{has_open, is_offered}
 use Rattle.offer_changes.specs.Changed.{acknowledged, for_user, offer_in, read_by, read_offer, with_offer, without_offer}
 
 -- ---- lists of offers

@@ -2,7 +2,7 @@
 use Rattle.std.proofs.Common.{◌≡◌, ℕ, suc, ◌+◌, ◌<◌, ◌≤◌, List, Option, Some, None, Ok, refl, sym, ap, ◌∙◌, subst, arith}
 use Rattle.std.specs.Prelude.{Result}
 use Rattle.std.proofs.lemmas.Option.{same_Some}
-use Rattle.message_commands.specs.board_commands.State.{State, Made, migrated, state_of}
+use Rattle.cmd_messages.specs.cmd_board.State.{State, Made, migrated, state_of}
 use Rattle.board_layout.specs.Board.{Board}
 use Rattle.board_layout.specs.Lookups.{user_of}
 use Rattle.board_laws.proofs.Moves.{Move, moved, users_moved}
@@ -12,13 +12,13 @@ use Rattle.board_laws.specs.BoardCommand.{BoardCommand, Export, board_does}
 use Rattle.board_laws.specs.History.{Deed, IsHistory, LeadsTo, Steps}
 use Rattle.board_laws.specs.Passed.{IsExport, PacketsRise}
 use Rattle.board_ledger.specs.declared.user.User.{User}
-use Rattle.exchange_commands.specs.door_export.Export.{ExportRefusal, Handout, export_as, export_of, export_to, packet_to, handed_unless_refused, user_refusal}
+use Rattle.cmd_exchange.specs.door_export.Export.{ExportRefusal, Handout, export_as, export_of, export_to, packet_to, handed_unless_refused, user_refusal}
 use Rattle.entry_runs.specs.Door.{here}
-use Rattle.exchange_commands.specs.Export.{handing_of}
-use Rattle.exchange_commands.specs.Handing.{Handing}
-use Rattle.message_commands.specs.mail_board.Changes.{changed}
-use Rattle.message_commands.specs.mail_board.Readers.{user_id}
-use Rattle.message_commands.specs.mail_board.declared.change.Change.TheVariants.{Offer}
+use Rattle.cmd_exchange.specs.Export.{handing_of}
+use Rattle.cmd_exchange.specs.Handing.{Handing}
+use Rattle.cmd_messages.specs.mail_board.Changes.{changed}
+use Rattle.cmd_messages.specs.mail_board.Readers.{user_id}
+use Rattle.cmd_messages.specs.mail_board.declared.change.Change.TheVariants.{Offer}
 use Rattle.offer_changes.specs.Changed.{with_offer}
 use Rattle.offered_packets.specs.Offered.{highs, offered}
 

@@ -4,7 +4,7 @@ use Rattle.std.specs.Prelude.{Contains, slice_get}
 use Rattle.std.proofs.lemmas.Bool.{cases_eq, cases_lt}
 use Rattle.std.proofs.lemmas.Option.{none-some, same_Some}
 use Rattle.post_changes.specs.board_changes.Changed.{made}
-use Rattle.message_commands.specs.board_commands.State.{State, NotMade}
+use Rattle.cmd_messages.specs.cmd_board.State.{State, NotMade}
 use Rattle.board_layout.specs.Board.{Board}
 use Rattle.board_layout.specs.Lookups.{pointer_at, user_of, slots_in}
 use Rattle.board_laws.proofs.Changing.{Reads, known_user, pointers_read}
@@ -25,12 +25,12 @@ use Rattle.board_laws.specs.Kept.{IsAck}
 use Rattle.board_laws.specs.Passed.{IsAcknowledged, IsExport, IsPassed}
 use Rattle.open_offers.specs.declared.offer.OpenOffer.{OpenOffer}
 use Rattle.board_ledger.specs.declared.user.User.{User}
-use Rattle.message_commands.specs.mail_board.declared.change.Change.TheVariants.{Enroll, Append, Spread, Kill, Offer, Acknowledge, Upload}
+use Rattle.cmd_messages.specs.mail_board.declared.change.Change.TheVariants.{Enroll, Append, Spread, Kill, Offer, Acknowledge, Upload}
 use Rattle.offer_changes.proofs.UserLaws.{id_above}
 use Rattle.offered_packets.specs.Offered.{highs, offered}
 use Rattle.offered_packets.specs.Sees.{sees}
 use Rattle.offered_packets.specs.declared.offered_message.OfferedMessage.{OfferedMessage}
-use Rattle.setup_file.specs.declared.setup.Setup.{Setup}
+use Rattle.setup_file.specs.declared.fields.SetupFields.{SetupFields}
 
 -- ---- one change, or a pack
 module _ (b : Board) (whole : IsWhole b) (move : Move) where
@@ -122,7 +122,7 @@ module _ {Entry : Type 0} (command_of : Entry → BoardCommand) (start : State) 
     passed = λ id place number pointer seen is upto. acknowledged_more n id (record { place = place; number = number }) (holds.passed id place number pointer seen is upto);
   }
 
-  fresh : (n : ℕ) (setup : Setup) (now : ℕ) → IsAccounted (suc n) (made setup now)
+  fresh : (n : ℕ) (setup : SetupFields) (now : ℕ) → IsAccounted (suc n) (made setup now)
   fresh n setup now = record {
     whole = fresh_whole setup now;
     pointers = λ id place pointer is. absurd (no_pointer_there setup now place id pointer is);

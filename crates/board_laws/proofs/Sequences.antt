@@ -3,10 +3,10 @@ use Rattle.std.proofs.Common.{◌≡◌, ◌⊎◌, inl, inr, ⊎_elim, ℕ, zer
 use Rattle.std.specs.Prelude.{slice_get}
 use Rattle.std.proofs.lemmas.Bool.{cases_eq}
 use Rattle.post_changes.specs.board_changes.Changed.{made}
-use Rattle.message_commands.specs.board_commands.State.{State, NotMade, Made, Old, Spoiled, migrated}
+use Rattle.cmd_messages.specs.cmd_board.State.{State, NotMade, Made, Old, Spoiled, migrated}
 use Rattle.board_layout.specs.Board.{Board}
 use Rattle.board_layout.specs.Valid.{IsBoard}
-use Rattle.door_outside.specs.Shelf.{Files}
+use Rattle.door_outside.specs.Shelf.{ShelfFiles}
 use Rattle.board_laws.proofs.Moves.{Move, moved}
 use Rattle.board_laws.proofs.Turns.{BecauseOf, FromNone, Turns, from_none, turn_on}
 use Rattle.board_laws.specs.BoardCommand.{BoardCommand, board_does}
@@ -14,7 +14,7 @@ use Rattle.board_laws.specs.BoardCommand as command
 use Rattle.board_laws.specs.History.{Deed, Steps, IsBeginning, IsHistory, LeadsTo, after, left_by}
 use Rattle.entry_runs.specs.Door.{World, here}
 use Rattle.entry_runs.specs.Runs.{Stepped}
-use Rattle.setup_file.specs.declared.setup.Setup.{Setup}
+use Rattle.setup_file.specs.declared.fields.SetupFields.{SetupFields}
 
 -- each entry does to a board what its command does
 abbrev pub AreCommands : {Entry : Type 0} → (Entry → BoardCommand) → Steps Entry → Type 0
@@ -56,7 +56,7 @@ of_board (command.Sample seed count) = inl tt
 of_board command.Other = inr (λ now world stepped same. same)
 
 -- what it does to a board in files of the first version it does to that board
-as_today : (now : ℕ) (c : BoardCommand) (b : Board) (shelf : Files) (stepped : Stepped (World State)) → IsOfBoard c → board_does now c (here (Old b) shelf) stepped → board_does now c (here (Made b) shelf) stepped
+as_today : (now : ℕ) (c : BoardCommand) (b : Board) (shelf : ShelfFiles) (stepped : Stepped (World State)) → IsOfBoard c → board_does now c (here (Old b) shelf) stepped → board_does now c (here (Made b) shelf) stepped
 as_today now (command.Init file) b shelf stepped own step = step
 as_today now (command.Enroll name flags conferences) b shelf stepped own step = step
 as_today now command.Check b shelf stepped own step = step
@@ -72,7 +72,7 @@ as_today now (command.Sample seed count) b shelf stepped own step = step
 as_today now command.Other b shelf stepped own step = absurd own
 
 -- so it does to any state what it does to the board that the state is of
-as_made : (now : ℕ) (c : BoardCommand) (s : State) (b : Board) (shelf : Files) (stepped : Stepped (World State)) → IsOfBoard c → migrated s ≡ Made b → board_does now c (here s shelf) stepped → board_does now c (here (Made b) shelf) stepped
+as_made : (now : ℕ) (c : BoardCommand) (s : State) (b : Board) (shelf : ShelfFiles) (stepped : Stepped (World State)) → IsOfBoard c → migrated s ≡ Made b → board_does now c (here s shelf) stepped → board_does now c (here (Made b) shelf) stepped
 as_made now c NotMade b shelf stepped own is step = absurd (cc is)
 as_made now c (Made a) b shelf stepped own is step = subst (λ (s : State). board_does now c (here s shelf) stepped) is step
 as_made now c (Old a) b shelf stepped own is step = subst (λ (s : State). board_does now c (here s shelf) stepped) is (as_today now c a shelf stepped own step)
@@ -135,7 +135,7 @@ module _ {Entry : Type 0} (command_of : Entry → BoardCommand) (Step : Steps En
   -- ---- from the beginning on
   -- what holds of the board with which they begin, and of each that is made, and is kept by each change or pack
   module _ (P : ℕ → Board → Type 0) (begins : IsBeginning start) (first : (b : Board) → IsBoard b → migrated start ≡ Made b → P zero b)
-      (fresh : (n : ℕ) (setup : Setup) (now : ℕ) → P (suc n) (made setup now))
+      (fresh : (n : ℕ) (setup : SetupFields) (now : ℕ) → P (suc n) (made setup now))
       (next : (n : ℕ) (d : Deed Entry) (b : Board) (move : Move) → slice_get deeds n ≡ Some d → LeadsTo start deeds n b → BecauseOf d.now b (command_of d.entry) d.stepped.class move → P n b → P (suc n) (moved move b))
       (idle : (n : ℕ) (b : Board) → P n b → P (suc n) b) where
     Holds : ℕ → State → Type 0

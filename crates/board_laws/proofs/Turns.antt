@@ -1,14 +1,14 @@
 -- What each command makes of a board, and of no board: nothing, or one change, and then why, or a pack.
 use Rattle.std.proofs.Common.{◌≡◌, ◌⊎◌, ℕ, ◌+◌, Bool, true, false, cond, List, Option, Some, None, Result, Ok, Err, refl, ap, ◌∙◌, inl, inr}
 use Rattle.std.proofs.lemmas.Bool.{cond-false, cond-true}
-use Rattle.adopt_commands.specs.Adopt.{adopt_at, base_turn}
-use Rattle.adopt_commands.specs.Adopted.{adopted}
-use Rattle.adopt_commands.specs.BaseFiles.{base_of}
+use Rattle.cmd_adopt.specs.Adopt.{adopt_at, base_turn}
+use Rattle.cmd_adopt.specs.Adopted.{adopted}
+use Rattle.cmd_adopt.specs.BaseFiles.{base_of}
 use Rattle.post_changes.specs.board_changes.Changed.{made}
-use Rattle.message_commands.specs.board_commands.Enroll.{enroll_refusals, enrolling, first_refusal, is_net_flag}
-use Rattle.message_commands.specs.board_commands.Init.{made_of}
-use Rattle.message_commands.specs.board_commands.State.{State, NotMade, Made, state_of}
-use Rattle.message_commands.specs.board_commands.Turns.{Turn, refuses}
+use Rattle.cmd_messages.specs.cmd_board.Enroll.{enroll_refusals, enrolling, first_refusal, is_net_flag}
+use Rattle.cmd_messages.specs.cmd_board.Init.{made_of}
+use Rattle.cmd_messages.specs.cmd_board.State.{State, NotMade, Made, state_of}
+use Rattle.cmd_messages.specs.cmd_board.Turns.{Turn, refuses}
 use Rattle.board_layout.specs.Board.{Board}
 use Rattle.board_layout.specs.Lookups.{user_of, place_of}
 use Rattle.board_laws.proofs.Moves.{Makes, Move, Packs, moved}
@@ -16,55 +16,55 @@ use Rattle.board_laws.proofs.Uploads.{UploadTurns, upload_turns}
 use Rattle.board_laws.specs.BoardCommand.{BoardCommand, board_does}
 use Rattle.board_laws.specs.BoardCommand as command
 use Rattle.board_ledger.specs.declared.user.User.{User}
-use Rattle.command_words.specs.Choice.{chosen_from}
-use Rattle.command_words.specs.declared.choice.Choice.{Choice}
-use Rattle.exchange_commands.specs.door_export.Ack.{AckRefusal, NoPacket, ack_as, ack_of}
-use Rattle.exchange_commands.specs.door_export.Ack as why
-use Rattle.exchange_commands.specs.door_export.Export.{ExportRefusal, Handout, NoUser, export_as, export_of, export_to, packet_to, handed_unless_refused, user_refusal}
-use Rattle.door_outside.specs.Shelf.{Files}
+use Rattle.cmd_words.specs.Choice.{chosen_from}
+use Rattle.cmd_words.specs.declared.choice.Choice.{Choice}
+use Rattle.cmd_exchange.specs.door_export.Ack.{AckRefusal, NoPacket, ack_as, ack_of}
+use Rattle.cmd_exchange.specs.door_export.Ack as why
+use Rattle.cmd_exchange.specs.door_export.Export.{ExportRefusal, Handout, NoUser, export_as, export_of, export_to, packet_to, handed_unless_refused, user_refusal}
+use Rattle.door_outside.specs.Shelf.{ShelfFiles}
 use Rattle.entry_runs.specs.Door.{World, here}
 use Rattle.entry_runs.specs.Entry.{Reply}
 use Rattle.entry_runs.specs.Runs.{Stepped}
 use Rattle.entry_runs.specs.declared.class.Class.{Class}
 use Rattle.entry_runs.specs.declared.class.Class.TheVariants.{Done}
-use Rattle.exchange_commands.specs.Ack.{turn_of as ack_turn_of}
-use Rattle.exchange_commands.specs.Export.{handing_of}
-use Rattle.exchange_commands.specs.Handing.{Handing}
-use Rattle.toss_commands.specs.fts_packet.declared.packet.FtsMessage.{FtsMessage}
+use Rattle.cmd_exchange.specs.Ack.{acknowledged_turn as ack_turn_of}
+use Rattle.cmd_exchange.specs.Export.{handing_of}
+use Rattle.cmd_exchange.specs.Handing.{Handing}
+use Rattle.cmd_toss.specs.fts_packet.declared.packet.FtsMessage.{FtsMessage}
 use Rattle.import_sheet.specs.declared.sheet.Sheet.{Sheet}
 use Rattle.jam_adopt.specs.declared.found.Found.{Found}
 use Rattle.jam_records.specs.declared.message.Message.{Message}
-use Rattle.message_commands.specs.mail_board.Readers.{is_offered, offer_of, user_id}
-use Rattle.message_commands.specs.mail_board.declared.change.Change.{Change}
-use Rattle.message_commands.specs.mail_board.declared.change.Change.TheVariants.{Enroll, Append, Spread, Kill, Offer, Acknowledge}
-use Rattle.message_commands.specs.mail_board.declared.change.Change.TheVariants as change
-use Rattle.message_commands.specs.Import.{ImportsAt, appending, import_refusals, imported_messages, sheet_turn}
-use Rattle.message_commands.specs.Kill.{has_message, kill_at, killed_line, killing}
+use Rattle.cmd_messages.specs.mail_board.Readers.{is_offered, offer_of, user_id}
+use Rattle.cmd_messages.specs.mail_board.declared.change.Change.{Change}
+use Rattle.cmd_messages.specs.mail_board.declared.change.Change.TheVariants.{Enroll, Append, Spread, Kill, Offer, Acknowledge}
+use Rattle.cmd_messages.specs.mail_board.declared.change.Change.TheVariants as change
+use Rattle.cmd_messages.specs.Import.{ImportsAt, appending, import_refusals, imported_messages, sheet_turn}
+use Rattle.cmd_messages.specs.Kill.{has_message, kill_at, killed_line, killing}
 use Rattle.offer_changes.specs.Changed.{acknowledged}
 use Rattle.offered_packets.specs.Offered.{highs, offered}
-use Rattle.pack_commands.specs.Pack.{pack_at}
-use Rattle.message_commands.specs.packet_verdicts.Judged.{judged, refused_count}
-use Rattle.message_commands.specs.Sample.{sample_refusals, sampled_posts, sampling}
-use Rattle.setup_file.specs.declared.setup.Setup.{Setup}
-use Rattle.message_commands.specs.shelf_files.ShelfFile.{file_within, rep_limit}
-use Rattle.message_commands.specs.shelf_files.Halts.{done}
-use Rattle.message_commands.specs.shelf_files.declared.refusal.Refusal.{Refusal}
-use Rattle.message_commands.specs.shelf_files.declared.refusal.Refusal.TheVariants.{NoMessage}
+use Rattle.cmd_pack.specs.Pack.{pack_at}
+use Rattle.cmd_messages.specs.packet_verdicts.Judged.{judged, refused_count}
+use Rattle.cmd_messages.specs.Sample.{sample_refusals, sampled_posts, sampling}
+use Rattle.setup_file.specs.declared.fields.SetupFields.{SetupFields}
+use Rattle.cmd_messages.specs.shelf_files.ShelfFile.{file_within, rep_limit}
+use Rattle.cmd_messages.specs.shelf_files.Halts.{done}
+use Rattle.cmd_messages.specs.shelf_files.declared.refusal.Refusal.{Refusal}
+use Rattle.cmd_messages.specs.shelf_files.declared.refusal.Refusal.TheVariants.{NoMessage}
 use Rattle.sha2.specs.Sha256.{sha256}
 use Rattle.post_changes.specs.slot_changes.Changed.{deleted}
-use Rattle.exchange_commands.specs.Upload.{UploadsFile, UploadsRead}
-use Rattle.toss_commands.specs.Toss.{packet_turn}
-use Rattle.toss_commands.specs.Tossed.{tossed}
+use Rattle.cmd_exchange.specs.Upload.{UploadsFile, UploadsRead}
+use Rattle.cmd_toss.specs.Toss.{packet_turn}
+use Rattle.cmd_toss.specs.Tossed.{tossed}
 
 -- ---- from no board
 -- there is still none, or one that was made of a setup
 abbrev pub FromNone : ℕ → State → Type 0
-FromNone now next = (next ≡ NotMade) ⊎ ((setup : Setup) × (next ≡ Made (made setup now)))
+FromNone now next = (next ≡ NotMade) ⊎ ((setup : SetupFields) × (next ≡ Made (made setup now)))
 
-pub from_none : (now : ℕ) (c : BoardCommand) (shelf : Files) (stepped : Stepped (World State)) → board_does now c (here NotMade shelf) stepped → FromNone now stepped.world.state
+pub from_none : (now : ℕ) (c : BoardCommand) (shelf : ShelfFiles) (stepped : Stepped (World State)) → board_does now c (here NotMade shelf) stepped → FromNone now stepped.world.state
 from_none now (command.Init file) shelf stepped (same, (turn, (read, reads, is), next, reply)) = by read is
   where
-    by : (read : Result Setup Refusal) → turn ≡ made_of now read → FromNone now stepped.world.state
+    by : (read : Result SetupFields Refusal) → turn ≡ made_of now read → FromNone now stepped.world.state
     by (Ok setup) is = inr (setup, next ∙ ap (λ (t : Turn). state_of t.board) is)
     by (Err why) is = inl (next ∙ ap (λ (t : Turn). state_of t.board) is)
 from_none now (command.Enroll name flags conferences) shelf stepped (same, (turn, (choice, reads, is), next, reply)) = inl (next ∙ ap (λ (t : Turn). state_of t.board) is)
@@ -143,7 +143,7 @@ module _ (now : ℕ) (b : Board) (c : BoardCommand) (next : State) (class : Clas
       let messages : List Message = imported_messages now place b entries in
       by_append conference place messages (first_refusal (import_refusals place messages b)) turn is then
 
-  by_place : (conference : ℕ) (file : List ℕ) (shelf : Files) (o : Option ℕ) (turn : Turn) → ImportsAt conference file now shelf b o turn → next ≡ state_of turn.board → Turns now b c next class
+  by_place : (conference : ℕ) (file : List ℕ) (shelf : ShelfFiles) (o : Option ℕ) (turn : Turn) → ImportsAt conference file now shelf b o turn → next ≡ state_of turn.board → Turns now b c next class
   by_place conference file shelf None turn is then = inl (then ∙ ap (λ (t : Turn). state_of t.board) is)
   by_place conference file shelf (Some place) turn (read, reads, is) then = by_sheet conference place read turn is then
 
@@ -151,7 +151,7 @@ module _ (now : ℕ) (b : Board) (c : BoardCommand) (next : State) (class : Clas
   by_base conference place (Err why) turn is then = inl (then ∙ ap (λ (t : Turn). state_of t.board) is)
   by_base conference place (Ok records) turn is then = inr (Makes (Spread (adopted conference place b records).1), then ∙ ap (λ (t : Turn). state_of t.board) is, tt)
 
-  by_adopt : (conference : ℕ) (prefix : List ℕ) (shelf : Files) (o : Option ℕ) (turn : Turn) → turn ≡ adopt_at conference prefix shelf b o → next ≡ state_of turn.board → Turns now b c next class
+  by_adopt : (conference : ℕ) (prefix : List ℕ) (shelf : ShelfFiles) (o : Option ℕ) (turn : Turn) → turn ≡ adopt_at conference prefix shelf b o → next ≡ state_of turn.board → Turns now b c next class
   by_adopt conference prefix shelf None turn is then = inl (then ∙ ap (λ (t : Turn). state_of t.board) is)
   by_adopt conference prefix shelf (Some place) turn is then = by_base conference place (base_of shelf prefix) turn is then
 
@@ -174,7 +174,7 @@ module _ (now : ℕ) (b : Board) (c : BoardCommand) (next : State) (class : Clas
   by_pack conference (Some place) turn is then = inr (Packs place, then ∙ ap (λ (t : Turn). state_of t.board) is, tt)
 
   -- ---- packets
-  by_export : (name : List ℕ) (limit : ℕ) (folder : List ℕ) (shelf : Files) (handing : Handing) → c ≡ command.Export name limit folder → handing ≡ handing_of folder shelf b (export_of name limit now b) → next ≡ state_of handing.board
+  by_export : (name : List ℕ) (limit : ℕ) (folder : List ℕ) (shelf : ShelfFiles) (handing : Handing) → c ≡ command.Export name limit folder → handing ≡ handing_of folder shelf b (export_of name limit now b) → next ≡ state_of handing.board
       → class ≡ handing.reply.class → Turns now b c next class
   by_export name limit folder shelf handing is_command is then class_is = by_id (user_id name b) refl
     where
@@ -250,12 +250,12 @@ module _ (now : ℕ) (b : Board) (c : BoardCommand) (next : State) (class : Clas
       by (inr (inl again)) = inl again.same
       by (inr (inr judgement)) = inr (Makes (change.Upload user (sha256 bytes) (refused_count (judged b user now judgement.messages).0) (judged b user now judgement.messages).1), judgement.made, tt)
 
-  by_file : (file : List ℕ) (shelf : Files) (o : Option ℕ) (turn : Turn) → UploadsFile file now shelf b o turn → next ≡ state_of turn.board → Turns now b c next class
+  by_file : (file : List ℕ) (shelf : ShelfFiles) (o : Option ℕ) (turn : Turn) → UploadsFile file now shelf b o turn → next ≡ state_of turn.board → Turns now b c next class
   by_file file shelf None turn is then = inl (then ∙ ap (λ (t : Turn). state_of t.board) is)
   by_file file shelf (Some user) turn is then = by_read user (file_within shelf file rep_limit) turn is then
 
 -- Each command on a board.
-pub turn_on : (now : ℕ) (b : Board) (c : BoardCommand) (shelf : Files) (stepped : Stepped (World State)) → board_does now c (here (Made b) shelf) stepped → Turns now b c stepped.world.state stepped.class
+pub turn_on : (now : ℕ) (b : Board) (c : BoardCommand) (shelf : ShelfFiles) (stepped : Stepped (World State)) → board_does now c (here (Made b) shelf) stepped → Turns now b c stepped.world.state stepped.class
 turn_on now b (command.Init file) shelf stepped (same, (turn, is, next, reply)) = inl (next ∙ ap (λ (t : Turn). state_of t.board) is)
 turn_on now b (command.Enroll name flags conferences) shelf stepped (same, (turn, (choice, reads, is), next, reply)) =
     by_enroll now b (command.Enroll name flags conferences) stepped.world.state stepped.class name (is_net_flag flags) choice (first_refusal (enroll_refusals name (is_net_flag flags) choice b)) turn is next

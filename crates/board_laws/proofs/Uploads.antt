@@ -1,23 +1,23 @@
 -- What an upload makes of a board: it is refused, or says again what became of the packet, or judges it and records it.
 use Rattle.std.proofs.Common.{◌≡◌, ◌⊎◌, ℕ, ◌-◌, Bool, true, false, cond, List, ◌++◌, length, Option, Some, None, Result, Ok, Err, refl, ap, ◌∙◌, inl, inr, arith}
 use Rattle.std.specs.Prelude.{codes}
-use Rattle.message_commands.specs.board_commands.State.{State, Made, state_of}
-use Rattle.message_commands.specs.board_commands.Turns.{Turn}
+use Rattle.cmd_messages.specs.cmd_board.State.{State, Made, state_of}
+use Rattle.cmd_messages.specs.cmd_board.Turns.{Turn}
 use Rattle.board_layout.specs.Board.{Board}
 use Rattle.board_ledger.specs.declared.upload.Counts.{Counts}
-use Rattle.exchange_commands.specs.door_upload.Upload.{Again, Broken, NoBoardId, OtherBoard, Upload, UploadRefusal, UploadsFor, is_for, new_upload, record_refusal, upload_once}
-use Rattle.exchange_commands.specs.door_upload.declared.answer.Uploaded.TheVariants as answer
+use Rattle.cmd_exchange.specs.door_upload.Upload.{Again, Broken, NoBoardId, OtherBoard, Upload, UploadRefusal, UploadsFor, is_for, new_upload, record_refusal, upload_once}
+use Rattle.cmd_exchange.specs.door_upload.declared.answer.Uploaded.TheVariants as answer
 use Rattle.entry_runs.specs.Entry.{Reply}
 use Rattle.entry_runs.specs.declared.class.Class.TheVariants as class
-use Rattle.message_commands.specs.mail_board.Readers.{upload_of}
-use Rattle.adopt_commands.specs.mail_intake.Lines.{counts_line}
-use Rattle.message_commands.proofs.packet_verdicts.Counting.{all_counted, all_told}
-use Rattle.message_commands.specs.packet_verdicts.Judged.{judged, refused_count}
+use Rattle.cmd_messages.specs.mail_board.Readers.{upload_of}
+use Rattle.cmd_adopt.specs.mail_intake.Lines.{counts_line}
+use Rattle.cmd_messages.proofs.packet_verdicts.Counting.{all_counted, all_told}
+use Rattle.cmd_messages.specs.packet_verdicts.Judged.{judged, refused_count}
 use Rattle.post_changes.specs.Posted.{uploaded}
 use Rattle.qwk_blocks.specs.declared.message.QwkMessage.{QwkMessage}
 use Rattle.rep_packet.specs.declared.rep.Rep.{Rep}
 use Rattle.sha2.specs.Sha256.{sha256}
-use Rattle.exchange_commands.specs.Upload.{tally, turn_of, uploaded_text}
+use Rattle.cmd_exchange.specs.Upload.{tally, uploaded_turn, uploaded_text}
 
 -- the packet was recorded, and its counts are said again
 pub record SaidAgain (b : Board) (user : ℕ) (digest : List ℕ) (next : State) (reply : Reply) : Type 0 where
@@ -46,7 +46,7 @@ module _ (now : ℕ) (b : Board) (user : ℕ) (bytes : List ℕ) (next : State) 
   digest = sha256 bytes
 
   abbrev Ends : Result Upload UploadRefusal → Type 0
-  Ends r = turn ≡ turn_of b r → UploadTurns now b user digest next reply
+  Ends r = turn ≡ uploaded_turn b r → UploadTurns now b user digest next reply
 
   refused : (why : UploadRefusal) → Ends (Err why)
   refused why is = inl (record { same = then ∙ ap (λ (t : Turn). state_of t.board) is; refused = ap (λ (r : Reply). r.class) told ∙ ap (λ (t : Turn). t.reply.class) is })
@@ -76,10 +76,10 @@ module _ (now : ℕ) (b : Board) (user : ℕ) (bytes : List ℕ) (next : State) 
   by_board packet true is = by_known packet.messages (upload_of user digest b) refl is
   by_board packet false is = refused OtherBoard is
 
-  pub upload_turns : (r : Result Upload UploadRefusal) → UploadsFor user bytes now b r → turn ≡ turn_of b r → UploadTurns now b user (sha256 bytes) next reply
-  upload_turns r (inl (packet, reads, comes)) is = by_board packet (is_for b packet) (is ∙ ap (turn_of b) comes)
-  upload_turns r (inr (inl (fault, broken, comes))) is = refused (Broken fault) (is ∙ ap (turn_of b) comes)
-  upload_turns r (inr (inr (none, comes))) is = refused NoBoardId (is ∙ ap (turn_of b) comes)
+  pub upload_turns : (r : Result Upload UploadRefusal) → UploadsFor user bytes now b r → turn ≡ uploaded_turn b r → UploadTurns now b user (sha256 bytes) next reply
+  upload_turns r (inl (packet, reads, comes)) is = by_board packet (is_for b packet) (is ∙ ap (uploaded_turn b) comes)
+  upload_turns r (inr (inl (fault, broken, comes))) is = refused (Broken fault) (is ∙ ap (uploaded_turn b) comes)
+  upload_turns r (inr (inr (none, comes))) is = refused NoBoardId (is ∙ ap (uploaded_turn b) comes)
 
 -- the counts of a judged packet
 abbrev pub counts_of : ℕ → Board → ℕ → List QwkMessage → Counts

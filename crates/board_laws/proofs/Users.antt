@@ -12,9 +12,9 @@ use Rattle.board_ledger.specs.declared.ledger.Ledger.{Ledger}
 use Rattle.open_offers.specs.declared.offer.OpenOffer.{OpenOffer}
 use Rattle.board_ledger.specs.declared.user.User.{User}
 use Rattle.jam_base.specs.Contents.{Contents}
-use Rattle.message_commands.specs.mail_board.Changes.{changed}
-use Rattle.message_commands.specs.mail_board.declared.change.Change.{Change}
-use Rattle.message_commands.specs.mail_board.declared.change.Change.TheVariants.{Enroll, Append, Spread, Kill, Offer, Acknowledge, Upload}
+use Rattle.cmd_messages.specs.mail_board.Changes.{changed}
+use Rattle.cmd_messages.specs.mail_board.declared.change.Change.{Change}
+use Rattle.cmd_messages.specs.mail_board.declared.change.Change.TheVariants.{Enroll, Append, Spread, Kill, Offer, Acknowledge, Upload}
 use Rattle.offer_changes.proofs.UserLaws.{id_above, user_there}
 use Rattle.offer_changes.specs.Changed.{for_user, offered_to, read_offer, with_offer, without_offer}
 

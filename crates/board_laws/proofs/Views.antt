@@ -18,15 +18,15 @@ use Rattle.board_ledger.specs.declared.user.User.{User}
 use Rattle.jam_base.specs.Contents.{Contents}
 use Rattle.jam_base.specs.Slots.{has_live, numbered}
 use Rattle.jam_layout.specs.Conference.{is_live}
-use Rattle.jam_layout.specs.declared.conference.Conference.{Conference}
+use Rattle.jam_layout.specs.declared.conference.ConferenceContents.{ConferenceContents}
 use Rattle.jam_records.specs.declared.message.Message.{Message}
 use Rattle.jam_records.specs.declared.message.Slot.{Slot}
 use Rattle.jam_records.specs.declared.message.Slot.TheVariants.{Gone, Held}
 use Rattle.offered_packets.specs.Sees.{is_allowed, may_see, sees}
 
 -- ---- the slots of a place
-abbrev slots_at : List Conference → ℕ → List Slot
-slots_at conferences place = unwrap_or (option_map (λ (c : Conference). c.slots) (slice_get conferences place)) []
+abbrev slots_at : List ConferenceContents → ℕ → List Slot
+slots_at conferences place = unwrap_or (option_map (λ (c : ConferenceContents). c.slots) (slice_get conferences place)) []
 
 follow_at : (xs ys : List Contents) (place : ℕ) → AllZip BaseGrows xs ys → SlotsFollow (slots_at (conferences_in xs) place) (slots_at (conferences_in ys) place)
 follow_at [] [] place zip = tt
@@ -37,8 +37,8 @@ follow_at (x ∷ xs) (y ∷ ys) (suc place) zip = follow_at xs ys place zip.1
 
 pub slots_follow : (b c : Board) → IsWhole b → IsWhole c → AllZip BaseGrows (contents_of b) (contents_of c) → (place : ℕ) → SlotsFollow (slots_in b place) (slots_in c place)
 slots_follow b c was is zip place =
-    subst (λ (cs : List Conference). SlotsFollow (slots_at cs place) (slots_in c place)) (conferences_are b was)
-    (subst (λ (cs : List Conference). SlotsFollow (slots_at (conferences_in (contents_of b)) place) (slots_at cs place)) (conferences_are c is) (follow_at (contents_of b) (contents_of c) place zip))
+    subst (λ (cs : List ConferenceContents). SlotsFollow (slots_at cs place) (slots_in c place)) (conferences_are b was)
+    (subst (λ (cs : List ConferenceContents). SlotsFollow (slots_at (conferences_in (contents_of b)) place) (slots_at cs place)) (conferences_are c is) (follow_at (contents_of b) (contents_of c) place zip))
 
 -- ---- the message of a number
 numbered_follow : (xs ys : List Slot) (n : ℕ) → SlotsFollow xs ys → n ≤ length xs → SlotFollows (numbered xs n) (numbered ys n)

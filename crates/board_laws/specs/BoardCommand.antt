@@ -1,20 +1,20 @@
 -- What an entry is to a board.
 use Rattle.std.specs.Prelude.{◌≡◌, ℕ, List}
-use Rattle.adopt_commands.specs.Adopt.{adopts}
+use Rattle.cmd_adopt.specs.Adopt.{adopts}
 use Rattle.entry_runs.specs.Door.{World}
 use Rattle.entry_runs.specs.Runs.{Stepped}
-use Rattle.message_commands.specs.board_commands.Check.{checks}
-use Rattle.message_commands.specs.board_commands.Enroll.{enrolls}
-use Rattle.message_commands.specs.board_commands.Init.{inits}
-use Rattle.message_commands.specs.board_commands.State.{State}
-use Rattle.exchange_commands.specs.Ack.{acknowledges}
-use Rattle.exchange_commands.specs.Export.{exports}
-use Rattle.message_commands.specs.Import.{imports}
-use Rattle.message_commands.specs.Kill.{kills}
-use Rattle.message_commands.specs.Sample.{samples}
-use Rattle.pack_commands.specs.Pack.{packs}
-use Rattle.toss_commands.specs.Toss.{tosses}
-use Rattle.exchange_commands.specs.Upload.{uploads}
+use Rattle.cmd_messages.specs.cmd_board.Check.{checks}
+use Rattle.cmd_messages.specs.cmd_board.Enroll.{enrolls}
+use Rattle.cmd_messages.specs.cmd_board.Init.{inits}
+use Rattle.cmd_messages.specs.cmd_board.State.{State}
+use Rattle.cmd_exchange.specs.Ack.{acknowledges}
+use Rattle.cmd_exchange.specs.Export.{exports}
+use Rattle.cmd_messages.specs.Import.{imports}
+use Rattle.cmd_messages.specs.Kill.{kills}
+use Rattle.cmd_messages.specs.Sample.{samples}
+use Rattle.cmd_pack.specs.Pack.{packs}
+use Rattle.cmd_toss.specs.Toss.{tosses}
+use Rattle.cmd_exchange.specs.Upload.{uploads}
 
 pub data BoardCommand : Type 0 where
   -- the setup file

@@ -1,11 +1,11 @@
 -- Entries that were taken one after the other, each at a moment and on a shelf of its own: so they may be those of many
 -- runs, with what crashes between them leave.
 use Rattle.std.specs.Prelude.{◌≡◌, ◌≢◌, ℕ, zero, suc, List, slice_get, Option, Some, None}
-use Rattle.door_outside.specs.Shelf.{Files}
+use Rattle.door_outside.specs.Shelf.{ShelfFiles}
 use Rattle.entry_runs.specs.Door.{World, here}
 use Rattle.entry_runs.specs.Runs.{Stepped}
 use Rattle.entry_runs.specs.declared.class.Class.TheVariants.{Done}
-use Rattle.message_commands.specs.board_commands.State.{State, NotMade, Made, Old, Spoiled, migrated}
+use Rattle.cmd_messages.specs.cmd_board.State.{State, NotMade, Made, Old, Spoiled, migrated}
 use Rattle.board_layout.specs.Board.{Board}
 use Rattle.board_layout.specs.Valid.{IsBoard}
 
@@ -13,7 +13,7 @@ use Rattle.board_layout.specs.Valid.{IsBoard}
 pub record Deed (Entry : Type 0) : Type 0 where
   pub entry : Entry
   pub now : ℕ
-  pub shelf : Files
+  pub shelf : ShelfFiles
   pub stepped : Stepped (World State)
 
 -- what an entry does at a moment

@@ -1,12 +1,12 @@
 -- Kept: what is offered to a user is offered again until he acknowledges a packet.
 use Rattle.std.specs.Prelude.{◌≡◌, ◌≤◌, ◌<◌, ℕ, List, Contains, IsTrue, Some}
-use Rattle.message_commands.specs.board_commands.State.{State}
+use Rattle.cmd_messages.specs.cmd_board.State.{State}
 use Rattle.board_layout.specs.Board.{Board}
 use Rattle.board_laws.specs.BoardCommand.{BoardCommand, Ack}
 use Rattle.board_laws.specs.History.{Deed, Steps, IsBeginning, IsHistory, IsCarriedOut, LeadsTo}
 use Rattle.jam_base.specs.Slots.{has_live}
-use Rattle.message_commands.specs.mail_board.Readers.{user_id}
-use Rattle.message_commands.specs.mail_board.Written.{slot_total}
+use Rattle.cmd_messages.specs.mail_board.Readers.{user_id}
+use Rattle.cmd_messages.specs.mail_board.Written.{slot_total}
 use Rattle.offered_packets.specs.Offered.{offered}
 use Rattle.board_layout.specs.Lookups.{slots_in}
 use Rattle.offered_packets.specs.declared.offered_message.OfferedMessage.{OfferedMessage}

@@ -3,11 +3,11 @@ pub mod History
 pub mod Once
 pub mod Kept
 pub mod Passed
-pub use Rattle.adopt_commands.specs as adopt_commands
-pub use Rattle.pack_commands.specs as pack_commands
-pub use Rattle.exchange_commands.specs.door_upload as door_upload
-pub use Rattle.toss_commands.specs as toss_commands
-pub use Rattle.exchange_commands.specs as exchange_commands
-pub use Rattle.exchange_commands.specs.door_export as door_export
-pub use Rattle.message_commands.specs as message_commands
+pub use Rattle.cmd_adopt.specs as cmd_adopt
+pub use Rattle.cmd_pack.specs as cmd_pack
+pub use Rattle.cmd_exchange.specs.door_upload as door_upload
+pub use Rattle.cmd_toss.specs as cmd_toss
+pub use Rattle.cmd_exchange.specs as cmd_exchange
+pub use Rattle.cmd_exchange.specs.door_export as door_export
+pub use Rattle.cmd_messages.specs as cmd_messages
 pub use Rattle.offered_packets.specs as offered_packets

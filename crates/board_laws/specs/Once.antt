@@ -1,15 +1,15 @@
 -- Once: each packet that a user uploads changes the board once at most.
 use Rattle.std.specs.Prelude.{◌≡◌, ◌<◌, ℕ, suc, List, ◌++◌, codes, slice_get, Some, Ok}
-use Rattle.message_commands.specs.board_commands.State.{State, migrated}
+use Rattle.cmd_messages.specs.cmd_board.State.{State, migrated}
 use Rattle.board_layout.specs.Board.{Board}
 use Rattle.board_laws.specs.BoardCommand.{BoardCommand, Upload}
 use Rattle.board_laws.specs.History.{Deed, Steps, IsHistory, ChangesBoard, LeadsTo, after}
 use Rattle.entry_runs.specs.declared.class.Class.TheVariants.{Done}
-use Rattle.message_commands.specs.mail_board.Readers.{user_id}
-use Rattle.message_commands.specs.packet_verdicts.declared.outcome.Outcome.{Outcome}
+use Rattle.cmd_messages.specs.mail_board.Readers.{user_id}
+use Rattle.cmd_messages.specs.packet_verdicts.declared.outcome.Outcome.{Outcome}
 use Rattle.sha2.specs.Sha256.{sha256}
-use Rattle.message_commands.specs.shelf_files.ShelfFile.{file_within, rep_limit}
-use Rattle.exchange_commands.specs.Upload.{outcome_lines, tally}
+use Rattle.cmd_messages.specs.shelf_files.ShelfFile.{file_within, rep_limit}
+use Rattle.cmd_exchange.specs.Upload.{outcome_lines, tally}
 
 -- One reply tells what became of each message of a packet, and the other says again how many were posted and refused.
 pub record HasItsCounts (first again : List ℕ) : Type 0 where

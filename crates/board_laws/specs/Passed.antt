@@ -1,13 +1,13 @@
 -- Passed: what a user has behind him was offered to him, and he acknowledged it.
 use Rattle.std.specs.Prelude.{◌≡◌, ◌≤◌, ◌<◌, ℕ, List, Contains, IsTrue, Some, Ok}
-use Rattle.message_commands.specs.board_commands.State.{State, NotMade}
+use Rattle.cmd_messages.specs.cmd_board.State.{State, NotMade}
 use Rattle.board_layout.specs.Board.{Board}
 use Rattle.board_layout.specs.Lookups.{pointer_at}
 use Rattle.board_laws.specs.BoardCommand.{BoardCommand, Export}
 use Rattle.board_laws.specs.History.{Deed, Steps, IsHistory, IsCarriedOut, LeadsTo}
 use Rattle.board_laws.specs.Kept.{IsAck}
-use Rattle.exchange_commands.specs.door_export.Export.{Handout, export_of}
-use Rattle.message_commands.specs.mail_board.Readers.{user_id}
+use Rattle.cmd_exchange.specs.door_export.Export.{Handout, export_of}
+use Rattle.cmd_messages.specs.mail_board.Readers.{user_id}
 use Rattle.offered_packets.specs.Offered.{offered}
 use Rattle.offered_packets.specs.Sees.{sees}
 use Rattle.offered_packets.specs.declared.offered_message.OfferedMessage.{OfferedMessage}

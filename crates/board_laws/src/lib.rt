@@ -3,8 +3,8 @@
 
 pub mod laws;
 
-pub use adopt_commands::adopt;
-pub use exchange_commands::{AcknowledgedLine, PacketLine, UploadedText, ack, export, upload};
-pub use message_commands::{ImportedLine, KilledLine, SampledLine, import, kill, sample};
-pub use pack_commands::{PackedLine, pack};
-pub use toss_commands::toss;
+pub use cmd_adopt::adopt;
+pub use cmd_exchange::{AcknowledgedLine, PacketLine, UploadedText, ack, export, upload};
+pub use cmd_messages::{ImportedLine, KilledLine, SampledLine, import, kill, sample};
+pub use cmd_pack::{PackedLine, pack};
+pub use cmd_toss::toss;

@@ -16,10 +16,10 @@ use Rattle.board_ledger.proofs.VersionLaws.{today_valid}
 use Rattle.board_ledger.specs.damage_rules.Rules.{Rules, by_rules, damage_of, ◌>>=◌}
 use Rattle.board_ledger.proofs.damage_rules.KeptRules.{bind_ok, kept_rules, ok_is, rules_kept}
 use Rattle.door_outside.specs.File.{is_data_file, ledger_file, jhr_file, jdt_file, jdx_file, jlr_file}
-use Rattle.board_ledger.specs.intent_journal.Patches.{Files}
+use Rattle.board_ledger.specs.intent_journal.Patches.{HostFiles}
 use Rattle.jam_base.specs.Change.{files_of_place}
 use Rattle.jam_base.specs.jam_layout.Valid.{BaseFilesFit, IsConference}
-use Rattle.jam_base.specs.jam_layout.declared.conference.Conference.{Conference}
+use Rattle.jam_base.specs.jam_layout.declared.conference.ConferenceContents.{ConferenceContents}
 use Rattle.jam_base.specs.jam_layout.declared.files.BaseFiles.{BaseFiles}
 use Rattle.jam_base.specs.jam_layout.declared.shape.Shape.{Shape}
 use Rattle.jam_base.proofs.jam_layout.LayoutBounds.{layout_fits}
@@ -43,7 +43,7 @@ use Rattle.board_layout.proofs.StoredLedgers.{in_either, kept, laid_as, limit_mo
 is_data : (file : ℕ) → 1 < file → file < 258 → IsTrue (is_data_file file)
 is_data file above below = and_from (ltb file 258) (not (eqb file 1)) (lt-ltb file 258 below) (not_from_false (eqb file 1) (ne_eqb file 1 (λ e. omega arith)))
 
-all_fit : (files : Files) → AreFileBytes files → data_size files ≤ board_limit → (k : ℕ) → k < 64 → BaseFilesFit (files_of_place k files)
+all_fit : (files : HostFiles) → AreFileBytes files → data_size files ≤ board_limit → (k : ℕ) → k < 64 → BaseFilesFit (files_of_place k files)
 all_fit files bytes small k within =
     let some = place_within 64 files k within in
     let jhr : length (files (jhr_file k)) < 2 ^ 31 = omega (arith, some, small) in
@@ -59,13 +59,13 @@ all_fit files bytes small k within =
 no_base_fits : BaseFilesFit no_base
 no_base_fits = record { jhr = (All-nil IsByte, omega arith); jdt = (All-nil IsByte, omega arith); jdx = (All-nil IsByte, omega arith); jlr = All-nil IsByte }
 
-layouts_fit : (shapes : List Shape) (conferences : List Conference) → AllZip IsConference shapes conferences → (k : ℕ) → BaseFilesFit (get_or (layouts shapes conferences) k no_base)
+layouts_fit : (shapes : List Shape) (conferences : List ConferenceContents) → AllZip IsConference shapes conferences → (k : ℕ) → BaseFilesFit (get_or (layouts shapes conferences) k no_base)
 layouts_fit [] conferences zip k = no_base_fits
 layouts_fit (s ∷ shapes) [] zip k = absurd zip
 layouts_fit (s ∷ shapes) (c ∷ conferences) zip zero = layout_fits s c zip.0
 layouts_fit (s ∷ shapes) (c ∷ conferences) zip (suc k) = layouts_fit shapes conferences zip.1 k
 
-bytes_at : (files : Files) (file k : ℕ) → BaseFilesFit (files_of_place k files) → jhr_file k ≤ file → file ≤ jlr_file k → All IsByte (files file)
+bytes_at : (files : HostFiles) (file k : ℕ) → BaseFilesFit (files_of_place k files) → jhr_file k ≤ file → file ≤ jlr_file k → All IsByte (files file)
 bytes_at files file k fit from upto =
     let P : ℕ → Type 0 = λ n. All IsByte (files n) in
     elim (cases_eq file (jhr_file k)) [
@@ -79,7 +79,7 @@ bytes_at files file k fit from upto =
       ]
     ]
 
-pub laid_bytes : (b : Board) (files : Files) → IsBoard b → IsStoredIn b files → AreFileBytes files
+pub laid_bytes : (b : Board) (files : HostFiles) → IsBoard b → IsStoredIn b files → AreFileBytes files
 laid_bytes b files ok laid file is =
     let parts = and_parts (ltb file 258) (not (eqb file 1)) is in
     let below = ltb-true file 258 parts.0 in
@@ -95,7 +95,7 @@ laid_bytes b files ok laid file is =
     ]
 
 -- ---- all places
-pub all_places : (n : ℕ) (bases : List BaseFiles) (files : Files) → AreAt 0 bases files → length bases ≡ n → ((k : ℕ) → k < 64 - n → files_of_place (n + k) files ≡ no_base)
+pub all_places : (n : ℕ) (bases : List BaseFiles) (files : HostFiles) → AreAt 0 bases files → length bases ≡ n → ((k : ℕ) → k < 64 - n → files_of_place (n + k) files ≡ no_base)
     → (place : ℕ) → place < 64 → files_of_place place files ≡ get_or bases place no_base
 all_places n bases files there count none place within = elim (cases_lt place (length bases)) [
   | inl before ↦ same_place place (0 + place) files (omega arith) ∙ at_place 0 place bases files there before
@@ -108,22 +108,22 @@ base_count b ok = layouts_count (shapes_of b.ledger) b.conferences ok.conference
 few_bases : (b : Board) → IsBoard b → length (base_files b) ≤ 64
 few_bases b ok = let many = ok.ledger.setup.conferences.many in omega (arith, base_count b ok, many)
 
-pub board_sized : (b : Board) (files : Files) → IsBoard b → IsLayout b files → data_size files ≡ board_size b
+pub board_sized : (b : Board) (files : HostFiles) → IsBoard b → IsLayout b files → data_size files ≡ board_size b
 board_sized b files ok laid = same_size b files (few_bases b ok) laid
 
-pub old_sized : (b : Board) (files : Files) → IsBoard b → IsOldLayout b files → data_size files ≡ old_size b
+pub old_sized : (b : Board) (files : HostFiles) → IsBoard b → IsOldLayout b files → data_size files ≡ old_size b
 old_sized b files ok laid = old_same_size b files (few_bases b ok) laid.ledger laid.places
 
 -- ---- the parts
-abbrev board_made : Ledger → List Conference → Board
+abbrev board_made : Ledger → List ConferenceContents → Board
 board_made l conferences = record { ledger = l; conferences = conferences }
 
-parts_take : (files : Files) (b : Board) → AreFileBytes files → data_size files ≤ size_limit (files ledger_file) → parts_of files ≡ Ok b → IsBoard b × IsStoredIn b files
+parts_take : (files : HostFiles) (b : Board) → AreFileBytes files → data_size files ≤ size_limit (files ledger_file) → parts_of files ≡ Ok b → IsBoard b × IsStoredIn b files
 parts_take files b bytes short e =
     let p = board_parts files b e in
     let raw : Ledger = p.ledger in
     let l : Ledger = today raw in
-    let conferences : List Conference = p.conferences in
+    let conferences : List ConferenceContents = p.conferences in
     let n : ℕ = length l.setup.conferences in
     let made : Board = board_made l conferences in
     let most = limit_most (files ledger_file) in
@@ -143,7 +143,7 @@ parts_take files b bytes short e =
     } in
     subst (λ (x : Board). IsBoard x × IsStoredIn x files) (ok_is made b p.at_end) (ok, laid)
 
-pub parts_again : (b : Board) (files : Files) → IsBoard b → IsStoredIn b files → parts_of files ≡ Ok b
+pub parts_again : (b : Board) (files : HostFiles) → IsBoard b → IsStoredIn b files → parts_of files ≡ Ok b
 parts_again b files ok laid =
     let l : Ledger = b.ledger in
     let n : ℕ = length l.setup.conferences in
@@ -160,17 +160,17 @@ parts_again b files ok laid =
     after_ledger files k.ledger text ∙ (ap (λ (x : Ledger). parts_behind x files) k.is ∙ all_parts files l b.conferences (tt {0}) (tt {0}) read rest highs)
 
 -- ---- the whole
-abbrev pub size_rules : Files → Rules
+abbrev pub size_rules : HostFiles → Rules
 size_rules files = (Size, ltb (size_limit (files ledger_file)) (data_size files)) ∷ []
 
-pub takes : (files : Files) (b : Board) → AreFileBytes files → board_of files ≡ Ok b → IsBoard b × IsStoredIn b files
+pub takes : (files : HostFiles) (b : Board) → AreFileBytes files → board_of files ≡ Ok b → IsBoard b × IsStoredIn b files
 unfolding board_of
 takes files b bytes e =
     let a = bind_ok (by_rules ledger_file 0 (size_rules files) (tt {0})) (λ sized. parts_of files) b e in
     let k = rules_kept ledger_file 0 (size_rules files) (tt {0}) a.0 a.1 in
     parts_take files b bytes (ltb-false (size_limit (files ledger_file)) (data_size files) k.0.0) a.2
 
-pub again : (b : Board) (files : Files) → IsBoard b → IsStoredIn b files → board_of files ≡ Ok b
+pub again : (b : Board) (files : HostFiles) → IsBoard b → IsStoredIn b files → board_of files ≡ Ok b
 unfolding board_of
 again b files ok laid =
     let short = stored_short b files (few_bases b ok) ok.small laid in
@@ -181,19 +181,19 @@ no_damage : {A : Type 0} (r : Result A Damage) → damage_of r ≡ None → (x :
 no_damage (Ok x) e = (x, refl)
 no_damage (Err d) e = absurd cc
 
-pub undamaged : (files : Files) → AreFileBytes files → (board_damage files ≡ None) ↔ ((b : Board) × IsBoard b × IsStoredIn b files)
+pub undamaged : (files : HostFiles) → AreFileBytes files → (board_damage files ≡ None) ↔ ((b : Board) × IsBoard b × IsStoredIn b files)
 undamaged files bytes = (
   λ e. let r = no_damage (board_of files) e in let t = takes files r.0 bytes r.1 in (r.0, t.0, t.1),
   λ (b, ok, laid). ap damage_of (again b files ok laid),
 )
 
-pub unique : (a b : Board) (files : Files) → IsBoard a → IsBoard b → IsStoredIn a files → IsStoredIn b files → a ≡ b
+pub unique : (a b : Board) (files : HostFiles) → IsBoard a → IsBoard b → IsStoredIn a files → IsStoredIn b files → a ≡ b
 unique a b files first second one other = ok_is a b (sym (again a files first one) ∙ again b files second other)
 
-pub not_both : (a b : Board) (files : Files) → IsBoard a → IsBoard b → IsLayout a files → ¬ IsOldLayout b files
+pub not_both : (a b : Board) (files : HostFiles) → IsBoard a → IsBoard b → IsLayout a files → ¬ IsOldLayout b files
 not_both a b files first second new old = one_version a.ledger b.ledger (files ledger_file) new.ledger old.ledger
 
-pub not_empty : (b : Board) (files : Files) → IsBoard b → IsStoredIn b files → ¬ AreEmpty files
+pub not_empty : (b : Board) (files : HostFiles) → IsBoard b → IsStoredIn b files → ¬ AreEmpty files
 not_empty b files ok laid none =
     let k = kept b files ok.ledger laid in
     let valid = today_valid k.ledger k.stored in

@@ -10,21 +10,21 @@ use Rattle.board_layout.proofs.BasePlaces.{shapes_count}
 use Rattle.jam_base.specs.Contents.{Contents}
 use Rattle.jam_base.specs.jam_layout.Limits.{slot_limit}
 use Rattle.jam_base.specs.jam_layout.Valid.{IsConference}
-use Rattle.jam_base.specs.jam_layout.declared.conference.Conference.{Conference}
+use Rattle.jam_base.specs.jam_layout.declared.conference.ConferenceContents.{ConferenceContents}
 use Rattle.jam_base.specs.jam_layout.declared.shape.Shape.{Shape}
 use Rattle.jam_records.specs.declared.message.Slot.{Slot}
 use Rattle.board_ledger.specs.setup_file.Valid.{numbers_of}
 use Rattle.board_ledger.specs.setup_file.declared.conference.Conference.{Conference as SetupConference}
 use Rattle.board_layout.specs.Lookups.{slots_in}
 
-shapes_conferences : (shapes : List Shape) (conferences : List Conference) → AllZip IsConference shapes conferences → length shapes ≡ length conferences
+shapes_conferences : (shapes : List Shape) (conferences : List ConferenceContents) → AllZip IsConference shapes conferences → length shapes ≡ length conferences
 shapes_conferences [] [] zip = refl
 shapes_conferences [] (c ∷ conferences) zip = absurd zip
 shapes_conferences (s ∷ shapes) [] zip = absurd zip
 shapes_conferences (s ∷ shapes) (c ∷ conferences) zip = ap suc (shapes_conferences shapes conferences zip.1)
 
 -- the conference in a place is one of the shape there
-pub conference_fits : (shapes : List Shape) (conferences : List Conference) (k : ℕ) (s : Shape) (c : Conference) → AllZip IsConference shapes conferences → k < length conferences → IsConference (get_or shapes k s) (get_or conferences k c)
+pub conference_fits : (shapes : List Shape) (conferences : List ConferenceContents) (k : ℕ) (s : Shape) (c : ConferenceContents) → AllZip IsConference shapes conferences → k < length conferences → IsConference (get_or shapes k s) (get_or conferences k c)
 conference_fits [] [] k s c zip within = absurd (omega arith)
 conference_fits [] (x ∷ conferences) k s c zip within = absurd zip
 conference_fits (y ∷ shapes) [] k s c zip within = absurd zip
@@ -48,12 +48,12 @@ as_many_bases b bases e = sym (length-map bases (λ (base : Contents). base.conf
 
 -- the conference in a place, by its base
 pub conference_at : (b : Board) (bases : List Contents) (place : ℕ) → conferences_in bases ≡ b.conferences → slice_get b.conferences place ≡ option_map (λ (base : Contents). base.conference) (slice_get bases place)
-conference_at b bases place e = ap (λ (xs : List Conference). slice_get xs place) (sym e) ∙ slice_get-map (λ (base : Contents). base.conference) bases place
+conference_at b bases place e = ap (λ (xs : List ConferenceContents). slice_get xs place) (sym e) ∙ slice_get-map (λ (base : Contents). base.conference) bases place
 
-abbrev pub slots_of : Option Conference → List Slot
-slots_of c = unwrap_or (option_map (λ (c : Conference). c.slots) c) []
+abbrev pub slots_of : Option ConferenceContents → List Slot
+slots_of c = unwrap_or (option_map (λ (c : ConferenceContents). c.slots) c) []
 
-few_slots : (shapes : List Shape) (conferences : List Conference) (place : ℕ) → AllZip IsConference shapes conferences → length (slots_of (slice_get conferences place)) ≤ slot_limit
+few_slots : (shapes : List Shape) (conferences : List ConferenceContents) (place : ℕ) → AllZip IsConference shapes conferences → length (slots_of (slice_get conferences place)) ≤ slot_limit
 few_slots shapes [] place zip = omega arith
 few_slots [] (c ∷ conferences) place zip = absurd zip
 few_slots (s ∷ shapes) (c ∷ conferences) zero zip = zip.0.few

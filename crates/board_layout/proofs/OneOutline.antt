@@ -17,7 +17,7 @@ use Rattle.jam_base.specs.Outlined.{outlined}
 use Rattle.jam_base.specs.jam_layout.Messages.{AreBytes, IsMessage, IsSlot}
 use Rattle.jam_base.specs.jam_layout.Outlines.{message_outline, outline, slot_outline}
 use Rattle.jam_base.specs.jam_layout.Valid.{IsConference, PointersFit}
-use Rattle.jam_base.specs.jam_layout.declared.conference.Conference.{Conference}
+use Rattle.jam_base.specs.jam_layout.declared.conference.ConferenceContents.{ConferenceContents}
 use Rattle.jam_base.specs.jam_layout.declared.shape.Shape.{Shape}
 use Rattle.jam_records.specs.declared.message.Kind.{Kind}
 use Rattle.jam_records.specs.declared.message.Message.{Message}
@@ -65,7 +65,7 @@ slots_back kind (s ∷ slots) all bodies =
     All-cons (IsSlot kind) s slots (slot_back kind s (All-head (IsSlot kind) (slot_outline s) (map slot_outline slots) all) (All-head HasBody s slots bodies))
     (slots_back kind slots (All-tail (IsSlot kind) (slot_outline s) (map slot_outline slots) all) (All-tail HasBody s slots bodies))
 
-pub conference_back : (shape : Shape) (c : Conference) → IsConference shape (outline c) → All HasBody c.slots → IsConference shape c
+pub conference_back : (shape : Shape) (c : ConferenceContents) → IsConference shape (outline c) → All HasBody c.slots → IsConference shape c
 conference_back shape c ok bodies =
     let count = length-map c.slots slot_outline in
     let few = ok.few in

@@ -22,19 +22,19 @@ use Rattle.jam_base.specs.jam_layout.Conference.{is_live, live_count}
 use Rattle.jam_base.specs.jam_layout.Layout.{layout, files_size}
 use Rattle.jam_base.specs.jam_layout.Outlines.{line_ends, message_outline, outline, slot_outline}
 use Rattle.jam_base.specs.jam_layout.Valid.{IsConference}
-use Rattle.jam_base.specs.jam_layout.declared.conference.Conference.{Conference}
+use Rattle.jam_base.specs.jam_layout.declared.conference.ConferenceContents.{ConferenceContents}
 use Rattle.jam_base.specs.jam_layout.declared.shape.Shape.{Shape}
 use Rattle.jam_records.specs.declared.message.Message.{Message}
 use Rattle.jam_records.specs.declared.message.Slot.{Slot}
 use Rattle.jam_records.specs.declared.message.Slot.TheVariants.{Gone, Held}
 
 -- ---- sizes
-files_size_outline : (shape : Shape) (c : Conference) → files_size (layout shape (outline c)) ≡ files_size (layout shape c)
+files_size_outline : (shape : Shape) (c : ConferenceContents) → files_size (layout shape (outline c)) ≡ files_size (layout shape c)
 files_size_outline shape c =
     let others = ap files_size (files_outline shape c) in
     omega (arith, others, jdt_outline shape c)
 
-sizes_outline : (shapes : List Shape) (conferences : List Conference) → sum_by files_size (layouts shapes (map outline conferences)) ≡ sum_by files_size (layouts shapes conferences)
+sizes_outline : (shapes : List Shape) (conferences : List ConferenceContents) → sum_by files_size (layouts shapes (map outline conferences)) ≡ sum_by files_size (layouts shapes conferences)
 sizes_outline [] conferences = refl
 sizes_outline (shape ∷ shapes) [] = refl
 sizes_outline (shape ∷ shapes) (c ∷ conferences) =
@@ -49,12 +49,12 @@ pub base_size_outline : (base : Contents) → base_size (outlined base) ≡ base
 base_size_outline base = files_size_outline base.shape base.conference
 
 -- ---- validity
-pub highs_outline : (conferences : List Conference) (highs : List ℕ) → highs_fit (map outline conferences) highs ≡ highs_fit conferences highs
+pub highs_outline : (conferences : List ConferenceContents) (highs : List ℕ) → highs_fit (map outline conferences) highs ≡ highs_fit conferences highs
 highs_outline [] highs = refl
 highs_outline (c ∷ conferences) [] = refl
 highs_outline (c ∷ conferences) (high ∷ highs) = λ i. nat_le high (length-map c.slots slot_outline i) && highs_outline conferences highs i
 
-conferences_outline : (shapes : List Shape) (conferences : List Conference) → AllZip IsConference shapes conferences → AllZip IsConference shapes (map outline conferences)
+conferences_outline : (shapes : List Shape) (conferences : List ConferenceContents) → AllZip IsConference shapes conferences → AllZip IsConference shapes (map outline conferences)
 conferences_outline [] [] all = all
 conferences_outline [] (c ∷ conferences) all = absurd all
 conferences_outline (shape ∷ shapes) [] all = absurd all
@@ -82,28 +82,28 @@ slots_again : (slots : List Slot) → map slot_outline (map slot_outline slots) 
 slots_again [] = refl
 slots_again (s ∷ slots) = λ i. slot_again s i ∷ slots_again slots i
 
-conference_again : (c : Conference) → outline (outline c) ≡ outline c
+conference_again : (c : ConferenceContents) → outline (outline c) ≡ outline c
 conference_again c = ap (λ (slots : List Slot). record c { slots = slots }) (slots_again c.slots)
 
-conferences_again : (conferences : List Conference) → map outline (map outline conferences) ≡ map outline conferences
+conferences_again : (conferences : List ConferenceContents) → map outline (map outline conferences) ≡ map outline conferences
 conferences_again [] = refl
 conferences_again (c ∷ conferences) = λ i. conference_again c i ∷ conferences_again conferences i
 
 pub base_again : (base : Contents) → outlined (outlined base) ≡ outlined base
-base_again base = ap (λ (c : Conference). record base { conference = c }) (conference_again base.conference)
+base_again base = ap (λ (c : ConferenceContents). record base { conference = c }) (conference_again base.conference)
 
 -- a base that has the outline of a conference
-pub own_outlined : (base : Contents) (whole : Conference) → base.conference ≡ outline whole → outlined base ≡ base
+pub own_outlined : (base : Contents) (whole : ConferenceContents) → base.conference ≡ outline whole → outlined base ≡ base
 own_outlined base whole is = λ i. record base { conference = (ap outline is ∙ (conference_again whole ∙ sym is)) i }
 
-pub own_conference : (base : Contents) (whole : Conference) → base.conference ≡ outline whole → IsConference base.shape whole → IsConference base.shape base.conference
+pub own_conference : (base : Contents) (whole : ConferenceContents) → base.conference ≡ outline whole → IsConference base.shape whole → IsConference base.shape base.conference
 own_conference base whole is ok = subst (IsConference base.shape) (sym is) (conference_outline base.shape whole ok)
 
 pub outline_again : (b : Board) → board_outline (board_outline b) ≡ board_outline b
-outline_again b = ap (λ (conferences : List Conference). record b { conferences = conferences }) (conferences_again b.conferences)
+outline_again b = ap (λ (conferences : List ConferenceContents). record b { conferences = conferences }) (conferences_again b.conferences)
 
 -- ---- what is looked up
-contents_outline : (shapes : List Shape) (conferences : List Conference) → contents shapes (map outline conferences) ≡ map outlined (contents shapes conferences)
+contents_outline : (shapes : List Shape) (conferences : List ConferenceContents) → contents shapes (map outline conferences) ≡ map outlined (contents shapes conferences)
 contents_outline [] conferences = refl
 contents_outline (shape ∷ shapes) [] = refl
 contents_outline (shape ∷ shapes) (c ∷ conferences) = ap (λ (bases : List Contents). record { shape = shape; conference = outline c } ∷ bases) (contents_outline shapes conferences)

@@ -6,14 +6,14 @@ use Rattle.board_ledger.specs.declared.ledger.Ledger.{Ledger}
 use Rattle.board_ledger.proofs.LedgerLaws.{ledger_again}
 use Rattle.jam_base.specs.jam_layout.Layout.{layout, conference_of}
 use Rattle.jam_base.specs.jam_layout.Valid.{ShapeFits, IsConference}
-use Rattle.jam_base.specs.jam_layout.declared.conference.Conference.{Conference}
+use Rattle.jam_base.specs.jam_layout.declared.conference.ConferenceContents.{ConferenceContents}
 use Rattle.jam_base.specs.jam_layout.declared.files.BaseFiles.{BaseFiles}
 use Rattle.jam_base.specs.jam_layout.declared.shape.Shape.{Shape}
 use Rattle.jam_base.proofs.jam_layout.ConferenceLayout.{is_layout}
 use Rattle.board_layout.specs.Rules.{HasReadCause}
 
 -- read from these files and this shape, which equal those that are asked for
-pub base_read : (shape wanted : Shape) (files read : BaseFiles) (c : Conference) → shape ≡ wanted → files ≡ read → ShapeFits wanted → IsConference shape c → read ≡ layout shape c → conference_of wanted files ≡ Ok c
+pub base_read : (shape wanted : Shape) (files read : BaseFiles) (c : ConferenceContents) → shape ≡ wanted → files ≡ read → ShapeFits wanted → IsConference shape c → read ≡ layout shape c → conference_of wanted files ≡ Ok c
 base_read shape wanted files read c same from fits ok laid =
     (λ i. conference_of (sym same i) (from i)) ∙ (ap (conference_of shape) laid ∙ is_layout shape c (subst ShapeFits (sym same) fits) ok)
 

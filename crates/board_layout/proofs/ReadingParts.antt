@@ -7,10 +7,10 @@ use Rattle.board_ledger.specs.Valid.{IsLedger, IsStored, today}
 use Rattle.board_ledger.specs.declared.ledger.Ledger.{Ledger}
 use Rattle.board_ledger.proofs.VersionLaws.{today_valid}
 use Rattle.door_outside.specs.File.{ledger_file}
-use Rattle.board_ledger.specs.intent_journal.Patches.{Files}
+use Rattle.board_ledger.specs.intent_journal.Patches.{HostFiles}
 use Rattle.jam_base.specs.Contents.{Contents}
 use Rattle.jam_base.specs.jam_layout.Valid.{IsConference}
-use Rattle.jam_base.specs.jam_layout.declared.conference.Conference.{Conference}
+use Rattle.jam_base.specs.jam_layout.declared.conference.ConferenceContents.{ConferenceContents}
 use Rattle.jam_base.specs.jam_layout.declared.shape.Shape.{Shape}
 use Rattle.board_layout.specs.Board.{Board, board_with, conferences_in, shapes_in, shapes_of}
 use Rattle.board_layout.specs.Damage.{size_limit}
@@ -33,20 +33,20 @@ module _ (l : Ledger) (bases : List Contents) (shapes : shapes_in bases ≡ shap
   }
 
 -- conferences that were read whole, each of its shape
-module _ (l : Ledger) (wholes : List Conference) (zip : AllZip IsConference (shapes_of l) wholes) where
+module _ (l : Ledger) (wholes : List ConferenceContents) (zip : AllZip IsConference (shapes_of l) wholes) where
   whole_count : length (layouts (shapes_of l) wholes) ≡ length l.setup.conferences
   whole_count = layouts_count (shapes_of l) wholes zip ∙ shapes_count l 0 l.setup.conferences
 
   whole_few : IsLedger l → length (layouts (shapes_of l) wholes) ≤ 64
   whole_few ok = let many = ok.setup.conferences.many in omega (arith, whole_count, many)
 
-  pub has_places : (files : Files) (u : Unit {0}) → AreAt 0 (layouts (shapes_of l) wholes) files → rest_in files l ≡ Ok u → HasPlaces (record { ledger = l; conferences = wholes }) files
+  pub has_places : (files : HostFiles) (u : Unit {0}) → AreAt 0 (layouts (shapes_of l) wholes) files → rest_in files l ≡ Ok u → HasPlaces (record { ledger = l; conferences = wholes }) files
   has_places files u there rest =
       let n : ℕ = length l.setup.conferences in
       all_places n (layouts (shapes_of l) wholes) files there whole_count (rest_take n (64 - n) files u rest)
 
 -- the ledger that was read is of today's form, and the board is of it
-module _ (raw : Ledger) (b : Board) (same : b.ledger ≡ today raw) (zip : AllZip IsConference (shapes_of (today raw)) b.conferences) (files : Files) (stored : IsStored raw) (text : files ledger_file ≡ stored_text raw)
+module _ (raw : Ledger) (b : Board) (same : b.ledger ≡ today raw) (zip : AllZip IsConference (shapes_of (today raw)) b.conferences) (files : HostFiles) (stored : IsStored raw) (text : files ledger_file ≡ stored_text raw)
     (places : HasPlaces b files) (short : data_size files ≤ size_limit (files ledger_file)) where
   valid : IsLedger (today raw)
   valid = today_valid raw stored

@@ -6,7 +6,7 @@ use Rattle.std.proofs.lemmas.List.Sums.{sum_by-cons}
 use Rattle.board_ledger.specs.Ledger.{ledger_text, text_in}
 use Rattle.board_ledger.specs.declared.ledger.Ledger.{Ledger}
 use Rattle.door_outside.specs.File.{ledger_file}
-use Rattle.board_ledger.specs.intent_journal.Patches.{Files}
+use Rattle.board_ledger.specs.intent_journal.Patches.{HostFiles}
 use Rattle.jam_base.specs.Change.{files_of_place}
 use Rattle.jam_base.specs.Contents.{Contents}
 use Rattle.jam_base.specs.jam_layout.Layout.{files_size}
@@ -25,7 +25,7 @@ sum_more (suc n) [] = refl
 sum_more zero (b ∷ bases) = omega arith
 sum_more (suc n) (b ∷ bases) = omega (arith, sum_by-cons files_size b (take (suc n) bases), sum_by-cons files_size b (take n bases), sum_more n bases)
 
-first_places : (n : ℕ) (bases : List BaseFiles) (files : Files) → ((place : ℕ) → place < n → files_of_place place files ≡ get_or bases place no_base) → places_size n files ≡ sum_by files_size (take n bases)
+first_places : (n : ℕ) (bases : List BaseFiles) (files : HostFiles) → ((place : ℕ) → place < n → files_of_place place files ≡ get_or bases place no_base) → places_size n files ≡ sum_by files_size (take n bases)
 unfolding places_size
 first_places zero bases files at = refl
 first_places (suc n) bases files at =
@@ -34,38 +34,38 @@ first_places (suc n) bases files at =
     omega (arith, before, last, sum_more n bases)
 
 -- a loop over the places: what was added up, and one place more
-pub size_none : (files : Files) (size : ℕ) → size ≡ length (files ledger_file) → size ≡ length (files ledger_file) + places_size 0 files
+pub size_none : (files : HostFiles) (size : ℕ) → size ≡ length (files ledger_file) → size ≡ length (files ledger_file) + places_size 0 files
 unfolding places_size
 size_none files size e = omega arith
 
-places_more : (n k : ℕ) (files : Files) → k ≡ suc n → places_size k files ≡ places_size n files + files_size (files_of_place n files)
+places_more : (n k : ℕ) (files : HostFiles) → k ≡ suc n → places_size k files ≡ places_size n files + files_size (files_of_place n files)
 unfolding places_size
 places_more n k files e = ap (λ j. places_size j files) e
 
-pub size_more : (n size more : ℕ) (old now : Files) → now ≡ old → size ≡ length (old ledger_file) + places_size n old → more ≡ files_size (files_of_place n now)
+pub size_more : (n size more : ℕ) (old now : HostFiles) → now ≡ old → size ≡ length (old ledger_file) + places_size n old → more ≡ files_size (files_of_place n now)
     → size + more ≡ length (old ledger_file) + places_size (n + 1) old
 size_more n size more old now same so_far here =
-    let this : more ≡ files_size (files_of_place n old) = here ∙ ap (λ (files : Files). files_size (files_of_place n files)) same in
+    let this : more ≡ files_size (files_of_place n old) = here ∙ ap (λ (files : HostFiles). files_size (files_of_place n files)) same in
     omega (arith, so_far, this, places_more n (n + 1) old (omega arith))
 
-pub place_within : (n : ℕ) (files : Files) (place : ℕ) → place < n → files_size (files_of_place place files) ≤ places_size n files
+pub place_within : (n : ℕ) (files : HostFiles) (place : ℕ) → place < n → files_size (files_of_place place files) ≤ places_size n files
 unfolding places_size
 place_within zero files place within = absurd (omega arith)
 place_within (suc n) files place within =
     below_more (λ k. files_size (files_of_place k files) ≤ places_size n files + files_size (files_of_place n files)) n (λ k under. let h = place_within n files k under in omega arith) (omega arith) place (omega arith)
 
 -- ---- the board's size
-places_of_board : (b : Board) (files : Files) → length (base_files b) ≤ 64 → HasPlaces b files → places_size 64 files ≡ sum_by files_size (base_files b)
+places_of_board : (b : Board) (files : HostFiles) → length (base_files b) ≤ 64 → HasPlaces b files → places_size 64 files ≡ sum_by files_size (base_files b)
 places_of_board b files few places = first_places 64 (base_files b) files places ∙ ap (sum_by files_size) (take_all 64 (base_files b) few)
 
-pub same_size : (b : Board) (files : Files) → length (base_files b) ≤ 64 → IsLayout b files → data_size files ≡ board_size b
+pub same_size : (b : Board) (files : HostFiles) → length (base_files b) ≤ 64 → IsLayout b files → data_size files ≡ board_size b
 same_size b files few laid =
     let places = places_of_board b files few laid.places in
     let text : length (files ledger_file) ≡ length (ledger_text b.ledger) = ap length laid.ledger in
     omega (arith, places, text)
 
 -- and in version 1
-pub old_same_size : (b : Board) (files : Files) → length (base_files b) ≤ 64 → files ledger_file ≡ text_in First b.ledger → HasPlaces b files → data_size files ≡ old_size b
+pub old_same_size : (b : Board) (files : HostFiles) → length (base_files b) ≤ 64 → files ledger_file ≡ text_in First b.ledger → HasPlaces b files → data_size files ≡ old_size b
 old_same_size b files few text there =
     let places = places_of_board b files few there in
     let length_is : length (files ledger_file) ≡ length (text_in First b.ledger) = ap length text in
@@ -90,14 +90,14 @@ no_files files e =
     let jlr = nil_from_length files.jlr (omega arith) in
     λ i. record { jhr = jhr i; jdt = jdt i; jdx = jdx i; jlr = jlr i }
 
-no_places : (n : ℕ) (files : Files) → places_size n files ≡ 0 → (place : ℕ) → place < n → files_of_place place files ≡ no_base
+no_places : (n : ℕ) (files : HostFiles) → places_size n files ≡ 0 → (place : ℕ) → place < n → files_of_place place files ≡ no_base
 unfolding places_size
 no_places zero files e place within = absurd (omega arith)
 no_places (suc n) files e place within =
     let sum : places_size n files + files_size (files_of_place n files) ≡ 0 = e in
     below_more (λ k. files_of_place k files ≡ no_base) n (no_places n files (omega arith)) (no_files (files_of_place n files) (omega arith)) place (omega arith)
 
-no_size : (n : ℕ) (files : Files) → ((place : ℕ) → place < n → files_of_place place files ≡ no_base) → places_size n files ≡ 0
+no_size : (n : ℕ) (files : HostFiles) → ((place : ℕ) → place < n → files_of_place place files ≡ no_base) → places_size n files ≡ 0
 unfolding places_size
 no_size zero files none = refl
 no_size (suc n) files none =
@@ -105,7 +105,7 @@ no_size (suc n) files none =
     let last : files_size (files_of_place n files) ≡ 0 = ap files_size (none n (omega arith)) in
     omega (arith, before, last)
 
-pub empty : (files : Files) → (data_size files ≡ 0) ↔ AreEmpty files
+pub empty : (files : HostFiles) → (data_size files ≡ 0) ↔ AreEmpty files
 empty files = (
   λ e. record { ledger = nil_from_length (files ledger_file) (omega arith); places = no_places 64 files (omega arith) },
   λ none. let places = no_size 64 files none.places in let text : length (files ledger_file) ≡ 0 = ap length none.ledger in omega (arith, places, text),

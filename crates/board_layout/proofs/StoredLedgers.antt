@@ -13,7 +13,7 @@ use Rattle.board_ledger.specs.declared.user.User.{User}
 use Rattle.board_ledger.proofs.SizeLaws.{ledger_length, user_length}
 use Rattle.board_ledger.proofs.VersionLaws.{as_today, stored_written, text_stored, text_today}
 use Rattle.door_outside.specs.File.{ledger_file}
-use Rattle.board_ledger.specs.intent_journal.Patches.{Files}
+use Rattle.board_ledger.specs.intent_journal.Patches.{HostFiles}
 use Rattle.board_ledger.specs.open_offers.declared.version.Version.{Version}
 use Rattle.board_ledger.specs.open_offers.declared.version.Version.TheVariants.{First, Second}
 use Rattle.jam_records.specs.record_numbers.Numbers.{u16_at}
@@ -88,7 +88,7 @@ text_first : (l : Ledger) → text_in First (today l) ≡ text_in First l
 unfolding text_in fixed_text
 text_first l = refl
 
-module _ (raw : Ledger) (b : Board) (files : Files) (is : b.ledger ≡ today raw) (text : files ledger_file ≡ stored_text raw) (places : HasPlaces b files) where
+module _ (raw : Ledger) (b : Board) (files : HostFiles) (is : b.ledger ≡ today raw) (text : files ledger_file ≡ stored_text raw) (places : HasPlaces b files) where
   new_layout : IsLedger raw → IsLayout b files
   new_layout ok = record { ledger = text ∙ (stored_written raw ok ∙ (sym (text_today raw) ∙ ap ledger_text (sym is))); places = places }
 
@@ -105,21 +105,21 @@ module _ (raw : Ledger) (b : Board) (files : Files) (is : b.ledger ≡ today raw
     laid_as (inr old) = subst (λ old. IsLaidOutAs old b files) (ap (λ n. eqb n 1) (sym old.version)) (old_layout old)
 
 -- ---- a board of either version
-pub in_either : (old : Bool) (b : Board) (files : Files) → IsLaidOutAs old b files → IsStoredIn b files
+pub in_either : (old : Bool) (b : Board) (files : HostFiles) → IsLaidOutAs old b files → IsStoredIn b files
 in_either true b files laid = inr laid
 in_either false b files laid = inl laid
 
-pub stored_places : (b : Board) (files : Files) → IsStoredIn b files → HasPlaces b files
+pub stored_places : (b : Board) (files : HostFiles) → IsStoredIn b files → HasPlaces b files
 stored_places b files (inl laid) = laid.places
 stored_places b files (inr old) = old.places
 
 -- files that aren't too long are of no board that is
-pub stored_small : (b : Board) (files : Files) → IsLedger b.ledger → length (base_files b) ≤ 64 → IsStoredIn b files → data_size files ≤ size_limit (files ledger_file) → board_size b ≤ board_limit
+pub stored_small : (b : Board) (files : HostFiles) → IsLedger b.ledger → length (base_files b) ≤ 64 → IsStoredIn b files → data_size files ≤ size_limit (files ledger_file) → board_size b ≤ board_limit
 stored_small b files ok few (inl laid) short = let most = limit_most (files ledger_file) in omega (arith, most, short, same_size b files few laid)
 stored_small b files ok few (inr old) short = let small = old.small in let more = old_grown b ok in omega (arith, small, more)
 
 -- and those of a board aren't
-pub stored_short : (b : Board) (files : Files) → length (base_files b) ≤ 64 → board_size b ≤ board_limit → IsStoredIn b files → data_size files ≤ size_limit (files ledger_file)
+pub stored_short : (b : Board) (files : HostFiles) → length (base_files b) ≤ 64 → board_size b ≤ board_limit → IsStoredIn b files → data_size files ≤ size_limit (files ledger_file)
 stored_short b files few small (inl laid) = let limit = limit_new b.ledger (files ledger_file) laid.ledger in omega (arith, limit, small, same_size b files few laid)
 stored_short b files few small (inr old) =
     let limit = limit_old b.ledger (files ledger_file) old.ledger in
@@ -127,7 +127,7 @@ stored_short b files few small (inr old) =
     omega (arith, limit, least, old_same_size b files few old.ledger old.places)
 
 -- the ledger as the files have it
-pub record Kept (b : Board) (files : Files) : Type 0 where
+pub record Kept (b : Board) (files : HostFiles) : Type 0 where
   pub ledger : Ledger
   pub stored : IsStored ledger
   pub text : files ledger_file ≡ stored_text ledger
@@ -140,7 +140,7 @@ old_text : (l : Ledger) → text_in First l ≡ stored_text (as_old l)
 unfolding text_in fixed_text
 old_text l = refl
 
-pub kept : (b : Board) (files : Files) → IsLedger b.ledger → IsStoredIn b files → Kept b files
+pub kept : (b : Board) (files : HostFiles) → IsLedger b.ledger → IsStoredIn b files → Kept b files
 kept b files ok (inl laid) = record {
   ledger = b.ledger;
   stored = inl ok;

@@ -4,7 +4,7 @@ use Rattle.board_ledger.specs.Users.{is_member}
 use Rattle.board_ledger.specs.declared.ledger.Ledger.{Ledger}
 use Rattle.board_ledger.specs.declared.user.User.{User}
 use Rattle.jam_base.specs.Contents.{Contents}
-use Rattle.jam_base.specs.jam_layout.declared.conference.Conference.{Conference}
+use Rattle.jam_base.specs.jam_layout.declared.conference.ConferenceContents.{ConferenceContents}
 use Rattle.jam_base.specs.jam_layout.declared.reader.Reader.{Reader}
 use Rattle.jam_base.specs.jam_layout.declared.shape.Shape.{Shape}
 use Rattle.jam_records.specs.declared.message.Kind.{Kind}
@@ -14,7 +14,7 @@ pub record Board : Type 0 where
   -- what it is made of, when it was made, its users by id from 1, and its upload records
   pub ledger : Ledger
   -- of each conference of the setup the slots, the change counter, and the pointers of its members by id
-  pub conferences : List Conference
+  pub conferences : List ConferenceContents
 
 -- the user of this id as a reader of the conference in a place, where it is a member
 abbrev pub reader_of : ℕ → ℕ → User → List Reader
@@ -38,7 +38,7 @@ abbrev pub shapes_of : Ledger → List Shape
 shapes_of l = shapes_from l 0 l.setup.conferences
 
 -- the conferences of bases, and their shapes
-abbrev pub conferences_in : List Contents → List Conference
+abbrev pub conferences_in : List Contents → List ConferenceContents
 conferences_in bases = map (λ base. base.conference) bases
 
 abbrev pub shapes_in : List Contents → List Shape

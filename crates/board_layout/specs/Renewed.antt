@@ -1,12 +1,12 @@
 -- The conferences of a board with their shapes, and with some of them anew.
 use Rattle.std.specs.Prelude.{List, [], ◌∷◌, Option, Some, None}
 use Rattle.jam_base.specs.Contents.{Contents}
-use Rattle.jam_base.specs.jam_layout.declared.conference.Conference.{Conference}
+use Rattle.jam_base.specs.jam_layout.declared.conference.ConferenceContents.{ConferenceContents}
 use Rattle.jam_base.specs.jam_layout.declared.shape.Shape.{Shape}
 use Rattle.board_layout.specs.Board.{Board, shapes_of}
 
 -- each conference with its shape
-abbrev pub contents : List Shape → List Conference → List Contents
+abbrev pub contents : List Shape → List ConferenceContents → List Contents
 contents [] conferences = []
 contents (shape ∷ shapes) [] = []
 contents (shape ∷ shapes) (c ∷ conferences) = record { shape = shape; conference = c } ∷ contents shapes conferences

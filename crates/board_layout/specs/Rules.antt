@@ -6,12 +6,12 @@ use Rattle.board_ledger.specs.declared.error.LedgerError.{LedgerError}
 use Rattle.board_ledger.specs.declared.error.LedgerError.TheVariants.{Damaged as LedgerDamaged, OutOfMemory as LedgerStarved}
 use Rattle.board_ledger.specs.declared.ledger.Ledger.{Ledger}
 use Rattle.board_ledger.specs.damage_rules.Rules.{Answers, Stops}
-use Rattle.board_ledger.specs.intent_journal.Patches.{Files}
+use Rattle.board_ledger.specs.intent_journal.Patches.{HostFiles}
 use Rattle.jam_base.specs.Contents.{Contents}
 use Rattle.jam_base.specs.jam_layout.Layout.{layout}
 use Rattle.jam_base.specs.jam_layout.Outlines.{outline}
 use Rattle.jam_base.specs.jam_layout.Valid.{IsConference}
-use Rattle.jam_base.specs.jam_layout.declared.conference.Conference.{Conference}
+use Rattle.jam_base.specs.jam_layout.declared.conference.ConferenceContents.{ConferenceContents}
 use Rattle.jam_base.specs.jam_layout.declared.error.BaseError.{BaseError}
 use Rattle.jam_base.specs.jam_layout.declared.error.BaseError.TheVariants.{Damaged as BaseDamaged, OutOfMemory as BaseStarved}
 use Rattle.jam_base.specs.jam_layout.declared.files.BaseFiles.{BaseFiles}
@@ -63,25 +63,25 @@ pub record HasReadCause {T : Type 0} (before now : ℕ) (result : Result T ReadE
   pub kept : IsErrOf result DiskFault ⊎ (now ≡ before)
 
 -- the files are the layout of the board, in version 1 where it is said to be old
-abbrev pub IsLaidOutAs : Bool → Board → Files → Type 0
+abbrev pub IsLaidOutAs : Bool → Board → HostFiles → Type 0
 IsLaidOutAs true b files = IsOldLayout b files
 IsLaidOutAs false b files = IsLayout b files
 
 -- The base has the outline of the conference, which is one of its shape, and the files are its layout.
-pub record IsOutlineOf (files : BaseFiles) (base : Contents) (whole : Conference) : Type 0 where
+pub record IsOutlineOf (files : BaseFiles) (base : Contents) (whole : ConferenceContents) : Type 0 where
   pub alike : base.conference ≡ outline whole
   pub valid : IsConference base.shape whole
   pub stored : files ≡ layout base.shape whole
 
 -- The bases have the outlines of these conferences, each of its shape, and the files of the places are their layouts.
-pub record AreOutlinesOf (shapes : List Shape) (files : Files) (bases : List Contents) (wholes : List Conference) : Type 0 where
+pub record AreOutlinesOf (shapes : List Shape) (files : HostFiles) (bases : List Contents) (wholes : List ConferenceContents) : Type 0 where
   pub alike : conferences_in bases ≡ map outline wholes
   pub valid : AllZip IsConference shapes wholes
   pub stored : AreAt 0 (layouts shapes wholes) files
 
 -- The bases are those of the outline of the board, but for how long its files are it is valid, and they are its layout in
 -- all places.
-pub record ArePartsOf (ledger : Ledger) (files : Files) (bases : List Contents) (whole : Board) : Type 0 where
+pub record ArePartsOf (ledger : Ledger) (files : HostFiles) (bases : List Contents) (whole : Board) : Type 0 where
   pub alike : board_with ledger bases ≡ board_outline whole
   pub valid : AllZip IsConference (shapes_of ledger) whole.conferences
   pub highs : All (λ u. IsTrue (offers_fit whole.conferences u.offers)) ledger.users
@@ -89,13 +89,13 @@ pub record ArePartsOf (ledger : Ledger) (files : Files) (bases : List Contents) 
 
 -- What was found is the outline of the board, which is valid, and the files are its layout, in version 1 where it is said
 -- to be old.
-pub record IsFoundOf (files : Files) (found : FoundBoard) (whole : Board) : Type 0 where
+pub record IsFoundOf (files : HostFiles) (found : FoundBoard) (whole : Board) : Type 0 where
   pub alike : found.board ≡ board_outline whole
   pub valid : IsBoard whole
   pub stored : IsLaidOutAs found.is_old whole files
 
 -- so it is, or the files are empty where nothing was found
-abbrev pub AreFoundOf : Files → Option FoundBoard → Option Board → Type 0
+abbrev pub AreFoundOf : HostFiles → Option FoundBoard → Option Board → Type 0
 AreFoundOf files None None = AreEmpty files
 AreFoundOf files None (Some whole) = ⊥
 AreFoundOf files (Some found) None = ⊥

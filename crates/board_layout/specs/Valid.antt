@@ -4,7 +4,7 @@ use Rattle.std.specs.List.{list_all, AllZip}
 use Rattle.board_ledger.specs.Valid.{IsLedger}
 use Rattle.board_ledger.specs.open_offers.declared.offer.OpenOffer.{OpenOffer}
 use Rattle.jam_base.specs.jam_layout.Valid.{IsConference}
-use Rattle.jam_base.specs.jam_layout.declared.conference.Conference.{Conference}
+use Rattle.jam_base.specs.jam_layout.declared.conference.ConferenceContents.{ConferenceContents}
 use Rattle.board_layout.specs.Board.{Board, shapes_of}
 use Rattle.board_layout.specs.Layout.{board_size}
 
@@ -13,13 +13,13 @@ abbrev pub board_limit : ℕ
 board_limit = 34603008
 
 -- each high is at most the count of slots of its conference
-abbrev pub highs_fit : List Conference → List ℕ → Bool
+abbrev pub highs_fit : List ConferenceContents → List ℕ → Bool
 highs_fit [] highs = true
 highs_fit (c ∷ conferences) [] = true
 highs_fit (c ∷ conferences) (high ∷ highs) = nat_le high (length c.slots) && highs_fit conferences highs
 
 -- so it is in each of these offers
-abbrev pub offers_fit : List Conference → List OpenOffer → Bool
+abbrev pub offers_fit : List ConferenceContents → List OpenOffer → Bool
 offers_fit conferences offers = list_all (λ o. highs_fit conferences o.highs) offers
 
 pub record IsBoard (b : Board) : Type 0 where

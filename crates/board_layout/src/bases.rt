@@ -59,7 +59,14 @@ pub(crate) fn read_bases<H: Host>(
     ensures voice { H.voice_faults host.new ≡ H.voice_faults host.old }
 {
     let mut bases = Bases::new(alloc);
-    for (place, conference) in ledger.setup.conferences.as_slice().iter().enumerate() {
+    for (place, conference) in ledger
+        .setup
+        .fields()
+        .conferences
+        .as_slice()
+        .iter()
+        .enumerate()
+    {
         let base = read_place(alloc, host, ledger, place as u8, conference.kind)?;
         bases.add(base)?;
     }

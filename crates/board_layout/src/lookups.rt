@@ -73,7 +73,7 @@ impl StoredBoard {
         ensures place { result ≡ place_with_number number self.now }
         ensures within { IfSome result (λ place. place < length self.now.ledger.setup.conferences) }
     {
-        let conferences = self.ledger().setup.conferences.as_slice();
+        let conferences = self.ledger().setup.fields().conferences.as_slice();
         match index_of(conferences, number) {
             Some(index) => Some(index as u8),
             None => None,
@@ -85,7 +85,7 @@ impl StoredBoard {
         requires { place < length self.now.conferences }
         ensures { slice_get self.now.ledger.setup.conferences place ≡ Some result.now }
     {
-        let conferences = &self.ledger().setup.conferences;
+        let conferences = &self.ledger().setup.fields().conferences;
         match conferences.get(usize::from(place)) {
             Some(conference) => conference,
             None => unreachable!(),

@@ -15,7 +15,7 @@ use Rattle.jam_records.specs.declared.message.Kind.TheVariants.{Local, Echo, Net
 use Rattle.setup_file.specs.Texts.{is_printed_byte, is_printed, is_name_byte, has_bare_ends, is_letter_or_digit, is_board_text, is_user_name, is_bbsid, is_conference_name}
 use Rattle.setup_file.specs.Valid.{IsSetup, IsSetupConference}
 use Rattle.setup_file.specs.declared.conference.Conference.{Conference}
-use Rattle.setup_file.specs.declared.setup.Setup.{Setup}
+use Rattle.setup_file.specs.declared.fields.SetupFields.{SetupFields}
 use Rattle.open_offers.specs.Texts.{sized_text, u64_text}
 use Rattle.open_offers.specs.Offers.{behind_last, cell_count, cell_text, cells_for}
 use Rattle.board_ledger.specs.Opening.{magic, fixed_text, setup_text}
@@ -99,7 +99,7 @@ fixed_bytes v l =
     let numbers : List ℕ = length l.uploads ∷ l.created ∷ l.setup.serial ∷ [] in
     both magic (flat_map (little_bytes 2) counts ++ u32s_text numbers) magic_bytes (both (flat_map (little_bytes 2) counts) (u32s_text numbers) (numbers_bytes 2 counts) (numbers_bytes 4 numbers))
 
-setup_bytes : (s : Setup) → IsSetup s → All IsByte (setup_text s)
+setup_bytes : (s : SetupFields) → IsSetup s → All IsByte (setup_text s)
 setup_bytes s ok =
     let zones : List ℕ = flat_map (little_bytes 2) s.zones in
     let e5 = both (sized_text s.bbsid) zones (sized_bytes s.bbsid (bbsid_bytes s.bbsid ok.bbsid)) (numbers_bytes 2 s.zones) in
@@ -175,7 +175,7 @@ user_most v count u few ok = omega (arith, user_length v count u ok, user_small 
 
 pub text_short : (v : Version) (l : Ledger) → IsLedger (today l) → length (text_in v l) < 2 ^ 31
 text_short v l ok =
-    let s : Setup = l.setup in
+    let s : SetupFields = l.setup in
     let board = board_small s.board ok.setup.board in
     let city = board_small s.city ok.setup.city in
     let phone = board_small s.phone ok.setup.phone in

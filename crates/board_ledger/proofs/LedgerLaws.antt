@@ -12,7 +12,7 @@ use Rattle.damage_rules.specs.Rules.{damage_of}
 use Rattle.damage_rules.proofs.KeptRules.{rules_kept, kept_rules, ok_is}
 use Rattle.setup_file.specs.Valid.{IsSetup, IsSetupConference, AreSetupConferences}
 use Rattle.setup_file.specs.declared.conference.Conference.{Conference}
-use Rattle.setup_file.specs.declared.setup.Setup.{Setup}
+use Rattle.setup_file.specs.declared.fields.SetupFields.{SetupFields}
 use Rattle.board_ledger.specs.Records.{records_at, EachBehind}
 use Rattle.board_ledger.specs.Opening.{fixed_text, setup_text, opening_text, opening_at}
 use Rattle.board_ledger.specs.Conferences.{conference_text, conference_at, out_of_order}
@@ -69,7 +69,7 @@ ledger_takes bytes l all e =
     let r = records_take (upload_at first o.users) upload_text (UploadRight o.users) (upload_takes first o.users) o.uploads [] x.users.1 x.uploads u.rest x.at_uploads in
     let end = rules_kept 0 (1 + o.conferences + o.users + o.uploads) ((Rest, not (eqb (length x.uploads.1) 0)) ∷ []) (ledger_with o x.conferences.0 x.users.0 x.uploads.0) l x.at_end in
     let none : x.uploads.1 ≡ [] = nil_from_length x.uploads.1 (eqb-true (length x.uploads.1) 0 (not_not (eqb (length x.uploads.1) 0) end.0.0)) in
-    let s : Setup = with_conferences o.setup c.new in
+    let s : SetupFields = with_conferences o.setup c.new in
     let made : Ledger = ledger_with o c.new u.new r.new in
     let is : made ≡ l = (λ i. ledger_with o (sym c.all i) (sym u.all i) (sym r.all i)) ∙ end.1 in
     let cs = each_both IsSetupConference (λ b d. out_of_order b d.number ≡ false) ConferenceRight (λ b d h. h) [] c.new c.each in
@@ -123,7 +123,7 @@ ledger_takes bytes l all e =
 again_in : (v : Version) (l : Ledger) → l.version ≡ version_number v → IsLedger (today l) → (v ≡ First → All IsOldUser l.users) → ledger_of (text_in v l) ≡ Ok l
 unfolding text_in
 again_in v l version ok old =
-    let s : Setup = l.setup in
+    let s : SetupFields = l.setup in
     let cs : List Conference = s.conferences in
     let us : List User = l.users in
     let rs : List UploadRecord = l.uploads in

@@ -16,7 +16,7 @@ use Rattle.damage_rules.proofs.KeptRules.{Kept, both_kept, kept_both, rules_kept
 use Rattle.setup_file.specs.Texts.{is_board_text, is_user_name, is_bbsid}
 use Rattle.setup_file.specs.Zones.{are_zones}
 use Rattle.setup_file.specs.Valid.{IsSetup}
-use Rattle.setup_file.specs.declared.setup.Setup.{Setup}
+use Rattle.setup_file.specs.declared.fields.SetupFields.{SetupFields}
 use Rattle.open_offers.specs.Texts.{sized_text, text_at, text_end, u16s_at}
 use Rattle.board_ledger.specs.Limits.{upload_limit, user_limit}
 use Rattle.board_ledger.specs.Opening.{magic, fixed_text, setup_text, opening_text, places_of, setup_of, opening_of, wrong_counts, wrong_texts, fixed_rules, setup_rules, opening_at}
@@ -66,7 +66,7 @@ setup_front bytes all fit =
     glue (drop 24 bytes) (sized_text (text_at 24 bytes)) (sized_text (text_at city bytes) ++ (sized_text (text_at phone bytes) ++ (sized_text (text_at sysop bytes) ++ (sized_text (text_at bbsid bytes) ++ z)))) rest (drop city bytes) (text_front 24 bytes all fit.board) e2
 
 -- ---- a setup but for its conferences
-pub record SetupFits (s : Setup) : Type 0 where
+pub record SetupFits (s : SetupFields) : Type 0 where
   pub board : IsTrue (is_board_text s.board)
   pub city : IsTrue (is_board_text s.city)
   pub phone : IsTrue (is_board_text s.phone)
@@ -75,7 +75,7 @@ pub record SetupFits (s : Setup) : Type 0 where
   pub serial : s.serial ≤ 99999
   pub zones : IsTrue (are_zones s.zones)
 
-texts_fit : (s : Setup) → wrong_texts s ≡ false → (is_board_text s.board ≡ true) × (is_board_text s.city ≡ true) × (is_board_text s.phone ≡ true) × (is_user_name s.sysop ≡ true)
+texts_fit : (s : SetupFields) → wrong_texts s ≡ false → (is_board_text s.board ≡ true) × (is_board_text s.city ≡ true) × (is_board_text s.phone ≡ true) × (is_user_name s.sysop ≡ true)
 unfolding wrong_texts
 texts_fit s e =
     let all = not_not (is_board_text s.board && (is_board_text s.city && (is_board_text s.phone && is_user_name s.sysop))) e in
@@ -84,7 +84,7 @@ texts_fit s e =
     let d = and_parts (is_board_text s.phone) (is_user_name s.sysop) b.1 in
     (a.0, b.0, d.0, d.1)
 
-texts_right : (s : Setup) → SetupFits s → wrong_texts s ≡ false
+texts_right : (s : SetupFields) → SetupFits s → wrong_texts s ≡ false
 unfolding wrong_texts
 texts_right s fit =
     ap not (both_pass (is_board_text s.board) (is_board_text s.city && (is_board_text s.phone && is_user_name s.sysop)) fit.board
@@ -115,7 +115,7 @@ pub record OpeningTaken (bytes : List ℕ) (o : Opening) : Type 0 where
 opening_fits : (bytes : List ℕ) → All IsByte bytes → Kept (fixed_rules bytes) → Kept (setup_rules bytes (setup_of bytes)) → OpeningTaken bytes (opening_of bytes)
 unfolding fixed_rules setup_rules opening_of
 opening_fits bytes all fixed behind =
-    let s : Setup = setup_of bytes in
+    let s : SetupFields = setup_of bytes in
     let long : 24 ≤ length bytes = ltb-false (length bytes) 24 fixed.0 in
     let letters : bytes_eq (take 4 bytes) magic ≡ true = not_not (bytes_eq (take 4 bytes) magic) fixed.1.0 in
     let v : Version = version_of (u16_at 4 bytes) in
@@ -195,15 +195,15 @@ fixed_back v c u z r created serial rest cs us zs rs moment number =
       behind = b.1;
     }
 
-abbrev setup_made : List ℕ → List ℕ → List ℕ → List ℕ → List ℕ → ℕ → List ℕ → Setup
+abbrev setup_made : List ℕ → List ℕ → List ℕ → List ℕ → List ℕ → ℕ → List ℕ → SetupFields
 setup_made board city phone sysop bbsid serial zones = record { board = board; city = city; phone = phone; sysop = sysop; bbsid = bbsid; serial = serial; zones = zones; conferences = [] }
 
-pub record SetupStands (bytes : List ℕ) (s : Setup) (rest : List ℕ) : Type 0 where
+pub record SetupStands (bytes : List ℕ) (s : SetupFields) (rest : List ℕ) : Type 0 where
   pub is : setup_of bytes ≡ with_conferences s []
   pub behind : drop (places_of bytes).end bytes ≡ rest
   pub end : (places_of bytes).end ≡ 24 + length (setup_text s)
 
-setup_back : (bytes : List ℕ) (s : Setup) (rest : List ℕ) → SetupFits s → u16_at 10 bytes ≡ length s.zones → u32_at 20 bytes ≡ s.serial → drop 24 bytes ≡ setup_text s ++ rest → SetupStands bytes s rest
+setup_back : (bytes : List ℕ) (s : SetupFields) (rest : List ℕ) → SetupFits s → u16_at 10 bytes ≡ length s.zones → u32_at 20 bytes ≡ s.serial → drop 24 bytes ≡ setup_text s ++ rest → SetupStands bytes s rest
 unfolding setup_of places_of
 setup_back bytes s rest fit count serial e =
     let z : List ℕ = flat_map (little_bytes 2) s.zones in
@@ -229,20 +229,20 @@ setup_back bytes s rest fit count serial e =
       end = omega (arith, setup_length s, board.end, city.end, phone.end, sysop.end, bbsid.end, count);
     }
 
-abbrev opening_made : Version → Setup → ℕ → ℕ → ℕ → ℕ → ℕ → Opening
+abbrev opening_made : Version → SetupFields → ℕ → ℕ → ℕ → ℕ → ℕ → Opening
 opening_made version setup created conferences users uploads size = record { version = version; setup = setup; created = created; conferences = conferences; users = users; uploads = uploads; size = size }
 
 -- record 0 of a ledger, in a version
 abbrev pub opening_in : Version → Ledger → Opening
 opening_in v l = opening_made v (with_conferences l.setup []) l.created (length l.setup.conferences) (length l.users) (length l.uploads) (24 + length (setup_text l.setup))
 
-pub setup_fits : (s : Setup) → IsSetup s → SetupFits s
+pub setup_fits : (s : SetupFields) → IsSetup s → SetupFits s
 setup_fits s ok = record { board = ok.board; city = ok.city; phone = ok.phone; sysop = ok.sysop; bbsid = ok.bbsid; serial = ok.serial; zones = ok.zones }
 
 not_zero : (n : ℕ) → 0 < n → eqb n 0 ≡ false
 not_zero n some = grind (arith, nat_tests)
 
-same_fit : (s : Setup) → SetupFits s → SetupFits (with_conferences s [])
+same_fit : (s : SetupFields) → SetupFits s → SetupFits (with_conferences s [])
 same_fit s fit = record { board = fit.board; city = fit.city; phone = fit.phone; sysop = fit.sysop; bbsid = fit.bbsid; serial = fit.serial; zones = fit.zones }
 
 counts_right : (bytes : List ℕ) → CountsFit bytes → wrong_counts bytes ≡ false
@@ -255,7 +255,7 @@ counts_right bytes fit =
 pub opening_again : (v : Version) (l : Ledger) (rest : List ℕ) → IsLedger (today l) → opening_at (opening_text v l ++ rest) ≡ Ok (opening_in v l)
 unfolding opening_at opening_of fixed_rules setup_rules fixed_text
 opening_again v l rest ok =
-    let s : Setup = l.setup in
+    let s : SetupFields = l.setup in
     let fit = setup_fits s ok.setup in
     let few = zones_few s.zones fit.zones in
     let whole : List ℕ = opening_text v l ++ rest in
@@ -293,8 +293,8 @@ opening_again v l rest ok =
       (
         ap wrong_texts b.is ∙ texts_right (with_conferences s []) (same_fit s fit),
         (
-          ap (λ (x : Setup). not (is_bbsid x.bbsid)) b.is ∙ ap not fit.bbsid,
-          (ap (λ (x : Setup). not (are_zones x.zones)) b.is ∙ ap not fit.zones, tt),
+          ap (λ (x : SetupFields). not (is_bbsid x.bbsid)) b.is ∙ ap not fit.bbsid,
+          (ap (λ (x : SetupFields). not (are_zones x.zones)) b.is ∙ ap not fit.zones, tt),
         ),
       ),
     ) in

@@ -8,7 +8,7 @@ use Rattle.jam_records.specs.declared.damage.Damage.{Damage}
 use Rattle.jam_records.specs.declared.damage.DamageRule.{DamageRule}
 use Rattle.damage_rules.specs.Rules.{first_broken, unless_broken, by_rules, ◌>>=◌, Stops}
 use Rattle.damage_rules.proofs.KeptRules.{none_kept, part_fails, part_passes, rules_kept, step_fails}
-use Rattle.setup_file.specs.declared.setup.Setup.{Setup}
+use Rattle.setup_file.specs.declared.fields.SetupFields.{SetupFields}
 use Rattle.open_offers.specs.Texts.{text_end}
 use Rattle.board_ledger.specs.Limits.{upload_limit, user_limit}
 use Rattle.board_ledger.specs.Opening.{places_of, setup_of, opening_of, opening_at, wrong_counts, fixed_rules, setup_rules}
@@ -55,7 +55,7 @@ pub fixed_fails : (bytes : List ℕ) (r : DamageRule) → Some r ≡ first_broke
 unfolding opening_at
 fixed_fails bytes r e = part_fails 0 0 (fixed_rules bytes) (setup_rules bytes (setup_of bytes)) r (opening_of bytes) (sym e)
 
-abbrev behind : List ℕ → Result (Setup × ℕ) Damage
+abbrev behind : List ℕ → Result (SetupFields × ℕ) Damage
 behind bytes = by_rules 0 0 (setup_rules bytes (setup_of bytes)) (setup_of bytes, (places_of bytes).end)
 
 same_rules : {A B : Type 0} (o : Option DamageRule) (u : A) (x : B) → unless_broken 0 0 o x ≡ (unless_broken 0 0 o u >>= λ v. Ok x)
@@ -71,10 +71,10 @@ in_two bytes e =
 pub behind_fails : (bytes : List ℕ) (e : Option Damage) → None ≡ first_broken (fixed_rules bytes) → Stops e (behind bytes) → Stops e (opening_at bytes)
 behind_fails bytes e passed h = subst (Stops e) (sym (in_two bytes passed)) (step_fails e (behind bytes) (λ x. Ok (opening_of bytes)) h)
 
-abbrev opening_made : Version → Setup → ℕ → ℕ → ℕ → ℕ → ℕ → Opening
+abbrev opening_made : Version → SetupFields → ℕ → ℕ → ℕ → ℕ → ℕ → Opening
 opening_made version setup created conferences users uploads size = record { version = version; setup = setup; created = created; conferences = conferences; users = users; uploads = uploads; size = size }
 
-pub opening_read : (bytes : List ℕ) (version : Version) (setup : Setup) (created conferences users uploads size : ℕ) → None ≡ first_broken (fixed_rules bytes) → behind bytes ≡ Ok (setup, size)
+pub opening_read : (bytes : List ℕ) (version : Version) (setup : SetupFields) (created conferences users uploads size : ℕ) → None ≡ first_broken (fixed_rules bytes) → behind bytes ≡ Ok (setup, size)
     → version ≡ version_of (u16_at 4 bytes) → created ≡ u32_at 16 bytes → conferences ≡ u16_at 6 bytes → users ≡ u16_at 8 bytes → uploads ≡ u32_at 12 bytes
     → opening_at bytes ≡ Ok (opening_made version setup created conferences users uploads size)
 unfolding opening_of

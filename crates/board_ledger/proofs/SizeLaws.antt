@@ -7,7 +7,7 @@ use Rattle.std.proofs.lemmas.List.Elements.{All-drop, All-head, All-tail}
 use Rattle.byteorder.specs.Endian.{little_bytes}
 use Rattle.jam_records.specs.record_numbers.Numbers.{u32_text, u32s_text}
 use Rattle.setup_file.specs.declared.conference.Conference.{Conference}
-use Rattle.setup_file.specs.declared.setup.Setup.{Setup}
+use Rattle.setup_file.specs.declared.fields.SetupFields.{SetupFields}
 use Rattle.open_offers.specs.Offers.{behind_last, behind_size, cell_count, cell_text, cells_for, cells_size}
 use Rattle.open_offers.specs.Texts.{sized_text}
 use Rattle.board_ledger.specs.Opening.{fixed_text, setup_text}
@@ -48,7 +48,7 @@ u32s_length numbers = flat_length (little_bytes 4) 4 numbers (λ k d within. ref
 sized_length : (text rest : List ℕ) → length (sized_text text ++ rest) ≡ 2 + length text + length rest
 sized_length text rest = omega (arith, length-append text rest)
 
-pub setup_length : (s : Setup) → length (setup_text s) ≡ ((2 + length s.board) + (2 + length s.city) + (2 + length s.phone)) + ((2 + length s.sysop) + (2 + length s.bbsid)) + 2 * length s.zones
+pub setup_length : (s : SetupFields) → length (setup_text s) ≡ ((2 + length s.board) + (2 + length s.city) + (2 + length s.phone)) + ((2 + length s.sysop) + (2 + length s.bbsid)) + 2 * length s.zones
 setup_length s =
     let zones : List ℕ = flat_map (little_bytes 2) s.zones in
     let e = sized_length s.bbsid zones in

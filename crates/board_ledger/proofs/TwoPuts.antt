@@ -4,12 +4,12 @@ use Rattle.std.specs.Prelude.{nat_le}
 use Rattle.std.proofs.lemmas.Bool.{and_from, ne_eqb, le-leb, cond-false}
 use Rattle.std.proofs.lemmas.List.Sums.{sum_by-cons}
 use Rattle.intent_journal.specs.door_outside.Disk.{written}
-use Rattle.intent_journal.specs.Patches.{Files, apply, bytes_of, byte_count}
+use Rattle.intent_journal.specs.Patches.{HostFiles, apply, bytes_of, byte_count}
 use Rattle.intent_journal.specs.declared.patch.Patch.{Patch}
 use Rattle.intent_journal.specs.declared.patch.Patch.TheVariants.{Put}
 use Rattle.board_ledger.specs.OneFile.{TurnsFile}
 
-away : (at : ℕ) (bytes : List ℕ) (files : Files) (other : ℕ) → other ≢ 0 → apply (Put 0 at bytes) files other ≡ files other
+away : (at : ℕ) (bytes : List ℕ) (files : HostFiles) (other : ℕ) → other ≢ 0 → apply (Put 0 at bytes) files other ≡ files other
 away at bytes files other apart = cond-false (other == 0) _ _ (ne_eqb other 0 apart)
 
 -- the second put begins within what the first leaves

@@ -5,7 +5,7 @@ use Rattle.jam_records.specs.declared.damage.Damage.{Damage}
 use Rattle.jam_records.specs.declared.damage.DamageRule.TheVariants.{Rest}
 use Rattle.damage_rules.specs.Rules.{by_rules, ◌>>=◌, damage_of}
 use Rattle.setup_file.specs.declared.conference.Conference.{Conference}
-use Rattle.setup_file.specs.declared.setup.Setup.{Setup}
+use Rattle.setup_file.specs.declared.fields.SetupFields.{SetupFields}
 use Rattle.board_ledger.specs.Records.{records_at}
 use Rattle.board_ledger.specs.Opening.{opening_text, opening_at}
 use Rattle.board_ledger.specs.Conferences.{conference_text, conference_at}
@@ -34,7 +34,7 @@ ledger_text l = text_in Second l
 abbrev pub stored_text : Ledger → List ℕ
 stored_text l = text_in (version_of l.version) l
 
-abbrev pub with_conferences : Setup → List Conference → Setup
+abbrev pub with_conferences : SetupFields → List Conference → SetupFields
 with_conferences s conferences = record s { conferences = conferences }
 
 -- the ledger of what is read

@@ -9,7 +9,7 @@ use Rattle.jam_records.specs.declared.damage.DamageRule.TheVariants.{Short, Magi
 use Rattle.damage_rules.specs.Rules.{Rules, by_rules}
 use Rattle.setup_file.specs.Texts.{is_board_text, is_user_name, is_bbsid}
 use Rattle.setup_file.specs.Zones.{are_zones}
-use Rattle.setup_file.specs.declared.setup.Setup.{Setup}
+use Rattle.setup_file.specs.declared.fields.SetupFields.{SetupFields}
 use Rattle.open_offers.specs.Texts.{sized_text, text_at, text_end, u16s_at}
 use Rattle.open_offers.specs.Versions.{version_number, version_of, wrong_version}
 use Rattle.board_ledger.specs.Limits.{upload_limit, user_limit}
@@ -30,7 +30,7 @@ fixed_text v l =
     ++ u32s_text (length l.uploads ∷ l.created ∷ l.setup.serial ∷ []))
 
 -- then board, city, phone, sysop and bbsid, and the zones
-abbrev pub setup_text : Setup → List ℕ
+abbrev pub setup_text : SetupFields → List ℕ
 setup_text s =
     sized_text s.board ++ (sized_text s.city ++ (sized_text s.phone ++ (sized_text s.sysop ++ (sized_text s.bbsid ++ flat_map (little_bytes 2) s.zones))))
 
@@ -48,7 +48,7 @@ places_of bytes =
     record { city = city; phone = phone; sysop = sysop; bbsid = bbsid; zones = zones; end = zones + 2 * u16_at 10 bytes }
 
 -- the setup, whose conferences are read later
-unfoldable pub setup_of : List ℕ → Setup
+unfoldable pub setup_of : List ℕ → SetupFields
 setup_of bytes =
     let p = places_of bytes in
     record {
@@ -79,7 +79,7 @@ wrong_counts bytes =
     ((u16_at 6 bytes == 0 || nat_lt 64 (u16_at 6 bytes)) || nat_lt user_limit (u16_at 8 bytes)) || (nat_lt 16 (u16_at 10 bytes) || nat_lt upload_limit (u32_at 12 bytes))
 
 -- board, city or phone is no board text, or the sysop no user name
-unfoldable pub wrong_texts : Setup → Bool
+unfoldable pub wrong_texts : SetupFields → Bool
 wrong_texts s = not (is_board_text s.board && (is_board_text s.city && (is_board_text s.phone && is_user_name s.sysop)))
 
 -- the rules of the first 24 bytes
@@ -93,7 +93,7 @@ fixed_rules bytes =
     ∷ []
 
 -- the rules of what lies behind them
-unfoldable pub setup_rules : List ℕ → Setup → Rules
+unfoldable pub setup_rules : List ℕ → SetupFields → Rules
 setup_rules bytes s =
     (Short, nat_lt (length bytes) (places_of bytes).end)
     ∷ (Text, wrong_texts s)

@@ -38,7 +38,7 @@ fn records_put(alloc: Global, ledger: &Ledger, user: &User) -> Result<Patch, All
     requires offers { length user.now.offers ≤ 4 }
     ensures { IfOk result (λ patch. patch ≡ Patch.Put ledger_file (user_place_of (length ledger.now.users) ledger.now) (record_in ledger.now user.now ++ flat_map upload_text ledger.now.uploads)) }
 {
-    let conferences = ledger.setup.conferences.len() as u16;
+    let conferences = ledger.setup.fields().conferences.len() as u16;
     let mut bytes = Bytes::new(alloc);
     user.write(&mut bytes, conferences)?;
     add_uploads(&mut bytes, ledger.uploads.as_slice())?;

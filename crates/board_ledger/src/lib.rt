@@ -25,7 +25,9 @@ pub use enroll_puts::enroll_patches;
 pub use error::LedgerError;
 pub use ledger::{Ledger, UPLOAD_LIMIT, USER_LIMIT};
 pub use open_offers::{Highs, Offers, OpenOffer};
-pub use setup_file::{Conference, Conferences, Setup, SetupError, SetupRule, Zones, is_user_name};
+pub use setup_file::{
+    Conference, Conferences, Setup, SetupError, SetupFields, SetupRule, Zones, is_user_name,
+};
 pub use upload::{Counts, UPLOAD_SIZE, UploadRecord, Uploads, VERDICT_LIMIT};
 pub use upload_puts::upload_patches;
 pub use user::{User, Users, are_members};

@@ -13,7 +13,7 @@ use crate::error::LedgerError;
 use crate::ledger::{UPLOAD_LIMIT, USER_LIMIT};
 use jam_records::{Bytes, DamageRule, u16_at, u32_at};
 use open_offers::{Version, text_at, text_end, u16s_at};
-use setup_file::{Conferences, Setup, are_zones, is_bbsid, is_board_text, is_user_name};
+use setup_file::{Conferences, SetupFields, are_zones, is_bbsid, is_board_text, is_user_name};
 use std::alloc::{AllocError, Global};
 
 /// The length in bytes of what stands before the texts.
@@ -30,11 +30,11 @@ pub(crate) struct Places {
     pub(crate) end: usize,
 }
 
-/// Record 0: the version, the setup without its conferences, the counts of the other records, and its length.
+/// Record 0: the version, the fields of the setup without its conferences, the counts of the other records, and its length.
 #[derive(Drop)]
 pub(crate) struct Opening {
     pub(crate) version: Version,
-    pub(crate) setup: Setup,
+    pub(crate) setup: SetupFields,
     pub(crate) created: u32,
     pub(crate) conferences: u16,
     pub(crate) users: u16,
@@ -67,16 +67,16 @@ fn places_of(bytes: &[u8]) -> Option<Places>
     })
 }
 
-/// The setup in record 0.
+/// The fields of the setup in record 0, without its conferences.
 #[tactic(auto, unfolding(crate::specs::Opening::setup_of))]
-fn setup_of(alloc: Global, places: &Places, bytes: &[u8]) -> Result<Setup, AllocError>
+fn setup_of(alloc: Global, places: &Places, bytes: &[u8]) -> Result<SetupFields, AllocError>
     requires places { places.now ≡ places_in bytes.now }
     requires fixed { 24 ≤ length bytes.now }
     requires whole { places.now.end ≤ length bytes.now }
     ensures { IfOk result (λ setup. setup ≡ setup_in bytes.now) }
 {
     let count = usize::from(u16_at(bytes, 10));
-    Ok(Setup {
+    Ok(SetupFields {
         board: Bytes::from_slice(alloc, text_at(bytes, FIXED))?,
         city: Bytes::from_slice(alloc, text_at(bytes, places.city))?,
         phone: Bytes::from_slice(alloc, text_at(bytes, places.phone))?,
@@ -110,7 +110,7 @@ fn wrong_counts(bytes: &[u8]) -> bool
 
 /// Whether board, city or phone breaks its rule, or the sysop is no user name.
 #[tactic(auto, unfolding(crate::specs::Opening::wrong_texts))]
-fn wrong_texts(setup: &Setup) -> bool
+fn wrong_texts(setup: &SetupFields) -> bool
     ensures { result ≡ texts_wrong setup.now }
 {
     let board = is_board_text(setup.board.as_slice());
@@ -145,7 +145,7 @@ fn broken_fixed(bytes: &[u8]) -> Option<DamageRule>
 }
 
 /// The first rule that the setup in record 0 breaks.
-fn broken_setup(setup: &Setup) -> Option<DamageRule>
+fn broken_setup(setup: &SetupFields) -> Option<DamageRule>
     ensures { result ≡ first_broken ((DamageRule.Text, texts_wrong setup.now) ∷ (DamageRule.Id, not (is_bbsid_text setup.now.bbsid)) ∷ (DamageRule.Zones, not (are_zone_numbers setup.now.zones)) ∷ []) }
 {
     if wrong_texts(setup) {
@@ -162,7 +162,7 @@ fn broken_setup(setup: &Setup) -> Option<DamageRule>
 
 /// The setup behind the first 24 bytes and the length of record 0, or the first rule that they break.
 #[tactic(auto, unfolding(crate::specs::Opening::setup_rules))]
-fn setup_behind(alloc: Global, bytes: &[u8]) -> Result<(Setup, usize), LedgerError>
+fn setup_behind(alloc: Global, bytes: &[u8]) -> Result<(SetupFields, usize), LedgerError>
     requires { 24 ≤ length bytes.now }
     ensures gives { LedgerGives (λ x. x) result (by_rules 0 0 (setup_rules bytes.now (setup_in bytes.now)) (setup_in bytes.now, (places_in bytes.now).end)) }
     ensures size { IfOk result (λ x. x.1 ≤ length bytes.now) }

@@ -14,14 +14,14 @@ use crate::uploads::uploads_of;
 use crate::user::Users;
 use crate::users::users_of;
 use jam_records::DamageRule;
-use setup_file::{Conferences, Setup};
+use setup_file::{Conferences, Setup, SetupFields};
 use std::alloc::Global;
 
-/// A setup with these conferences in place of its own.
-fn with_conferences(setup: Setup, conferences: Conferences) -> Setup
+/// The fields of a setup with these conferences in place of their own.
+fn with_conferences(setup: SetupFields, conferences: Conferences) -> SetupFields
     ensures { result ≡ setup_with setup conferences }
 {
-    Setup {
+    SetupFields {
         conferences,
         ..setup
     }
@@ -62,7 +62,7 @@ pub(crate) fn ledger_of(alloc: Global, bytes: &[u8]) -> Result<Ledger, LedgerErr
     let (conferences, users, uploads) = records_of(alloc, &opening, bytes)?;
     Ok(Ledger {
         version: opening.version.number(),
-        setup: with_conferences(opening.setup, conferences),
+        setup: Setup::of(with_conferences(opening.setup, conferences)),
         created: opening.created,
         users,
         uploads,

@@ -15,7 +15,7 @@ use crate::upload::UPLOAD_SIZE;
 use crate::user::User;
 use jam_records::Bytes;
 use open_offers::Version;
-use setup_file::{Conference, Setup};
+use setup_file::{Conference, SetupFields};
 
 /// How many bytes a text of at most 60 bytes has with its length.
 fn text_size(text: &Bytes) -> usize
@@ -26,7 +26,8 @@ fn text_size(text: &Bytes) -> usize
 }
 
 /// How many bytes the texts and zones of a setup have.
-fn setup_size(setup: &Setup) -> usize
+#[tactic(auto, using(crate::proofs::SetupBounds::board_small, crate::proofs::SetupBounds::user_small, crate::proofs::SetupBounds::bbsid_small, crate::proofs::SetupBounds::zones_few, crate::proofs::SizeLaws::setup_length))]
+fn setup_size(setup: &SetupFields) -> usize
     requires { IsSetup setup.now }
     ensures size { result ≡ length (setup_text setup.now) }
     ensures small { result ≤ 400 }
@@ -72,8 +73,8 @@ fn opening_size(ledger: &Ledger) -> usize
     ensures size { result ≡ length (opening_text Second ledger.now) + length (flat_map conference_text ledger.now.setup.conferences) }
     ensures small { result ≤ 2000 }
 {
-    let conferences = ledger.setup.conferences.as_slice();
-    24 + setup_size(&ledger.setup) + conferences_size(conferences)
+    let setup = ledger.setup.fields();
+    24 + setup_size(setup) + conferences_size(setup.conferences.as_slice())
 }
 
 /// Where the record of the user in a place, from 0, begins in the text of a ledger in version 2.
@@ -83,7 +84,7 @@ pub(crate) fn user_place(ledger: &Ledger, place: usize) -> usize
     ensures place { result ≡ user_place_of place ledger.now }
     ensures small { result ≤ 2000 + 1080 * length ledger.now.users }
 {
-    let conferences = ledger.setup.conferences.len() as u16;
+    let conferences = ledger.setup.fields().conferences.len() as u16;
     let before = &ledger.users.as_slice()[..place];
     opening_size(ledger) + users_size(conferences, before)
 }

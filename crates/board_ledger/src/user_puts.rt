@@ -30,7 +30,7 @@ pub fn user_patches(
     ensures files { IfOk result (λ patches. TurnsFile ledger_file (ledger_text ledger.now) (ledger_text (with_user_at place user.now ledger.now)) patches) }
     ensures costs { IfOk result (λ patches. (length patches ≡ 1) × (byte_count patches ≤ 1080)) }
 {
-    let conferences = ledger.setup.conferences.len() as u16;
+    let conferences = ledger.setup.fields().conferences.len() as u16;
     let mut bytes = Bytes::new(alloc);
     user.write(&mut bytes, conferences)?;
     let file = FileId::ledger();

@@ -5,7 +5,6 @@ ghost use Rattle.board_ledger.specs.Opening.{fixed_text, setup_text};
 ghost use Rattle.board_ledger.specs.Ledger.{ledger_text as text_of};
 ghost use Rattle.open_offers.specs.declared.version.Version.TheVariants.{Second};
 ghost use Rattle.board_ledger.specs.Valid.{IsLedger, today};
-ghost use Rattle.setup_file.specs.Valid.{IsSetup};
 
 use crate::conferences::add_conferences;
 use crate::ledger::Ledger;
@@ -23,7 +22,7 @@ fn add_fixed(out: &mut Bytes, ledger: &Ledger) -> Result<(), AllocError>
     requires { IsLedger (today ledger.now) }
     ensures { OnOk result (out.new ≡ out.old ++ fixed_text Second ledger.now) }
 {
-    let setup = &ledger.setup;
+    let setup = ledger.setup.fields();
     let counts = [
         2,
         setup.conferences.len() as u16,
@@ -52,15 +51,15 @@ fn add_zones(out: &mut Bytes, zones: &[u16]) -> Result<(), AllocError>
 
 /// Adds the texts and the zones of a setup.
 fn add_setup(out: &mut Bytes, setup: &Setup) -> Result<(), AllocError>
-    requires { IsSetup setup.now }
     ensures { OnOk result (out.new ≡ out.old ++ setup_text setup.now) }
 {
-    add_text(out, setup.board.as_slice())?;
-    add_text(out, setup.city.as_slice())?;
-    add_text(out, setup.phone.as_slice())?;
-    add_text(out, setup.sysop.as_slice())?;
-    add_text(out, setup.bbsid.as_slice())?;
-    add_zones(out, setup.zones.as_slice())
+    let fields = setup.fields();
+    add_text(out, fields.board.as_slice())?;
+    add_text(out, fields.city.as_slice())?;
+    add_text(out, fields.phone.as_slice())?;
+    add_text(out, fields.sysop.as_slice())?;
+    add_text(out, fields.bbsid.as_slice())?;
+    add_zones(out, fields.zones.as_slice())
 }
 
 /// The text of a ledger in version 2.
@@ -69,7 +68,7 @@ pub(crate) fn ledger_text(alloc: Global, ledger: &Ledger) -> Result<Bytes, Alloc
     requires { IsLedger (today ledger.now) }
     ensures { IfOk result (λ bytes. bytes ≡ text_of ledger.now) }
 {
-    let conferences = ledger.setup.conferences.as_slice();
+    let conferences = ledger.setup.fields().conferences.as_slice();
     let mut out = Bytes::new(alloc);
     add_fixed(&mut out, ledger)?;
     add_setup(&mut out, &ledger.setup)?;

@@ -13,7 +13,7 @@ use Rattle.board_ledger.specs.Users.{is_member}
 use Rattle.board_ledger.specs.declared.ledger.Ledger.{Ledger}
 use Rattle.board_ledger.specs.declared.user.User.{User}
 use Rattle.jam_base.specs.Slots.{has_live}
-use Rattle.jam_layout.specs.declared.conference.Conference.{Conference}
+use Rattle.jam_layout.specs.declared.conference.ConferenceContents.{ConferenceContents}
 use Rattle.jam_records.specs.declared.message.Message.{Message}
 use Rattle.mail_board.specs.offer_changes.Highs.{may_have}
 use Rattle.open_offers.specs.Offers.{are_of_member}
@@ -98,12 +98,12 @@ module _ (b : Board) (id : ℕ) (u : User) (ok : IsBoard b) (here : user_of id b
     of_member place (suc count) =
         and_from (eqb (high_of messages place) 0 || is_member u place) (are_of_member u.members (place + 1) (highs_from (place + 1) count)) (member_or_none place (is_member u place) refl) (of_member (place + 1) count)
 
-    fit_from : (place : ℕ) (conferences : List Conference) → ((k : ℕ) (c : Conference) → slice_get conferences k ≡ Some c → slice_get b.conferences (place + k) ≡ Some c)
+    fit_from : (place : ℕ) (conferences : List ConferenceContents) → ((k : ℕ) (c : ConferenceContents) → slice_get conferences k ≡ Some c → slice_get b.conferences (place + k) ≡ Some c)
         → highs_fit conferences (highs_from place (length conferences)) ≡ true
     fit_from place [] there = refl
     fit_from place (c ∷ conferences) there =
         let at : slice_get b.conferences place ≡ Some c = subst (λ (k : ℕ). slice_get b.conferences k ≡ Some c) (omega arith) (there 0 c refl) in
-        let slots : slots_in b place ≡ c.slots = ap (λ (o : Option Conference). unwrap_or (option_map (λ (c : Conference). c.slots) o) []) at in
+        let slots : slots_in b place ≡ c.slots = ap (λ (o : Option ConferenceContents). unwrap_or (option_map (λ (c : ConferenceContents). c.slots) o) []) at in
         let small : high_of messages place ≤ length c.slots = subst (λ xs. high_of messages place ≤ length xs) slots (greatest_within place 0 messages new (omega arith)) in
         and_from (nat_le (high_of messages place) (length c.slots)) (highs_fit conferences (highs_from (place + 1) (length conferences))) (le-leb (high_of messages place) (length c.slots) small)
         (fit_from (place + 1) conferences (λ k d is. subst (λ (n : ℕ). slice_get b.conferences n ≡ Some d) (omega arith) (there (suc k) d is)))

@@ -1,7 +1,7 @@
 -- The files of a packet, in their folder.
 use Rattle.std.specs.Prelude.{ℕ, List, [], ◌∷◌, ◌++◌, codes}
 use Rattle.std.specs.FinMap as map
-use Rattle.door_outside.specs.Shelf.{Files}
+use Rattle.door_outside.specs.Shelf.{ShelfFiles}
 
 abbrev pub control_name : List ℕ → List ℕ
 control_name folder = folder ++ codes "/CONTROL.DAT"
@@ -14,5 +14,5 @@ abbrev pub folder_names : List ℕ → List (List ℕ)
 folder_names folder = control_name folder ∷ messages_name folder ∷ []
 
 -- the shelf with what they hold
-abbrev pub with_packet : List ℕ → List ℕ → List ℕ → Files → Files
+abbrev pub with_packet : List ℕ → List ℕ → List ℕ → ShelfFiles → ShelfFiles
 with_packet folder controls messages shelf = map.insert (map.insert shelf (control_name folder) controls) (messages_name folder) messages

@@ -10,10 +10,10 @@ use Rattle.door_outside.specs.declared.fetch.Fetched.{Fetched}
 use Rattle.door_outside.specs.declared.fetch.Fetched.TheVariants as fetch
 
 -- the files by their names
-abbrev pub Files : Type 0
-Files = map.FinMap (slice_cmp nat_cmp) (List ℕ)
+abbrev pub ShelfFiles : Type 0
+ShelfFiles = map.FinMap (slice_cmp nat_cmp) (List ℕ)
 
-abbrev pub held : Files → List ℕ → Option (List ℕ)
+abbrev pub held : ShelfFiles → List ℕ → Option (List ℕ)
 held files name = map.get files name
 
 abbrev pub PieceWithin : ℕ → Piece → Type 0
@@ -36,18 +36,18 @@ PieceIs (Some file) at old new Missing = ⊥
 PieceIs (Some file) at old new (Count n) = IsPieceOf file at old new n
 
 -- the file is made empty, or left as it was
-abbrev pub BeginsFile : {E : Type 0} → List ℕ → Files → Files → Result (Unit {0}) E → Type 0
+abbrev pub BeginsFile : {E : Type 0} → List ℕ → ShelfFiles → ShelfFiles → Result (Unit {0}) E → Type 0
 BeginsFile name old new result = MatchResult result (λ _. new ≡ map.insert old name []) (λ _. (new ≡ old) ⊎ (new ≡ map.insert old name []))
 
 -- the bytes are at its end, or some of them
-abbrev pub Appends : {E : Type 0} → List ℕ → List ℕ → Files → Files → Result (Unit {0}) E → Type 0
+abbrev pub Appends : {E : Type 0} → List ℕ → List ℕ → ShelfFiles → ShelfFiles → Result (Unit {0}) E → Type 0
 Appends name bytes old new result =
     MatchResult result
     (λ _. new ≡ map.insert old name (unwrap_or (held old name) [] ++ bytes))
     (λ _. (new ≡ old) ⊎ ((count : ℕ) × (new ≡ map.insert old name (unwrap_or (held old name) [] ++ take count bytes))))
 
 -- the files are as they were, but for these names
-abbrev pub SameBut : List (List ℕ) → Files → Files → Type 0
+abbrev pub SameBut : List (List ℕ) → ShelfFiles → ShelfFiles → Type 0
 SameBut names old new = (name : List ℕ) → ¬ Contains names name → held new name ≡ held old name
 
 -- the whole of a file of at most so many bytes

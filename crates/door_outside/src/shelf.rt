@@ -1,6 +1,6 @@
 ghost use Rattle.std.specs.Prelude.{◌≡◌, ℕ, Bool, length, IfOk, IsTrue};
 ghost use Rattle.door_outside.specs.Cause.{HasCause};
-ghost use Rattle.door_outside.specs.Shelf.{Files, held, PieceIs, PieceWithin, BeginsFile, Appends};
+ghost use Rattle.door_outside.specs.Shelf.{ShelfFiles, held, PieceIs, PieceWithin, BeginsFile, Appends};
 
 use crate::fault::ShelfFault;
 use crate::name::ShelfName;
@@ -21,7 +21,7 @@ pub trait Shelf {
     ghost tells: { Bool };
 
     /// The files by their names, where the shelf tells them.
-    ghost files: { Self → Files };
+    ghost files: { Self → ShelfFiles };
 
     /// How many calls failed. It never falls.
     ghost faults: { Self → ℕ };

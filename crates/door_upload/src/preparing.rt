@@ -91,7 +91,7 @@ fn prepared_for(
     ensures finds { FindsFor board.now (upload_read user digest.now now board.now.board packet.now) result }
     ensures judged { IfOk result (IsJudged user digest.now now board.now.board packet.now.messages) }
 {
-    let bbsid = board.setup().bbsid.as_slice();
+    let bbsid = board.setup().bbsid().as_slice();
     if !packet.bbsid.as_slice().eq_ignore_ascii_case(bbsid) {
         return Err(UploadError::OtherBoard);
     }

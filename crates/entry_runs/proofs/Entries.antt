@@ -3,25 +3,25 @@ use Rattle.std.proofs.Common.{◌≡◌, ◌≢◌, ◌⊎◌, inl, inr, ℕ, Bo
 use Rattle.std.proofs.lemmas.List.{append-nil}
 use Rattle.std.specs.Prelude.{Result, Ok, Err, IsErrOf, IsTrue}
 use Rattle.door_outside.specs.Disk.{Disk, Image, AllNow, Between, as_read}
-use Rattle.door_outside.specs.Shelf.{Files}
+use Rattle.door_outside.specs.Shelf.{ShelfFiles}
 use Rattle.door_outside.proofs.Moments.{still, joined, weaker}
 use Rattle.intent_journal.specs.Hosts.{IsSettled}
 use Rattle.intent_journal.specs.Patches as Data
 use Rattle.intent_journal.specs.Recovered.{recovered}
 use Rattle.entry_runs.specs.Door.{World, Act}
-use Rattle.entry_runs.specs.Entry.{Known, Reply, Recovers, Keeps, IsAt, IsDone, Answered, Works, Carried, InEntry, Performs}
+use Rattle.entry_runs.specs.Entry.{Reply, Recovers, Keeps, IsAt, IsDone, Answered, Works, Carried, InEntry, Performs}
 use Rattle.entry_runs.specs.Saying.{SaysIn, Spoken, Voiced}
 use Rattle.entry_runs.specs.Promise.{IsFront, AsThen, Replies, Stopped}
 use Rattle.entry_runs.specs.Runs.{once_said}
 use Rattle.entry_runs.specs.declared.class.Class.{Class}
 use Rattle.entry_runs.specs.declared.stop.Stop.{Stop}
 use Rattle.entry_runs.specs.declared.stop.Stop.TheVariants.{DiskFault, ShelfFault, VoiceFault, OutOfMemory}
-use Rattle.entry_runs.proofs.Voice.{as_before, settled_then, firm_then, calm_then}
+use Rattle.entry_runs.proofs.Voice.{as_before, settled_then, firm_then}
 
-recovers_wider : {P Q : Data.Files → Type 0} {so_far : List ℕ} → ((files : Data.Files) → P files → Q files) → (image : Image) → Recovers P so_far image → Recovers Q so_far image
+recovers_wider : {P Q : Data.HostFiles → Type 0} {so_far : List ℕ} → ((files : Data.HostFiles) → P files → Q files) → (image : Image) → Recovers P so_far image → Recovers Q so_far image
 recovers_wider wider image it = record { files = wider (recovered image.files) it.files; said = it.said }
 
-pub keeps_wider : {P Q : Data.Files → Type 0} {old new : Disk} → ((files : Data.Files) → P files → Q files) → Keeps P old new → Keeps Q old new
+pub keeps_wider : {P Q : Data.HostFiles → Type 0} {old new : Disk} → ((files : Data.HostFiles) → P files → Q files) → Keeps P old new → Keeps Q old new
 keeps_wider {new = new} wider keeps = record {
   moments = weaker keeps.moments (recovers_wider wider);
   reads = recovers_wider wider (as_read new) keeps.reads;
@@ -29,11 +29,11 @@ keeps_wider {new = new} wider keeps = record {
 }
 
 -- nothing went by
-pub keeps_still : {P : Data.Files → Type 0} {disk : Disk} → P (recovered disk.files) → IsSettled disk → Keeps P disk disk
+pub keeps_still : {P : Data.HostFiles → Type 0} {disk : Disk} → P (recovered disk.files) → IsSettled disk → Keeps P disk disk
 keeps_still {disk = disk} here settled = record { moments = still disk _; reads = record { files = here; said = refl }; settled = settled }
 
 -- calls, and then others
-pub keeps_on : {P : Data.Files → Type 0} {old mid new : Disk} → Keeps P old mid → Keeps P mid new → Keeps P old new
+pub keeps_on : {P : Data.HostFiles → Type 0} {old mid new : Disk} → Keeps P old mid → Keeps P mid new → Keeps P old new
 keeps_on {P} {old} {mid} {new} first second = record {
   moments = joined first.moments (weaker second.moments (λ image it. further image it));
   reads = further (as_read new) second.reads;
@@ -56,9 +56,9 @@ not_done ShelfFault silent done = absurd done
 not_done OutOfMemory silent done = absurd done
 not_done VoiceFault silent done = absurd (silent refl)
 
-module _ {State : Type 0} (Stores : State → Data.Files → Type 0) (act : Act State) where
-  module _ {after : Known State} {world : World State} {old mid : Disk} {shelf : Files} {reply : Reply}
-      (answered : Answered Stores act after world old mid shelf reply) where
+module _ {State : Type 0} (Stores : State → Data.HostFiles → Type 0) (act : Act State) where
+  module _ {world : World State} {old mid : Disk} {shelf : ShelfFiles} {reply : Reply}
+      (answered : Answered Stores act world old mid shelf reply) where
     abbrev replies_so : (image : Image) → SaysIn reply.text mid image → Replies act world old.said image.said
     replies_so image says = record {
       stepped = answered.stepped;
@@ -79,20 +79,16 @@ module _ {State : Type 0} (Stores : State → Data.Files → Type 0) (act : Act 
 
     -- what stands once the reply is said
     module _ (new : Disk) (all : AllNow new (AsThen mid)) (same : new.files ≡ mid.files) where
-      at_end : IsAt Stores after answered.stepped.world new shelf
+      at_end : IsAt Stores answered.stepped.world new shelf
       at_end = record {
         board = record {
-          ready = record {
-            settled = settled_then mid new all same answered.at.board.ready.settled;
-            calm = λ read. calm_then mid new all same (answered.at.board.ready.calm read);
-          };
-          stores = subst (λ (f : Data.Files). Stores answered.stepped.world.state (recovered f)) (sym same) answered.at.board.stores;
-          fits = answered.at.board.fits;
+          settled = settled_then mid new all same answered.at.board.settled;
+          stores = subst (λ (f : Data.HostFiles). Stores answered.stepped.world.state (recovered f)) (sym same) answered.at.board.stores;
         };
         shelf_is = answered.at.shelf_is;
       }
 
-      carried : new.said ≡ mid.said ++ reply.text → Carried Stores act after world old new shelf reply.class
+      carried : new.said ≡ mid.said ++ reply.text → Carried Stores act world old new shelf reply.class
       carried said = record {
         stepped = answered.stepped;
         step = answered.step;
@@ -102,10 +98,10 @@ module _ {State : Type 0} (Stores : State → Data.Files → Type 0) (act : Act 
       }
 
       cut_off : SaysIn reply.text mid (as_read new) → Stopped Stores act VoiceFault world old.said new shelf
-      cut_off says = (replies_so (as_read new) says, subst (λ (f : Data.Files). Stores answered.stepped.world.state (recovered f)) (sym same) answered.at.board.stores, answered.at.shelf_is)
+      cut_off says = (replies_so (as_read new) says, subst (λ (f : Data.HostFiles). Stores answered.stepped.world.state (recovered f)) (sym same) answered.at.board.stores, answered.at.shelf_is)
 
-  module _ {after : Known State} {world : World State} {old mid new : Disk} {shelf : Files} {reply : Reply}
-      (works : Works Stores act after world old mid shelf (Ok reply)) {T E : Type 0} {spoken : Result T E} (voiced : Voiced reply.text mid new spoken) where
+  module _ {world : World State} {old mid new : Disk} {shelf : ShelfFiles} {reply : Reply}
+      (works : Works Stores act world old mid shelf (Ok reply)) {T E : Type 0} {spoken : Result T E} (voiced : Voiced reply.text mid new spoken) where
     files_then : AllNow new (AsThen mid)
     files_then image left = (voiced.now image left).files
 
@@ -119,7 +115,7 @@ module _ {State : Type 0} (Stores : State → Data.Files → Type 0) (act : Act 
     went_on is = absurd (cc is)
 
     -- the reply was said whole
-    pub performs_said : new.said ≡ mid.said ++ reply.text → Performs Stores act after world old new shelf (Ok reply.class)
+    pub performs_said : new.said ≡ mid.said ++ reply.text → Performs Stores act world old new shelf (Ok reply.class)
     performs_said said = record {
       moments = moments_said;
       ends = carried works.ends new files_then voiced.files said;
@@ -130,7 +126,7 @@ module _ {State : Type 0} (Stores : State → Data.Files → Type 0) (act : Act 
     }
 
     -- a front of the reply was said
-    pub performs_cut : Performs Stores act after world old new shelf (Err VoiceFault)
+    pub performs_cut : Performs Stores act world old new shelf (Err VoiceFault)
     performs_cut = record {
       moments = moments_said;
       ends = cut_off works.ends new files_then voiced.files (voiced.now (as_read new) new.reads);
@@ -141,14 +137,14 @@ module _ {State : Type 0} (Stores : State → Data.Files → Type 0) (act : Act 
     }
 
   -- the reply was said, whole or not
-  pub performs_spoken : {after : Known State} {world : World State} {old mid new : Disk} {shelf : Files} {reply : Reply} → Works Stores act after world old mid shelf (Ok reply)
-      → {T E : Type 0} (spoken : Result T E) → Voiced reply.text mid new spoken → Performs Stores act after world old new shelf (once_said reply.class spoken)
+  pub performs_spoken : {world : World State} {old mid new : Disk} {shelf : ShelfFiles} {reply : Reply} → Works Stores act world old mid shelf (Ok reply)
+      → {T E : Type 0} (spoken : Result T E) → Voiced reply.text mid new spoken → Performs Stores act world old new shelf (once_said reply.class spoken)
   performs_spoken works (Ok value) voiced = performs_said works voiced voiced.done
   performs_spoken works (Err fault) voiced = performs_cut works voiced
 
   -- the command was stopped, and nothing is said
-  pub performs_stopped : {after later : Known State} {world : World State} {old new : Disk} {shelf : Files} {stop : Stop}
-      → Works Stores act after world old new shelf (Err stop) → Performs Stores act later world old new shelf (Err stop)
+  pub performs_stopped : {world : World State} {old new : Disk} {shelf : ShelfFiles} {stop : Stop}
+      → Works Stores act world old new shelf (Err stop) → Performs Stores act world old new shelf (Err stop)
   performs_stopped {stop = stop} works = record {
     moments = weaker works.keeps.moments (λ image it. inl it);
     ends = works.ends.stopped;
@@ -159,10 +155,10 @@ module _ {State : Type 0} (Stores : State → Data.Files → Type 0) (act : Act 
   }
 
   -- what the command answers was said, or it was stopped
-  pub performs_as_said : {after : Known State} {world : World State} {old : Disk} {shelf : Files} {Host : Type 0} (disk : Host → Disk) {mid new : Host} {result : Result Class Stop} (answer : Result Reply Stop)
-      → Works Stores act after world old (disk mid) shelf answer → Spoken disk answer mid new result → Performs Stores act after world old (disk new) shelf result
-  performs_as_said {after} {world} {old} {shelf} disk {mid} {new} (Ok reply) works spoken =
-      subst (Performs Stores act after world old (disk new) shelf) (sym spoken.2) (performs_spoken works spoken.0 spoken.1)
-  performs_as_said {after} {world} {old} {shelf} {Host} disk {mid} {new} (Err stop) works spoken =
-      subst (Performs Stores act after world old (disk new) shelf) (sym spoken.1)
-      (subst (λ (host : Host). Performs Stores act after world old (disk host) shelf (Err stop)) (sym spoken.0) (performs_stopped works))
+  pub performs_as_said : {world : World State} {old : Disk} {shelf : ShelfFiles} {Host : Type 0} (disk : Host → Disk) {mid new : Host} {result : Result Class Stop} (answer : Result Reply Stop)
+      → Works Stores act world old (disk mid) shelf answer → Spoken disk answer mid new result → Performs Stores act world old (disk new) shelf result
+  performs_as_said {world} {old} {shelf} disk {mid} {new} (Ok reply) works spoken =
+      subst (Performs Stores act world old (disk new) shelf) (sym spoken.2) (performs_spoken works spoken.0 spoken.1)
+  performs_as_said {world} {old} {shelf} {Host} disk {mid} {new} (Err stop) works spoken =
+      subst (Performs Stores act world old (disk new) shelf) (sym spoken.1)
+      (subst (λ (host : Host). Performs Stores act world old (disk host) shelf (Err stop)) (sym spoken.0) (performs_stopped works))

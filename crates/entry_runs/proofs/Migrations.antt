@@ -8,7 +8,7 @@ use Rattle.entry_runs.specs.Door.{World, Act, Door, touches}
 use Rattle.entry_runs.specs.Promise.{Before, IsHeld}
 
 -- a board that the entry doesn't migrate stands as it did
-pub before_itself : {State : Type 0} (Stores : State → Data.Files → Type 0) (act : Act State) (state : State) (files : Data.Files) → (IsTrue act.reach.board → act.migrated state ≡ state)
+pub before_itself : {State : Type 0} (Stores : State → Data.HostFiles → Type 0) (act : Act State) (state : State) (files : Data.HostFiles) → (IsTrue act.reach.board → act.migrated state ≡ state)
     → Before Stores act state files → Stores state files
 before_itself Stores act state files same either = ⊎_elim (λ still. still) (λ migrated. subst (λ s. Stores s files) (same migrated.0) migrated.1) either
 

@@ -5,15 +5,15 @@ use Rattle.std.proofs.lemmas.List.{append-nil, drop_more}
 use Rattle.std.proofs.lemmas.List.Folds.{list_any-append}
 use Rattle.std.specs.Prelude.{◌||◌, Result, Ok, Err, IsErrOf, IsTrue}
 use Rattle.door_outside.specs.Disk.{Disk, Image, Now, AllNow, Between}
-use Rattle.door_outside.specs.Shelf.{Files}
+use Rattle.door_outside.specs.Shelf.{ShelfFiles}
 use Rattle.door_outside.proofs.Moments.{still, joined, weaker}
 use Rattle.intent_journal.specs.Hosts.{IsFirm, IsSettled}
 use Rattle.intent_journal.specs.Patches as Data
 use Rattle.intent_journal.specs.Recovered.{recovered}
 use Rattle.entry_runs.specs.Door.{World, Door, Step, touches, any_touches, AreLawful}
-use Rattle.entry_runs.specs.Entry.{Known, IsAt, Carried, InReply, OffBoard, InEntry, Performs}
-use Rattle.entry_runs.specs.Promise.{AsThen, AllSince, carried_out, Counts, HasCauses, Before, After, Replies, Stopped, IsWhole, IsRunCutShort, Leaves, Completes, Heard, IsHeld, IsMigrating, IsUntouched, Survives}
-use Rattle.entry_runs.specs.Runs.{Stepped, Outcome, Runs, GoesOn, IsReached, AreTaken, is_last, with_class, status_after, status_of, stopped_status}
+use Rattle.entry_runs.specs.Entry.{IsAt, Carried, InReply, OffBoard, InEntry, Performs}
+use Rattle.entry_runs.specs.Promise.{AsThen, AllSince, carried_out, FaultCounts, HasCauses, Before, After, Replies, Stopped, IsWhole, IsRunCutShort, EndsAs, Completes, Heard, IsHeld, IsMigrating, IsUntouched, Survives}
+use Rattle.entry_runs.specs.Runs.{Stepped, RunOutcome, Runs, GoesOn, IsReached, AreTaken, is_last, with_class, status_after, status_of, stopped_status}
 use Rattle.entry_runs.specs.declared.class.Class.{Class}
 use Rattle.entry_runs.specs.declared.class.Class.TheVariants.{Done, Refused, Usage, Damaged}
 use Rattle.entry_runs.specs.declared.status.Status.{Status}
@@ -47,21 +47,21 @@ status_more so_far [] class = refl
 status_more so_far (c ∷ classes) class = status_more (with_class so_far c) classes class
 
 -- an outcome, and one entry more
-abbrev one_more : {State : Type 0} → Outcome (World State) → Stepped (World State) → Outcome (World State)
+abbrev one_more : {State : Type 0} → RunOutcome (World State) → Stepped (World State) → RunOutcome (World State)
 one_more outcome stepped = record { world = stepped.world; replies = outcome.replies ++ stepped.reply; classes = outcome.classes ++ stepped.class ∷ [] }
 
 module _ {State Entry : Type 0} (Does : World State → Entry → Stepped (World State) → Type 0) where
-  runs_more : (start : World State) (front : List Entry) (outcome : Outcome (World State)) (entry : Entry) (stepped : Stepped (World State)) → Runs Does start front outcome → Does outcome.world entry stepped
+  runs_more : (start : World State) (front : List Entry) (outcome : RunOutcome (World State)) (entry : Entry) (stepped : Stepped (World State)) → Runs Does start front outcome → Does outcome.world entry stepped
       → Runs Does start (front ++ entry ∷ []) (one_more outcome stepped)
   runs_more start [] outcome entry stepped runs step = (
     stepped,
     record { world = stepped.world; replies = []; classes = [] },
-    subst (λ (w : World State). Does w entry stepped) (ap (λ (o : Outcome (World State)). o.world) runs) step,
+    subst (λ (w : World State). Does w entry stepped) (ap (λ (o : RunOutcome (World State)). o.world) runs) step,
     refl,
     (λ i. record {
       world = stepped.world;
-      replies = (ap (λ (o : Outcome (World State)). o.replies ++ stepped.reply) runs ∙ sym (append-nil stepped.reply)) i;
-      classes = ap (λ (o : Outcome (World State)). o.classes ++ stepped.class ∷ []) runs i;
+      replies = (ap (λ (o : RunOutcome (World State)). o.replies ++ stepped.reply) runs ∙ sym (append-nil stepped.reply)) i;
+      classes = ap (λ (o : RunOutcome (World State)). o.classes ++ stepped.class ∷ []) runs i;
     }),
   )
   runs_more start (e ∷ front) outcome entry stepped runs step =
@@ -71,11 +71,11 @@ module _ {State Entry : Type 0} (Does : World State → Entry → Stepped (World
         one,
         one_more rest stepped,
         runs.2,
-        runs_more one.world front rest entry stepped runs.3 (subst (λ (w : World State). Does w entry stepped) (ap (λ (o : Outcome (World State)). o.world) is) step),
+        runs_more one.world front rest entry stepped runs.3 (subst (λ (w : World State). Does w entry stepped) (ap (λ (o : RunOutcome (World State)). o.world) is) step),
         (λ i. record {
           world = stepped.world;
-          replies = (ap (λ (o : Outcome (World State)). o.replies ++ stepped.reply) is ∙ append_assoc one.reply rest.replies stepped.reply) i;
-          classes = ap (λ (o : Outcome (World State)). o.classes ++ stepped.class ∷ []) is i;
+          replies = (ap (λ (o : RunOutcome (World State)). o.replies ++ stepped.reply) is ∙ append_assoc one.reply rest.replies stepped.reply) i;
+          classes = ap (λ (o : RunOutcome (World State)). o.classes ++ stepped.class ∷ []) is i;
         }),
       )
 
@@ -107,15 +107,15 @@ module _ {State Entry : Type 0} (door : Door State Entry) where
   InRun start entries old image = IsHeld door start entries old image ⊎ IsUntouched door start entries old image
 
   -- So far these entries were carried out or refused, and the rest is left. This is the invariant of a run's loop.
-  pub record Running (known : Known State) (start : World State) (entries rest : List Entry) (old now : Disk) (shelf : Files) (so_far : Status) : Type 0 where
+  pub record Running (start : World State) (entries rest : List Entry) (old now : Disk) (shelf : ShelfFiles) (so_far : Status) : Type 0 where
     pub done : List Entry
-    pub outcome : Outcome (World State)
+    pub outcome : RunOutcome (World State)
     pub split : entries ≡ done ++ rest
     pub runs : Runs (Step door) start done outcome
     pub goes_on : GoesOn outcome.classes
     pub status_is : so_far ≡ status_of outcome.classes
     pub said_is : now.said ≡ old.said ++ outcome.replies
-    pub at : IsAt door.Stores known outcome.world now shelf
+    pub at : IsAt door.Stores outcome.world now shelf
     pub moments : Between old now (InRun start entries old)
     pub firm : IsFirm old → IsFirm now
     -- no entry touched the board yet, and the images are as at entry; or the host is firm
@@ -126,12 +126,12 @@ module _ {State Entry : Type 0} (door : Door State Entry) where
   durable_by disk state stores firm image left = subst (door.Stores state) (sym (firm image left)) stores
 
   -- a run that is at an entry
-  pub at_next : {known : Known State} {start : World State} {entries rest : List Entry} {entry : Entry} {back : List Entry} {old now : Disk} {shelf : Files} {so_far : Status}
-      → rest ≡ entry ∷ back → Running known start entries rest old now shelf so_far → Running known start entries (entry ∷ back) old now shelf so_far
-  at_next {known} {start} {entries} {rest} {entry} {back} {old} {now} {shelf} {so_far} is running = subst (λ (es : List Entry). Running known start entries es old now shelf so_far) is running
+  pub at_next : {start : World State} {entries rest : List Entry} {entry : Entry} {back : List Entry} {old now : Disk} {shelf : ShelfFiles} {so_far : Status}
+      → rest ≡ entry ∷ back → Running start entries rest old now shelf so_far → Running start entries (entry ∷ back) old now shelf so_far
+  at_next {start} {entries} {rest} {entry} {back} {old} {now} {shelf} {so_far} is running = subst (λ (es : List Entry). Running start entries es old now shelf so_far) is running
 
-  pub starts : {known : Known State} {start : World State} {disk : Disk} {shelf : Files} (entries : List Entry) → IsAt door.Stores known start disk shelf
-      → Running known start entries entries disk disk shelf status.Done
+  pub starts : {start : World State} {disk : Disk} {shelf : ShelfFiles} (entries : List Entry) → IsAt door.Stores start disk shelf
+      → Running start entries entries disk disk shelf status.Done
   starts {start = start} {disk = disk} entries at = record {
     done = [];
     outcome = record { world = start; replies = []; classes = [] };
@@ -148,13 +148,13 @@ module _ {State Entry : Type 0} (door : Door State Entry) where
 
   module _ (law : AreLawful door) where
     -- entries that don't touch the board leave it
-    stores_still : (start : World State) (front : List Entry) (outcome : Outcome (World State)) → Runs (Step door) start front outcome → any_touches door front ≡ false
-        → (files : Data.Files) → door.Stores start.state files → door.Stores outcome.world.state files
-    stores_still start [] outcome runs none files stores = subst (λ (w : World State). door.Stores w.state files) (sym (ap (λ (o : Outcome (World State)). o.world) runs)) stores
+    stores_still : (start : World State) (front : List Entry) (outcome : RunOutcome (World State)) → Runs (Step door) start front outcome → any_touches door front ≡ false
+        → (files : Data.HostFiles) → door.Stores start.state files → door.Stores outcome.world.state files
+    stores_still start [] outcome runs none files stores = subst (λ (w : World State). door.Stores w.state files) (sym (ap (λ (o : RunOutcome (World State)). o.world) runs)) stores
     stores_still start (e ∷ front) outcome runs none files stores =
         let one = runs.0 in
         let off = or_false (touches door e) (any_touches door front) none in
-        subst (λ (w : World State). door.Stores w.state files) (sym (ap (λ (o : Outcome (World State)). o.world) runs.4))
+        subst (λ (w : World State). door.Stores w.state files) (sym (ap (λ (o : RunOutcome (World State)). o.world) runs.4))
         (stores_still one.world front runs.1 runs.3 off.1 files (subst (λ (state : State). door.Stores state files) (sym ((law e).leaves_board off.0 start one runs.2)) stores))
 
     untouched_held : {start : World State} {entries : List Entry} {old : Disk} → IsFirm old → door.Stores start.state (recovered old.files) → (image : Image)
@@ -196,12 +196,12 @@ module _ {State Entry : Type 0} (door : Door State Entry) where
         }
 
     -- one entry more
-    module _ {known : Known State} {start : World State} {entries : List Entry} {entry : Entry} {back : List Entry} {old mid : Disk} {shelf : Files} {so_far : Status}
-        (running : Running known start entries (entry ∷ back) old mid shelf so_far) where
+    module _ {start : World State} {entries : List Entry} {entry : Entry} {back : List Entry} {old mid : Disk} {shelf : ShelfFiles} {so_far : Status}
+        (running : Running start entries (entry ∷ back) old mid shelf so_far) where
       abbrev world : World State
       world = running.outcome.world
 
-      abbrev with_one : Stepped (World State) → Outcome (World State)
+      abbrev with_one : Stepped (World State) → RunOutcome (World State)
       with_one stepped = one_more running.outcome stepped
 
       -- an entry that was carried out, to its end or not, is among those that a run got to
@@ -222,7 +222,7 @@ module _ {State Entry : Type 0} (door : Door State Entry) where
       }
 
       -- the board, or what this entry migrates it to
-      before_it : (files : Data.Files) → Before door.Stores (door.act entry) world.state files → door.Stores world.state files ⊎ IsMigrating door running.outcome (entry ∷ back) files
+      before_it : (files : Data.HostFiles) → Before door.Stores (door.act entry) world.state files → door.Stores world.state files ⊎ IsMigrating door running.outcome (entry ∷ back) files
       before_it files either = ⊎_elim
           (λ still. inl still)
           (λ migrated. inr (record { goes_on = running.goes_on; next = entry; back = back; left_is = refl; touched = migrated.0; stores = migrated.1 }))
@@ -280,7 +280,7 @@ module _ {State Entry : Type 0} (door : Door State Entry) where
       in_run image (inr (inl it)) = held_after image it
       in_run image (inr (inr it)) = held_off_board image it
 
-      module _ {after : Known State} {new : Disk} {later : Files} {result : Result Class Stop} (performs : Performs door.Stores (door.act entry) after world mid new later result) where
+      module _ {new : Disk} {later : ShelfFiles} {result : Result Class Stop} (performs : Performs door.Stores (door.act entry) world mid new later result) where
         moments_on : Between old new (InRun start entries old)
         moments_on = joined running.moments (weaker performs.moments in_run)
 
@@ -294,8 +294,8 @@ module _ {State Entry : Type 0} (door : Door State Entry) where
         firm_on sound (inr touched) = ⊎_elim (λ early. absurd (true≢false (sym touched ∙ early.0))) (performs.firm sound) running.phase
 
       -- the entry was carried out, refused or answered
-      module _ {after : Known State} {new : Disk} {later : Files} {class : Class} (performs : Performs door.Stores (door.act entry) after world mid new later (Ok class)) where
-        abbrev carried : Carried door.Stores (door.act entry) after world mid new later class
+      module _ {new : Disk} {later : ShelfFiles} {class : Class} (performs : Performs door.Stores (door.act entry) world mid new later (Ok class)) where
+        abbrev carried : Carried door.Stores (door.act entry) world mid new later class
         carried = performs.ends
 
         went_on : ¬ IsErrOf {T = Class} {E = Stop} (Ok class) DiskFault
@@ -307,7 +307,7 @@ module _ {State Entry : Type 0} (door : Door State Entry) where
         said_on : new.said ≡ old.said ++ (with_one carried.stepped).replies
         said_on = carried.said_is ∙ ap (λ (l : List ℕ). l ++ carried.stepped.reply) running.said_is ∙ append_assoc old.said running.outcome.replies carried.stepped.reply
 
-        pub runs_on : is_last class ≡ false → Running after start entries back old new later (with_class so_far class)
+        pub runs_on : is_last class ≡ false → Running start entries back old new later (with_class so_far class)
         runs_on goes = record {
           done = running.done ++ entry ∷ [];
           outcome = with_one carried.stepped;
@@ -347,7 +347,7 @@ module _ {State Entry : Type 0} (door : Door State Entry) where
             rests_after from = ⊎_elim (λ firm. performs.firm went_on (running.firm firm))
                 (λ touched. ⊎_elim (λ early. performs.touched (touch_last running.done entry touched early.0) tt) (λ firm. performs.firm went_on firm) running.phase) from
 
-      stopped_firm : {after : Known State} {new : Disk} {later : Files} (stop : Stop) → Performs door.Stores (door.act entry) after world mid new later (Err stop)
+      stopped_firm : {new : Disk} {later : ShelfFiles} (stop : Stop) → Performs door.Stores (door.act entry) world mid new later (Err stop)
           → stop ≢ DiskFault → IsFirm old ⊎ IsTrue (any_touches door (carried_out stop running.done entry)) → IsFirm new
       stopped_firm DiskFault performs sound from = absurd (sound refl)
       stopped_firm ShelfFault performs sound from = firm_on performs (λ is. absurd (cc is)) from
@@ -357,9 +357,9 @@ module _ {State Entry : Type 0} (door : Door State Entry) where
           ⊎_elim (λ early. performs.touched (touch_last running.done entry touched early.0) tt) (λ firm. performs.firm (λ is. absurd (cc is)) firm) running.phase
 
       -- the entry was stopped
-      pub stops : {after : Known State} {new : Disk} {later : Files} {stop : Stop} → Performs door.Stores (door.act entry) after world mid new later (Err stop)
+      pub stops : {new : Disk} {later : ShelfFiles} {stop : Stop} → Performs door.Stores (door.act entry) world mid new later (Err stop)
           → IsRunCutShort door (stopped_status stop) start entries old new later
-      stops {after = after} {new = new} {later = later} {stop = stop} performs = record {
+      stops {new = new} {later = later} {stop = stop} performs = record {
         front = running.done;
         entry = entry;
         back = back;
@@ -373,14 +373,14 @@ module _ {State Entry : Type 0} (door : Door State Entry) where
         rests = stopped_firm stop performs;
       }
 
-    rests_at_end : {known : Known State} {start : World State} {entries rest : List Entry} {old now : Disk} {shelf : Files} {so_far : Status}
-        → (running : Running known start entries rest old now shelf so_far) → IsFirm old ⊎ IsTrue (any_touches door running.done) → IsFirm now
+    rests_at_end : {start : World State} {entries rest : List Entry} {old now : Disk} {shelf : ShelfFiles} {so_far : Status}
+        → (running : Running start entries rest old now shelf so_far) → IsFirm old ⊎ IsTrue (any_touches door running.done) → IsFirm now
     rests_at_end running from =
         ⊎_elim (λ firm. running.firm firm) (λ touched. ⊎_elim (λ early. absurd (true≢false (sym touched ∙ early.0))) (λ firm. firm) running.phase) from
 
     -- no entry is left
-    pub ends : {known : Known State} {start : World State} {entries rest : List Entry} {old now : Disk} {shelf : Files} {so_far : Status}
-        → rest ≡ [] → Running known start entries rest old now shelf so_far → IsWhole door so_far start entries old now shelf
+    pub ends : {start : World State} {entries rest : List Entry} {old now : Disk} {shelf : ShelfFiles} {so_far : Status}
+        → rest ≡ [] → Running start entries rest old now shelf so_far → IsWhole door so_far start entries old now shelf
     ends {now = now} none running = record {
       taken = running.done;
       left = [];
@@ -396,13 +396,13 @@ module _ {State Entry : Type 0} (door : Door State Entry) where
       durable = λ from. durable_by now running.outcome.world.state running.at.board.stores (rests_at_end running from);
     }
 
-    pub survives : {known : Known State} {start : World State} {entries rest : List Entry} {old now : Disk} {shelf : Files} {so_far : Status}
-        → door.Stores start.state (recovered old.files) → Running known start entries rest old now shelf so_far → Survives door start entries old now
-    survives stores running = survives_by stores running.moments running.at.board.ready.settled
+    pub survives : {start : World State} {entries rest : List Entry} {old now : Disk} {shelf : ShelfFiles} {so_far : Status}
+        → door.Stores start.state (recovered old.files) → Running start entries rest old now shelf so_far → Survives door start entries old now
+    survives stores running = survives_by stores running.moments running.at.board.settled
 
   -- where no count rose, a run that was cut short found no memory
-  pub completes : {result : Status} {start : World State} {entries : List Entry} {old new : Disk} {shelf : Files} {counts after : Counts}
-      → HasCauses counts after result → Leaves door result start entries old new shelf → Completes door counts after result start entries old new shelf
+  pub completes : {result : Status} {start : World State} {entries : List Entry} {old new : Disk} {shelf : ShelfFiles} {counts after : FaultCounts}
+      → HasCauses counts after result → EndsAs door result start entries old new shelf → Completes door counts after result start entries old new shelf
   completes {result} {start} {entries} {old} {new} {shelf} causes (inl whole) none = inr whole
   completes {result} {start} {entries} {old} {new} {shelf} causes (inr cut) none = by_stop cut.stop cut.status_is
     where

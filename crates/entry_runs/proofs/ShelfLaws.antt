@@ -1,6 +1,6 @@
 -- Laws of commands that reach the shelf alone.
 use Rattle.std.proofs.Common.{◌≡◌, ◌≢◌, ℕ, List, [], ◌∷◌, ◌++◌, refl, sym, ◌∙◌, ap}
-use Rattle.door_outside.specs.Shelf.{Files, held, SameBut}
+use Rattle.door_outside.specs.Shelf.{ShelfFiles, held, SameBut}
 use Rattle.entry_runs.specs.Door.{World, IsLawful}
 use Rattle.entry_runs.specs.Entry.{Reply, ShelfAct, on_shelf, looks}
 use Rattle.entry_runs.specs.Runs.{Stepped}
@@ -8,12 +8,12 @@ use Rattle.entry_runs.specs.declared.class.Class.TheVariants.{Refused, Damaged}
 
 -- what such a command gives, to be lawful
 pub record IsLawfulOnShelf (act : ShelfAct) : Type 0 where
-  pub within : (old new : Files) (reply : Reply) → act.step old new reply → SameBut act.names old new
-  pub says : (old new : Files) (reply : Reply) → act.step old new reply → reply.text ≢ []
-  pub refused : (old new : Files) (reply : Reply) → act.step old new reply → reply.class ≡ Refused → new ≡ old
-  pub undamaged : (old new : Files) (reply : Reply) → act.step old new reply → reply.class ≢ Damaged
-  pub one_shelf : (old new other : Files) (reply answer : Reply) → act.step old new reply → act.step old other answer → new ≡ other
-  pub one_reply : (old new other : Files) (reply answer : Reply) → act.step old new reply → act.step old other answer → reply ≡ answer
+  pub within : (old new : ShelfFiles) (reply : Reply) → act.step old new reply → SameBut act.names old new
+  pub says : (old new : ShelfFiles) (reply : Reply) → act.step old new reply → reply.text ≢ []
+  pub refused : (old new : ShelfFiles) (reply : Reply) → act.step old new reply → reply.class ≡ Refused → new ≡ old
+  pub undamaged : (old new : ShelfFiles) (reply : Reply) → act.step old new reply → reply.class ≢ Damaged
+  pub one_shelf : (old new other : ShelfFiles) (reply answer : Reply) → act.step old new reply → act.step old other answer → new ≡ other
+  pub one_reply : (old new other : ShelfFiles) (reply answer : Reply) → act.step old new reply → act.step old other answer → reply ≡ answer
 
 abbrev reply_in : {State : Type 0} → Stepped (World State) → Reply
 reply_in stepped = record { text = stepped.reply; class = stepped.class }
@@ -39,11 +39,11 @@ lawful_on_shelf {State} act laws = record {
 }
 
 -- what only looks is lawful where it says one thing, and something, and never damage
-pub lawful_look : (answers : Files → Reply → Type 0) → ((shelf : Files) (reply : Reply) → answers shelf reply → reply.text ≢ [])
-    → ((shelf : Files) (reply : Reply) → answers shelf reply → reply.class ≢ Damaged)
-    → ((shelf : Files) (one other : Reply) → answers shelf one → answers shelf other → one ≡ other) → IsLawfulOnShelf (looks answers)
+pub lawful_look : (answers : ShelfFiles → Reply → Type 0) → ((shelf : ShelfFiles) (reply : Reply) → answers shelf reply → reply.text ≢ [])
+    → ((shelf : ShelfFiles) (reply : Reply) → answers shelf reply → reply.class ≢ Damaged)
+    → ((shelf : ShelfFiles) (one other : Reply) → answers shelf one → answers shelf other → one ≡ other) → IsLawfulOnShelf (looks answers)
 lawful_look answers some undamaged one = record {
-  within = λ old new reply step name other. ap (λ (files : Files). held files name) step.0;
+  within = λ old new reply step name other. ap (λ (files : ShelfFiles). held files name) step.0;
   says = λ old new reply step. some old reply step.1;
   refused = λ old new reply step is. step.0;
   undamaged = λ old new reply step. undamaged old reply step.1;

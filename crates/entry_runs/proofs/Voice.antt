@@ -26,7 +26,7 @@ module _ (old new : Disk) (all : AllNow new (AsThen old)) (same : new.files ≡ 
   pub settled_then : IsSettled old → IsSettled new
   settled_then settled image left journal =
       let then = all image left in
-      let here : then.before.files 1 ≡ old.files 1 = ap (λ (f : Data.Files). f 1) (sym then.files) ∙ journal ∙ ap (λ (f : Data.Files). f 1) same in
+      let here : then.before.files 1 ≡ old.files 1 = ap (λ (f : Data.HostFiles). f 1) (sym then.files) ∙ journal ∙ ap (λ (f : Data.HostFiles). f 1) same in
       ap recovered then.files ∙ settled then.before then.could_be here ∙ ap recovered (sym same)
 
   pub firm_then : IsFirm old → IsFirm new
@@ -36,9 +36,9 @@ module _ (old new : Disk) (all : AllNow new (AsThen old)) (same : new.files ≡ 
 
   pub calm_then : IsCalm old → IsCalm new
   calm_then calm = record {
-    closed = subst (λ (f : Data.Files). IsClosed (f 1)) (sym same) calm.closed;
+    closed = subst (λ (f : Data.HostFiles). IsClosed (f 1)) (sym same) calm.closed;
     kept = λ image left. let then = all image left in
-        subst (Data.SameFiles image.files) (sym same) (subst (λ (f : Data.Files). Data.SameFiles f old.files) (sym then.files) (calm.kept then.before then.could_be));
+        subst (Data.SameFiles image.files) (sym same) (subst (λ (f : Data.HostFiles). Data.SameFiles f old.files) (sym then.files) (calm.kept then.before then.could_be));
   }
 
 front_of : (count : ℕ) (text : List ℕ) → IsFront (take count text) text

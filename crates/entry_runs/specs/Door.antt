@@ -3,16 +3,16 @@ use Rattle.std.specs.Prelude.{◌≡◌, ◌≢◌, ◌↔◌, ℕ, Bool, true, 
 use Rattle.std.specs.List.{list_any}
 use Rattle.door_outside.specs.Shelf as Shelf
 use Rattle.door_outside.specs.Shelf.{SameBut}
-use Rattle.intent_journal.specs.Patches.{Files}
+use Rattle.intent_journal.specs.Patches.{HostFiles}
 use Rattle.entry_runs.specs.Runs.{Stepped}
 use Rattle.entry_runs.specs.declared.class.Class.TheVariants.{Refused, Damaged}
 
 -- the state of the board, and the shelf
 pub record World (State : Type 0) : Type 0 where
   pub state : State
-  pub shelf : Shelf.Files
+  pub shelf : Shelf.ShelfFiles
 
-abbrev pub here : {State : Type 0} → State → Shelf.Files → World State
+abbrev pub here : {State : Type 0} → State → Shelf.ShelfFiles → World State
 here state shelf = record { state = state; shelf = shelf }
 
 -- what an entry may reach
@@ -71,7 +71,7 @@ pub record IsLawful {State : Type 0} (act : Act State) : Type 0 where
 -- what stands for a board, and what each entry does
 pub record Door (State Entry : Type 0) : Type 1 where
   -- these data files stand for the board
-  pub Stores : State → Files → Type 0
+  pub Stores : State → HostFiles → Type 0
   pub act : Entry → Act State
 
 module _ {State Entry : Type 0} (door : Door State Entry) where

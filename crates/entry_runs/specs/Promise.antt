@@ -2,12 +2,12 @@
 use Rattle.std.specs.Prelude.{◌≡◌, ◌≢◌, ◌⊎◌, ℕ, false, List, [], ◌∷◌, ◌++◌, ◌≤◌, Result, Ok, Err, IsTrue}
 use Rattle.door_outside.specs.Cause.{Rose}
 use Rattle.door_outside.specs.Disk.{Disk, Image, Now, AllNow}
-use Rattle.door_outside.specs.Shelf.{Files, SameBut}
+use Rattle.door_outside.specs.Shelf.{ShelfFiles, SameBut}
 use Rattle.intent_journal.specs.Hosts.{IsFirm, IsSettled}
 use Rattle.intent_journal.specs.Patches as Data
 use Rattle.intent_journal.specs.Recovered.{recovered}
 use Rattle.entry_runs.specs.Door.{World, Act, Door, Step, touches, any_touches}
-use Rattle.entry_runs.specs.Runs.{Stepped, Outcome, Runs, GoesOn, IsReached, AreTaken, status_of, stopped_status}
+use Rattle.entry_runs.specs.Runs.{Stepped, RunOutcome, Runs, GoesOn, IsReached, AreTaken, status_of, stopped_status}
 use Rattle.entry_runs.specs.declared.status.Status.{Status}
 use Rattle.entry_runs.specs.declared.status.Status.TheVariants as status
 use Rattle.entry_runs.specs.declared.stop.Stop.{Stop}
@@ -29,12 +29,12 @@ pub record AsThen (then : Disk) (image : Image) : Type 0 where
   pub files : image.files ≡ before.files
 
 -- how often the calls of a disk, a voice and a shelf had failed
-pub record Counts : Type 0 where
+pub record FaultCounts : Type 0 where
   pub disk : ℕ
   pub voice : ℕ
   pub shelf : ℕ
 
-abbrev pub counts : ℕ → ℕ → ℕ → Counts
+abbrev pub counts : ℕ → ℕ → ℕ → FaultCounts
 counts disk voice shelf = record { disk = disk; voice = voice; shelf = shelf }
 
 -- the status that a result alone would give a run
@@ -44,7 +44,7 @@ ended (Err stop) = stopped_status stop
 
 -- The counts don't fall. A fault is answered only where its count rose, and any other answer leaves the count as it
 -- was: so want of memory hides no fault.
-pub record HasCauses (old new : Counts) (result : Status) : Type 0 where
+pub record HasCauses (old new : FaultCounts) (result : Status) : Type 0 where
   pub disk_later : old.disk ≤ new.disk
   pub voice_later : old.voice ≤ new.voice
   pub shelf_later : old.shelf ≤ new.shelf
@@ -56,7 +56,7 @@ pub record HasCauses (old new : Counts) (result : Status) : Type 0 where
   pub shelf_kept : (result ≡ status.ShelfFault) ⊎ (new.shelf ≡ old.shelf)
 
 -- no count rose
-pub record NoneRose (old new : Counts) : Type 0 where
+pub record NoneRose (old new : FaultCounts) : Type 0 where
   pub disk : ¬ Rose old.disk new.disk
   pub voice : ¬ Rose old.voice new.voice
   pub shelf : ¬ Rose old.shelf new.shelf
@@ -77,19 +77,19 @@ pub record Replies {State : Type 0} (act : Act State) (world : World State) (so_
   pub said_is : said ≡ so_far ++ heard
 
 -- what one entry leaves
-module _ {State : Type 0} (Stores : State → Data.Files → Type 0) (act : Act State) where
+module _ {State : Type 0} (Stores : State → Data.HostFiles → Type 0) (act : Act State) where
   -- the data files are those of the board, or, where the entry touches it, those of the migrated board
-  abbrev pub Before : State → Data.Files → Type 0
+  abbrev pub Before : State → Data.HostFiles → Type 0
   Before state files = Stores state files ⊎ (IsTrue act.reach.board × Stores (act.migrated state) files)
 
   -- the data files are those of a board after the entry
-  pub record After (world : World State) (files : Data.Files) : Type 0 where
+  pub record After (world : World State) (files : Data.HostFiles) : Type 0 where
     pub stepped : Stepped (World State)
     pub step : act.Step world stepped
     pub stores : Stores stepped.world.state files
 
   -- What stands where it was stopped, by the cause: what the files recover to, what was said, and the shelf.
-  abbrev pub Stopped : Stop → World State → List ℕ → Disk → Files → Type 0
+  abbrev pub Stopped : Stop → World State → List ℕ → Disk → ShelfFiles → Type 0
   Stopped DiskFault world so_far disk shelf =
       (Before world.state (recovered disk.files) ⊎ After world (recovered disk.files))
       × (disk.said ≡ so_far)
@@ -109,10 +109,10 @@ module _ {State : Type 0} (Stores : State → Data.Files → Type 0) (act : Act 
 
 module _ {State Entry : Type 0} (door : Door State Entry) where
   -- All taken entries were carried out, refused or answered, and the status is that of their classes.
-  pub record IsWhole (result : Status) (start : World State) (entries : List Entry) (old new : Disk) (shelf : Files) : Type 0 where
+  pub record IsWhole (result : Status) (start : World State) (entries : List Entry) (old new : Disk) (shelf : ShelfFiles) : Type 0 where
     pub taken : List Entry
     pub left : List Entry
-    pub outcome : Outcome (World State)
+    pub outcome : RunOutcome (World State)
     pub split : entries ≡ taken ++ left
     pub runs : Runs (Step door) start taken outcome
     pub are_taken : AreTaken outcome.classes left
@@ -125,11 +125,11 @@ module _ {State Entry : Type 0} (door : Door State Entry) where
     pub durable : IsFirm old ⊎ IsTrue (any_touches door taken) → AllNow new (λ image. door.Stores outcome.world.state (recovered image.files))
 
   -- Some entries were carried out or refused, and the next one was stopped.
-  pub record IsRunCutShort (result : Status) (start : World State) (entries : List Entry) (old new : Disk) (shelf : Files) : Type 0 where
+  pub record IsRunCutShort (result : Status) (start : World State) (entries : List Entry) (old new : Disk) (shelf : ShelfFiles) : Type 0 where
     pub front : List Entry
     pub entry : Entry
     pub back : List Entry
-    pub outcome : Outcome (World State)
+    pub outcome : RunOutcome (World State)
     pub stop : Stop
     pub split : entries ≡ front ++ entry ∷ back
     pub runs : Runs (Step door) start front outcome
@@ -140,7 +140,7 @@ module _ {State Entry : Type 0} (door : Door State Entry) where
     pub rests : stop ≢ DiskFault → IsFirm old ⊎ IsTrue (any_touches door (carried_out stop front entry)) → IsFirm new
 
   -- The entries themselves couldn't be read, and nothing was done. (For a crate that reads them, from words or from the shelf.)
-  pub record IsUnread (result : Status) (start : World State) (old new : Disk) (shelf : Files) : Type 0 where
+  pub record IsUnread (result : Status) (start : World State) (old new : Disk) (shelf : ShelfFiles) : Type 0 where
     pub stop : Stop
     pub status_is : result ≡ stopped_status stop
     pub from_shelf : (stop ≡ ShelfFault) ⊎ (stop ≡ OutOfMemory)
@@ -150,18 +150,18 @@ module _ {State Entry : Type 0} (door : Door State Entry) where
     pub rests : IsFirm old → IsFirm new
 
   -- what a run leaves: the whole, or a part by its status
-  abbrev pub Leaves : Status → World State → List Entry → Disk → Disk → Files → Type 0
-  Leaves result start entries old new shelf = IsWhole result start entries old new shelf ⊎ IsRunCutShort result start entries old new shelf
+  abbrev pub EndsAs : Status → World State → List Entry → Disk → Disk → ShelfFiles → Type 0
+  EndsAs result start entries old new shelf = IsWhole result start entries old new shelf ⊎ IsRunCutShort result start entries old new shelf
 
   -- Where no count rose, the run is whole, or memory ran out.
-  abbrev pub Completes : Counts → Counts → Status → World State → List Entry → Disk → Disk → Files → Type 0
+  abbrev pub Completes : FaultCounts → FaultCounts → Status → World State → List Entry → Disk → Disk → ShelfFiles → Type 0
   Completes counts after result start entries old new shelf = NoneRose counts after → (result ≡ status.OutOfMemory) ⊎ IsWhole result start entries old new shelf
 
   -- A run got to the end of some entries, in the last perhaps not to its end, and a front of their replies was said.
   pub record Heard (start : World State) (entries : List Entry) (so_far said : List ℕ) : Type 0 where
     pub front : List Entry
     pub back : List Entry
-    pub outcome : Outcome (World State)
+    pub outcome : RunOutcome (World State)
     pub heard : List ℕ
     pub split : entries ≡ front ++ back
     pub runs : Runs (Step door) start front outcome
@@ -170,7 +170,7 @@ module _ {State Entry : Type 0} (door : Door State Entry) where
     pub said_is : said ≡ so_far ++ heard
 
   -- The run goes on to an entry that touches the board, and the data files are those of the migrated board.
-  pub record IsMigrating (outcome : Outcome (World State)) (left : List Entry) (files : Data.Files) : Type 0 where
+  pub record IsMigrating (outcome : RunOutcome (World State)) (left : List Entry) (files : Data.HostFiles) : Type 0 where
     pub goes_on : GoesOn outcome.classes
     pub next : Entry
     pub back : List Entry

@@ -14,7 +14,7 @@ pub record Stepped (World : Type 0) : Type 0 where
   pub class : Class
 
 -- what entries do: the world after them, their replies joined, and their classes in order
-pub record Outcome (World : Type 0) : Type 0 where
+pub record RunOutcome (World : Type 0) : Type 0 where
   pub world : World
   pub replies : List ℕ
   pub classes : List Class
@@ -70,8 +70,8 @@ AreTaken (class ∷ classes) left = ((is_last class ≡ true) × (classes ≡ []
 
 module _ {World Entry : Type 0} (Step : World → Entry → Stepped World → Type 0) where
   -- from a world on, the entries have this outcome
-  abbrev pub Runs : World → List Entry → Outcome World → Type 0
+  abbrev pub Runs : World → List Entry → RunOutcome World → Type 0
   Runs world [] outcome = outcome ≡ record { world = world; replies = []; classes = [] }
   Runs world (entry ∷ entries) outcome =
-      (stepped : Stepped World) × (rest : Outcome World) × Step world entry stepped × Runs stepped.world entries rest
+      (stepped : Stepped World) × (rest : RunOutcome World) × Step world entry stepped × Runs stepped.world entries rest
       × (outcome ≡ record { world = rest.world; replies = stepped.reply ++ rest.replies; classes = stepped.class ∷ rest.classes })

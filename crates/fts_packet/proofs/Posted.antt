@@ -15,7 +15,7 @@ use Rattle.jam_layout.specs.Marks.{is_net}
 use Rattle.jam_layout.specs.Messages.{EmptyOr, IsBody, IsMessage, IsTyped}
 use Rattle.record_numbers.specs.Numbers.{u16_at}
 use Rattle.setup_file.specs.declared.conference.Conference.{Conference}
-use Rattle.setup_file.specs.declared.setup.Setup.{Setup}
+use Rattle.setup_file.specs.declared.fields.SetupFields.{SetupFields}
 use Rattle.netmail_rules.specs.AddressLine.{is_plain}
 use Rattle.netmail_rules.specs.Fits.{with_msgid}
 use Rattle.netmail_rules.specs.Rules.{names_nobody, first_refusing}
@@ -144,12 +144,12 @@ passed_in m draft e =
     record { to = a.0; from = b.0; subject = c.0; body = d.0 }
 
 -- what was posted, and where
-record WasPosted (s : Setup) (m : FtsMessage) (made draft : Message) (place : ℕ) : Type 0 where
+record WasPosted (s : SetupFields) (m : FtsMessage) (made draft : Message) (place : ℕ) : Type 0 where
   found : place_for (tag_of m.lines) s ≡ Some place
   same : made ≡ draft
   passed : Passed m made
 
-posted_in : (s : Setup) (m : FtsMessage) (made draft : Message) (p : Option ℕ) (place : ℕ) (o : Option TossRule) → place_for (tag_of m.lines) s ≡ p → first_refusing (toss_rules m made) ≡ o
+posted_in : (s : SetupFields) (m : FtsMessage) (made draft : Message) (p : Option ℕ) (place : ℕ) (o : Option TossRule) → place_for (tag_of m.lines) s ≡ p → first_refusing (toss_rules m made) ≡ o
     → verdict_by_place m made p ≡ Post place draft → WasPosted s m made draft place
 posted_in s m made draft None place o at rules e = absurd (cc)
 posted_in s m made draft (Some n) place (Some r) at rules e = absurd (let refuses : tossed_unless_refused (Some r) n made ≡ Post place draft = ap (λ x. tossed_unless_refused x n made) (sym rules) ∙ e in cc)
@@ -158,7 +158,7 @@ posted_in s m made draft (Some n) place None at rules e =
     let here : n ≡ place = cc in
     record { found = at ∙ ap Some here; same = cc; passed = passed_in m made rules }
 
-was_posted : (s : Setup) (m : FtsMessage) (now place : ℕ) (draft : Message) → toss_verdict s m now ≡ Post place draft → WasPosted s m (tossed_draft m now) draft place
+was_posted : (s : SetupFields) (m : FtsMessage) (now place : ℕ) (draft : Message) → toss_verdict s m now ≡ Post place draft → WasPosted s m (tossed_draft m now) draft place
 unfolding toss_verdict
 was_posted s m now place draft e = posted_in s m (tossed_draft m now) draft (place_for (tag_of m.lines) s) place (first_refusing (toss_rules m (tossed_draft m now))) refl refl e
 
@@ -169,7 +169,7 @@ taken_at (suc n) [] i d c within e = absurd (omega (arith, within))
 taken_at (suc n) (x ∷ all) zero d c within e = cc
 taken_at (suc n) (x ∷ all) (suc i) d c within e = taken_at n all i d c (omega (arith, within)) e
 
-takes_it : (o : Option (List ℕ)) (s : Setup) (place : ℕ) (c : Conference) → place_for o s ≡ Some place → slice_get s.conferences place ≡ Some c → takes_tag o c ≡ true
+takes_it : (o : Option (List ℕ)) (s : SetupFields) (place : ℕ) (c : Conference) → place_for o s ≡ Some place → slice_get s.conferences place ≡ Some c → takes_tag o c ≡ true
 takes_it o s place c found here =
     let p = position-Some (takes_tag o) (take 255 s.conferences) place c found in
     sym (ap (takes_tag o) (taken_at 255 s.conferences place c c p.0 here)) ∙ p.1
@@ -209,7 +209,7 @@ draft_fits m c now msgid read passed takes_m id types = record {
   private = λ net. net_mail (tag_of m.lines) c takes_m net;
 }
 
-pub posted_is_message : (bytes : List ℕ) (ms : List FtsMessage) (m : FtsMessage) (s : Setup) (c : Conference) (now place : ℕ) (draft : Message) (msgid : List ℕ) → FtsReads bytes ms → Contains ms m
+pub posted_is_message : (bytes : List ℕ) (ms : List FtsMessage) (m : FtsMessage) (s : SetupFields) (c : Conference) (now place : ℕ) (draft : Message) (msgid : List ℕ) → FtsReads bytes ms → Contains ms m
     → toss_verdict s m now ≡ Post place draft → slice_get s.conferences place ≡ Some c → IsTrue (is_text 80 msgid) → IsTyped (with_msgid msgid draft) → IsMessage c.kind (with_msgid msgid draft)
 posted_is_message bytes ms m s c now place draft msgid reads among posted here id types =
     let w = was_posted s m now place draft posted in
@@ -221,7 +221,7 @@ own_id : (m : FtsMessage) (now : ℕ) → EmptyOr (is_text 80) (tossed_draft m n
 unfolding tossed_draft
 own_id m now = id_fits (first_value (1 ∷ codes "MSGID: ") m.lines)
 
-pub posted_id : (s : Setup) (m : FtsMessage) (now place : ℕ) (draft : Message) → toss_verdict s m now ≡ Post place draft → EmptyOr (is_text 80) draft.msgid
+pub posted_id : (s : SetupFields) (m : FtsMessage) (now place : ℕ) (draft : Message) → toss_verdict s m now ≡ Post place draft → EmptyOr (is_text 80) draft.msgid
 posted_id s m now place draft posted =
     let w = was_posted s m now place draft posted in
     subst (λ (d : Message). EmptyOr (is_text 80) d.msgid) w.same (own_id m now)

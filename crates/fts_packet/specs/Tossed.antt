@@ -9,7 +9,7 @@ use Rattle.jam_layout.specs.Marks.{is_net}
 use Rattle.netmail_rules.specs.AddressLine.{is_plain}
 use Rattle.netmail_rules.specs.Rules.{names_nobody, first_refusing}
 use Rattle.setup_file.specs.declared.conference.Conference.{Conference}
-use Rattle.setup_file.specs.declared.setup.Setup.{Setup}
+use Rattle.setup_file.specs.declared.fields.SetupFields.{SetupFields}
 use Rattle.fts_packet.specs.Draft.{tossed_draft}
 use Rattle.fts_packet.specs.Lines.{tag_of}
 use Rattle.fts_packet.specs.declared.packet.FtsMessage.{FtsMessage}
@@ -29,7 +29,7 @@ takes_tag (Some tag) c = is_echo c.kind && str_eq_ignore_ascii_case c.name tag
 takes_tag None c = is_net c.kind
 
 -- the place of the first such conference, among the 255 that places are counted for; a valid setup has at most 64
-abbrev pub place_for : Option (List ℕ) → Setup → Option ℕ
+abbrev pub place_for : Option (List ℕ) → SetupFields → Option ℕ
 place_for tag s = position (takes_tag tag) (take 255 s.conferences)
 
 -- no conference takes the message
@@ -56,5 +56,5 @@ abbrev pub verdict_by_place : FtsMessage → Message → Option ℕ → TossDraf
 verdict_by_place m draft None = Refused (missing (tag_of m.lines))
 verdict_by_place m draft (Some place) = tossed_unless_refused (first_refusing (toss_rules m draft)) place draft
 
-unfoldable pub toss_verdict : Setup → FtsMessage → ℕ → TossDraft
+unfoldable pub toss_verdict : SetupFields → FtsMessage → ℕ → TossDraft
 toss_verdict s m now = verdict_by_place m (tossed_draft m now) (place_for (tag_of m.lines) s)

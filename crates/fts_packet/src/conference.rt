@@ -55,7 +55,7 @@ fn counted(setup: &Setup) -> &[Conference]
     ensures same { result.now ≡ take 255 setup.now.conferences }
     ensures few { length result.now ≤ 255 }
 {
-    let conferences = setup.conferences.as_slice();
+    let conferences = setup.fields().conferences.as_slice();
     if conferences.len() <= 255 {
         return conferences;
     }

@@ -4,7 +4,7 @@ ghost use Rattle.jam_records.specs.declared.message.Message.{Message};
 ghost use Rattle.jam_layout.specs.Fields.{is_text};
 ghost use Rattle.jam_layout.specs.Messages.{EmptyOr, IsMessage, IsTyped};
 ghost use Rattle.setup_file.specs.declared.conference.Conference.{Conference};
-ghost use Rattle.setup_file.specs.declared.setup.Setup.{Setup};
+ghost use Rattle.setup_file.specs.declared.fields.SetupFields.{SetupFields};
 ghost use Rattle.netmail_rules.specs.Fits.{with_msgid};
 ghost use Rattle.fts_packet.specs.Packet.{FtsReads};
 ghost use Rattle.fts_packet.specs.Date.{moment_of_date};
@@ -36,8 +36,8 @@ pub fn spelled_date_reads()
 /// A posted draft of a packet's message, with a msgid, is a message that the conference in its place may hold; its own
 /// msgid is one, or it has none.
 pub fn posted_fits()
-    ensures message { (bytes : List ℕ) (messages : List FtsMessage) (m : FtsMessage) (s : Setup) (c : Conference) (now place : ℕ) (draft : Message) (msgid : List ℕ)
+    ensures message { (bytes : List ℕ) (messages : List FtsMessage) (m : FtsMessage) (s : SetupFields) (c : Conference) (now place : ℕ) (draft : Message) (msgid : List ℕ)
         → FtsReads bytes messages → Contains messages m → toss_verdict s m now ≡ Post place draft → slice_get s.conferences place ≡ Some c
         → IsTrue (is_text 80 msgid) → IsTyped (with_msgid msgid draft) → IsMessage c.kind (with_msgid msgid draft) }
-    ensures msgid { (s : Setup) (m : FtsMessage) (now place : ℕ) (draft : Message) → toss_verdict s m now ≡ Post place draft → EmptyOr (is_text 80) draft.msgid }
+    ensures msgid { (s : SetupFields) (m : FtsMessage) (now place : ℕ) (draft : Message) → toss_verdict s m now ≡ Post place draft → EmptyOr (is_text 80) draft.msgid }
 {}

@@ -22,8 +22,7 @@ pub enum TossDraft {
 
 /// What becomes of a packed message that is tossed at this moment, in Unix seconds. It is the first rule
 /// that refuses the message, in the order of `TossRule` and up to `Length`. Where none does, it is its
-/// draft and the place of the conference that takes it. A place is one of the first 255; a valid setup has
-/// at most 64.
+/// draft and the place of the conference that takes it, below 64.
 ///
 /// The error comes where there is no memory.
 pub fn toss_draft(

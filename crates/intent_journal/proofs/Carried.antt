@@ -7,7 +7,7 @@ use Rattle.door_outside.specs.Disk.{Disk, Image, AllNow, Between, Passes, InFile
 use Rattle.door_outside.proofs.Moments.{joined, by_call, now_by}
 use Rattle.intent_journal.proofs.Steps.{apply_here, apply_there, part_hidden, part_within, same_files}
 use Rattle.intent_journal.specs.Journal.{front, patch_by, patches_of}
-use Rattle.intent_journal.specs.Patches.{Files, file_of, bytes_of, byte_count, is_once, patched_file, apply, patched, data_files}
+use Rattle.intent_journal.specs.Patches.{HostFiles, file_of, bytes_of, byte_count, is_once, patched_file, apply, patched, data_files}
 use Rattle.intent_journal.specs.Spells.{IsFit}
 use Rattle.intent_journal.specs.Steps.{Stands, Partly}
 use Rattle.intent_journal.specs.declared.patch.Patch.{Patch}
@@ -65,7 +65,7 @@ module _ (tells : Bool) (n : ℕ) (text : List ℕ) (old mid new : Disk) where
       record {
         since = both.0;
         stands = both.1;
-        left = ap (λ (f : Files). data_files (patched rest f)) (patch_done p holds) ∙ reach.left;
+        left = ap (λ (f : HostFiles). data_files (patched rest f)) (patch_done p holds) ∙ reach.left;
         wrote = omega (arith, wrote, reach.wrote, count_more p rest);
       }
 

@@ -9,7 +9,7 @@ use Rattle.door_outside.proofs.Disks.{unchanged_none, unchanged_twice}
 use Rattle.door_outside.specs.Disk.{Disk, Unchanged}
 use Rattle.intent_journal.specs.declared.patch.Patch.{Patch}
 use Rattle.intent_journal.specs.Journal.{front, patch_by, patches_of}
-use Rattle.intent_journal.specs.Patches.{Files, file_of, is_whole, is_replaced, clash, is_once, apply, patched_file, begins_within, are_within}
+use Rattle.intent_journal.specs.Patches.{HostFiles, file_of, is_whole, is_replaced, clash, is_once, apply, patched_file, begins_within, are_within}
 use Rattle.intent_journal.specs.Spells.{IsFit}
 use Rattle.intent_journal.proofs.Carried.{some_pair}
 use Rattle.intent_journal.proofs.Front.{begins, file_by, nothing_left, whole_by}
@@ -17,8 +17,8 @@ use Rattle.intent_journal.proofs.Puts.{written_long}
 use Rattle.intent_journal.proofs.Steps.{apply_here, apply_there, is_put_in, once_apart}
 
 -- the files as the patches so far leave them, those of the patches to come by their lengths
-pub record Lengths (patches todo : List Patch) (ends : List ℕ) (old : Files) : Type 0 where
-  pub files : Files
+pub record Lengths (patches todo : List Patch) (ends : List ℕ) (old : HostFiles) : Type 0 where
+  pub files : HostFiles
   pub answer : are_within patches old ≡ are_within todo files
   pub lengths : (file : ℕ) → file < 258 → is_put_in file todo ≡ true → length (files file) ≡ max (length (old file)) (get_or ends file 0)
 
@@ -46,7 +46,7 @@ fitting_start tells patches n text ends old reads fit once is = record {
   };
 }
 
-begins_by : (whole : Bool) (file at : ℕ) (bytes : List ℕ) (files : Files) → begins_within (patch_by whole file at bytes) files ≡ (whole || nat_le at (length (files file)))
+begins_by : (whole : Bool) (file at : ℕ) (bytes : List ℕ) (files : HostFiles) → begins_within (patch_by whole file at bytes) files ≡ (whole || nat_le at (length (files file)))
 begins_by true file at bytes files = refl
 begins_by false file at bytes files = refl
 
@@ -59,7 +59,7 @@ or_same true b c same = refl
 or_same false b c same = same refl
 
 -- one patch
-module _ (patches rest : List Patch) (ends : List ℕ) (old : Files) (whole : Bool) (file at : ℕ) (bytes : List ℕ) (once : is_once (patch_by whole file at bytes ∷ rest) ≡ true) (known : file < 258) (long : length ends ≡ 258)
+module _ (patches rest : List Patch) (ends : List ℕ) (old : HostFiles) (whole : Bool) (file at : ℕ) (bytes : List ℕ) (once : is_once (patch_by whole file at bytes ∷ rest) ≡ true) (known : file < 258) (long : length ends ≡ 258)
     (so_far : Lengths patches (patch_by whole file at bytes ∷ rest) ends old) where
   abbrev patch : Patch
   patch = patch_by whole file at bytes

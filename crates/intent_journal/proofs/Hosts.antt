@@ -4,7 +4,7 @@ use Rattle.door_outside.specs.Disk.{Disk, Image, AllNow, Passes, Same, Unchanged
 use Rattle.door_outside.proofs.Moments.{now_same, now_unchanged}
 use Rattle.intent_journal.specs.Hosts.{IsFirm, IsSettled, IsCalm}
 use Rattle.intent_journal.specs.Journal.{IsClosed}
-use Rattle.intent_journal.specs.Patches.{Files, SameFiles, data_files}
+use Rattle.intent_journal.specs.Patches.{HostFiles, SameFiles, data_files}
 use Rattle.intent_journal.specs.Recovered.{recovered, Back}
 use Rattle.intent_journal.specs.Steps.{IsSure, JournalKept}
 use Rattle.intent_journal.proofs.DataFiles.{kept_unchanged, recovered_same}
@@ -38,7 +38,7 @@ settled_stays old new settled call same image left journal =
     let is : image ≡ from.0 = from.2 in
     let files : new.files ≡ old.files = ap (λ (i : Image). i.files) same in
     ap (λ (i : Image). recovered i.files) is
-    ∙ settled from.0 from.1 (ap (λ (i : Image). i.files 1) (sym is) ∙ journal ∙ ap (λ (f : Files). f 1) files)
+    ∙ settled from.0 from.1 (ap (λ (i : Image). i.files 1) (sym is) ∙ journal ∙ ap (λ (f : HostFiles). f 1) files)
     ∙ ap recovered (sym files)
 
 -- and a firm host leaves what it left
@@ -51,18 +51,18 @@ firm_unchanged old new firm same image left = now_unchanged same firm image left
 
 pub settled_unchanged : (old new : Disk) → IsSettled old → Unchanged old new → IsSettled new
 settled_unchanged old new settled same image left journal =
-    now_unchanged same settled image left (journal ∙ ap (λ (f : Files). f 1) same.files) ∙ ap recovered (sym same.files)
+    now_unchanged same settled image left (journal ∙ ap (λ (f : HostFiles). f 1) same.files) ∙ ap recovered (sym same.files)
 
 pub calm_unchanged : (old new : Disk) → IsCalm old → Unchanged old new → IsCalm new
 calm_unchanged old new calm same = record {
-  closed = subst (λ (f : Files). IsClosed (f 1)) (sym same.files) calm.closed;
+  closed = subst (λ (f : HostFiles). IsClosed (f 1)) (sym same.files) calm.closed;
   kept = kept_unchanged old new calm.kept same;
 }
 
 pub sure_unchanged : (old new : Disk) → IsSure old → Unchanged old new → IsSure new
 sure_unchanged old new sure same = record {
   firm = firm_unchanged old new sure.firm same;
-  journal = λ image left. now_unchanged same sure.journal image left ∙ ap (λ (f : Files). f 1) (sym same.files);
+  journal = λ image left. now_unchanged same sure.journal image left ∙ ap (λ (f : HostFiles). f 1) (sym same.files);
 }
 
 -- a host on one image, with nothing pending

@@ -8,7 +8,7 @@ use Rattle.door_outside.proofs.Moments.{reads_have}
 use Rattle.record_numbers.specs.Numbers.{u32_at}
 use Rattle.intent_journal.specs.Hosts.{IsSettled}
 use Rattle.intent_journal.specs.Journal.{body_patches, open_patches, intent_of, IsClosed}
-use Rattle.intent_journal.specs.Patches.{Files, are_within, patched, data_files}
+use Rattle.intent_journal.specs.Patches.{HostFiles, are_within, patched, data_files}
 use Rattle.intent_journal.specs.Recovered.{recovered}
 use Rattle.intent_journal.specs.Steps.{Quiet}
 use Rattle.intent_journal.specs.declared.patch.Patch.{Patch}
@@ -21,31 +21,31 @@ closed_patches (gate ∷ body) closed =
     cond-false (gate == 79) _ _ (ne_eqb gate 79 shut)
 
 -- the intent by the patches behind an open gate
-pub intent_by : (patches : List Patch) (files : Files) → open_patches (files 1) ≡ patches → are_within patches files ≡ true → intent_of files ≡ patches
+pub intent_by : (patches : List Patch) (files : HostFiles) → open_patches (files 1) ≡ patches → are_within patches files ≡ true → intent_of files ≡ patches
 intent_by patches files is within = (λ i. if are_within (is i) files then is i else []) ∙ cond-true (are_within patches files) patches [] within
 
-pub intent_past : (patches : List Patch) (files : Files) → open_patches (files 1) ≡ patches → are_within patches files ≡ false → intent_of files ≡ []
+pub intent_past : (patches : List Patch) (files : HostFiles) → open_patches (files 1) ≡ patches → are_within patches files ≡ false → intent_of files ≡ []
 intent_past patches files is past = (λ i. if are_within (is i) files then is i else []) ∙ cond-false (are_within patches files) patches [] past
 
-pub intent_none : (files : Files) → open_patches (files 1) ≡ [] → intent_of files ≡ []
+pub intent_none : (files : HostFiles) → open_patches (files 1) ≡ [] → intent_of files ≡ []
 intent_none files is = λ i. if are_within (is i) files then is i else []
 
-pub intent_closed : (files : Files) → IsClosed (files 1) → intent_of files ≡ []
+pub intent_closed : (files : HostFiles) → IsClosed (files 1) → intent_of files ≡ []
 intent_closed files closed = intent_none files (closed_patches (files 1) closed)
 
-pub recovered_by : (patches : List Patch) (files : Files) → intent_of files ≡ patches → recovered files ≡ data_files (patched patches files)
+pub recovered_by : (patches : List Patch) (files : HostFiles) → intent_of files ≡ patches → recovered files ≡ data_files (patched patches files)
 recovered_by patches files is = ap (λ (ps : List Patch). data_files (patched ps files)) is
 
 pub quiet_recovers : (old image : Image) → Quiet old image → recovered image.files ≡ data_files old.files
 quiet_recovers old image quiet = recovered_by [] image.files quiet.closed ∙ quiet.files
 
 -- where the data files are the same, the journal decides
-pub settled_by_data : (disk : Disk) (files : Files) → AllNow disk (λ image. data_files image.files ≡ data_files files) → IsSettled disk
+pub settled_by_data : (disk : Disk) (files : HostFiles) → AllNow disk (λ image. data_files image.files ≡ data_files files) → IsSettled disk
 settled_by_data disk files all image left journal =
     let here = reads_have disk (λ image. data_files image.files ≡ data_files files) all in
     recovered_same image.files disk.files (record { journal = journal; files = all image left ∙ sym here })
 
-pub settled_by_outcome : (disk : Disk) (outcome : Files) → AllNow disk (λ image. recovered image.files ≡ outcome) → IsSettled disk
+pub settled_by_outcome : (disk : Disk) (outcome : HostFiles) → AllNow disk (λ image. recovered image.files ≡ outcome) → IsSettled disk
 settled_by_outcome disk outcome all image left journal = all image left ∙ sym (reads_have disk (λ image. recovered image.files ≡ outcome) all)
 
 -- any byte may stand at the gate, and behind it what stood there

@@ -7,7 +7,7 @@ use Rattle.door_outside.specs.Disk.{Disk, Image, AllNow, Between, Passes, InFile
 use Rattle.door_outside.proofs.Moments.{joined, by_call, by_nothing, now_by, now_unchanged, reads_have}
 use Rattle.intent_journal.specs.Hosts.{IsCalm, IsSettled}
 use Rattle.intent_journal.specs.Journal.{spelled, body_patches, open_patches, IsClosed}
-use Rattle.intent_journal.specs.Patches.{Files, SameFiles, are_within, patched, data_files}
+use Rattle.intent_journal.specs.Patches.{HostFiles, SameFiles, are_within, patched, data_files}
 use Rattle.intent_journal.specs.Recovered.{OldOrPatched}
 use Rattle.intent_journal.specs.Spells.{IsFit}
 use Rattle.intent_journal.specs.Steps.{BehindGate, HasJournalBody, JournalKept, Quiet, IsStaged, IsShut}
@@ -27,7 +27,7 @@ short_closed (gate ∷ b ∷ rest) short = absurd (omega arith)
 
 module _ (old mid new : Disk) (calm : IsCalm old) (same : Unchanged old mid) (file : ℕ) (is_journal : file ≡ 1) (is_empty : length (old.files file) ≡ 0) (call : Passes (InFile 1 (Torn 0 1)) (InFile 1 (Torn 0 1)) mid new) where
   none : mid.files 1 ≡ []
-  none = ap (λ (f : Files). f 1) same.files ∙ ap old.files (sym is_journal) ∙ nil_from_length (old.files file) is_empty
+  none = ap (λ (f : HostFiles). f 1) same.files ∙ ap old.files (sym is_journal) ∙ nil_from_length (old.files file) is_empty
 
   kept_mid : AllNow mid (λ image. SameFiles image.files old.files)
   kept_mid = now_unchanged same calm.kept
@@ -35,7 +35,7 @@ module _ (old mid new : Disk) (calm : IsCalm old) (same : Unchanged old mid) (fi
   quiet_at : (image : Image) → Reached (InFile 1 (Torn 0 1)) mid image → Quiet (as_read old) image
   quiet_at image from =
       let is = kept_mid from.0 from.1 in
-      let empty : from.0.files 1 ≡ [] = is.journal ∙ ap (λ (f : Files). f 1) (sym same.files) ∙ none in
+      let empty : from.0.files 1 ≡ [] = is.journal ∙ ap (λ (f : HostFiles). f 1) (sym same.files) ∙ none in
       record {
         said = from.2.said ∙ mid.stays from.0 from.1 ∙ same.said;
         files = data_same image.files from.0.files from.2.others ∙ is.files;
@@ -75,7 +75,7 @@ module _ (old mid : Disk) (calm : IsCalm old) (same : Unchanged old mid) where
 
   pub shut_already : 0 < length (mid.files 1) → IsShut old mid
   shut_already some = record {
-    closed = subst (λ (f : Files). IsClosed (f 1)) (sym same.files) calm.closed;
+    closed = subst (λ (f : HostFiles). IsClosed (f 1)) (sym same.files) calm.closed;
     gate = some;
     files = ap data_files same.files;
     kept = kept_unchanged old mid calm.kept same;

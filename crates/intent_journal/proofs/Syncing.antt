@@ -11,7 +11,7 @@ use Rattle.intent_journal.proofs.Front.{begins, nothing_left}
 use Rattle.intent_journal.proofs.Steps.{apply_there}
 use Rattle.intent_journal.specs.declared.patch.Patch.{Patch}
 use Rattle.intent_journal.specs.Journal.{Marks, front, patches_of}
-use Rattle.intent_journal.specs.Patches.{Files, apply, data_files, file_of, is_touched, patched}
+use Rattle.intent_journal.specs.Patches.{HostFiles, apply, data_files, file_of, is_touched, patched}
 use Rattle.intent_journal.specs.Steps.{AreDurable, OnlySynced, Stands}
 
 -- no sync and a sync
@@ -103,7 +103,7 @@ sync_end tells patches n text touched replaced old now none syncing t file there
     ]
 
 -- patches leave other files
-untouched : (patches : List Patch) (file : ℕ) (files : Files) → is_touched file patches ≡ false → patched patches files file ≡ files file
+untouched : (patches : List Patch) (file : ℕ) (files : HostFiles) → is_touched file patches ≡ false → patched patches files file ≡ files file
 untouched [] file files none = refl
 untouched (p ∷ patches) file files none =
     let parts = or_parts (file_of p == file) (is_touched file patches) none in
@@ -122,7 +122,7 @@ all_durable patches old mid new stands done only durable image left = data_each 
 whole_there : (old bytes : List ℕ) → take (length bytes) (written old 0 bytes) ≡ bytes
 whole_there old bytes = let none : 0 - length old ≡ 0 = omega arith in ap (take (length bytes)) (λ i. (replicate (none i) 0 ++ bytes) ++ drop (0 + length bytes) old) ∙ take_at bytes (drop (0 + length bytes) old) (length bytes) refl
 
-pub whole_written : (file n : ℕ) (bytes : List ℕ) (old mid new : Files) → n ≡ length bytes → HoldsBytes file (written (old file) 0 bytes) old mid → HoldsBytes file (take n (mid file)) mid new → HoldsBytes file bytes old new
+pub whole_written : (file n : ℕ) (bytes : List ℕ) (old mid new : HostFiles) → n ≡ length bytes → HoldsBytes file (written (old file) 0 bytes) old mid → HoldsBytes file (take n (mid file)) mid new → HoldsBytes file bytes old new
 whole_written file n bytes old mid new n_is first second = record {
   holds = second.holds ∙ (λ i. take (n_is i) (first.holds i)) ∙ whole_there (old file) bytes;
   others = λ other ne. second.others other ne ∙ first.others other ne;

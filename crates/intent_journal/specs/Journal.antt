@@ -6,7 +6,7 @@ use Rattle.door_outside.specs.File.{is_data_file}
 use Rattle.record_numbers.specs.Numbers.{u16_at, u32_at, u16_text, u32_text}
 use Rattle.intent_journal.specs.declared.patch.Patch.{Patch}
 use Rattle.intent_journal.specs.declared.patch.Patch.TheVariants.{Whole, Put}
-use Rattle.intent_journal.specs.Patches.{Files, file_of, patch_offset, bytes_of, clash, is_once, is_touched, is_replaced, are_within}
+use Rattle.intent_journal.specs.Patches.{HostFiles, file_of, patch_offset, bytes_of, clash, is_once, is_touched, is_replaced, are_within}
 
 -- the number of its kind
 abbrev pub patch_kind : Patch → ℕ
@@ -85,7 +85,7 @@ open_patches (gate ∷ body) = if gate == 79 then unwrap_or (body_patches (gate 
 
 -- the intent that the files hold, or no patches: the journal's gate is open and its body reads, and each Put begins at
 -- most at the end of its file, as these files and the patches before it leave it
-abbrev pub intent_of : Files → List Patch
+abbrev pub intent_of : HostFiles → List Patch
 intent_of files = if are_within (open_patches (files 1)) files then open_patches (files 1) else []
 
 -- the gate isn't open

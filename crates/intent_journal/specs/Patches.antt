@@ -7,8 +7,8 @@ use Rattle.intent_journal.specs.declared.patch.Patch.{Patch}
 use Rattle.intent_journal.specs.declared.patch.Patch.TheVariants.{Whole, Put}
 
 -- the bytes of each file, by its number
-abbrev pub Files : Type 0
-Files = ℕ → List ℕ
+abbrev pub HostFiles : Type 0
+HostFiles = ℕ → List ℕ
 
 -- the file that a patch changes
 abbrev pub file_of : Patch → ℕ
@@ -35,30 +35,30 @@ abbrev pub patched_file : Patch → List ℕ → List ℕ
 patched_file (Whole file bytes) old = bytes
 patched_file (Put file at bytes) old = written old at bytes
 
-abbrev pub apply : Patch → Files → Files
+abbrev pub apply : Patch → HostFiles → HostFiles
 apply patch files file = if file == file_of patch then patched_file patch (files file) else files file
 
 -- the patches are carried out in order
-abbrev pub patched : List Patch → Files → Files
+abbrev pub patched : List Patch → HostFiles → HostFiles
 patched [] files = files
 patched (patch ∷ patches) files = patched patches (apply patch files)
 
 -- the 257 data files, and nothing at any other number
-abbrev pub data_files : Files → Files
+abbrev pub data_files : HostFiles → HostFiles
 data_files files file = if is_data_file file then files file else []
 
 -- the journal is the same, and so are the data files
-pub record SameFiles (one other : Files) : Type 0 where
+pub record SameFiles (one other : HostFiles) : Type 0 where
   pub journal : one journal_file ≡ other journal_file
   pub files : data_files one ≡ data_files other
 
 -- whether a patch begins at most at the end of its file
-abbrev pub begins_within : Patch → Files → Bool
+abbrev pub begins_within : Patch → HostFiles → Bool
 begins_within (Whole file bytes) files = true
 begins_within (Put file at bytes) files = nat_le at (length (files file))
 
 -- whether each does, as the patches before it leave the file
-abbrev pub are_within : List Patch → Files → Bool
+abbrev pub are_within : List Patch → HostFiles → Bool
 are_within [] files = true
 are_within (patch ∷ patches) files = begins_within patch files && are_within patches (apply patch files)
 

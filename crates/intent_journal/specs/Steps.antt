@@ -5,7 +5,7 @@ use Rattle.intent_journal.specs.declared.patch.Patch.{Patch}
 use Rattle.intent_journal.specs.declared.patch.Patch.TheVariants.{Whole, Put}
 use Rattle.intent_journal.specs.Hosts.{IsFirm}
 use Rattle.intent_journal.specs.Journal.{IsClosed, body_patches, body_text, intent_of, open_patches, spelled}
-use Rattle.intent_journal.specs.Patches.{Files, SameFiles, patched, are_within, data_files, is_touched}
+use Rattle.intent_journal.specs.Patches.{HostFiles, SameFiles, patched, are_within, data_files, is_touched}
 
 -- the journal is that of the disk as it reads, and carrying out the patches is allowed and gives the same data files
 pub record Stands (patches : List Patch) (goal image : Image) : Type 0 where
@@ -38,7 +38,7 @@ pub record OnlySynced (old new : Disk) : Type 0 where
   pub wrote : new.wrote ≡ old.wrote
 
 -- the journal has this body behind its gate, before free bytes, and nothing else has changed
-pub record HasJournalBody (count : ℕ) (text : List ℕ) (old new : Files) : Type 0 where
+pub record HasJournalBody (count : ℕ) (text : List ℕ) (old new : HostFiles) : Type 0 where
   pub gate : take 1 (new 1) ≡ take 1 (old 1)
   pub spells : take (12 + length text) (drop 1 (new 1)) ≡ body_text count text
   pub body : body_patches (new 1) ≡ Some (spelled count text)

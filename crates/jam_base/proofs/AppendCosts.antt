@@ -25,7 +25,7 @@ use Rattle.jam_writing.specs.jam_layout.Headers.{headers_text, header_size}
 use Rattle.jam_writing.specs.jam_layout.Index.{index_records}
 use Rattle.jam_writing.specs.jam_layout.Layout.{layout, base_header, entries_of, files_size}
 use Rattle.jam_writing.specs.jam_layout.Sizes.{slot_header}
-use Rattle.jam_writing.specs.jam_layout.declared.conference.Conference.{Conference}
+use Rattle.jam_writing.specs.jam_layout.declared.conference.ConferenceContents.{ConferenceContents}
 use Rattle.jam_writing.specs.jam_layout.declared.shape.Shape.{Shape}
 use Rattle.jam_writing.proofs.jam_layout.BaseLaws.{base_length}
 use Rattle.jam_writing.proofs.jam_layout.SlotLaws.{index_length}
@@ -94,7 +94,7 @@ module _ (shape : Shape) (links : ℕ → Link) (base : List ℕ) (long : length
       (links_are (slots ++ Held m ∷ []) (more ++ Held m ∷ []) messages (ap (λ (xs : List Slot). xs ++ Held m ∷ []) is ∙ append_assoc old more (Held m ∷ [])))
 
 -- ---- sizes
-pub size_is : (shape : Shape) (c : Conference) → files_size (layout shape c) ≡ (1024 + sum_by slot_header c.slots) + (sum_by body_size c.slots + (8 * length c.slots + length (layout shape c).jlr))
+pub size_is : (shape : Shape) (c : ConferenceContents) → files_size (layout shape c) ≡ (1024 + sum_by slot_header c.slots) + (sum_by body_size c.slots + (8 * length c.slots + length (layout shape c).jlr))
 size_is shape c =
     omega (
       arith,
@@ -119,7 +119,7 @@ headers_big [] = omega arith
 headers_big (m ∷ messages) = omega (arith, headers_big messages, header_big m, sum_by-cons slot_header (Held m) (helds messages))
 
 -- ---- all puts
-module _ (shape : Shape) (c : Conference) (counter : ℕ) (messages : List Message) where
+module _ (shape : Shape) (c : ConferenceContents) (counter : ℕ) (messages : List Message) where
   head : List Slot
   head = take (length c.slots) (more_in shape c counter messages).slots
 

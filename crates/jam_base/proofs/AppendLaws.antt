@@ -17,7 +17,7 @@ use Rattle.jam_writing.specs.jam_layout.Headers.{entry_text, headers_text}
 use Rattle.jam_writing.specs.jam_layout.Index.{pair_of}
 use Rattle.jam_writing.specs.jam_layout.Layout.{layout, base_header, entries_of}
 use Rattle.jam_writing.specs.jam_layout.Sizes.{slot_header}
-use Rattle.jam_writing.specs.jam_layout.declared.conference.Conference.{Conference}
+use Rattle.jam_writing.specs.jam_layout.declared.conference.ConferenceContents.{ConferenceContents}
 use Rattle.jam_writing.specs.jam_layout.declared.shape.Shape.{Shape}
 use Rattle.jam_writing.proofs.jam_layout.BaseLaws.{base_length}
 use Rattle.jam_writing.specs.Pieces.{entry_with, body_size}
@@ -44,7 +44,7 @@ older_within : (kind : Kind) (slots : List Slot) (change : Option LinkPatch) (li
 older_within kind slots None links base older long = tt
 older_within kind slots (Some patch) links base older long = (omega arith, header_within kind slots patch.number older.message older.some older.held links base long)
 
-module _ (shape : Shape) (c : Conference) (m : Message) where
+module _ (shape : Shape) (c : ConferenceContents) (m : Message) where
   jhr_long : length (layout shape c).jhr ≡ 1024 + sum_by slot_header c.slots
   jhr_long = omega (arith, length-append (base_text (base_header shape c)) (headers (link_of c.slots) shape.kind c.slots), base_length (base_header shape c), headers_length (link_of c.slots) shape.kind 0 1 c.slots)
 

@@ -30,7 +30,7 @@ use Rattle.jam_writing.specs.jam_layout.Headers.{headers_text}
 use Rattle.jam_writing.specs.jam_layout.Index.{index_records}
 use Rattle.jam_writing.specs.jam_layout.Layout.{layout, base_header, entries_of}
 use Rattle.jam_writing.specs.jam_layout.Sizes.{slot_header}
-use Rattle.jam_writing.specs.jam_layout.declared.conference.Conference.{Conference}
+use Rattle.jam_writing.specs.jam_layout.declared.conference.ConferenceContents.{ConferenceContents}
 use Rattle.jam_writing.specs.jam_layout.declared.shape.Shape.{Shape}
 use Rattle.jam_writing.proofs.jam_layout.BaseLaws.{base_length}
 use Rattle.jam_writing.proofs.jam_layout.SlotLaws.{index_length}
@@ -135,8 +135,8 @@ jdx_last slots old more is = subst (λ (xs : List Slot). written (index_records 
     ∙ sym (index-append 1024 old more)))
 
 -- ---- all of them
-module _ (shape : Shape) (c : Conference) (counter : ℕ) (messages : List Message) where
-  abbrev pub more_in : Conference
+module _ (shape : Shape) (c : ConferenceContents) (counter : ℕ) (messages : List Message) where
+  abbrev pub more_in : ConferenceContents
   more_in = record c { counter = counter; slots = slots_with_all c.slots messages }
 
   place : ℕ

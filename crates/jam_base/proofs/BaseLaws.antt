@@ -13,7 +13,7 @@ use Rattle.jam_threads.specs.declared.threads.Threads.{Threads}
 use Rattle.jam_writing.specs.jam_layout.Layout.{layout, files_size}
 use Rattle.jam_writing.specs.jam_layout.Sizes.{slot_header, slot_size}
 use Rattle.jam_writing.specs.jam_layout.Valid.{IsShape, IsConference}
-use Rattle.jam_writing.specs.jam_layout.declared.conference.Conference.{Conference}
+use Rattle.jam_writing.specs.jam_layout.declared.conference.ConferenceContents.{ConferenceContents}
 use Rattle.jam_writing.specs.jam_layout.declared.shape.Shape.{Shape}
 use Rattle.jam_writing.proofs.jam_layout.SlotSizes.{size_is}
 use Rattle.jam_writing.specs.jam_layout.Bodies.{body_size}
@@ -24,7 +24,7 @@ use Rattle.jam_base.proofs.SameLinks.{AllSame, length_same, first_same, children
 use Rattle.jam_base.proofs.SlotChanges.{numbered_is}
 
 -- parts that are those of a shape and a conference by other names
-pub made_of : (shape made : Shape) (c : Conference) (counter : ℕ) (slots : List Slot) (pointers : List ℕ) (threads kept : Threads) → made ≡ shape → counter ≡ c.counter → slots ≡ c.slots → pointers ≡ c.pointers → threads ≡ kept
+pub made_of : (shape made : Shape) (c : ConferenceContents) (counter : ℕ) (slots : List Slot) (pointers : List ℕ) (threads kept : Threads) → made ≡ shape → counter ≡ c.counter → slots ≡ c.slots → pointers ≡ c.pointers → threads ≡ kept
     → IsShape shape → IsConference shape c → AreThreads c.slots kept
     → IsShape made × IsConference made (record { counter = counter; slots = slots; pointers = pointers }) × AreThreads slots threads
 made_of shape made c counter slots pointers threads kept made_is counter_is slots_are pointers_are threads_are is_shape is_conference are =
@@ -67,7 +67,7 @@ slots_apart (Gone ∷ slots) = omega (arith, slots_apart slots, sum_by-cons slot
 slots_apart (Held m ∷ slots) = omega (arith, slots_apart slots, sum_by-cons slot_size (Held m) slots, sum_by-cons slot_header (Held m) slots, sum_by-cons body_size (Held m) slots)
 
 -- the headers, the bodies, the index and the pointers
-pub size_apart : (shape : Shape) (c : Conference) → IsConference shape c
+pub size_apart : (shape : Shape) (c : ConferenceContents) → IsConference shape c
     → files_size (layout shape c) ≡ (((1024 + sum_by slot_header c.slots) + sum_by body_size c.slots) + 8 * length c.slots) + 16 * length shape.readers
 size_apart shape c ok = omega (arith, size_is shape c ok, slots_apart c.slots)
 

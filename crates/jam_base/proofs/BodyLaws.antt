@@ -10,7 +10,7 @@ use Rattle.std.proofs.lemmas.List.Elements.{All-append, All-cons, All-head, All-
 use Rattle.intent_journal.specs.door_outside.Disk.{written}
 use Rattle.intent_journal.specs.door_outside.File.{jhr_file, jdt_file, jlr_file}
 use Rattle.jam_records.specs.record_numbers.Numbers.{u32_text, u32s_text}
-use Rattle.intent_journal.specs.Patches.{Files, apply, file_of, patched}
+use Rattle.intent_journal.specs.Patches.{HostFiles, apply, file_of, patched}
 use Rattle.intent_journal.specs.declared.patch.Patch.{Patch}
 use Rattle.intent_journal.specs.declared.patch.Patch.TheVariants.{Put, Whole}
 use Rattle.jam_records.specs.declared.message.Kind.{Kind}
@@ -22,7 +22,7 @@ use Rattle.jam_threads.specs.Links.{link_of}
 use Rattle.jam_threads.specs.declared.link.LinkPatch.{LinkPatch}
 use Rattle.jam_writing.specs.jam_layout.Layout.{layout}
 use Rattle.jam_writing.specs.jam_layout.Sizes.{slot_header}
-use Rattle.jam_writing.specs.jam_layout.declared.conference.Conference.{Conference}
+use Rattle.jam_writing.specs.jam_layout.declared.conference.ConferenceContents.{ConferenceContents}
 use Rattle.jam_writing.specs.jam_layout.declared.files.BaseFiles.{BaseFiles}
 use Rattle.jam_writing.specs.jam_layout.declared.shape.Shape.{Shape}
 use Rattle.jam_writing.specs.Pieces.{body_piece, body_size}
@@ -43,7 +43,7 @@ use Rattle.intent_journal.proofs.Writes.{written_end}
 abbrev pub SparesBodies : ℕ → Patch → Type 0
 SparesBodies place p = jdt_file place ≢ file_of p
 
-pub untouched : (place : ℕ) (ps : List Patch) (files : Files) → All (SparesBodies place) ps → patched ps files (jdt_file place) ≡ files (jdt_file place)
+pub untouched : (place : ℕ) (ps : List Patch) (files : HostFiles) → All (SparesBodies place) ps → patched ps files (jdt_file place) ≡ files (jdt_file place)
 untouched place [] files all = refl
 untouched place (p ∷ ps) files all =
     let away : jdt_file place ≢ file_of p = All-head (SparesBodies place) p ps all in
@@ -58,7 +58,7 @@ bodies_stay place old new ps same all = record {
 }
 
 -- ---- one put at the end, among patches of other files
-put_here : (file at : ℕ) (bytes : List ℕ) (files : Files) → apply (Put file at bytes) files file ≡ written (files file) at bytes
+put_here : (file at : ℕ) (bytes : List ℕ) (files : HostFiles) → apply (Put file at bytes) files file ≡ written (files file) at bytes
 put_here file at bytes files = cond-true (file == file) _ _ (eq-eqb file file refl)
 
 pub bodies_put : (place : ℕ) (old new : BaseFiles) (before after : List Patch) (at : ℕ) (bytes : List ℕ) → All (SparesBodies place) before → All (SparesBodies place) after → at ≡ length old.jdt → new.jdt ≡ old.jdt ++ bytes
@@ -66,7 +66,7 @@ pub bodies_put : (place : ℕ) (old new : BaseFiles) (before after : List Patch)
 bodies_put place old new before after at bytes first last is text = record {
   bodies = λ files long.
       let file : ℕ = jdt_file place in
-      let mid : Files = patched before files in
+      let mid : HostFiles = patched before files in
       let put : apply (Put file at bytes) mid file ≡ files file ++ bytes =
       put_here file at bytes mid ∙ (ap (λ (xs : List ℕ). written xs at bytes) (untouched place before files first) ∙ written_end (files file) bytes at (is ∙ sym long)) in
       let behind : drop (length old.jdt) new.jdt ≡ bytes = ap (drop (length old.jdt)) text ∙ drop-append_seam old.jdt bytes in
@@ -74,7 +74,7 @@ bodies_put place old new before after at bytes first last is text = record {
 }
 
 -- ---- the patches of each kind
-pub counts_spares : (place : ℕ) (c : Conference) → SparesBodies place (counts_put place c)
+pub counts_spares : (place : ℕ) (c : ConferenceContents) → SparesBodies place (counts_put place c)
 counts_spares place c = λ e. omega (arith, e)
 
 pub marks_spares : (kind : Kind) (place at number : ℕ) (m : Message) → SparesBodies place (marks_put kind place at number m)
@@ -115,8 +115,8 @@ pub pointer_spares : (base : Contents) (reader number : ℕ) → SparesBodies ba
 pointer_spares base reader number = record_spares base reader 8 (u32s_text (number ∷ number ∷ []))
 
 -- ---- messages more
-module _ (shape : Shape) (c : Conference) (counter : ℕ) (messages : List Message) where
-  abbrev next : Conference
+module _ (shape : Shape) (c : ConferenceContents) (counter : ℕ) (messages : List Message) where
+  abbrev next : ConferenceContents
   next = more_in shape c counter messages
 
   abbrev more : List Slot

@@ -26,7 +26,7 @@ use Rattle.jam_writing.specs.jam_layout.Index.{index_records, no_pair, pair_of}
 use Rattle.jam_writing.specs.jam_layout.Layout.{entries_of, files_size, layout}
 use Rattle.jam_writing.specs.jam_layout.Outlines.{line_ends, outline, slot_outline, slot_with}
 use Rattle.jam_writing.specs.jam_layout.Sizes.{slot_header}
-use Rattle.jam_writing.specs.jam_layout.declared.conference.Conference.{Conference}
+use Rattle.jam_writing.specs.jam_layout.declared.conference.ConferenceContents.{ConferenceContents}
 use Rattle.jam_writing.specs.jam_layout.declared.files.BaseFiles.{BaseFiles}
 use Rattle.jam_writing.specs.jam_layout.declared.shape.Shape.{Shape}
 use Rattle.jam_writing.proofs.jam_layout.OutlineLaws.{files_outline, jdt_outline}
@@ -103,10 +103,10 @@ index_alike at (Held m ∷ slots) =
     ∙ ap (λ xs. index_text (pair_of m at) ++ xs) (index_alike (at + slot_header (Held m)) slots)
 
 -- ---- the puts
-counts_alike : (place : ℕ) (c : Conference) → counts_put place (outline c) ≡ counts_put place c
+counts_alike : (place : ℕ) (c : ConferenceContents) → counts_put place (outline c) ≡ counts_put place c
 counts_alike place c = ap (λ n. Put (jhr_file place) 8 (u32s_text (c.counter ∷ n ∷ []))) (sum_outline one_live live_outline c.slots)
 
-last_headers_alike : (shape : Shape) (count : ℕ) (c : Conference) → last_headers shape count (outline c) ≡ last_headers shape count c
+last_headers_alike : (shape : Shape) (count : ℕ) (c : ConferenceContents) → last_headers shape count (outline c) ≡ last_headers shape count c
 last_headers_alike shape count c =
     let slots : List Slot = map slot_outline c.slots in
     (λ i. Put (jhr_file shape.place) (1024 + front_outline slot_header header_outline count c.slots i)
@@ -114,7 +114,7 @@ last_headers_alike shape count c =
     ∙ ap (Put (jhr_file shape.place) (1024 + sum_by slot_header (take count c.slots)))
     (headers_alike (link_of c.slots) shape.kind (sum_by body_size (take count c.slots)) (count + 1) (drop count c.slots))
 
-last_records_alike : (place count : ℕ) (c : Conference) → last_records place count (outline c) ≡ last_records place count c
+last_records_alike : (place count : ℕ) (c : ConferenceContents) → last_records place count (outline c) ≡ last_records place count c
 last_records_alike place count c =
     (λ i. Put (jdx_file place) (8 * count) (index_records (1024 + front_outline slot_header header_outline count c.slots i) (drop_map slot_outline count c.slots i)))
     ∙ ap (Put (jdx_file place) (8 * count)) (index_alike (1024 + sum_by slot_header (take count c.slots)) (drop count c.slots))
@@ -129,7 +129,7 @@ added_bodies slots messages =
     ∙ (ap (flat_map body_piece) (drop-append_seam slots (helds messages)) ∙ bodies_of_messages messages)
 
 -- all puts of a change that adds what is behind so many slots, whose bodies these are
-pub ends_alike : (shape : Shape) (count : ℕ) (c : Conference) (bodies : List ℕ) → bodies ≡ flat_map body_piece (drop count c.slots)
+pub ends_alike : (shape : Shape) (count : ℕ) (c : ConferenceContents) (bodies : List ℕ) → bodies ≡ flat_map body_piece (drop count c.slots)
     → counts_put shape.place (outline c) ∷ end_puts shape count (outline c) bodies ≡ counts_put shape.place c ∷ last_puts shape count c
 ends_alike shape count c bodies are = λ i.
     counts_alike shape.place c i
@@ -139,11 +139,11 @@ ends_alike shape count c bodies are = λ i.
     ∷ []
 
 -- ---- sizes
-pub files_size_alike : (shape : Shape) (c : Conference) → files_size (layout shape (outline c)) ≡ files_size (layout shape c)
+pub files_size_alike : (shape : Shape) (c : ConferenceContents) → files_size (layout shape (outline c)) ≡ files_size (layout shape c)
 files_size_alike shape c =
     omega (arith, ap (λ (f : BaseFiles). length f.jhr) (files_outline shape c), jdt_outline shape c, ap (λ (f : BaseFiles). length f.jdx) (files_outline shape c), ap (λ (f : BaseFiles). length f.jlr) (files_outline shape c))
 
-pub suits_alike : (place : ℕ) (shape : Shape) (c : Conference) (patches : List Patch) → SuitsIntent place (layout shape c) patches → SuitsIntent place (layout shape (outline c)) patches
+pub suits_alike : (place : ℕ) (shape : Shape) (c : ConferenceContents) (patches : List Patch) → SuitsIntent place (layout shape c) patches → SuitsIntent place (layout shape (outline c)) patches
 suits_alike place shape c patches suits = record {
   within = suits.within;
   once = suits.once;
@@ -151,5 +151,5 @@ suits_alike place shape c patches suits = record {
   short = omega (arith, suits.short, files_size_alike shape c);
 }
 
-pub costs_alike : (count : ℕ) (old : BaseFiles) (shape : Shape) (c : Conference) (patches : List Patch) → Costs count old (layout shape c) patches → Costs count old (layout shape (outline c)) patches
+pub costs_alike : (count : ℕ) (old : BaseFiles) (shape : Shape) (c : ConferenceContents) (patches : List Patch) → Costs count old (layout shape c) patches → Costs count old (layout shape (outline c)) patches
 costs_alike count old shape c patches costs = record { few = costs.few; short = omega (arith, costs.short, files_size_alike shape c) }

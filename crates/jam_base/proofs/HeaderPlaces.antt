@@ -23,10 +23,10 @@ use Rattle.jam_writing.specs.jam_layout.Fields.{subfields_of}
 use Rattle.jam_writing.specs.jam_layout.Headers.{entry_text, headers_text, message_header}
 use Rattle.jam_writing.specs.jam_layout.Conference.{live_count}
 use Rattle.jam_writing.specs.jam_layout.Layout.{entries_of, base_header}
-use Rattle.jam_writing.specs.jam_layout.declared.conference.Conference.{Conference}
+use Rattle.jam_writing.specs.jam_layout.declared.conference.ConferenceContents.{ConferenceContents}
 use Rattle.jam_writing.specs.jam_layout.declared.shape.Shape.{Shape}
 use Rattle.jam_writing.proofs.jam_layout.BaseLaws.{base_length}
-use Rattle.jam_writing.specs.jam_layout.declared.entry.Entry.{Entry}
+use Rattle.jam_writing.specs.jam_layout.declared.entry.HeaderEntry.{HeaderEntry}
 use Rattle.jam_writing.specs.Pieces.{entry_with, header_piece, body_size}
 use Rattle.jam_writing.proofs.PieceLaws.{headers_more, headers_length}
 use Rattle.jam_writing.proofs.SlotShapes.{headers-append}
@@ -43,7 +43,7 @@ unfolding base_text
 counts_written h counter active = refl
 
 -- before the headers of messages, whatever they are
-pub counts_in : (shape : Shape) (old new : Conference) (rest : List ℕ) → written (base_text (base_header shape old) ++ rest) 8 (u32s_text (new.counter ∷ live_count new.slots ∷ [])) ≡ base_text (base_header shape new) ++ rest
+pub counts_in : (shape : Shape) (old new : ConferenceContents) (rest : List ℕ) → written (base_text (base_header shape old) ++ rest) 8 (u32s_text (new.counter ∷ live_count new.slots ∷ [])) ≡ base_text (base_header shape new) ++ rest
 counts_in shape old new rest =
     let h : BaseHeader = base_header shape old in
     let long = base_length h in
@@ -78,7 +78,7 @@ link_written kind offset number link m Next value =
     let length_is = text_length h in
     written_before (header_text h) fields (u32_text value) 32 (omega (arith, length_is)) ∙ ap (λ (xs : List ℕ). xs ++ fields) (next_written h value)
 
-pub entry_long : (kind : Kind) (offset : ℕ) (e : Entry) → 76 ≤ length (entry_text kind offset e)
+pub entry_long : (kind : Kind) (offset : ℕ) (e : HeaderEntry) → 76 ≤ length (entry_text kind offset e)
 entry_long kind offset e = omega (arith, length-append (header_text (message_header kind offset e)) (subfields_text (subfields_of e.message)), text_length (message_header kind offset e))
 
 -- ---- headers behind one another

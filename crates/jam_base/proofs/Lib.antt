@@ -4,6 +4,7 @@ pub mod SlotChanges
 pub mod MarkedSlots
 pub mod ChangeClauses
 pub mod ReadingLaws
+pub mod ReadingPuts
 pub mod HeaderPlaces
 pub mod AppendLaws
 pub mod PutLaws

@@ -6,7 +6,7 @@ use Rattle.std.proofs.lemmas.List.{length-replicate}
 use Rattle.std.proofs.lemmas.Bool.{eqb-true, eq-eqb, ne_eqb, cond-true, cond-false}
 use Rattle.intent_journal.specs.door_outside.Disk.{written}
 use Rattle.intent_journal.specs.door_outside.File.{jhr_file, jdt_file, jdx_file, jlr_file}
-use Rattle.intent_journal.specs.Patches.{Files, file_of, patched_file, apply, patched, begins_within, are_within}
+use Rattle.intent_journal.specs.Patches.{HostFiles, file_of, patched_file, apply, patched, begins_within, are_within}
 use Rattle.intent_journal.specs.declared.patch.Patch.{Patch}
 use Rattle.intent_journal.specs.declared.patch.Patch.TheVariants.{Whole, Put}
 use Rattle.jam_writing.specs.jam_layout.Layout.{layout}
@@ -22,7 +22,7 @@ abbrev files_in : Contents → BaseFiles
 files_in base = layout base.shape base.conference
 
 -- ---- files that differ in one alone, and not in its length
-record Alike (file : ℕ) (one other : Files) : Type 0 where
+record Alike (file : ℕ) (one other : HostFiles) : Type 0 where
   same : (k : ℕ) → k ≢ file → one k ≡ other k
   long : (k : ℕ) → length (one k) ≡ length (other k)
 
@@ -35,32 +35,32 @@ patched_long (Whole file bytes) true xs ys same = refl
 patched_long (Put file at bytes) true xs ys same = written_alike xs ys bytes at same
 patched_long patch false xs ys same = same
 
-begins_alike : (patch : Patch) (one other : Files) → length (one (file_of patch)) ≡ length (other (file_of patch)) → begins_within patch one ≡ begins_within patch other
+begins_alike : (patch : Patch) (one other : HostFiles) → length (one (file_of patch)) ≡ length (other (file_of patch)) → begins_within patch one ≡ begins_within patch other
 begins_alike (Whole file bytes) one other same = refl
 begins_alike (Put file at bytes) one other same = ap (nat_le at) same
 
-one_alike : (patch : Patch) (file : ℕ) (one other : Files) → Alike file one other → Alike file (apply patch one) (apply patch other)
+one_alike : (patch : Patch) (file : ℕ) (one other : HostFiles) → Alike file one other → Alike file (apply patch one) (apply patch other)
 one_alike patch file one other are = record {
   same = λ k apart. ap (λ (xs : List ℕ). cond (k == file_of patch) (patched_file patch xs) xs) (are.same k apart);
   long = λ k. patched_long patch (k == file_of patch) (one k) (other k) (are.long k);
 }
 
-all_alike : (patches : List Patch) (file : ℕ) (one other : Files) → Alike file one other → Alike file (patched patches one) (patched patches other)
+all_alike : (patches : List Patch) (file : ℕ) (one other : HostFiles) → Alike file one other → Alike file (patched patches one) (patched patches other)
 all_alike [] file one other are = are
 all_alike (patch ∷ patches) file one other are = all_alike patches file (apply patch one) (apply patch other) (one_alike patch file one other are)
 
-within_alike : (patches : List Patch) (file : ℕ) (one other : Files) → Alike file one other → are_within patches one ≡ are_within patches other
+within_alike : (patches : List Patch) (file : ℕ) (one other : HostFiles) → Alike file one other → are_within patches one ≡ are_within patches other
 within_alike [] file one other are = refl
 within_alike (patch ∷ patches) file one other are = λ i. begins_alike patch one other (are.long (file_of patch)) i && within_alike patches file (apply patch one) (apply patch other) (one_alike patch file one other are) i
 
 -- ---- the four files of a place, with another .JDT
-abbrev with_jdt : ℕ → List ℕ → Files → Files
+abbrev with_jdt : ℕ → List ℕ → HostFiles → HostFiles
 with_jdt place jdt files k = cond (k == jdt_file place) jdt (files k)
 
-jdt_set : (place : ℕ) (jdt : List ℕ) (files : Files) → with_jdt place jdt files (jdt_file place) ≡ jdt
+jdt_set : (place : ℕ) (jdt : List ℕ) (files : HostFiles) → with_jdt place jdt files (jdt_file place) ≡ jdt
 jdt_set place jdt files = cond-true (jdt_file place == jdt_file place) _ _ (eq-eqb (jdt_file place) (jdt_file place) refl)
 
-others_stay : (place : ℕ) (jdt : List ℕ) (files : Files) (k : ℕ) → k ≢ jdt_file place → files k ≡ with_jdt place jdt files k
+others_stay : (place : ℕ) (jdt : List ℕ) (files : HostFiles) (k : ℕ) → k ≢ jdt_file place → files k ≡ with_jdt place jdt files k
 others_stay place jdt files k apart = sym (cond-false (k == jdt_file place) _ _ (ne_eqb k (jdt_file place) apart))
 
 long_as : (some : Bool) (jdt xs : List ℕ) → (some ≡ true → length xs ≡ length jdt) → length xs ≡ length (cond some jdt xs)
@@ -69,7 +69,7 @@ long_as false jdt xs same = refl
 
 -- where the patches turn four files, they turn those that differ in .JDT alone, and not in its length
 module _ (place : ℕ) (f o new : BaseFiles) (patches : List Patch) (is : f ≡ record o { jdt = f.jdt }) (long : length f.jdt ≡ length o.jdt) (turns : Turns place o new patches) (longer : Lengthens place o new patches) where
-  swapped : (files : Files) → files_of_place place files ≡ f → files_of_place place (with_jdt place o.jdt files) ≡ o
+  swapped : (files : HostFiles) → files_of_place place files ≡ f → files_of_place place (with_jdt place o.jdt files) ≡ o
   swapped files e =
       let jhr : with_jdt place o.jdt files (jhr_file place) ≡ o.jhr = sym (others_stay place o.jdt files (jhr_file place) (λ same. omega (arith, same))) ∙ (ap (λ (x : BaseFiles). x.jhr) e ∙ ap (λ (x : BaseFiles). x.jhr) is) in
       let jdx : with_jdt place o.jdt files (jdx_file place) ≡ o.jdx = sym (others_stay place o.jdt files (jdx_file place) (λ same. omega (arith, same))) ∙ (ap (λ (x : BaseFiles). x.jdx) e ∙ ap (λ (x : BaseFiles). x.jdx) is) in
@@ -77,7 +77,7 @@ module _ (place : ℕ) (f o new : BaseFiles) (patches : List Patch) (is : f ≡ 
       let jdt = jdt_set place o.jdt files in
       λ i. record { jhr = jhr i; jdt = jdt i; jdx = jdx i; jlr = jlr i }
 
-  alike : (files : Files) → files_of_place place files ≡ f → Alike (jdt_file place) files (with_jdt place o.jdt files)
+  alike : (files : HostFiles) → files_of_place place files ≡ f → Alike (jdt_file place) files (with_jdt place o.jdt files)
   alike files e =
       let here : length (files (jdt_file place)) ≡ length o.jdt = ap (λ (x : BaseFiles). length x.jdt) e ∙ long in
       record {
@@ -85,7 +85,7 @@ module _ (place : ℕ) (f o new : BaseFiles) (patches : List Patch) (is : f ≡ 
         long = λ k. long_as (k == jdt_file place) o.jdt (files k) (λ some. ap (λ (n : ℕ). length (files n)) (eqb-true k (jdt_file place) some) ∙ here);
       }
 
-  turned : (files : Files) → files_of_place place files ≡ f → files_of_place place (patched patches files) ≡ record new { jdt = f.jdt ++ drop (length o.jdt) new.jdt }
+  turned : (files : HostFiles) → files_of_place place files ≡ f → files_of_place place (patched patches files) ≡ record new { jdt = f.jdt ++ drop (length o.jdt) new.jdt }
   turned files e =
       let both = all_alike patches (jdt_file place) files (with_jdt place o.jdt files) (alike files e) in
       let t = turns.base (with_jdt place o.jdt files) (swapped files e) in

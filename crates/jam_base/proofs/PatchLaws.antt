@@ -3,7 +3,7 @@ use Rattle.std.proofs.Common.{◌≡◌, ◌≢◌, inl, inr, true, false, ℕ, 
 use Rattle.std.specs.Prelude.{All, IsTrue, ◌==◌}
 use Rattle.std.proofs.lemmas.Bool.{and_parts, and_from, eq-eqb, ne_eqb, cond-true, cond-false}
 use Rattle.std.proofs.lemmas.List.Elements.{All-cons, All-nil}
-use Rattle.intent_journal.specs.Patches.{Files, file_of, patch_offset, bytes_of, apply, begins_within, are_within, is_once}
+use Rattle.intent_journal.specs.Patches.{HostFiles, file_of, patch_offset, bytes_of, apply, begins_within, are_within, is_once}
 use Rattle.intent_journal.specs.Journal.{patch_text, patches_text}
 use Rattle.intent_journal.specs.declared.patch.Patch.{Patch}
 use Rattle.intent_journal.specs.declared.patch.Patch.TheVariants.{Whole}
@@ -13,10 +13,10 @@ use Rattle.jam_writing.specs.jam_layout.Layout.{files_size}
 use Rattle.jam_writing.specs.jam_layout.declared.files.BaseFiles.{BaseFiles}
 
 -- ---- one patch
-here : (file : ℕ) (bytes : List ℕ) (files : Files) → apply (Whole file bytes) files file ≡ bytes
+here : (file : ℕ) (bytes : List ℕ) (files : HostFiles) → apply (Whole file bytes) files file ≡ bytes
 here file bytes files = cond-true (file == file) _ _ (eq-eqb file file refl)
 
-elsewhere : (patch : Patch) (files : Files) (file : ℕ) → file ≢ file_of patch → apply patch files file ≡ files file
+elsewhere : (patch : Patch) (files : HostFiles) (file : ℕ) → file ≢ file_of patch → apply patch files file ≡ files file
 elsewhere patch files file other = cond-false (file == file_of patch) _ _ (ne_eqb file (file_of patch) other)
 
 text_more : (file : ℕ) (bytes rest : List ℕ) → length (patch_text (Whole file bytes) ++ rest) ≡ 11 + (length bytes + length rest)
@@ -30,7 +30,7 @@ not_here place file (inl below) k within = λ e. omega (arith, e, below, within.
 not_here place file (inr above) k within = λ e. omega (arith, e, above, within.1)
 
 -- ---- one file of a place
-alone : (place : ℕ) (old : BaseFiles) (patch : Patch) → IsOfPlace place (file_of patch) → (files : Files) (file : ℕ) → IsElsewhere place file → apply patch files file ≡ files file
+alone : (place : ℕ) (old : BaseFiles) (patch : Patch) → IsOfPlace place (file_of patch) → (files : HostFiles) (file : ℕ) → IsElsewhere place file → apply patch files file ≡ files file
 alone place old patch within files file away = elsewhere patch files file (not_here place file away (file_of patch) within)
 
 jhr_turns : (place : ℕ) (old : BaseFiles) (jhr : List ℕ) → Turns place old (record old { jhr = jhr }) (Whole (jhr_file place) jhr ∷ [])

@@ -4,7 +4,7 @@ use Rattle.std.specs.Prelude.{IsTrue, ◌==◌, nat_le}
 use Rattle.std.proofs.lemmas.Bool.{and_parts, and_from, eq-eqb, ne_eqb, le-leb, cond-true, cond-false}
 use Rattle.intent_journal.specs.door_outside.Disk.{written}
 use Rattle.intent_journal.specs.door_outside.File.{jhr_file, jdt_file, jdx_file, jlr_file}
-use Rattle.intent_journal.specs.Patches.{Files, apply, patched, begins_within, are_within}
+use Rattle.intent_journal.specs.Patches.{HostFiles, apply, patched, begins_within, are_within}
 use Rattle.intent_journal.specs.declared.patch.Patch.{Patch}
 use Rattle.intent_journal.specs.declared.patch.Patch.TheVariants.{Put}
 use Rattle.jam_base.specs.Change.{IsElsewhere, Turns, files_of_place}
@@ -14,13 +14,13 @@ use Rattle.jam_writing.specs.jam_layout.declared.files.BaseFiles.{BaseFiles}
 abbrev pub four : List ℕ → List ℕ → List ℕ → List ℕ → BaseFiles
 four jhr jdt jdx jlr = record { jhr = jhr; jdt = jdt; jdx = jdx; jlr = jlr }
 
-here : (file at : ℕ) (bytes : List ℕ) (files : Files) → apply (Put file at bytes) files file ≡ written (files file) at bytes
+here : (file at : ℕ) (bytes : List ℕ) (files : HostFiles) → apply (Put file at bytes) files file ≡ written (files file) at bytes
 here file at bytes files = cond-true (file == file) _ _ (eq-eqb file file refl)
 
-elsewhere : (file at : ℕ) (bytes : List ℕ) (files : Files) (other : ℕ) → other ≢ file → apply (Put file at bytes) files other ≡ files other
+elsewhere : (file at : ℕ) (bytes : List ℕ) (files : HostFiles) (other : ℕ) → other ≢ file → apply (Put file at bytes) files other ≡ files other
 elsewhere file at bytes files other apart = cond-false (other == file) _ _ (ne_eqb other file apart)
 
-begins : (file at : ℕ) (bytes : List ℕ) (files : Files) (old : List ℕ) → files file ≡ old → at ≤ length old → IsTrue (are_within (Put file at bytes ∷ []) files)
+begins : (file at : ℕ) (bytes : List ℕ) (files : HostFiles) (old : List ℕ) → files file ≡ old → at ≤ length old → IsTrue (are_within (Put file at bytes ∷ []) files)
 begins file at bytes files old is le = and_from (nat_le at (length (files file))) true (le-leb at (length (files file)) (omega (arith, le, ap length is))) refl
 
 outside : (place file : ℕ) → IsElsewhere place file → (k : ℕ) → jhr_file place ≤ k → k ≤ jlr_file place → file ≢ k
@@ -78,11 +78,11 @@ module _ (place at : ℕ) (bytes jhr jdt jdx jlr : List ℕ) where
   }
 
 -- ---- patches after others
-pub patched-append : (ps qs : List Patch) (files : Files) → patched (ps ++ qs) files ≡ patched qs (patched ps files)
+pub patched-append : (ps qs : List Patch) (files : HostFiles) → patched (ps ++ qs) files ≡ patched qs (patched ps files)
 patched-append [] qs files = refl
 patched-append (p ∷ ps) qs files = patched-append ps qs (apply p files)
 
-within-append : (ps qs : List Patch) (files : Files) → IsTrue (are_within ps files) → IsTrue (are_within qs (patched ps files)) → IsTrue (are_within (ps ++ qs) files)
+within-append : (ps qs : List Patch) (files : HostFiles) → IsTrue (are_within ps files) → IsTrue (are_within qs (patched ps files)) → IsTrue (are_within (ps ++ qs) files)
 within-append [] qs files first second = second
 within-append (p ∷ ps) qs files first second =
     let parts = and_parts (begins_within p files) (are_within ps (apply p files)) first in

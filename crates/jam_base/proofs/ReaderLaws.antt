@@ -9,7 +9,7 @@ use Rattle.jam_base.specs.Contents.{Contents, no_slots, with_reader}
 use Rattle.jam_writing.specs.jam_layout.Bare.{filled_slots}
 use Rattle.jam_writing.specs.jam_layout.Messages.{IsSlot}
 use Rattle.jam_writing.specs.jam_layout.Valid.{Rise, IsShape, IsConference}
-use Rattle.jam_writing.specs.jam_layout.declared.conference.Conference.{Conference}
+use Rattle.jam_writing.specs.jam_layout.declared.conference.ConferenceContents.{ConferenceContents}
 use Rattle.jam_writing.specs.jam_layout.declared.reader.Reader.{Reader}
 use Rattle.jam_writing.specs.jam_layout.declared.shape.Shape.{Shape}
 
@@ -58,12 +58,12 @@ module _ (base : Contents) (user : ℕ) (name : List ℕ) where
     };
   }
 
-  pub joined_made : (shape : Shape) (conference : Conference) → shape ≡ (with_reader user name base).shape → conference ≡ (with_reader user name base).conference
+  pub joined_made : (shape : Shape) (conference : ConferenceContents) → shape ≡ (with_reader user name base).shape → conference ≡ (with_reader user name base).conference
       → All (λ r. r.id < user) base.shape.readers → IsShape base.shape × IsConference base.shape base.conference → IsShape shape × IsConference shape conference
   joined_made shape conference shape_is conference_is below is =
       let made : IsShape (with_reader user name base).shape × IsConference (with_reader user name base).shape (with_reader user name base).conference = (joined_shape base.shape user name is.0 below, joined_is is.1) in
       subst (λ (s : Shape). IsShape s × IsConference s conference) (sym shape_is)
-      (subst (λ (c : Conference). IsShape (with_reader user name base).shape × IsConference (with_reader user name base).shape c) (sym conference_is) made)
+      (subst (λ (c : ConferenceContents). IsShape (with_reader user name base).shape × IsConference (with_reader user name base).shape c) (sym conference_is) made)
 
 pub shape_more : (s t : Shape) (readers : List Reader) (user : ℕ) (name : List ℕ) → s ≡ t → readers ≡ t.readers ++ record { id = user; name = name } ∷ []
     → record { place = s.place; created = s.created; kind = s.kind; readers = readers } ≡ record t { readers = t.readers ++ record { id = user; name = name } ∷ [] }

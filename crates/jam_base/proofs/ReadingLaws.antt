@@ -10,6 +10,7 @@ use Rattle.jam_writing.specs.jam_layout.declared.files.BaseFiles.{BaseFiles}
 use Rattle.jam_writing.specs.jam_layout.declared.shape.Shape.{Shape}
 use Rattle.jam_base.specs.Contents.{Contents, pointers_with, reader_place, receipt_to, with_acknowledged, with_pointer, with_slots}
 use Rattle.jam_base.specs.Slots.{any_due, slots_received}
+use Rattle.jam_base.specs.declared.receipt.Receipt.{Receipt}
 use Rattle.jam_base.proofs.MarkedSlots.{received_files}
 use Rattle.jam_base.proofs.SlotChanges.{received_is, received_length}
 
@@ -61,6 +62,11 @@ module _ (base : Contents) (user : ℕ) (name : List ℕ) (upto now : ℕ) where
   -- the base with these slots
   abbrev pub received_to : Contents
   received_to = with_slots slots_to base
+
+  -- whether one is due, as it is found
+  pub is_due_to : (receipt : Receipt) (slots : List Slot) (found due : Bool) → receipt ≡ receipt_to user upto now base → slots ≡ base.conference.slots → found ≡ any_due name receipt 1 slots → found ≡ due
+      → any_due name (receipt_to user upto now base) 1 base.conference.slots ≡ due
+  is_due_to receipt slots found due receipt_is slots_are found_is is = sym (found_is ∙ (λ i. any_due name (receipt_is i) 1 (slots_are i))) ∙ is
 
   pub none_due : any_due name (receipt_to user upto now base) 1 base.conference.slots ≡ false → with_acknowledged user name upto now base ≡ with_pointer user upto base
   none_due none = ap (with_pointer user upto) (cond-false (any_due name (receipt_to user upto now base) 1 base.conference.slots) received_to base none)

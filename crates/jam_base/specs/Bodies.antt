@@ -1,6 +1,6 @@
 -- Where the bodies stand in .JDT, and what a change does to them.
 use Rattle.std.specs.Prelude.{◌≡◌, ℕ, ◌-◌, List, ◌++◌, length, take, drop, sum_by, Option, Some, None}
-use Rattle.intent_journal.specs.Patches.{Files, patched}
+use Rattle.intent_journal.specs.Patches.{HostFiles, patched}
 use Rattle.intent_journal.specs.declared.patch.Patch.{Patch}
 use Rattle.intent_journal.specs.door_outside.File.{jdt_file}
 use Rattle.jam_writing.specs.jam_layout.Bodies.{body_size}
@@ -26,4 +26,4 @@ body_span number slots = span_at (body_begin number slots) (numbered slots numbe
 -- The patches lengthen .JDT, and do nothing else to it. Whatever bytes it holds, where they are as many as the old
 -- one's, the patches leave them. Behind them they put what the new one has behind the old one.
 pub record Lengthens (place : ℕ) (old new : BaseFiles) (patches : List Patch) : Type 0 where
-  pub bodies : (files : Files) → length (files (jdt_file place)) ≡ length old.jdt → patched patches files (jdt_file place) ≡ files (jdt_file place) ++ drop (length old.jdt) new.jdt
+  pub bodies : (files : HostFiles) → length (files (jdt_file place)) ≡ length old.jdt → patched patches files (jdt_file place) ≡ files (jdt_file place) ++ drop (length old.jdt) new.jdt

@@ -1,6 +1,6 @@
 -- A change of the four files of a conference, as patches.
 use Rattle.std.specs.Prelude.{◌≡◌, ◌⊎◌, ℕ, ◌+◌, ◌*◌, ◌≤◌, ◌<◌, List, [], ◌∷◌, length, All, IsTrue}
-use Rattle.intent_journal.specs.Patches.{Files, file_of, patch_offset, bytes_of, patched, are_within, is_once}
+use Rattle.intent_journal.specs.Patches.{HostFiles, file_of, patch_offset, bytes_of, patched, are_within, is_once}
 use Rattle.intent_journal.specs.Journal.{patches_text}
 use Rattle.intent_journal.specs.declared.patch.Patch.{Patch}
 use Rattle.intent_journal.specs.declared.patch.Patch.TheVariants.{Whole}
@@ -9,7 +9,7 @@ use Rattle.jam_writing.specs.jam_layout.Layout.{files_size}
 use Rattle.jam_writing.specs.jam_layout.declared.files.BaseFiles.{BaseFiles}
 
 -- the four files of a place
-abbrev pub files_of_place : ℕ → Files → BaseFiles
+abbrev pub files_of_place : ℕ → HostFiles → BaseFiles
 files_of_place place files = record {
   jhr = files (jhr_file place);
   jdt = files (jdt_file place);
@@ -26,9 +26,9 @@ IsElsewhere place file = (file < jhr_file place) ⊎ (jlr_file place < file)
 -- The patches make the new four files of the old ones, and leave every other file. Each begins at most at its file's
 -- end.
 pub record Turns (place : ℕ) (old new : BaseFiles) (patches : List Patch) : Type 0 where
-  pub starts : (files : Files) → files_of_place place files ≡ old → IsTrue (are_within patches files)
-  pub base : (files : Files) → files_of_place place files ≡ old → files_of_place place (patched patches files) ≡ new
-  pub others : (files : Files) (file : ℕ) → IsElsewhere place file → patched patches files file ≡ files file
+  pub starts : (files : HostFiles) → files_of_place place files ≡ old → IsTrue (are_within patches files)
+  pub base : (files : HostFiles) → files_of_place place files ≡ old → files_of_place place (patched patches files) ≡ new
+  pub others : (files : HostFiles) (file : ℕ) → IsElsewhere place file → patched patches files file ≡ files file
 
 -- What an intent asks of patches. Each is of one of the four files, and no two clash. None ends behind as many bytes as
 -- the new files have. But for 11 bytes for each file, they are spelled in no more than these bytes and a fifth of them.

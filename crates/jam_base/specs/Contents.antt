@@ -4,17 +4,17 @@ use Rattle.jam_records.specs.declared.message.Message.{Message}
 use Rattle.jam_records.specs.declared.message.Slot.{Slot}
 use Rattle.jam_base.specs.Slots.{slots_with_all, slots_deleted, any_due, slots_received}
 use Rattle.jam_base.specs.declared.receipt.Receipt.{Receipt}
-use Rattle.jam_writing.specs.jam_layout.declared.conference.Conference.{Conference}
+use Rattle.jam_writing.specs.jam_layout.declared.conference.ConferenceContents.{ConferenceContents}
 use Rattle.jam_writing.specs.jam_layout.declared.reader.Reader.{Reader}
 use Rattle.jam_writing.specs.jam_layout.declared.shape.Shape.{Shape}
 
 -- a conference and its shape
 pub record Contents : Type 0 where
   pub shape : Shape
-  pub conference : Conference
+  pub conference : ConferenceContents
 
 -- no slots, and the pointer of each reader 0
-abbrev pub no_slots : Shape → Conference
+abbrev pub no_slots : Shape → ConferenceContents
 no_slots shape = record { counter = 0; slots = []; pointers = replicate (length shape.readers) 0 }
 
 -- one reader more, whose pointer is 0

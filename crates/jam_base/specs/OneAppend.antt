@@ -11,12 +11,12 @@ use Rattle.jam_writing.specs.jam_layout.Conference.{live_count}
 use Rattle.jam_writing.specs.jam_layout.Headers.{entry_text}
 use Rattle.jam_writing.specs.jam_layout.Index.{pair_of}
 use Rattle.jam_writing.specs.jam_layout.Layout.{layout}
-use Rattle.jam_writing.specs.jam_layout.declared.conference.Conference.{Conference}
+use Rattle.jam_writing.specs.jam_layout.declared.conference.ConferenceContents.{ConferenceContents}
 use Rattle.jam_writing.specs.jam_layout.declared.shape.Shape.{Shape}
 use Rattle.jam_base.specs.Places.{header_place, field_place, with_number}
 
 -- the conference with the message at the end; ModCounter is replaced once for a whole change
-abbrev pub with_last : Conference → Message → Conference
+abbrev pub with_last : ConferenceContents → Message → ConferenceContents
 with_last c m = record c { slots = c.slots ++ Held m ∷ [] }
 
 -- .JHR with that link number of an older header replaced, or with none
@@ -26,7 +26,7 @@ with_link slots (Some patch) jhr = with_number (header_place slots patch.number 
 
 -- the header of the message with its subfields: it answers its original, and no message answers it; its text begins
 -- where .JDT ended
-abbrev pub last_header : Shape → Conference → Message → List ℕ
+abbrev pub last_header : Shape → ConferenceContents → Message → List ℕ
 last_header shape c m =
     entry_text shape.kind (length (layout shape c).jdt) (record {
       number = suc (length c.slots);
@@ -37,7 +37,7 @@ last_header shape c m =
 
 -- .JHR is the old one with ActiveMsgs and at most one link number of an older header replaced, and the new header at
 -- its end. The body is at the end of .JDT and the record at that of .JDX, and .JLR is the same.
-pub record OneAppend (shape : Shape) (c : Conference) (m : Message) : Type 0 where
+pub record OneAppend (shape : Shape) (c : ConferenceContents) (m : Message) : Type 0 where
   pub jhr : (layout shape (with_last c m)).jhr
       ≡ with_link c.slots (link_change c.slots m.replyid) (with_number 12 (live_count (with_last c m).slots) (layout shape c).jhr) ++ last_header shape c m
   pub jdt : (layout shape (with_last c m)).jdt ≡ (layout shape c).jdt ++ m.body

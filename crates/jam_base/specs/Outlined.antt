@@ -5,7 +5,7 @@ use Rattle.intent_journal.specs.declared.patch.Patch.{Patch}
 use Rattle.jam_writing.specs.jam_layout.Layout.{layout}
 use Rattle.jam_writing.specs.jam_layout.Outlines.{outline}
 use Rattle.jam_writing.specs.jam_layout.Valid.{IsConference}
-use Rattle.jam_writing.specs.jam_layout.declared.conference.Conference.{Conference}
+use Rattle.jam_writing.specs.jam_layout.declared.conference.ConferenceContents.{ConferenceContents}
 use Rattle.jam_writing.specs.jam_layout.declared.files.BaseFiles.{BaseFiles}
 use Rattle.jam_writing.specs.jam_layout.declared.shape.Shape.{Shape}
 use Rattle.jam_base.specs.Change.{Turns}
@@ -21,7 +21,7 @@ pub record TurnsEach (old : Contents) (change : Contents → Contents) (patches 
 
 -- The base is of the shape, and has the outline of the conference of that shape whose layout the files are.
 pub record IsReadOf (shape : Shape) (files : BaseFiles) (base : Contents) : Type 0 where
-  pub whole : Conference
+  pub whole : ConferenceContents
   pub shaped : base.shape ≡ shape
   pub alike : base.conference ≡ outline whole
   pub valid : IsConference shape whole

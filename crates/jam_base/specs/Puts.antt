@@ -17,15 +17,15 @@ use Rattle.jam_writing.specs.jam_layout.Headers.{headers_text}
 use Rattle.jam_writing.specs.jam_layout.Index.{index_records}
 use Rattle.jam_writing.specs.jam_layout.Layout.{entries_of, files_size}
 use Rattle.jam_writing.specs.jam_layout.Sizes.{slot_header}
-use Rattle.jam_writing.specs.jam_layout.declared.conference.Conference.{Conference}
-use Rattle.jam_writing.specs.jam_layout.declared.entry.Entry.{Entry}
+use Rattle.jam_writing.specs.jam_layout.declared.conference.ConferenceContents.{ConferenceContents}
+use Rattle.jam_writing.specs.jam_layout.declared.entry.HeaderEntry.{HeaderEntry}
 use Rattle.jam_writing.specs.jam_layout.declared.files.BaseFiles.{BaseFiles}
 use Rattle.jam_writing.specs.jam_layout.declared.shape.Shape.{Shape}
 use Rattle.jam_writing.specs.Pieces.{body_piece, body_size}
 use Rattle.jam_base.specs.Places.{header_place, field_place}
 
 -- ModCounter and ActiveMsgs, which stand next to each other
-abbrev pub counts_put : ℕ → Conference → Patch
+abbrev pub counts_put : ℕ → ConferenceContents → Patch
 counts_put place c = Put (jhr_file place) 8 (u32s_text (c.counter ∷ live_count c.slots ∷ []))
 
 -- one link number of a message among the old slots; that of a message behind them is written with its header
@@ -42,33 +42,33 @@ link_puts place old slots [] = []
 link_puts place old slots (m ∷ messages) = link_put place old (link_change slots m.replyid) ++ link_puts place old (slots ++ Held m ∷ []) messages
 
 -- the messages of the slots behind so many others, with their numbers and links
-abbrev pub last_entries : ℕ → Conference → List Entry
+abbrev pub last_entries : ℕ → ConferenceContents → List HeaderEntry
 last_entries count c = entries_of (link_of c.slots) (count + 1) (drop count c.slots)
 
 -- what the slots behind so many others add at the end of .JHR, of .JDT and of .JDX
-abbrev pub last_headers : Shape → ℕ → Conference → Patch
+abbrev pub last_headers : Shape → ℕ → ConferenceContents → Patch
 last_headers shape count c =
     Put (jhr_file shape.place) (1024 + sum_by slot_header (take count c.slots)) (headers_text shape.kind (sum_by body_size (take count c.slots)) (last_entries count c))
 
 -- these are bodies, which aren't kept with the slots
-abbrev pub bodies_put : ℕ → ℕ → Conference → List ℕ → Patch
+abbrev pub bodies_put : ℕ → ℕ → ConferenceContents → List ℕ → Patch
 bodies_put place count c bodies = Put (jdt_file place) (sum_by body_size (take count c.slots)) bodies
 
-abbrev pub last_bodies : ℕ → ℕ → Conference → Patch
+abbrev pub last_bodies : ℕ → ℕ → ConferenceContents → Patch
 last_bodies place count c = bodies_put place count c (flat_map body_piece (drop count c.slots))
 
-abbrev pub last_records : ℕ → ℕ → Conference → Patch
+abbrev pub last_records : ℕ → ℕ → ConferenceContents → Patch
 last_records place count c = Put (jdx_file place) (8 * count) (index_records (1024 + sum_by slot_header (take count c.slots)) (drop count c.slots))
 
 -- all three, where these are the bodies
-abbrev pub end_puts : Shape → ℕ → Conference → List ℕ → List Patch
+abbrev pub end_puts : Shape → ℕ → ConferenceContents → List ℕ → List Patch
 end_puts shape count c bodies = last_headers shape count c ∷ bodies_put shape.place count c bodies ∷ last_records shape.place count c ∷ []
 
-abbrev pub last_puts : Shape → ℕ → Conference → List Patch
+abbrev pub last_puts : Shape → ℕ → ConferenceContents → List Patch
 last_puts shape count c = end_puts shape count c (flat_map body_piece (drop count c.slots))
 
 -- messages more, behind the old slots
-abbrev pub append_puts : Shape → List Slot → List Message → Conference → List Patch
+abbrev pub append_puts : Shape → List Slot → List Message → ConferenceContents → List Patch
 append_puts shape old messages c = link_puts shape.place old old messages ++ (counts_put shape.place c ∷ last_puts shape (length old) c)
 
 -- How many patches a change of so many messages more takes, and how many bytes they put: those by which the files grow,

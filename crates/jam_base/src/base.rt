@@ -7,7 +7,7 @@ ghost use Rattle.jam_base.specs.Change.{Turns, SuitsIntent};
 ghost use Rattle.jam_base.specs.Outlined.{outlined, TurnsEach};
 ghost use Rattle.jam_base.specs.Contents.{reader_place, pointer_of, no_slots, with_reader, with_slots, with_messages as with_messages_of, with_deleted as with_deleted_of, with_received, with_pointer};
 ghost use Rattle.jam_base.specs.Puts.{counts_put, last_headers as last_headers_of, bodies_put, last_records as last_records_of, link_puts, Costs};
-ghost use Rattle.jam_base.specs.Slots.{has_live as has_live_of, numbered, slots_with_all};
+ghost use Rattle.jam_base.specs.Slots.{has_live as has_live_of, numbered, slots_deleted, slots_with_all};
 ghost use Rattle.jam_base.specs.MarkPuts.{delete_puts, receive_puts};
 ghost use Rattle.intent_journal.specs.Patches.{byte_count};
 ghost use Rattle.jam_threads.specs.Threading.{AreThreads};
@@ -26,7 +26,7 @@ use crate::linked::add_messages;
 use crate::marks::{delete_patches, receive_patches};
 use crate::numbers::two_numbers;
 use crate::pointers::{moved, no_pointers};
-use crate::receipt::{Receipt, any_due, slots_received};
+use crate::receipt::{Receipt, any_due};
 use crate::refusal::{AppendRefusal, KillRefusal};
 use crate::slots::{has_live, with_deleted, with_messages};
 use crate::span::Span;
@@ -34,7 +34,7 @@ use intent_journal::{FileId, Patch, Patches};
 use jam_records::{Bytes, Duplicate, List, Message, Messages, Slot, Slots};
 use jam_threads::{Shared, SharedList, Threads};
 use jam_writing::{
-    BareConference, Conference, Reader, SLOT_LIMIT, Shape, SharedSlots, ThreadedConference,
+    BareConference, ConferenceContents, Reader, SLOT_LIMIT, Shape, SharedSlots, ThreadedConference,
     write_bodies, write_first, write_jlr, write_last_headers, write_last_records, write_reader,
 };
 use std::alloc::{AllocError, Global};
@@ -348,7 +348,7 @@ impl Base {
         ensures files { IfOk result (λ change. (old : BaseFiles) → Turns shape.now.place old (layout shape.now (no_slots shape.now)) change.patches) }
         ensures intent { IfOk result (λ change. SuitsIntent shape.now.place (layout shape.now (no_slots shape.now)) change.patches) }
     {
-        let conference = Conference {
+        let conference = ConferenceContents {
             counter: 0,
             slots: Slots::new(alloc),
             pointers: no_pointers(alloc, shape.readers.len())?,
@@ -430,6 +430,15 @@ impl Base {
         BaseChange::of_appended(alloc, base, old.len(), links, bodies)
     }
 
+    /// The base in which the message of a number is marked deleted, which is there and isn't.
+    fn with_deletion(&self, alloc: Global, number: u32) -> Result<Base, AllocError>
+        requires { IsTrue (has_live_of number self.now.conference.slots) }
+        ensures { IfOk result (λ base. base ≡ with_slots (slots_deleted number self.now.conference.slots) self.now) }
+    {
+        let slots = with_deleted(alloc, number, self.slots())?;
+        self.changed(alloc, slots)
+    }
+
     /// The base with the message of a number marked deleted. Its patches make its files of those of this base.
     /// The change counter rises by one, and stays at 4,294,967,295.
     ///
@@ -444,13 +453,11 @@ impl Base {
         ensures intent { IfOk result (λ change. SuitsIntent self.now.shape.place (layout change.base.shape change.base.conference) change.patches) }
         ensures none { (result ≡ Err KillRefusal.NoMessage) ↔ ¬ IsTrue (has_live_of number self.now.conference.slots) }
     {
-        let old = self.slots();
-        if !has_live(number, old) {
+        if !has_live(number, self.slots()) {
             return Err(KillRefusal::NoMessage);
         }
         let marks = self.deletion(alloc, number)?;
-        let slots = with_deleted(alloc, number, old)?;
-        let base = self.changed(alloc, slots)?;
+        let base = self.with_deletion(alloc, number)?;
         Ok(BaseChange::of_marks(alloc, base, marks)?)
     }
 
@@ -475,13 +482,12 @@ impl Base {
         ensures intent { IfOk result (λ change. SuitsIntent self.now.shape.place (layout change.base.shape change.base.conference) change.patches) }
     {
         let receipt = Receipt { above, upto, now };
-        let old = self.slots();
-        if !any_due(name, receipt, old) {
+        if !any_due(name, receipt, self.slots()) {
             return self.unchanged(alloc);
         }
         let marks = self.reception(alloc, name, receipt)?;
-        let slots = slots_received(alloc, name, receipt, old)?;
-        BaseChange::of_marks(alloc, self.changed(alloc, slots)?, marks)
+        let read = self.with_reading(alloc, name, receipt)?;
+        BaseChange::of_marks(alloc, read, marks)
     }
 
     /// The base with the pointer of a reader, the user of this id, at a message number: 0, or one of a slot. Its

@@ -1,6 +1,6 @@
 //! Laws of a conference's files, each the contract of a function that does nothing.
 ghost use Rattle.jam_records.specs.declared.message.Message.{Message};
-ghost use Rattle.jam_writing.specs.jam_layout.declared.conference.Conference.{Conference};
+ghost use Rattle.jam_writing.specs.jam_layout.declared.conference.ConferenceContents.{ConferenceContents};
 ghost use Rattle.jam_writing.specs.jam_layout.declared.shape.Shape.{Shape};
 ghost use Rattle.jam_base.specs.OneAppend.{OneAppend};
 
@@ -11,5 +11,5 @@ pub use jam_writing::laws::{outlines, rising_subfields, unique_conference};
 /// new record at that of .JDX, and .JLR is the same. A change of several messages repeats this step, and
 /// replaces ModCounter once.
 pub fn one_append()
-    ensures { (shape : Shape) (c : Conference) (m : Message) → OneAppend shape c m }
+    ensures { (shape : Shape) (c : ConferenceContents) (m : Message) → OneAppend shape c m }
 {}

@@ -19,7 +19,7 @@ mod span;
 pub use base::Base;
 pub use change::BaseChange;
 pub use jam_writing::{
-    BaseError, BaseFiles, Conference, Reader, Readers, SLOT_LIMIT, Shape, typed,
+    BaseError, BaseFiles, ConferenceContents, Reader, Readers, SLOT_LIMIT, Shape, typed,
 };
 pub use read::read_base;
 pub use refusal::{AppendRefusal, KillRefusal};

@@ -4,7 +4,7 @@ ghost use Rattle.jam_records.specs.declared.damage.Damage.{Damage};
 ghost use Rattle.jam_writing.specs.jam_layout.Layout.{layout, base_damage};
 ghost use Rattle.jam_writing.specs.jam_layout.Outlines.{outline};
 ghost use Rattle.jam_writing.specs.jam_layout.Valid.{IsShape, IsConference};
-ghost use Rattle.jam_writing.specs.jam_layout.declared.conference.Conference.{Conference};
+ghost use Rattle.jam_writing.specs.jam_layout.declared.conference.ConferenceContents.{ConferenceContents};
 ghost use Rattle.jam_base.specs.Outlined.{IsReadOf};
 
 use crate::base::Base;
@@ -23,7 +23,7 @@ pub fn read_base(alloc: Global, files: &BaseFiles, shape: &Shape) -> Result<Base
     requires jdx { length files.now.jdx < 2 ^ 31 }
     requires jlr { length files.now.jlr < 2 ^ 31 }
     ensures ok { IfOk result (IsReadOf shape.now files.now) }
-    ensures only_ok { (c : Conference) → IsConference shape.now c → files.now ≡ layout shape.now c → UnlessMemory BaseError.OutOfMemory result (Ok (record { shape = shape.now; conference = outline c })) }
+    ensures only_ok { (c : ConferenceContents) → IsConference shape.now c → files.now ≡ layout shape.now c → UnlessMemory BaseError.OutOfMemory result (Ok (record { shape = shape.now; conference = outline c })) }
     ensures damaged { (d : Damage) → result ≡ Err (BaseError.Damaged d) → base_damage shape.now files.now ≡ Some d }
     ensures only_damaged { (d : Damage) → base_damage shape.now files.now ≡ Some d → UnlessMemory BaseError.OutOfMemory result (Err (BaseError.Damaged d)) }
 {

@@ -15,7 +15,7 @@ use Rattle.jam_layout.specs.Headers.{header_size}
 use Rattle.jam_layout.specs.Index.{Pending, Expected, none_here, one_here, pair_of, expected_of, expected, index_rules, slot_at, slots_at}
 use Rattle.jam_layout.specs.Limits.{slot_limit}
 use Rattle.jam_layout.specs.Outlines.{slot_bare}
-use Rattle.jam_layout.specs.declared.entry.Entry.{Entry}
+use Rattle.jam_layout.specs.declared.entry.HeaderEntry.{HeaderEntry}
 use Rattle.jam_layout.proofs.BodyLaws.{bare}
 use Rattle.jam_layout.proofs.IndexLoop.{begin, last_rule}
 use Rattle.jam_layout.proofs.MappedReads.{mapped, rules_mapped}
@@ -38,14 +38,14 @@ unfolding header_size subfields_of
 size_bare m = refl
 
 -- the slot without its body, whose header has a length
-abbrev held_here : ℕ → ℕ → Entry → List Entry → ℕ → Expected
+abbrev held_here : ℕ → ℕ → HeaderEntry → List HeaderEntry → ℕ → Expected
 held_here j at e es size = record { pair = pair_of e.message at; slot = Held (message_with e.message []); next = record { item = j + 1; at = at + size; entries = map bare es } }
 
-chosen_bare : (b : Bool) (j at : ℕ) (e : Entry) (es : List Entry) → cond b (one_here j at (bare e) (map bare es)) (none_here j at (bare e ∷ map bare es)) ≡ bare_expected (cond b (one_here j at e es) (none_here j at (e ∷ es)))
+chosen_bare : (b : Bool) (j at : ℕ) (e : HeaderEntry) (es : List HeaderEntry) → cond b (one_here j at (bare e) (map bare es)) (none_here j at (bare e ∷ map bare es)) ≡ bare_expected (cond b (one_here j at e es) (none_here j at (e ∷ es)))
 chosen_bare true j at e es = ap (held_here j at e es) (size_bare e.message)
 chosen_bare false j at e es = refl
 
-expected_bare : (j at : ℕ) (es : List Entry) → expected_of j at (map bare es) ≡ bare_expected (expected_of j at es)
+expected_bare : (j at : ℕ) (es : List HeaderEntry) → expected_of j at (map bare es) ≡ bare_expected (expected_of j at es)
 unfolding expected_of
 expected_bare j at [] = refl
 expected_bare j at (e ∷ es) = chosen_bare (eqb e.number (j + 1)) j at e es
@@ -92,10 +92,10 @@ ends_bare : (place : ℕ) (read : Result (List Slot × Pending) Damage) → (map
 ends_bare place (Ok found) = last_bare place found
 ends_bare place (Err d) = refl
 
-whole_bare : (place at : ℕ) (es : List Entry) (bytes : List ℕ) (few : Result (Unit {0}) Damage) → (few >>= λ k. walk (slot_at place) (begin at (map bare es)) bytes >>= last_rule place) ≡ mapped (map slot_bare) (few >>= λ k. walk (slot_at place) (begin at es) bytes >>= last_rule place)
+whole_bare : (place at : ℕ) (es : List HeaderEntry) (bytes : List ℕ) (few : Result (Unit {0}) Damage) → (few >>= λ k. walk (slot_at place) (begin at (map bare es)) bytes >>= last_rule place) ≡ mapped (map slot_bare) (few >>= λ k. walk (slot_at place) (begin at es) bytes >>= last_rule place)
 whole_bare place at es bytes (Ok u) = ap (λ (read : Result (List Slot × Pending) Damage). read >>= last_rule place) (walk_bare place 0 (begin at es) bytes) ∙ ends_bare place (walk (slot_at place) (begin at es) bytes)
 whole_bare place at es bytes (Err d) = refl
 
-pub index_bare : (place at : ℕ) (es : List Entry) (bytes : List ℕ) → slots_at place at (map bare es) bytes ≡ mapped (map slot_bare) (slots_at place at es bytes)
+pub index_bare : (place at : ℕ) (es : List HeaderEntry) (bytes : List ℕ) → slots_at place at (map bare es) bytes ≡ mapped (map slot_bare) (slots_at place at es bytes)
 unfolding slots_at
 index_bare place at es bytes = whole_bare place at es bytes (by_rules (jdx_file place) 0 ((Count, ltb slot_limit (length bytes / 8)) ∷ []) (tt {0}))

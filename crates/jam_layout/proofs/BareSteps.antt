@@ -25,7 +25,7 @@ use Rattle.jam_layout.specs.Outlines.{slot_bare}
 use Rattle.jam_layout.specs.Readers.{pointers_at}
 use Rattle.jam_layout.specs.Rules.{damage_of_base, BaseFails}
 use Rattle.jam_layout.specs.SecondPass.{slots_of}
-use Rattle.jam_layout.specs.declared.entry.Entry.{Entry}
+use Rattle.jam_layout.specs.declared.entry.HeaderEntry.{HeaderEntry}
 use Rattle.jam_layout.specs.declared.error.BaseError.{BaseError}
 use Rattle.jam_layout.specs.declared.files.BaseFiles.{BaseFiles}
 use Rattle.jam_layout.specs.declared.shape.Shape.{Shape}
@@ -37,18 +37,18 @@ use Rattle.jam_layout.proofs.MappedReads.{mapped, mapped_ok, stops_before}
 use Rattle.jam_layout.proofs.ReadingSteps.{base_at, headers_at, second_at, counter_fails, headers_fail, second_fails, bodies_fail, slots_fail, pointers_fail, all_read}
 use Rattle.jam_layout.proofs.SlotLaws.{bodiless_of, linked_of}
 
-abbrev lengths : List Entry → List ℕ
+abbrev lengths : List HeaderEntry → List ℕ
 lengths entries = map (λ e. length e.message.body) entries
 
 -- ---- what is read: the entries with bodies, and the slots that hold them
-pub record TextsRead (shape : Shape) (files : BaseFiles) (hs : List Entry) (found : List ℕ) : Type 0 where
-  pub entries : List Entry
+pub record TextsRead (shape : Shape) (files : BaseFiles) (hs : List HeaderEntry) (found : List ℕ) : Type 0 where
+  pub entries : List HeaderEntry
   pub read : bodies_at shape.place 1 hs files.jdt ≡ Ok entries
   pub bared : map bare entries ≡ hs
   pub fit : BodiesFit entries
   pub known : lengths entries ≡ found
 
-pub texts_read : (shape : Shape) (files : BaseFiles) (hs : List Entry) (found : List ℕ) → All IsByte files.jhr → length files.jhr < 2 ^ 31 → headers_at shape files ≡ Ok hs → lengths_at shape.place hs files.jdt ≡ Ok found → TextsRead shape files hs found
+pub texts_read : (shape : Shape) (files : BaseFiles) (hs : List HeaderEntry) (found : List ℕ) → All IsByte files.jhr → length files.jhr < 2 ^ 31 → headers_at shape files ≡ Ok hs → lengths_at shape.place hs files.jdt ≡ Ok found → TextsRead shape files hs found
 texts_read shape files hs found fits small headers texts =
     let short : length (drop 1024 files.jhr) < 2 ^ 31 = omega (arith, length-drop 1024 files.jhr, small) in
     let all = jhr_take shape.place shape.kind (drop 1024 files.jhr) hs (All-drop IsByte 1024 files.jhr fits) short headers in
@@ -57,7 +57,7 @@ texts_read shape files hs found fits small headers texts =
     record { entries = one.0; read = one.1; bared = bodies.1; fit = bodies.2; known = one.2 }
 
 -- ---- the slots of the headers, and slots without a message behind them
-pub record Spread (hs : List Entry) (bares : List Slot) : Type 0 where
+pub record Spread (hs : List HeaderEntry) (bares : List Slot) : Type 0 where
   pub more : ℕ
   pub is : bares ≡ slots_of 1 hs ++ replicate more Gone
 
@@ -65,25 +65,25 @@ bare_gone : (k : ℕ) → map slot_bare (replicate k Gone) ≡ replicate k Gone
 bare_gone zero = refl
 bare_gone (suc k) = ap (λ (xs : List Slot). Gone ∷ xs) (bare_gone k)
 
-spread_of : (links : ℕ → Link) (es : List Entry) (slots bares : List Slot) → entries_of links 1 slots ≡ es → map slot_bare slots ≡ bares → Spread (map bare es) bares
+spread_of : (links : ℕ → Link) (es : List HeaderEntry) (slots bares : List Slot) → entries_of links 1 slots ≡ es → map slot_bare slots ≡ bares → Spread (map bare es) bares
 spread_of links es slots bares entries bared =
     let back = slots_back links 1 slots in
     record {
       more = back.0;
       is = sym bared
-          ∙ (ap (map slot_bare) (back.1 ∙ ap (λ (xs : List Entry). slots_of 1 xs ++ replicate back.0 Gone) entries)
+          ∙ (ap (map slot_bare) (back.1 ∙ ap (λ (xs : List HeaderEntry). slots_of 1 xs ++ replicate back.0 Gone) entries)
           ∙ (map-append slot_bare (slots_of 1 es) (replicate back.0 Gone)
           ∙ (ap (λ (xs : List Slot). map slot_bare (slots_of 1 es) ++ xs) (bare_gone back.0)
           ∙ ap (λ (xs : List Slot). xs ++ replicate back.0 Gone) (sym (slots_bare 1 es)))));
     }
 
 -- threads of the slots of the headers, with as many slots behind them as there are
-pub spread_threads : (hs : List Entry) (bares : List Slot) (count : ℕ) (threads : Threads) → count ≡ length bares → Spread hs bares → AreThreads (slots_of 1 hs ++ replicate (count - length (slots_of 1 hs)) Gone) threads → AreThreads bares threads
+pub spread_threads : (hs : List HeaderEntry) (bares : List Slot) (count : ℕ) (threads : Threads) → count ≡ length bares → Spread hs bares → AreThreads (slots_of 1 hs ++ replicate (count - length (slots_of 1 hs)) Gone) threads → AreThreads bares threads
 spread_threads hs bares count threads is spread are =
     let len : count - length (slots_of 1 hs) ≡ spread.more = omega (arith, is, ap length spread.is, length-append (slots_of 1 hs) (replicate spread.more Gone), length-replicate {A = Slot} spread.more Gone) in
     subst (λ (xs : List Slot). AreThreads xs threads) (ap (λ n. slots_of 1 hs ++ replicate n Gone) len ∙ sym spread.is) are
 
-pub record IndexRead (shape : Shape) (files : BaseFiles) (es : List Entry) (found : List ℕ) (bares : List Slot) : Type 0 where
+pub record IndexRead (shape : Shape) (files : BaseFiles) (es : List HeaderEntry) (found : List ℕ) (bares : List Slot) : Type 0 where
   pub slots : List Slot
   pub read : slots_at shape.place 1024 es files.jdx ≡ Ok slots
   pub bared : map slot_bare slots ≡ bares
@@ -97,13 +97,13 @@ lengths_in links n (Gone ∷ slots) = lengths_in links (n + 1) slots
 lengths_in links n (Held m ∷ slots) = ap (λ (xs : List ℕ). length m.body ∷ xs) (lengths_in links (n + 1) slots)
 
 -- the index of the headers is that of the entries
-index_is : (shape : Shape) (files : BaseFiles) (hs : List Entry) (found : List ℕ) (texts : TextsRead shape files hs found) → slots_at shape.place 1024 hs files.jdx ≡ mapped (map slot_bare) (slots_at shape.place 1024 texts.entries files.jdx)
-index_is shape files hs found texts = ap (λ (xs : List Entry). slots_at shape.place 1024 xs files.jdx) (sym texts.bared) ∙ index_bare shape.place 1024 texts.entries files.jdx
+index_is : (shape : Shape) (files : BaseFiles) (hs : List HeaderEntry) (found : List ℕ) (texts : TextsRead shape files hs found) → slots_at shape.place 1024 hs files.jdx ≡ mapped (map slot_bare) (slots_at shape.place 1024 texts.entries files.jdx)
+index_is shape files hs found texts = ap (λ (xs : List HeaderEntry). slots_at shape.place 1024 xs files.jdx) (sym texts.bared) ∙ index_bare shape.place 1024 texts.entries files.jdx
 
-pub index_read : (shape : Shape) (files : BaseFiles) (hs : List Entry) (found : List ℕ) (bares : List Slot) (u : Unit {0}) (texts : TextsRead shape files hs found) → All IsByte files.jdx → second_at shape files hs ≡ Ok u
+pub index_read : (shape : Shape) (files : BaseFiles) (hs : List HeaderEntry) (found : List ℕ) (bares : List Slot) (u : Unit {0}) (texts : TextsRead shape files hs found) → All IsByte files.jdx → second_at shape files hs ≡ Ok u
     → slots_at shape.place 1024 hs files.jdx ≡ Ok bares → IndexRead shape files texts.entries found bares
 index_read shape files hs found bares u texts ints second index =
-    let es : List Entry = texts.entries in
+    let es : List HeaderEntry = texts.entries in
     let one = mapped_ok (map slot_bare) (slots_at shape.place 1024 es files.jdx) bares (sym (index_is shape files hs found texts) ∙ index) in
     let links : ℕ → Link = link_of (slots_of 1 hs) in
     let linked = second_take shape.place (u32_at 12 files.jhr) hs u second in
@@ -129,32 +129,32 @@ no_counter shape files e h = whole_fails shape files e (counter_fails shape file
 pub no_headers : (shape : Shape) (files : BaseFiles) (e : BaseError) (counter : ℕ) → base_at shape files ≡ Ok counter → BaseFails e (headers_at shape files) → BaseFails e (bare_in shape files)
 no_headers shape files e counter is h = whole_fails shape files e (headers_fail shape files e counter is h)
 
-pub no_links : (shape : Shape) (files : BaseFiles) (e : BaseError) (counter : ℕ) (hs : List Entry) → base_at shape files ≡ Ok counter → headers_at shape files ≡ Ok hs → BaseFails e (second_at shape files hs) → BaseFails e (bare_in shape files)
+pub no_links : (shape : Shape) (files : BaseFiles) (e : BaseError) (counter : ℕ) (hs : List HeaderEntry) → base_at shape files ≡ Ok counter → headers_at shape files ≡ Ok hs → BaseFails e (second_at shape files hs) → BaseFails e (bare_in shape files)
 no_links shape files e counter hs is headers h = whole_fails shape files e (second_fails shape files e counter hs is headers h)
 
-pub no_texts : (shape : Shape) (files : BaseFiles) (e : BaseError) (counter : ℕ) (hs : List Entry) (u : Unit {0}) → base_at shape files ≡ Ok counter → headers_at shape files ≡ Ok hs → second_at shape files hs ≡ Ok u
+pub no_texts : (shape : Shape) (files : BaseFiles) (e : BaseError) (counter : ℕ) (hs : List HeaderEntry) (u : Unit {0}) → base_at shape files ≡ Ok counter → headers_at shape files ≡ Ok hs → second_at shape files hs ≡ Ok u
     → BaseFails e (lengths_at shape.place hs files.jdt) → BaseFails e (bare_in shape files)
 no_texts shape files e counter hs u is headers second h =
     whole_fails shape files e (bodies_fail shape files e counter hs u is headers second (stops_before (damage_of_base e) lengths (bodies_at shape.place 1 hs files.jdt) h))
 
-pub no_slots : (shape : Shape) (files : BaseFiles) (e : BaseError) (counter : ℕ) (hs : List Entry) (u : Unit {0}) (found : List ℕ) → base_at shape files ≡ Ok counter → headers_at shape files ≡ Ok hs → second_at shape files hs ≡ Ok u
+pub no_slots : (shape : Shape) (files : BaseFiles) (e : BaseError) (counter : ℕ) (hs : List HeaderEntry) (u : Unit {0}) (found : List ℕ) → base_at shape files ≡ Ok counter → headers_at shape files ≡ Ok hs → second_at shape files hs ≡ Ok u
     → TextsRead shape files hs found → BaseFails e (slots_at shape.place 1024 hs files.jdx) → BaseFails e (bare_in shape files)
 no_slots shape files e counter hs u found is headers second texts h =
-    let es : List Entry = texts.entries in
+    let es : List HeaderEntry = texts.entries in
     whole_fails shape files e (slots_fail shape files e counter hs es u is headers second texts.read
     (stops_before (damage_of_base e) (map slot_bare) (slots_at shape.place 1024 es files.jdx) (subst (λ (read : Result (List Slot) Damage). BaseFails e read) (index_is shape files hs found texts) h)))
 
-count_is : (shape : Shape) (files : BaseFiles) (es : List Entry) (found : List ℕ) (bares : List Slot) (index : IndexRead shape files es found bares) → length bares ≡ length index.slots
+count_is : (shape : Shape) (files : BaseFiles) (es : List HeaderEntry) (found : List ℕ) (bares : List Slot) (index : IndexRead shape files es found bares) → length bares ≡ length index.slots
 count_is shape files es found bares index = ap length (sym index.bared) ∙ length-map index.slots slot_bare
 
-pub no_pointers : (shape : Shape) (files : BaseFiles) (e : BaseError) (counter : ℕ) (hs : List Entry) (u : Unit {0}) (found : List ℕ) (bares : List Slot) → base_at shape files ≡ Ok counter → headers_at shape files ≡ Ok hs → second_at shape files hs ≡ Ok u
+pub no_pointers : (shape : Shape) (files : BaseFiles) (e : BaseError) (counter : ℕ) (hs : List HeaderEntry) (u : Unit {0}) (found : List ℕ) (bares : List Slot) → base_at shape files ≡ Ok counter → headers_at shape files ≡ Ok hs → second_at shape files hs ≡ Ok u
     → (texts : TextsRead shape files hs found) → IndexRead shape files texts.entries found bares → BaseFails e (pointers_at shape.place (length bares) 0 shape.readers files.jlr) → BaseFails e (bare_in shape files)
 no_pointers shape files e counter hs u found bares is headers second texts index h =
     whole_fails shape files e (pointers_fail shape files e counter hs texts.entries index.slots u is headers second texts.read index.read
     (subst (λ (n : ℕ). BaseFails e (pointers_at shape.place n 0 shape.readers files.jlr)) (count_is shape files texts.entries found bares index) h))
 
 -- ---- all steps
-pub all_bare : (shape : Shape) (files : BaseFiles) (counter : ℕ) (hs : List Entry) (u : Unit {0}) (found : List ℕ) (bares : List Slot) (pointers : List ℕ) → base_at shape files ≡ Ok counter → headers_at shape files ≡ Ok hs → second_at shape files hs ≡ Ok u
+pub all_bare : (shape : Shape) (files : BaseFiles) (counter : ℕ) (hs : List HeaderEntry) (u : Unit {0}) (found : List ℕ) (bares : List Slot) (pointers : List ℕ) → base_at shape files ≡ Ok counter → headers_at shape files ≡ Ok hs → second_at shape files hs ≡ Ok u
     → (texts : TextsRead shape files hs found) → IndexRead shape files texts.entries found bares → pointers_at shape.place (length bares) 0 shape.readers files.jlr ≡ Ok pointers
     → bare_in shape files ≡ Ok (record { conference = record { counter = counter; slots = bares; pointers = pointers }; lengths = found })
 all_bare shape files counter hs u found bares pointers is headers second texts index last =

@@ -8,18 +8,18 @@ use Rattle.damage_rules.specs.Rules.{by_rules, ◌>>=◌}
 use Rattle.door_outside.specs.File.{jdt_file}
 use Rattle.jam_layout.specs.Bodies.{body_rules, with_body, message_with, bodies_at, bodies_text}
 use Rattle.jam_layout.specs.Messages.{IsBody}
-use Rattle.jam_layout.specs.declared.entry.Entry.{Entry}
+use Rattle.jam_layout.specs.declared.entry.HeaderEntry.{HeaderEntry}
 use Rattle.damage_rules.proofs.KeptRules.{Kept, rules_kept, kept_rules, bind_ok, ok_is}
 
 -- an entry as its header alone shows it
-abbrev pub bare : Entry → Entry
+abbrev pub bare : HeaderEntry → HeaderEntry
 bare e = with_body e []
 
-abbrev pub Bodiless : List Entry → Type 0
+abbrev pub Bodiless : List HeaderEntry → Type 0
 Bodiless [] = Unit {0}
 Bodiless (e ∷ es) = (e.message.body ≡ []) × Bodiless es
 
-abbrev pub BodiesFit : List Entry → Type 0
+abbrev pub BodiesFit : List HeaderEntry → Type 0
 BodiesFit [] = Unit {0}
 BodiesFit (e ∷ es) = (IsBody e.message.body × (e.text_len ≡ length e.message.body)) × BodiesFit es
 
@@ -58,14 +58,14 @@ body_again len body rest n is =
     ] in
     (le-ltb _ _ (omega (arith, length-append body rest)), (is_line len (get_or (body ++ rest) (len - 1) 0) line, tt))
 
-bare_again : (e : Entry) (body : List ℕ) → e.message.body ≡ [] → bare (with_body e body) ≡ e
+bare_again : (e : HeaderEntry) (body : List ℕ) → e.message.body ≡ [] → bare (with_body e body) ≡ e
 bare_again e body none = λ i. record { number = e.number; text_len = e.text_len; link = e.link; message = message_with e.message (sym none i) }
 
-pub bodies_take : (place i : ℕ) (headers : List Entry) (bytes : List ℕ) (entries : List Entry) → Bodiless headers → bodies_at place i headers bytes ≡ Ok entries → (bytes ≡ bodies_text entries) × (map bare entries ≡ headers) × BodiesFit entries
+pub bodies_take : (place i : ℕ) (headers : List HeaderEntry) (bytes : List ℕ) (entries : List HeaderEntry) → Bodiless headers → bodies_at place i headers bytes ≡ Ok entries → (bytes ≡ bodies_text entries) × (map bare entries ≡ headers) × BodiesFit entries
 bodies_take place i [] bytes entries bodiless e =
     let k = rules_kept (jdt_file place) i ((Rest, not (eqb (length bytes) 0)) ∷ []) [] entries e in
     let none : length bytes ≡ 0 = grind (arith, nat_tests, k.0.0) in
-    subst (λ (es : List Entry). (bytes ≡ bodies_text es) × (map bare es ≡ []) × BodiesFit es) k.1 (nil_from_length bytes none, refl, tt)
+    subst (λ (es : List HeaderEntry). (bytes ≡ bodies_text es) × (map bare es ≡ []) × BodiesFit es) k.1 (nil_from_length bytes none, refl, tt)
 bodies_take place i (h ∷ headers) bytes entries bodiless e =
     let n : ℕ = h.text_len in
     let a = bind_ok (by_rules (jdt_file place) i (body_rules n bytes) (take n bytes)) (λ body. bodies_at place (i + 1) headers (drop n bytes) >>= λ es. Ok (with_body h body ∷ es)) entries e in
@@ -76,9 +76,9 @@ bodies_take place i (h ∷ headers) bytes entries bodiless e =
     let others = bodies_take place (i + 1) headers (drop n bytes) b.0 bodiless.1 b.1 in
     let whole : bytes ≡ body ++ bodies_text b.0 = sym (take-append-drop n bytes) ∙ ap (λ xs. body ++ xs) others.0 in
     let heads : map bare (with_body h body ∷ b.0) ≡ h ∷ headers = λ i. bare_again h body bodiless.0 i ∷ others.1 i in
-    subst (λ (es : List Entry). (bytes ≡ bodies_text es) × (map bare es ≡ h ∷ headers) × BodiesFit es) (ap (λ x. with_body h x ∷ b.0) k.1 ∙ ok_is (with_body h a.0 ∷ b.0) entries b.2) (whole, heads, ((first.1, sym first.0), others.2))
+    subst (λ (es : List HeaderEntry). (bytes ≡ bodies_text es) × (map bare es ≡ h ∷ headers) × BodiesFit es) (ap (λ x. with_body h x ∷ b.0) k.1 ∙ ok_is (with_body h a.0 ∷ b.0) entries b.2) (whole, heads, ((first.1, sym first.0), others.2))
 
-pub bodies_again : (place i : ℕ) (entries : List Entry) → BodiesFit entries → bodies_at place i (map bare entries) (bodies_text entries) ≡ Ok entries
+pub bodies_again : (place i : ℕ) (entries : List HeaderEntry) → BodiesFit entries → bodies_at place i (map bare entries) (bodies_text entries) ≡ Ok entries
 bodies_again place i [] fits = refl
 bodies_again place i (e ∷ entries) fits =
     let n : ℕ = e.text_len in

@@ -26,10 +26,10 @@ use Rattle.jam_layout.specs.Outlines.{slot_bare}
 use Rattle.jam_layout.specs.Index.{Pending, slot_at, slots_at, index_records}
 use Rattle.jam_layout.specs.Readers.{pointers_at}
 use Rattle.jam_layout.specs.Conference.{is_live, live_count}
-use Rattle.jam_layout.specs.declared.conference.Conference.{Conference}
+use Rattle.jam_layout.specs.declared.conference.ConferenceContents.{ConferenceContents}
 use Rattle.jam_layout.specs.Layout.{entries_of, base_rules, layout, conference_of, base_damage}
 use Rattle.jam_layout.specs.Valid.{IsShape, ShapeFits, BaseFilesFit, IsConference}
-use Rattle.jam_layout.specs.declared.entry.Entry.{Entry}
+use Rattle.jam_layout.specs.declared.entry.HeaderEntry.{HeaderEntry}
 use Rattle.jam_layout.specs.declared.files.BaseFiles.{BaseFiles}
 use Rattle.jam_layout.specs.declared.shape.Shape.{Shape}
 use Rattle.damage_rules.proofs.KeptRules.{rules_kept, kept_rules, bind_ok, ok_is}
@@ -45,14 +45,14 @@ use Rattle.jam_layout.proofs.LayoutBounds.{layout_fits}
 use Rattle.jam_layout.proofs.SlotLaws.{headers_bare, Fits, conference_fits, slots_fit, rising_of, bodiless_of, linked_of, links_of, index_length}
 
 -- ---- .JHR
-pub jhr_take : (place : ℕ) (kind : Kind) (bytes : List ℕ) (hs : List Entry) → All IsByte bytes → length bytes < 2 ^ 31 → entries_at place kind bytes ≡ Ok hs → (bytes ≡ headers_text kind 0 hs) × HeadersFit kind start hs
+pub jhr_take : (place : ℕ) (kind : Kind) (bytes : List ℕ) (hs : List HeaderEntry) → All IsByte bytes → length bytes < 2 ^ 31 → entries_at place kind bytes ≡ Ok hs → (bytes ≡ headers_text kind 0 hs) × HeadersFit kind start hs
 unfolding entries_at
 jhr_take place kind bytes hs fits short e =
     let a = bind_ok (walk (header_at place kind) start bytes) (λ found. Ok found.0) hs e in
     let r = headers_take place kind 0 start bytes a.0.0 a.0.1 fits short a.1 in
-    subst (λ (xs : List Entry). (bytes ≡ headers_text kind 0 xs) × HeadersFit kind start xs) (ok_is a.0.0 hs a.2) r
+    subst (λ (xs : List HeaderEntry). (bytes ≡ headers_text kind 0 xs) × HeadersFit kind start xs) (ok_is a.0.0 hs a.2) r
 
-jhr_again : (place : ℕ) (kind : Kind) (hs : List Entry) → HeadersFit kind start hs → entries_at place kind (headers_text kind 0 hs) ≡ Ok hs
+jhr_again : (place : ℕ) (kind : Kind) (hs : List HeaderEntry) → HeadersFit kind start hs → entries_at place kind (headers_text kind 0 hs) ≡ Ok hs
 unfolding entries_at
 jhr_again place kind hs fits =
     let r = headers_again place kind start hs (omega arith) (omega arith) fits in
@@ -62,7 +62,7 @@ jhr_again place kind hs fits =
 abbrev unit : Result (Unit {0}) Damage
 unit = Ok (tt {0})
 
-pub second_take : (place active : ℕ) (hs : List Entry) (u : Unit {0}) → second_pass place active hs ≡ Ok u → (active ≡ active_in hs) × LinksFit (link_of (slots_of 1 hs)) hs
+pub second_take : (place active : ℕ) (hs : List HeaderEntry) (u : Unit {0}) → second_pass place active hs ≡ Ok u → (active ≡ active_in hs) × LinksFit (link_of (slots_of 1 hs)) hs
 unfolding second_pass
 second_take place active hs u e =
     let rules = (Active, not (eqb active (active_in hs))) ∷ [] in
@@ -71,7 +71,7 @@ second_take place active hs u e =
     let count = k.0.0 in
     (grind (arith, nat_tests, count), links_take place (slots_of 1 hs) 1 hs a.2)
 
-second_again : (place active : ℕ) (hs : List Entry) → active ≡ active_in hs → LinksFit (link_of (slots_of 1 hs)) hs → second_pass place active hs ≡ unit
+second_again : (place active : ℕ) (hs : List HeaderEntry) → active ≡ active_in hs → LinksFit (link_of (slots_of 1 hs)) hs → second_pass place active hs ≡ unit
 unfolding second_pass
 second_again place active hs is fits =
     let rules = (Active, not (eqb active (active_in hs))) ∷ [] in
@@ -79,7 +79,7 @@ second_again place active hs is fits =
     ap (λ x. x >>= λ count. links_at place (slots_of 1 hs) 1 hs) (kept_rules (jhr_file place) 0 rules (tt {0}) (count, tt)) ∙ links_again place (slots_of 1 hs) 1 hs fits
 
 -- ---- .JDX
-pub jdx_take : (links : ℕ → Link) (place at : ℕ) (es : List Entry) (bytes : List ℕ) (slots : List Slot) → All IsByte bytes → Linked links es → slots_at place at es bytes ≡ Ok slots → (bytes ≡ index_records at slots) × (entries_of links 1 slots ≡ es) × (length slots ≤ slot_limit)
+pub jdx_take : (links : ℕ → Link) (place at : ℕ) (es : List HeaderEntry) (bytes : List ℕ) (slots : List Slot) → All IsByte bytes → Linked links es → slots_at place at es bytes ≡ Ok slots → (bytes ≡ index_records at slots) × (entries_of links 1 slots ≡ es) × (length slots ≤ slot_limit)
 unfolding slots_at
 jdx_take links place at es bytes slots fits linked e =
     let s : Pending = record { item = 0; at = at; entries = es } in
@@ -104,49 +104,49 @@ jdx_again links place at slots few room =
     let len = index_length at slots in
     let small : length bytes / 8 ≤ slot_limit = omega (arith, len, few) in
     let count : ltb slot_limit (length bytes / 8) ≡ false = le-ltb _ _ small in
-    let none : not (eqb (length r.0.entries) 0) ≡ false = ap (λ (es : List Entry). not (eqb (length es) 0)) r.2 in
+    let none : not (eqb (length r.0.entries) 0) ≡ false = ap (λ (es : List HeaderEntry). not (eqb (length es) 0)) r.2 in
     ap (λ x. x >>= λ few. walk (slot_at place) s bytes >>= λ found. by_rules (jdx_file place) found.1.item ((Missing, not (eqb (length found.1.entries) 0)) ∷ []) found.0) (kept_rules (jdx_file place) 0 ((Count, ltb slot_limit (length bytes / 8)) ∷ []) (tt {0}) (count, tt))
     ∙ ap (λ x. x >>= λ found. by_rules (jdx_file place) found.1.item ((Missing, not (eqb (length found.1.entries) 0)) ∷ []) found.0) r.1
     ∙ kept_rules (jdx_file place) r.0.item ((Missing, not (eqb (length r.0.entries) 0)) ∷ []) slots (none, tt)
 
 -- ---- the links of headers and slots
-pub links_agree : (links : ℕ → Link) (slots : List Slot) (hs es : List Entry) → entries_of links 1 slots ≡ es → map bare es ≡ hs → (n : ℕ) → n < length (slots_of 1 hs) → link_of (slots_of 1 hs) (suc n) ≡ link_of slots (suc n)
+pub links_agree : (links : ℕ → Link) (slots : List Slot) (hs es : List HeaderEntry) → entries_of links 1 slots ≡ es → map bare es ≡ hs → (n : ℕ) → n < length (slots_of 1 hs) → link_of (slots_of 1 hs) (suc n) ≡ link_of slots (suc n)
 links_agree links slots hs es is heads n within =
     let from : map bare (entries_of links 1 slots) ≡ hs = ap (map bare) is ∙ heads in
     let len : length (slots_of 1 hs) ≡ length (slots_of 1 (entries_of links 1 slots)) =
-    ap (λ (xs : List Entry). length (slots_of 1 xs)) (sym from) ∙ (ap length (slots_bare 1 (entries_of links 1 slots)) ∙ length-map (slots_of 1 (entries_of links 1 slots)) slot_bare) in
-    ap (λ (xs : List Entry). link_of (slots_of 1 xs) (suc n)) (sym from) ∙ links_same links slots n (omega (arith, len, within))
+    ap (λ (xs : List HeaderEntry). length (slots_of 1 xs)) (sym from) ∙ (ap length (slots_bare 1 (entries_of links 1 slots)) ∙ length-map (slots_of 1 (entries_of links 1 slots)) slot_bare) in
+    ap (λ (xs : List HeaderEntry). link_of (slots_of 1 xs) (suc n)) (sym from) ∙ links_same links slots n (omega (arith, len, within))
 
 -- ---- the four files
-unfoldable pub after_slots : Shape → BaseFiles → ℕ → List Slot → Result Conference Damage
+unfoldable pub after_slots : Shape → BaseFiles → ℕ → List Slot → Result ConferenceContents Damage
 after_slots shape files counter slots = pointers_at shape.place (length slots) 0 shape.readers files.jlr >>= λ pointers. Ok (record { counter = counter; slots = slots; pointers = pointers })
 
-unfoldable pub after_bodies : Shape → BaseFiles → ℕ → List Entry → Result Conference Damage
+unfoldable pub after_bodies : Shape → BaseFiles → ℕ → List HeaderEntry → Result ConferenceContents Damage
 after_bodies shape files counter es = slots_at shape.place 1024 es files.jdx >>= after_slots shape files counter
 
-unfoldable pub after_second : Shape → BaseFiles → ℕ → List Entry → Result Conference Damage
+unfoldable pub after_second : Shape → BaseFiles → ℕ → List HeaderEntry → Result ConferenceContents Damage
 after_second shape files counter hs = bodies_at shape.place 1 hs files.jdt >>= after_bodies shape files counter
 
-unfoldable pub after_headers : Shape → BaseFiles → ℕ → List Entry → Result Conference Damage
+unfoldable pub after_headers : Shape → BaseFiles → ℕ → List HeaderEntry → Result ConferenceContents Damage
 after_headers shape files counter hs = second_pass shape.place (u32_at 12 files.jhr) hs >>= λ linked. after_second shape files counter hs
 
-unfoldable pub after_counter : Shape → BaseFiles → ℕ → Result Conference Damage
+unfoldable pub after_counter : Shape → BaseFiles → ℕ → Result ConferenceContents Damage
 after_counter shape files counter = entries_at shape.place shape.kind (drop 1024 files.jhr) >>= after_headers shape files counter
 
 abbrev files_made : List ℕ → List ℕ → List ℕ → List ℕ → BaseFiles
 files_made jhr jdt jdx jlr = record { jhr = jhr; jdt = jdt; jdx = jdx; jlr = jlr }
 
-pub layout_is : (shape : Shape) (files : BaseFiles) (c : Conference) → BaseFilesFit files → conference_of shape files ≡ Ok c → (files ≡ layout shape c) × IsConference shape c
+pub layout_is : (shape : Shape) (files : BaseFiles) (c : ConferenceContents) → BaseFilesFit files → conference_of shape files ≡ Ok c → (files ≡ layout shape c) × IsConference shape c
 unfolding conference_of after_slots after_bodies after_second after_headers after_counter
 layout_is shape files c fits e =
     let place : ℕ = shape.place in
     let kind : Kind = shape.kind in
     let x0 = bind_ok (by_rules (jhr_file place) 0 (base_rules shape files.jhr) (u32_at 8 files.jhr)) (after_counter shape files) c e in
     let x1 = bind_ok (entries_at place kind (drop 1024 files.jhr)) (after_headers shape files x0.0) c x0.2 in
-    let hs : List Entry = x1.0 in
+    let hs : List HeaderEntry = x1.0 in
     let x2 = bind_ok (second_pass place (u32_at 12 files.jhr) hs) (λ linked. after_second shape files x0.0 hs) c x1.2 in
     let x3 = bind_ok (bodies_at place 1 hs files.jdt) (after_bodies shape files x0.0) c x2.2 in
-    let es : List Entry = x3.0 in
+    let es : List HeaderEntry = x3.0 in
     let x4 = bind_ok (slots_at place 1024 es files.jdx) (after_slots shape files x0.0) c x3.2 in
     let slots : List Slot = x4.0 in
     let x5 = bind_ok (pointers_at place (length slots) 0 shape.readers files.jlr) (λ pointers. Ok (record { counter = x0.0; slots = slots; pointers = pointers })) c x4.2 in
@@ -166,7 +166,7 @@ layout_is shape files c fits e =
     let fit : LinksFit links (map bare es) = subst (LinksFit links) (sym bodies.1) moved in
     let index = jdx_take links place 1024 es files.jdx slots fits.jdx.0 (linked_of links es fit bodies.2) x4.1 in
     let pointers = pointers_take place (length slots) 0 shape.readers files.jlr x5.0 fits.jlr x5.1 in
-    let d : Conference = record { counter = x0.0; slots = slots; pointers = x5.0 } in
+    let d : ConferenceContents = record { counter = x0.0; slots = slots; pointers = x5.0 } in
     let hs_is : hs ≡ map bare (entries_of links 1 slots) = sym bodies.1 ∙ ap (map bare) (sym index.1) in
     let live : u32_at 12 files.jhr ≡ live_count slots = second.0 ∙ (ap active_in hs_is ∙ active_is links 1 slots) in
     let text : headers_text kind 0 hs ≡ headers_text kind 0 (entries_of links 1 slots) = ap (headers_text kind 0) hs_is ∙ headers_bare kind 0 (entries_of links 1 slots) in
@@ -184,20 +184,20 @@ layout_is shape files c fits e =
           (subst (All IsByte) (headers.0 ∙ text) (All-drop IsByte 1024 files.jhr fits.jhr.0)) (subst (All IsByte) jdt fits.jdt.0);
       pointers = pointers.1;
     } in
-    subst (λ (y : Conference). (files ≡ layout shape y) × IsConference shape y) (ok_is d c x5.2) (same, ok)
+    subst (λ (y : ConferenceContents). (files ≡ layout shape y) × IsConference shape y) (ok_is d c x5.2) (same, ok)
 
 bound_most : (k : ℕ) (link : Link) → k ≤ slot_limit → LinkBound k link → LinkBound slot_limit link
 bound_most k link few b = let to = b.to in let first = b.first in let next = b.next in record { to = omega arith; first = omega arith; next = omega arith }
 
-pub is_layout : (shape : Shape) (c : Conference) → ShapeFits shape → IsConference shape c → conference_of shape (layout shape c) ≡ Ok c
+pub is_layout : (shape : Shape) (c : ConferenceContents) → ShapeFits shape → IsConference shape c → conference_of shape (layout shape c) ≡ Ok c
 unfolding conference_of after_slots after_bodies after_second after_headers after_counter
 is_layout shape c fits ok =
     let place : ℕ = shape.place in
     let kind : Kind = shape.kind in
     let files : BaseFiles = layout shape c in
     let links : ℕ → Link = link_of c.slots in
-    let es : List Entry = entries_of links 1 c.slots in
-    let hs : List Entry = map bare es in
+    let es : List HeaderEntry = entries_of links 1 c.slots in
+    let hs : List HeaderEntry = map bare es in
     let rest : List ℕ = headers_text kind 0 es in
     let live : ℕ = live_count c.slots in
     let few = ok.few in
@@ -231,11 +231,11 @@ no_damage : {A : Type 0} (r : Result A Damage) → damage_of r ≡ None → (x :
 no_damage (Ok x) e = (x, refl)
 no_damage (Err d) e = absurd cc
 
-pub undamaged : (shape : Shape) (files : BaseFiles) → IsShape shape → ShapeFits shape → BaseFilesFit files → (base_damage shape files ≡ None) ↔ ((c : Conference) × IsConference shape c × (files ≡ layout shape c))
+pub undamaged : (shape : Shape) (files : BaseFiles) → IsShape shape → ShapeFits shape → BaseFilesFit files → (base_damage shape files ≡ None) ↔ ((c : ConferenceContents) × IsConference shape c × (files ≡ layout shape c))
 undamaged shape files is shapes fits = (
   λ e. let r = no_damage (conference_of shape files) e in let l = layout_is shape files r.0 fits r.1 in (r.0, l.1, l.0),
   λ (c, ok, e). ap (base_damage shape) e ∙ ap damage_of (is_layout shape c shapes ok),
 )
 
-pub unique : (shape : Shape) (a b : Conference) → IsShape shape → ShapeFits shape → IsConference shape a → IsConference shape b → layout shape a ≡ layout shape b → a ≡ b
+pub unique : (shape : Shape) (a b : ConferenceContents) → IsShape shape → ShapeFits shape → IsConference shape a → IsConference shape b → layout shape a ≡ layout shape b → a ≡ b
 unique shape a b is shapes x y e = ok_is a b (sym (is_layout shape a shapes x) ∙ (ap (conference_of shape) e ∙ is_layout shape b shapes y))

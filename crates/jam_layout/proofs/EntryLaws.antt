@@ -19,7 +19,7 @@ use Rattle.jam_layout.specs.Fields.{subfields_of, values_at}
 use Rattle.jam_layout.specs.Limits.{slot_limit}
 use Rattle.jam_layout.specs.Marks.{attribute_of, is_net}
 use Rattle.jam_layout.specs.Headers.{values_of, header_rules, message_of, entry_of, behind, step_of, header_at, marks_in, message_header, entry_text, headers_text, header_size}
-use Rattle.jam_layout.specs.declared.entry.Entry.{Entry}
+use Rattle.jam_layout.specs.declared.entry.HeaderEntry.{HeaderEntry}
 use Rattle.jam_layout.specs.declared.entry.Front.{Front}
 use Rattle.jam_layout.specs.declared.fields.Values.{Values}
 use Rattle.damage_rules.proofs.KeptRules.{Kept, rules_kept, kept_rules, bind_ok, ok_is}
@@ -31,7 +31,7 @@ use Rattle.jam_layout.proofs.HeaderLaws.{HeaderKept, keep, keeps}
 use Rattle.jam_layout.proofs.MarkLaws.{marks_again, right_attribute, attribute_right}
 
 -- what a header may hold behind others
-pub record HeaderFits (kind : Kind) (f : Front) (e : Entry) : Type 0 where
+pub record HeaderFits (kind : Kind) (f : Front) (e : HeaderEntry) : Type 0 where
   pub rising : f.last < e.number
   pub few : e.number ≤ slot_limit
   pub text : e.text_len ≤ 16384
@@ -48,7 +48,7 @@ pub record HeaderFits (kind : Kind) (f : Front) (e : Entry) : Type 0 where
   pub reply : jam_crc e.message.replyid < 2 ^ 32
   pub short : length (subfields_text (subfields_of e.message)) < 2 ^ 31
 
-abbrev pub HeadersFit : Kind → Front → List Entry → Type 0
+abbrev pub HeadersFit : Kind → Front → List HeaderEntry → Type 0
 HeadersFit kind f [] = Unit {0}
 HeadersFit kind f (e ∷ es) = HeaderFits kind f e × HeadersFit kind (behind f e) es
 
@@ -119,7 +119,7 @@ header_takes kind f bytes fits small k =
     )
 
 -- ---- what is written is read
-header_numbers : (kind : Kind) (f : Front) (e : Entry) → f.offset < 2 ^ 32 → HeaderFits kind f e → IsMessageHeader (message_header kind f.offset e)
+header_numbers : (kind : Kind) (f : Front) (e : HeaderEntry) → f.offset < 2 ^ 32 → HeaderFits kind f e → IsMessageHeader (message_header kind f.offset e)
 unfolding message_header
 header_numbers kind f e small fits =
     let h : MessageHeader = message_header kind f.offset e in
@@ -140,7 +140,7 @@ header_length : (h : MessageHeader) → length (header_text h) ≡ 76
 unfolding header_text
 header_length h = omega arith
 
-message_again : (kind : Kind) (f : Front) (e : Entry) → HeaderFits kind f e → message_of (message_header kind f.offset e) (message_values e.message) ≡ e.message
+message_again : (kind : Kind) (f : Front) (e : HeaderEntry) → HeaderFits kind f e → message_of (message_header kind f.offset e) (message_values e.message) ≡ e.message
 unfolding message_of message_header
 message_again kind f e fits =
     let m : Message = e.message in
@@ -163,11 +163,11 @@ message_again kind f e fits =
       deleted = (marks i).deleted;
     }
 
-entry_again : (kind : Kind) (f : Front) (e : Entry) → HeaderFits kind f e → entry_of (message_header kind f.offset e) (message_values e.message) ≡ e
+entry_again : (kind : Kind) (f : Front) (e : HeaderEntry) → HeaderFits kind f e → entry_of (message_header kind f.offset e) (message_values e.message) ≡ e
 unfolding entry_of message_header
 entry_again kind f e fits = λ i. record { number = e.number; text_len = e.text_len; link = e.link; message = message_again kind f e fits i }
 
-kept_again : (kind : Kind) (f : Front) (e : Entry) (bytes : List ℕ) → HeaderFits kind f e → MessageHeaderStands bytes (message_header kind f.offset e) → u16_at 6 bytes ≡ 0
+kept_again : (kind : Kind) (f : Front) (e : HeaderEntry) (bytes : List ℕ) → HeaderFits kind f e → MessageHeaderStands bytes (message_header kind f.offset e) → u16_at 6 bytes ≡ 0
     → 76 + length (subfields_text (subfields_of e.message)) ≤ length bytes → HeaderKept kind f (message_header kind f.offset e) (message_values e.message) bytes
 unfolding message_header
 kept_again kind f e bytes fits stands reserved long = record {
@@ -192,10 +192,10 @@ kept_again kind f e bytes fits stands reserved long = record {
 }
 
 -- the step behind an entry
-abbrev pub step_behind : Front → Entry → WalkStep Front Entry
+abbrev pub step_behind : Front → HeaderEntry → WalkStep Front HeaderEntry
 step_behind f e = record { value = e; size = header_size e.message; next = behind f e }
 
-values_found : (kind : Kind) (f : Front) (e : Entry) (rest : List ℕ) → HeaderFits kind f e → values_of (message_header kind f.offset e) (header_text (message_header kind f.offset e) ++ (subfields_text (subfields_of e.message) ++ rest)) ≡ message_values e.message
+values_found : (kind : Kind) (f : Front) (e : HeaderEntry) (rest : List ℕ) → HeaderFits kind f e → values_of (message_header kind f.offset e) (header_text (message_header kind f.offset e) ++ (subfields_text (subfields_of e.message) ++ rest)) ≡ message_values e.message
 unfolding message_header
 values_found kind f e rest fits =
     let h : MessageHeader = message_header kind f.offset e in
@@ -204,12 +204,12 @@ values_found kind f e rest fits =
     ∙ ap values_at (take_at subs rest (length subs) refl)
     ∙ values_again e.message (omega (arith, fits.short))
 
-step_is : (kind : Kind) (f : Front) (e : Entry) → HeaderFits kind f e → step_of f (message_header kind f.offset e) (message_values e.message) ≡ step_behind f e
+step_is : (kind : Kind) (f : Front) (e : HeaderEntry) → HeaderFits kind f e → step_of f (message_header kind f.offset e) (message_values e.message) ≡ step_behind f e
 unfolding message_header header_size
 step_is kind f e fits =
-    ap (λ (x : Entry). record { value = x; size = 76 + length (subfields_text (subfields_of e.message)); next = behind f x }) (entry_again kind f e fits)
+    ap (λ (x : HeaderEntry). record { value = x; size = 76 + length (subfields_text (subfields_of e.message)); next = behind f x }) (entry_again kind f e fits)
 
-pub header_again : (place : ℕ) (kind : Kind) (f : Front) (e : Entry) (rest : List ℕ) → f.offset < 2 ^ 32 → HeaderFits kind f e → header_at place kind f (entry_text kind f.offset e ++ rest) ≡ Ok (step_behind f e)
+pub header_again : (place : ℕ) (kind : Kind) (f : Front) (e : HeaderEntry) (rest : List ℕ) → f.offset < 2 ^ 32 → HeaderFits kind f e → header_at place kind f (entry_text kind f.offset e ++ rest) ≡ Ok (step_behind f e)
 unfolding header_at
 header_again place kind f e rest small fits =
     let h : MessageHeader = message_header kind f.offset e in
@@ -225,7 +225,7 @@ header_again place kind f e rest small fits =
     ap (λ (x : MessageHeader). step_of f x (values_of x bytes)) (sym stands.fields) ∙ (ap (λ (x : Values). step_of f h x) (sym found) ∙ step_is kind f e fits) in
     ap (header_at place kind f) (append_assoc (header_text h) subs rest)
     ∙ (kept_rules (jhr_file place) f.item (header_rules kind f bytes) (step_of f (message_header_at bytes) (values_of (message_header_at bytes) bytes)) rules
-    ∙ ap (λ (x : WalkStep Front Entry). Ok x) step)
+    ∙ ap (λ (x : WalkStep Front HeaderEntry). Ok x) step)
 
 -- ---- the headers, one after the other
 abbrev nothing : List ℕ
@@ -235,33 +235,33 @@ drop_none : (n : ℕ) → drop n (nothing) ≡ nothing
 drop_none zero = refl
 drop_none (suc n) = refl
 
-pub headers_take : (place : ℕ) (kind : Kind) (left : ℕ) (f : Front) (bytes : List ℕ) (es : List Entry) (last : Front) → All IsByte bytes → length bytes < 2 ^ 31 → walk_from (header_at place kind) left f bytes ≡ Ok (es, last) → (drop left bytes ≡ headers_text kind f.offset es) × HeadersFit kind f es
+pub headers_take : (place : ℕ) (kind : Kind) (left : ℕ) (f : Front) (bytes : List ℕ) (es : List HeaderEntry) (last : Front) → All IsByte bytes → length bytes < 2 ^ 31 → walk_from (header_at place kind) left f bytes ≡ Ok (es, last) → (drop left bytes ≡ headers_text kind f.offset es) × HeadersFit kind f es
 unfolding walk_from header_at
 headers_take place kind left f [] es last fits short e =
-    let none : [] ≡ es = ap (λ (x : List Entry × Front). x.0) (ok_is ([], f) (es, last) e) in
-    subst (λ (xs : List Entry). (drop left nothing ≡ headers_text kind f.offset xs) × HeadersFit kind f xs) none (drop_none left, tt)
+    let none : [] ≡ es = ap (λ (x : List HeaderEntry × Front). x.0) (ok_is ([], f) (es, last) e) in
+    subst (λ (xs : List HeaderEntry). (drop left nothing ≡ headers_text kind f.offset xs) × HeadersFit kind f xs) none (drop_none left, tt)
 headers_take place kind (suc left) f (b ∷ bytes) es last fits short e = headers_take place kind left f bytes es last (All-drop IsByte 1 (b ∷ bytes) fits) (omega arith) e
 headers_take place kind zero f (b ∷ bytes) es last fits short e =
     let whole : List ℕ = b ∷ bytes in
     let h : MessageHeader = message_header_at whole in
     let v : Values = values_of h whole in
-    let one : Entry = entry_of h v in
+    let one : HeaderEntry = entry_of h v in
     let a = bind_ok (header_at place kind f whole) (λ first. walk_from (header_at place kind) (first.size - 1) first.next bytes >>= λ others. Ok (first.value ∷ others.0, others.1)) (es, last) e in
     let d = bind_ok (walk_from (header_at place kind) (a.0.size - 1) a.0.next bytes) (λ others. Ok (a.0.value ∷ others.0, others.1)) (es, last) a.2 in
     let k = rules_kept (jhr_file place) f.item (header_rules kind f whole) (step_of f h v) a.0 a.1 in
     let first = header_takes kind f whole fits short (keep kind f whole k.0) in
     let others = headers_take place kind (a.0.size - 1) a.0.next bytes d.0.0 d.0.1 (All-drop IsByte 1 whole fits) (omega arith) d.1 in
-    let value : one ≡ a.0.value = ap (λ (x : WalkStep Front Entry). x.value) k.1 in
-    let size : 76 + h.subfield_len ≡ a.0.size = ap (λ (x : WalkStep Front Entry). x.size) k.1 in
-    let next : behind f one ≡ a.0.next = ap (λ (x : WalkStep Front Entry). x.next) k.1 in
+    let value : one ≡ a.0.value = ap (λ (x : WalkStep Front HeaderEntry). x.value) k.1 in
+    let size : 76 + h.subfield_len ≡ a.0.size = ap (λ (x : WalkStep Front HeaderEntry). x.size) k.1 in
+    let next : behind f one ≡ a.0.next = ap (λ (x : WalkStep Front HeaderEntry). x.next) k.1 in
     let rest : drop (76 + h.subfield_len) whole ≡ headers_text kind (f.offset + one.text_len) d.0.0 =
     ap (λ n. drop n whole) size ∙ (sym (drop_one a.0.size b bytes (omega (arith, size))) ∙ (others.0 ∙ ap (λ (x : Front). headers_text kind x.offset d.0.0) (sym next))) in
     let text : whole ≡ headers_text kind f.offset (one ∷ d.0.0) = first.0 ∙ ap (λ xs. entry_text kind f.offset one ++ xs) rest in
     let ok : HeadersFit kind f (one ∷ d.0.0) = (first.1, subst (λ (x : Front). HeadersFit kind x d.0.0) (sym next) others.1) in
-    let all : a.0.value ∷ d.0.0 ≡ es = ap (λ (x : List Entry × Front). x.0) (ok_is (a.0.value ∷ d.0.0, d.0.1) (es, last) d.2) in
-    subst (λ (xs : List Entry). (whole ≡ headers_text kind f.offset xs) × HeadersFit kind f xs) (ap (λ (x : Entry). x ∷ d.0.0) value ∙ all) (text, ok)
+    let all : a.0.value ∷ d.0.0 ≡ es = ap (λ (x : List HeaderEntry × Front). x.0) (ok_is (a.0.value ∷ d.0.0, d.0.1) (es, last) d.2) in
+    subst (λ (xs : List HeaderEntry). (whole ≡ headers_text kind f.offset xs) × HeadersFit kind f xs) (ap (λ (x : HeaderEntry). x ∷ d.0.0) value ∙ all) (text, ok)
 
-pub entry_length : (kind : Kind) (offset : ℕ) (e : Entry) → length (entry_text kind offset e) ≡ header_size e.message
+pub entry_length : (kind : Kind) (offset : ℕ) (e : HeaderEntry) → length (entry_text kind offset e) ≡ header_size e.message
 unfolding header_size
 entry_length kind offset e =
     let h : MessageHeader = message_header kind offset e in
@@ -271,7 +271,7 @@ size_some : (m : Message) → 0 < header_size m
 unfolding header_size
 size_some m = omega arith
 
-pub headers_again : (place : ℕ) (kind : Kind) (f : Front) (es : List Entry) → f.offset ≤ 16384 * f.last → f.last ≤ slot_limit → HeadersFit kind f es → (last : Front) × (walk (header_at place kind) f (headers_text kind f.offset es) ≡ Ok (es, last))
+pub headers_again : (place : ℕ) (kind : Kind) (f : Front) (es : List HeaderEntry) → f.offset ≤ 16384 * f.last → f.last ≤ slot_limit → HeadersFit kind f es → (last : Front) × (walk (header_at place kind) f (headers_text kind f.offset es) ≡ Ok (es, last))
 headers_again place kind f [] small few fits = (f, walk_done (header_at place kind) f [] refl)
 headers_again place kind f (e ∷ es) small few fits =
     let rest : List ℕ = headers_text kind (f.offset + e.text_len) es in

@@ -14,7 +14,7 @@ use Rattle.jam_layout.specs.declared.error.BaseError.{BaseError}
 use Rattle.jam_layout.specs.declared.error.BaseError.TheVariants.{Damaged, OutOfMemory}
 use Rattle.jam_records.specs.MessageHeaders.{message_header_at}
 use Rattle.jam_records.specs.declared.message.Kind.{Kind}
-use Rattle.jam_layout.specs.declared.entry.Entry.{Entry}
+use Rattle.jam_layout.specs.declared.entry.HeaderEntry.{HeaderEntry}
 use Rattle.jam_layout.specs.declared.entry.Front.{Front}
 use Rattle.jam_layout.specs.Fields.{values_at}
 use Rattle.jam_layout.specs.Headers.{front_rules, field_rules, length_rules, value_rules, header_rules, values_of, entry_of, step_of, header_at}
@@ -107,7 +107,7 @@ header_read place kind f bytes h v is values =
     let k = rules_kept (jhr_file place) f.item (length_rules h bytes ++ value_rules h (values_of h bytes)) (values_of h bytes) v values in
     behind_it place kind f bytes h is ∙ (kept_rules (jhr_file place) f.item (length_rules h bytes ++ value_rules h (values_of h bytes)) (step_of f h (values_of h bytes)) k.0 ∙ ap (λ (y : Values). Ok (step_of f h y)) k.1)
 
-pub record Bounds (f : Front) (e : Entry) : Type 0 where
+pub record Bounds (f : Front) (e : HeaderEntry) : Type 0 where
   pub rising : f.last < e.number
   pub few : e.number ≤ slot_limit
   pub text : e.text_len ≤ 16384

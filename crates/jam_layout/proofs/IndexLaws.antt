@@ -20,7 +20,7 @@ use Rattle.damage_rules.specs.Walk.{WalkStep, walk_from, walk}
 use Rattle.jam_layout.specs.Headers.{header_size}
 use Rattle.jam_layout.specs.Layout.{entries_of}
 use Rattle.jam_layout.specs.Index.{index_records, Pending, Expected, none_here, one_here, expected_of, expected, index_rules, slot_at}
-use Rattle.jam_layout.specs.declared.entry.Entry.{Entry}
+use Rattle.jam_layout.specs.declared.entry.HeaderEntry.{HeaderEntry}
 use Rattle.damage_rules.proofs.KeptRules.{Kept, rules_kept, kept_rules, bind_ok, ok_is}
 use Rattle.damage_rules.proofs.RecordWalks.{walk_more, walk_done, behind_first, drop_one}
 use Rattle.jam_layout.proofs.RecordFronts.{index_front}
@@ -55,27 +55,27 @@ pub chosen : (P : Expected → Type 0) (b : Bool) (x y : Expected) → (b ≡ tr
 chosen P true x y f g = f refl
 chosen P false x y f g = g refl
 
-abbrev pub made : ℕ → Link → Message → Entry
+abbrev pub made : ℕ → Link → Message → HeaderEntry
 made number link message = record { number = number; text_len = length message.body; link = link; message = message }
 
 -- each entry has the links of its number, and the length of its body
-abbrev pub Linked : (ℕ → Link) → List Entry → Type 0
+abbrev pub Linked : (ℕ → Link) → List HeaderEntry → Type 0
 Linked links [] = Unit {0}
 Linked links (e ∷ es) = ((e.link ≡ links e.number) × (e.text_len ≡ length e.message.body)) × Linked links es
 
 -- the record and the slots behind it are those of the messages
-record Behind (links : ℕ → Link) (j at : ℕ) (entries : List Entry) (slots : List Slot) (x : Expected) : Type 0 where
+record Behind (links : ℕ → Link) (j at : ℕ) (entries : List HeaderEntry) (slots : List Slot) (x : Expected) : Type 0 where
   linked : Linked links x.next.entries
   item : x.next.item ≡ j + 1
   layout : index_text x.pair ++ index_records x.next.at slots ≡ index_records at (x.slot ∷ slots)
   numbered : entries_of links (j + 1 + 1) slots ≡ x.next.entries → entries_of links (j + 1) (x.slot ∷ slots) ≡ entries
 
-same_entry : (links : ℕ → Link) (e : Entry) (n : ℕ) → e.number ≡ n → e.link ≡ links e.number → e.text_len ≡ length e.message.body → made n (links n) e.message ≡ e
+same_entry : (links : ℕ → Link) (e : HeaderEntry) (n : ℕ) → e.number ≡ n → e.link ≡ links e.number → e.text_len ≡ length e.message.body → made n (links n) e.message ≡ e
 same_entry links e n number link len =
     let l : links n ≡ e.link = ap links (sym number) ∙ sym link in
     λ i. record { number = sym number i; text_len = sym len i; link = l i; message = e.message }
 
-one_slot : (links : ℕ → Link) (j at : ℕ) (entries : List Entry) (slots : List Slot) → Linked links entries → Behind links j at entries slots (expected_of j at entries)
+one_slot : (links : ℕ → Link) (j at : ℕ) (entries : List HeaderEntry) (slots : List Slot) → Linked links entries → Behind links j at entries slots (expected_of j at entries)
 unfolding expected_of
 one_slot links j at [] slots linked = record { linked = tt; item = refl; layout = refl; numbered = λ e. e }
 one_slot links j at (p ∷ entries) slots linked = chosen (Behind links j at (p ∷ entries) slots) (eqb p.number (j + 1)) (one_here j at p entries) (none_here j at (p ∷ entries))
@@ -122,12 +122,12 @@ RoomFor at (Gone ∷ slots) = RoomFor at slots
 RoomFor at (Held m ∷ slots) = (at < 2 ^ 32) × (jam_crc m.to < 2 ^ 32) × RoomFor (at + header_size m) slots
 
 -- the number of the first message is at least that of the first slot
-pub first_number : (links : ℕ → Link) (n : ℕ) (slots : List Slot) (e : Entry) (entries : List Entry) → entries_of links n slots ≡ e ∷ entries → n ≤ e.number
+pub first_number : (links : ℕ → Link) (n : ℕ) (slots : List Slot) (e : HeaderEntry) (entries : List HeaderEntry) → entries_of links n slots ≡ e ∷ entries → n ≤ e.number
 first_number links n [] e entries is = absurd cc
 first_number links n (Gone ∷ slots) e entries is = omega (arith, first_number links (n + 1) slots e entries is)
-first_number links n (Held m ∷ slots) e entries is = let h : made n (links n) m ≡ e = cc in omega (arith, ap (λ (q : Entry). q.number) h)
+first_number links n (Held m ∷ slots) e entries is = let h : made n (links n) m ≡ e = cc in omega (arith, ap (λ (q : HeaderEntry). q.number) h)
 
-expected_gone : (links : ℕ → Link) (j at : ℕ) (entries : List Entry) (slots : List Slot) → entries_of links (j + 1 + 1) slots ≡ entries → expected_of j at entries ≡ none_here j at entries
+expected_gone : (links : ℕ → Link) (j at : ℕ) (entries : List HeaderEntry) (slots : List Slot) → entries_of links (j + 1 + 1) slots ≡ entries → expected_of j at entries ≡ none_here j at entries
 unfolding expected_of
 expected_gone links j at [] slots e = refl
 expected_gone links j at (p ∷ entries) slots e =
@@ -135,7 +135,7 @@ expected_gone links j at (p ∷ entries) slots e =
     let other : eqb p.number (j + 1) ≡ false = grind (arith, nat_tests) in
     ap (λ b. cond b (one_here j at p entries) (none_here j at (p ∷ entries))) other
 
-pub expected_held : (j at : ℕ) (p : Entry) (entries : List Entry) → p.number ≡ j + 1 → expected_of j at (p ∷ entries) ≡ one_here j at p entries
+pub expected_held : (j at : ℕ) (p : HeaderEntry) (entries : List HeaderEntry) → p.number ≡ j + 1 → expected_of j at (p ∷ entries) ≡ one_here j at p entries
 unfolding expected_of
 expected_held j at p entries e = ap (λ b. cond b (one_here j at p entries) (none_here j at (p ∷ entries))) (eq-eqb p.number (j + 1) e)
 
@@ -162,13 +162,13 @@ record_again place s x rest is a b =
 pub slots_again : (links : ℕ → Link) (place j at : ℕ) (slots : List Slot) → RoomFor at slots → (last : Pending) × (walk (slot_at place) (record { item = j; at = at; entries = entries_of links (j + 1) slots }) (index_records at slots) ≡ Ok (slots, last)) × (last.entries ≡ [])
 slots_again links place j at [] room = (record { item = j; at = at; entries = [] }, walk_done (slot_at place) (record { item = j; at = at; entries = [] }) [] refl, refl)
 slots_again links place j at (Gone ∷ slots) room =
-    let entries : List Entry = entries_of links (j + 1 + 1) slots in
+    let entries : List HeaderEntry = entries_of links (j + 1 + 1) slots in
     let r = slots_again links place (j + 1) at slots room in
     let one = record_again place (record { item = j; at = at; entries = entries }) (none_here j at entries) (index_records at slots) (expected_gone links j at entries slots refl) (omega arith) (omega arith) in
     (r.0, one ∙ ap (behind_first Gone) r.1, r.2)
 slots_again links place j at (Held m ∷ slots) room =
-    let entries : List Entry = entries_of links (j + 1 + 1) slots in
-    let p : Entry = made (j + 1) (links (j + 1)) m in
+    let entries : List HeaderEntry = entries_of links (j + 1 + 1) slots in
+    let p : HeaderEntry = made (j + 1) (links (j + 1)) m in
     let r = slots_again links place (j + 1) (at + header_size m) slots room.2 in
     let one = record_again place (record { item = j; at = at; entries = p ∷ entries }) (one_here j at p entries) (index_records (at + header_size m) slots) (expected_held j at p entries refl) room.1 room.0 in
     (r.0, one ∙ ap (behind_first (Held m)) r.1, r.2)

@@ -26,15 +26,15 @@ use Rattle.jam_records.specs.declared.subfield.Subfield.{Subfield}
 use Rattle.jam_threads.specs.declared.link.Link.{Link}
 use Rattle.jam_layout.specs.Address.{is_address}
 use Rattle.jam_layout.specs.Bodies.{bodies_text}
-use Rattle.jam_layout.specs.Fields.{field, subfields_of, is_text}
+use Rattle.jam_layout.specs.Fields.{value_subfields, subfields_of, is_text}
 use Rattle.jam_layout.specs.Headers.{message_header, entry_text, headers_text, header_size}
 use Rattle.jam_layout.specs.Index.{no_pair, pair_of, index_records}
 use Rattle.jam_layout.specs.Layout.{entries_of, entries_in, base_header, layout}
 use Rattle.jam_layout.specs.Messages.{EmptyOr, AreBytes, IsMessage, IsSlot}
 use Rattle.jam_layout.specs.Readers.{last_read, last_reads}
 use Rattle.jam_layout.specs.Valid.{BaseFilesFit, IsConference}
-use Rattle.jam_layout.specs.declared.conference.Conference.{Conference}
-use Rattle.jam_layout.specs.declared.entry.Entry.{Entry}
+use Rattle.jam_layout.specs.declared.conference.ConferenceContents.{ConferenceContents}
+use Rattle.jam_layout.specs.declared.entry.HeaderEntry.{HeaderEntry}
 use Rattle.jam_layout.specs.declared.reader.Reader.{Reader}
 use Rattle.jam_layout.specs.declared.shape.Shape.{Shape}
 use Rattle.jam_layout.proofs.AddressLaws.{test_is}
@@ -82,24 +82,24 @@ subfield_bytes s value =
     both (u16_text s.lo) (u16_text s.hi ++ (u32_text (length s.value) ++ s.value)) (number_bytes 0 2 s.lo)
     (both (u16_text s.hi) (u32_text (length s.value) ++ s.value) (number_bytes 0 2 s.hi) (both (u32_text (length s.value)) s.value (number_bytes 0 4 (length s.value)) value))
 
-field_bytes : (id : ℕ) (value : List ℕ) → All IsByte value → All IsByte (subfields_text (field id value))
+field_bytes : (id : ℕ) (value : List ℕ) → All IsByte value → All IsByte (subfields_text (value_subfields id value))
 field_bytes id [] all = All-nil IsByte
 field_bytes id (b ∷ value) all = both (subfield_text (subfield id (b ∷ value))) [] (subfield_bytes (subfield id (b ∷ value)) all) (All-nil IsByte)
 
 subfields_bytes : (m : Message) → AreBytes m → All IsByte (subfields_text (subfields_of m))
 unfolding subfields_of
 subfields_bytes m bytes =
-    let a : List ℕ = subfields_text (field 0 m.origin) in
-    let b : List ℕ = subfields_text (field 1 m.destination) in
-    let c : List ℕ = subfields_text (field 2 m.from) in
-    let d : List ℕ = subfields_text (field 3 m.to) in
-    let e : List ℕ = subfields_text (field 4 m.msgid) in
-    let f : List ℕ = subfields_text (field 5 m.replyid) in
-    let g : List ℕ = subfields_text (field 6 m.subject) in
+    let a : List ℕ = subfields_text (value_subfields 0 m.origin) in
+    let b : List ℕ = subfields_text (value_subfields 1 m.destination) in
+    let c : List ℕ = subfields_text (value_subfields 2 m.from) in
+    let d : List ℕ = subfields_text (value_subfields 3 m.to) in
+    let e : List ℕ = subfields_text (value_subfields 4 m.msgid) in
+    let f : List ℕ = subfields_text (value_subfields 5 m.replyid) in
+    let g : List ℕ = subfields_text (value_subfields 6 m.subject) in
     let ids : All IsByte (e ++ (f ++ g)) = both e (f ++ g) (field_bytes 4 m.msgid bytes.msgid) (both f g (field_bytes 5 m.replyid bytes.replyid) (field_bytes 6 m.subject bytes.subject)) in
     let names : All IsByte (c ++ (d ++ (e ++ (f ++ g)))) = both c (d ++ (e ++ (f ++ g))) (field_bytes 2 m.from bytes.from) (both d (e ++ (f ++ g)) (field_bytes 3 m.to bytes.to) ids) in
     let all : All IsByte (a ++ (b ++ (c ++ (d ++ (e ++ (f ++ g)))))) = both a (b ++ (c ++ (d ++ (e ++ (f ++ g))))) (field_bytes 0 m.origin bytes.origin) (both b (c ++ (d ++ (e ++ (f ++ g)))) (field_bytes 1 m.destination bytes.destination) names) in
-    subst (All IsByte) (sym (texts (field 0 m.origin) (field 1 m.destination) (field 2 m.from) (field 3 m.to) (field 4 m.msgid) (field 5 m.replyid) (field 6 m.subject))) all
+    subst (All IsByte) (sym (texts (value_subfields 0 m.origin) (value_subfields 1 m.destination) (value_subfields 2 m.from) (value_subfields 3 m.to) (value_subfields 4 m.msgid) (value_subfields 5 m.replyid) (value_subfields 6 m.subject))) all
 
 -- ---- lengths of texts
 text_at_most : (most : ℕ) (text : List ℕ) → IsTrue (is_text most text) → length text ≤ most
@@ -142,7 +142,7 @@ address_at_most : (text : List ℕ) → EmptyOr is_address text → length text 
 address_at_most text (inl none) = omega (arith, none)
 address_at_most text (inr ok) = address_most text ok
 
-field_at_most : (id most : ℕ) (value : List ℕ) → length value ≤ most → length (subfields_text (field id value)) ≤ 8 + most
+field_at_most : (id most : ℕ) (value : List ℕ) → length value ≤ most → length (subfields_text (value_subfields id value)) ≤ 8 + most
 field_at_most id most [] le = omega arith
 field_at_most id most (b ∷ value) le = omega (arith, field_length id (b ∷ value) (omega arith), le)
 
@@ -162,7 +162,7 @@ size_at_most kind m ok =
     )
 
 -- ---- the texts of slots
-abbrev entry_at : (ℕ → Link) → ℕ → Message → Entry
+abbrev entry_at : (ℕ → Link) → ℕ → Message → HeaderEntry
 entry_at links n m = record { number = n; text_len = length m.body; link = links n; message = m }
 
 tail : (kind : Kind) (s : Slot) (slots : List Slot) → All (IsSlot kind) (s ∷ slots) → All (IsSlot kind) slots
@@ -175,7 +175,7 @@ headers_bytes : (links : ℕ → Link) (kind : Kind) (offset n : ℕ) (slots : L
 headers_bytes links kind offset n [] all = All-nil IsByte
 headers_bytes links kind offset n (Gone ∷ slots) all = headers_bytes links kind offset (n + 1) slots (tail kind Gone slots all)
 headers_bytes links kind offset n (Held m ∷ slots) all =
-    let e : Entry = entry_at links n m in
+    let e : HeaderEntry = entry_at links n m in
     let rest : List ℕ = headers_text kind (offset + length m.body) (entries_of links (n + 1) slots) in
     both (entry_text kind offset e) rest (both (header_text (message_header kind offset e)) (subfields_text (subfields_of m)) (header_bytes (message_header kind offset e)) (subfields_bytes m (head kind m slots all).bytes))
     (headers_bytes links kind (offset + length m.body) (n + 1) slots (tail kind (Held m) slots all))
@@ -184,7 +184,7 @@ headers_at_most : (links : ℕ → Link) (kind : Kind) (offset n : ℕ) (slots :
 headers_at_most links kind offset n [] all = omega arith
 headers_at_most links kind offset n (Gone ∷ slots) all = omega (arith, headers_at_most links kind offset (n + 1) slots (tail kind Gone slots all))
 headers_at_most links kind offset n (Held m ∷ slots) all =
-    let e : Entry = entry_at links n m in
+    let e : HeaderEntry = entry_at links n m in
     let rest : List ℕ = headers_text kind (offset + length m.body) (entries_of links (n + 1) slots) in
     omega (arith, length-append (entry_text kind offset e) rest, entry_length kind offset e, size_at_most kind m (head kind m slots all), headers_at_most links kind (offset + length m.body) (n + 1) slots (tail kind (Held m) slots all))
 
@@ -212,7 +212,7 @@ lasts_bytes (r ∷ readers) [] = All-nil IsByte
 lasts_bytes (r ∷ readers) (p ∷ pointers) = both (last_text (last_read r p)) (last_reads readers pointers) (last_bytes (last_read r p)) (lasts_bytes readers pointers)
 
 -- ---- the four files
-pub layout_fits : (shape : Shape) (c : Conference) → IsConference shape c → BaseFilesFit (layout shape c)
+pub layout_fits : (shape : Shape) (c : ConferenceContents) → IsConference shape c → BaseFilesFit (layout shape c)
 layout_fits shape c ok =
     let links : ℕ → Link = link_of c.slots in
     let base : List ℕ = base_text (base_header shape c) in

@@ -19,7 +19,7 @@ use Rattle.jam_layout.specs.Layout.{entries_of}
 use Rattle.jam_layout.specs.Outlines.{slot_bare}
 use Rattle.jam_layout.specs.Conference.{is_live, live_count}
 use Rattle.jam_layout.specs.SecondPass.{slots_of, active_in, same_link, links_at}
-use Rattle.jam_layout.specs.declared.entry.Entry.{Entry}
+use Rattle.jam_layout.specs.declared.entry.HeaderEntry.{HeaderEntry}
 use Rattle.damage_rules.proofs.KeptRules.{rules_kept, kept_rules, bind_ok}
 use Rattle.jam_layout.proofs.BodyLaws.{bare}
 use Rattle.jam_layout.proofs.IndexLaws.{first_number}
@@ -84,7 +84,7 @@ link_gone (suc k) slots n within =
     ∙ (link_gone k (slots ++ Gone ∷ []) n more ∙ link_same slots Gone n within refl)
 
 -- ---- the slots of the entries are those that the entries came from
-gone_more : (links : ℕ → Link) (n : ℕ) (slots : List Slot) (es : List Entry) (k : ℕ) → entries_of links (n + 1) slots ≡ es → slots ≡ slots_of (n + 1) es ++ replicate k Gone → (j : ℕ) × (Gone ∷ slots ≡ slots_of n es ++ replicate j Gone)
+gone_more : (links : ℕ → Link) (n : ℕ) (slots : List Slot) (es : List HeaderEntry) (k : ℕ) → entries_of links (n + 1) slots ≡ es → slots ≡ slots_of (n + 1) es ++ replicate k Gone → (j : ℕ) × (Gone ∷ slots ≡ slots_of n es ++ replicate j Gone)
 gone_more links n slots [] k is e = (suc k, ap (λ (xs : List Slot). Gone ∷ xs) e)
 gone_more links n slots (p ∷ es) k is e =
     let more : n + 1 ≤ p.number = first_number links (n + 1) slots p es is in
@@ -104,7 +104,7 @@ map_gone : (k : ℕ) (xs : List Slot) → map slot_bare (replicate k Gone ++ xs)
 map_gone zero xs = refl
 map_gone (suc k) xs = ap (λ (ys : List Slot). Gone ∷ ys) (map_gone k xs)
 
-pub slots_bare : (n : ℕ) (es : List Entry) → slots_of n (map bare es) ≡ map slot_bare (slots_of n es)
+pub slots_bare : (n : ℕ) (es : List HeaderEntry) → slots_of n (map bare es) ≡ map slot_bare (slots_of n es)
 slots_bare n [] = refl
 slots_bare n (e ∷ es) =
     ap (λ (xs : List Slot). replicate (e.number - n) Gone ++ slot_bare (Held e.message) ∷ xs) (slots_bare (e.number + 1) es)
@@ -113,23 +113,23 @@ slots_bare n (e ∷ es) =
 -- the links of the headers are those of the slots
 pub links_same : (links : ℕ → Link) (slots : List Slot) (n : ℕ) → n < length (slots_of 1 (entries_of links 1 slots)) → link_of (slots_of 1 (map bare (entries_of links 1 slots))) (suc n) ≡ link_of slots (suc n)
 links_same links slots n within =
-    let es : List Entry = entries_of links 1 slots in
+    let es : List HeaderEntry = entries_of links 1 slots in
     let back = slots_back links 1 slots in
     ap (λ (xs : List Slot). link_of xs (suc n)) (slots_bare 1 es)
     ∙ (link_bare (slots_of 1 es) (suc n)
     ∙ (sym (link_gone back.0 (slots_of 1 es) n within) ∙ ap (λ (xs : List Slot). link_of xs (suc n)) (sym back.1)))
 
 -- ---- each entry has the links of its number
-abbrev pub LinksFit : (ℕ → Link) → List Entry → Type 0
+abbrev pub LinksFit : (ℕ → Link) → List HeaderEntry → Type 0
 LinksFit links [] = Unit {0}
 LinksFit links (e ∷ es) = (e.link ≡ links e.number) × LinksFit links es
 
 -- the numbers are from 1 to k
-abbrev pub Below : ℕ → List Entry → Type 0
+abbrev pub Below : ℕ → List HeaderEntry → Type 0
 Below k [] = Unit {0}
 Below k (e ∷ es) = (0 < e.number) × (e.number ≤ k) × Below k es
 
-pub links_move : (f g : ℕ → Link) (k : ℕ) (es : List Entry) → ((n : ℕ) → n < k → f (suc n) ≡ g (suc n)) → Below k es → LinksFit f es → LinksFit g es
+pub links_move : (f g : ℕ → Link) (k : ℕ) (es : List HeaderEntry) → ((n : ℕ) → n < k → f (suc n) ≡ g (suc n)) → Below k es → LinksFit f es → LinksFit g es
 links_move f g k [] same below fits = tt
 links_move f g k (e ∷ es) same below fits =
     let some = below.0 in
@@ -139,7 +139,7 @@ links_move f g k (e ∷ es) same below fits =
     (fits.0 ∙ one, links_move f g k es same below.2 fits.1)
 
 -- the numbers rise from n on
-abbrev pub Rising : ℕ → List Entry → Type 0
+abbrev pub Rising : ℕ → List HeaderEntry → Type 0
 Rising n [] = Unit {0}
 Rising n (e ∷ es) = (n ≤ e.number) × Rising (e.number + 1) es
 
@@ -147,14 +147,14 @@ pub length_gone : (k : ℕ) (xs : List Slot) → length (replicate k Gone ++ xs)
 length_gone zero xs = omega arith
 length_gone (suc k) xs = omega (arith, length_gone k xs)
 
-below_slots : (n k : ℕ) (es : List Entry) → 0 < n → Rising n es → n + length (slots_of n es) ≤ suc k → Below k es
+below_slots : (n k : ℕ) (es : List HeaderEntry) → 0 < n → Rising n es → n + length (slots_of n es) ≤ suc k → Below k es
 below_slots n k [] some rising le = tt
 below_slots n k (e ∷ es) some rising le =
     let first = rising.0 in
     let len = length_gone (e.number - n) (Held e.message ∷ slots_of (e.number + 1) es) in
     (omega arith, omega (arith, len), below_slots (e.number + 1) k es (omega arith) rising.1 (omega (arith, len)))
 
-pub below_all : (es : List Entry) → Rising 1 es → Below (length (slots_of 1 es)) es
+pub below_all : (es : List HeaderEntry) → Rising 1 es → Below (length (slots_of 1 es)) es
 below_all es rising = below_slots 1 (length (slots_of 1 es)) es (omega arith) rising (omega arith)
 
 same_is : (a b : Link) → same_link a b ≡ true → a ≡ b
@@ -172,7 +172,7 @@ is_same a b e = and_from _ _ (and_from _ _ (eq-eqb a.to b.to (ap (λ (x : Link).
 abbrev unit : Result (Unit {0}) Damage
 unit = Ok (tt {0})
 
-pub links_take : (place : ℕ) (slots : List Slot) (i : ℕ) (es : List Entry) → links_at place slots i es ≡ unit → LinksFit (link_of slots) es
+pub links_take : (place : ℕ) (slots : List Slot) (i : ℕ) (es : List HeaderEntry) → links_at place slots i es ≡ unit → LinksFit (link_of slots) es
 links_take place slots i [] e = tt
 links_take place slots i (p ∷ es) e =
     let rules = (Links, not (same_link p.link (link_of slots p.number))) ∷ [] in
@@ -180,7 +180,7 @@ links_take place slots i (p ∷ es) e =
     let k = rules_kept (jhr_file place) i rules (tt {0}) a.0 a.1 in
     (same_is p.link (link_of slots p.number) (not_not (same_link p.link (link_of slots p.number)) k.0.0), links_take place slots (i + 1) es a.2)
 
-pub links_again : (place : ℕ) (slots : List Slot) (i : ℕ) (es : List Entry) → LinksFit (link_of slots) es → links_at place slots i es ≡ unit
+pub links_again : (place : ℕ) (slots : List Slot) (i : ℕ) (es : List HeaderEntry) → LinksFit (link_of slots) es → links_at place slots i es ≡ unit
 links_again place slots i [] fits = refl
 links_again place slots i (p ∷ es) fits =
     let rules = (Links, not (same_link p.link (link_of slots p.number))) ∷ [] in

@@ -23,7 +23,7 @@ use Rattle.jam_layout.specs.Layout.{entries_of, base_header, layout}
 use Rattle.jam_layout.specs.Messages.{AreBytes, IsBody, IsMessage, IsSlot}
 use Rattle.jam_layout.specs.Outlines.{line_ends, message_outline, slot_outline, outline, slot_with, slot_bare, SameButBodies}
 use Rattle.jam_layout.specs.Valid.{IsConference, PointersFit}
-use Rattle.jam_layout.specs.declared.conference.Conference.{Conference}
+use Rattle.jam_layout.specs.declared.conference.ConferenceContents.{ConferenceContents}
 use Rattle.jam_layout.specs.declared.shape.Shape.{Shape}
 use Rattle.jam_layout.proofs.IndexLaws.{made}
 use Rattle.jam_layout.proofs.LinkLaws.{link_bare}
@@ -88,16 +88,16 @@ index_outline at (Held m ∷ slots) =
     ∙ ap (λ xs. index_text (pair_of m at) ++ xs) (index_outline (at + header_size m) slots)
 
 -- the header of a base with so many messages that aren't deleted
-abbrev header_with : Shape → Conference → ℕ → BaseHeader
+abbrev header_with : Shape → ConferenceContents → ℕ → BaseHeader
 header_with shape c active = record { created = shape.created; mod_counter = c.counter; active = active; password_crc = 0xFFFF_FFFF; base_number = 1 }
 
-jhr_outline : (shape : Shape) (c : Conference) → (layout shape (outline c)).jhr ≡ (layout shape c).jhr
+jhr_outline : (shape : Shape) (c : ConferenceContents) → (layout shape (outline c)).jhr ≡ (layout shape c).jhr
 jhr_outline shape c =
     ap (λ n. base_text (header_with shape c n) ++ headers_text shape.kind 0 (entries_of (link_of (map slot_outline c.slots)) 1 (map slot_outline c.slots))) (live_outline c.slots)
     ∙ (ap (λ (links : ℕ → Link). base_text (base_header shape c) ++ headers_text shape.kind 0 (entries_of links 1 (map slot_outline c.slots))) (links_outline c.slots)
     ∙ ap (λ xs. base_text (base_header shape c) ++ xs) (headers_outline (link_of c.slots) shape.kind 0 1 c.slots))
 
-pub files_outline : (shape : Shape) (c : Conference) → layout shape (outline c) ≡ record (layout shape c) { jdt = (layout shape (outline c)).jdt }
+pub files_outline : (shape : Shape) (c : ConferenceContents) → layout shape (outline c) ≡ record (layout shape c) { jdt = (layout shape (outline c)).jdt }
 files_outline shape c = λ i. record { jhr = jhr_outline shape c i; jdt = (layout shape (outline c)).jdt; jdx = index_outline 1024 c.slots i; jlr = (layout shape c).jlr }
 
 bodies_outline : (f g : ℕ → Link) (n : ℕ) (slots : List Slot) → length (bodies_text (entries_of f n (map slot_outline slots))) ≡ length (bodies_text (entries_of g n slots))
@@ -106,7 +106,7 @@ bodies_outline f g n (Gone ∷ slots) = bodies_outline f g (n + 1) slots
 bodies_outline f g n (Held m ∷ slots) =
     omega (arith, length-append (line_ends (length m.body)) (bodies_text (entries_of f (n + 1) (map slot_outline slots))), length-append m.body (bodies_text (entries_of g (n + 1) slots)), length_ends (length m.body), bodies_outline f g (n + 1) slots)
 
-pub jdt_outline : (shape : Shape) (c : Conference) → length (layout shape (outline c)).jdt ≡ length (layout shape c).jdt
+pub jdt_outline : (shape : Shape) (c : ConferenceContents) → length (layout shape (outline c)).jdt ≡ length (layout shape c).jdt
 jdt_outline shape c = bodies_outline (link_of (map slot_outline c.slots)) (link_of c.slots) 1 c.slots
 
 -- ---- an outline is a conference
@@ -149,7 +149,7 @@ slots_are kind [] all = All-nil (IsSlot kind)
 slots_are kind (s ∷ slots) all =
     All-cons (IsSlot kind) (slot_outline s) (map slot_outline slots) (slot_is kind s (All-head (IsSlot kind) s slots all)) (slots_are kind slots (All-tail (IsSlot kind) s slots all))
 
-pub conference_outline : (shape : Shape) (c : Conference) → IsConference shape c → IsConference shape (outline c)
+pub conference_outline : (shape : Shape) (c : ConferenceContents) → IsConference shape c → IsConference shape (outline c)
 conference_outline shape c ok =
     let len = length-map c.slots slot_outline in
     let few = ok.few in
@@ -183,15 +183,15 @@ lengths_all [] = refl
 lengths_all (s ∷ slots) = λ i. length_one s i ∷ lengths_all slots i
 
 -- ---- two conferences with one outline differ in bodies alone, of one length
-pub one_outline : (a b : Conference) → outline a ≡ outline b → SameButBodies a b
+pub one_outline : (a b : ConferenceContents) → outline a ≡ outline b → SameButBodies a b
 one_outline a b e = record {
-  counter = ap (λ (c : Conference). c.counter) e;
-  slots = sym (bare_all a.slots) ∙ (ap (λ (c : Conference). map slot_bare c.slots) e ∙ bare_all b.slots);
-  lengths = sym (lengths_all a.slots) ∙ (ap (λ (c : Conference). map body_size c.slots) e ∙ lengths_all b.slots);
-  pointers = ap (λ (c : Conference). c.pointers) e;
+  counter = ap (λ (c : ConferenceContents). c.counter) e;
+  slots = sym (bare_all a.slots) ∙ (ap (λ (c : ConferenceContents). map slot_bare c.slots) e ∙ bare_all b.slots);
+  lengths = sym (lengths_all a.slots) ∙ (ap (λ (c : ConferenceContents). map body_size c.slots) e ∙ lengths_all b.slots);
+  pointers = ap (λ (c : ConferenceContents). c.pointers) e;
 }
 
-pub same_outline : (a b : Conference) → SameButBodies a b → outline a ≡ outline b
+pub same_outline : (a b : ConferenceContents) → SameButBodies a b → outline a ≡ outline b
 same_outline a b same =
     let slots : map slot_outline a.slots ≡ map slot_outline b.slots = sym (filled_all a.slots) ∙ ((λ i. slots_with (same.lengths i) (same.slots i)) ∙ filled_all b.slots) in
     λ i. record { counter = same.counter i; slots = slots i; pointers = same.pointers i }

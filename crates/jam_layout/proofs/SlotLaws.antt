@@ -13,14 +13,14 @@ use Rattle.jam_records.specs.declared.message.Slot.TheVariants.{Gone, Held}
 use Rattle.jam_threads.specs.declared.link.Link.{Link}
 use Rattle.jam_layout.specs.Layout.{entries_of}
 use Rattle.jam_layout.specs.Bodies.{message_with, bodies_text}
-use Rattle.jam_layout.specs.Fields.{field, subfields_of}
+use Rattle.jam_layout.specs.Fields.{value_subfields, subfields_of}
 use Rattle.jam_layout.specs.Headers.{message_header, entry_text, headers_text, header_size, behind}
 use Rattle.jam_records.specs.IndexRecords.{index_text}
 use Rattle.jam_records.specs.declared.index_record.IndexRecord.{IndexRecord}
 use Rattle.jam_layout.specs.Index.{index_records, no_pair, pair_of}
 use Rattle.jam_layout.specs.Limits.{slot_limit}
 use Rattle.jam_layout.specs.Messages.{AreBytes, IsMessage, IsSlot}
-use Rattle.jam_layout.specs.declared.entry.Entry.{Entry}
+use Rattle.jam_layout.specs.declared.entry.HeaderEntry.{HeaderEntry}
 use Rattle.jam_layout.specs.declared.entry.Front.{Front}
 use Rattle.jam_layout.proofs.BodyLaws.{bare, Bodiless, BodiesFit}
 use Rattle.jam_layout.proofs.CrcLaws.{crc_small}
@@ -39,7 +39,7 @@ all_left xs ys all = subst (All IsByte) (take_at xs ys (length xs) refl) (All-ta
 all_right : (xs ys : List ℕ) → All IsByte (xs ++ ys) → All IsByte ys
 all_right xs ys all = subst (All IsByte) (drop_at xs ys (length xs) refl) (All-drop IsByte (length xs) (xs ++ ys) all)
 
-value_bytes : (id : ℕ) (value : List ℕ) → All IsByte (subfields_text (field id value)) → All IsByte value
+value_bytes : (id : ℕ) (value : List ℕ) → All IsByte (subfields_text (value_subfields id value)) → All IsByte value
 value_bytes id [] all = all
 value_bytes id (b ∷ value) all =
     let s = subfield id (b ∷ value) in
@@ -49,14 +49,14 @@ value_bytes id (b ∷ value) all =
 message_bytes : (m : Message) → All IsByte (subfields_text (subfields_of m)) → All IsByte m.body → AreBytes m
 unfolding subfields_of
 message_bytes m all body =
-    let a : List ℕ = subfields_text (field 0 m.origin) in
-    let b : List ℕ = subfields_text (field 1 m.destination) in
-    let c : List ℕ = subfields_text (field 2 m.from) in
-    let d : List ℕ = subfields_text (field 3 m.to) in
-    let e : List ℕ = subfields_text (field 4 m.msgid) in
-    let f : List ℕ = subfields_text (field 5 m.replyid) in
-    let g : List ℕ = subfields_text (field 6 m.subject) in
-    let whole : All IsByte (a ++ (b ++ (c ++ (d ++ (e ++ (f ++ g)))))) = subst (All IsByte) (texts (field 0 m.origin) (field 1 m.destination) (field 2 m.from) (field 3 m.to) (field 4 m.msgid) (field 5 m.replyid) (field 6 m.subject)) all in
+    let a : List ℕ = subfields_text (value_subfields 0 m.origin) in
+    let b : List ℕ = subfields_text (value_subfields 1 m.destination) in
+    let c : List ℕ = subfields_text (value_subfields 2 m.from) in
+    let d : List ℕ = subfields_text (value_subfields 3 m.to) in
+    let e : List ℕ = subfields_text (value_subfields 4 m.msgid) in
+    let f : List ℕ = subfields_text (value_subfields 5 m.replyid) in
+    let g : List ℕ = subfields_text (value_subfields 6 m.subject) in
+    let whole : All IsByte (a ++ (b ++ (c ++ (d ++ (e ++ (f ++ g)))))) = subst (All IsByte) (texts (value_subfields 0 m.origin) (value_subfields 1 m.destination) (value_subfields 2 m.from) (value_subfields 3 m.to) (value_subfields 4 m.msgid) (value_subfields 5 m.replyid) (value_subfields 6 m.subject)) all in
     let first = all_right a (b ++ (c ++ (d ++ (e ++ (f ++ g))))) whole in
     let second = all_right b (c ++ (d ++ (e ++ (f ++ g)))) first in
     let third = all_right c (d ++ (e ++ (f ++ g))) second in
@@ -78,11 +78,11 @@ subfields_bare : (m : Message) → subfields_of (message_with m []) ≡ subfield
 unfolding subfields_of
 subfields_bare m = refl
 
-entry_bare : (kind : Kind) (offset : ℕ) (e : Entry) → entry_text kind offset (bare e) ≡ entry_text kind offset e
+entry_bare : (kind : Kind) (offset : ℕ) (e : HeaderEntry) → entry_text kind offset (bare e) ≡ entry_text kind offset e
 unfolding message_header subfields_of
 entry_bare kind offset e = refl
 
-pub headers_bare : (kind : Kind) (offset : ℕ) (es : List Entry) → headers_text kind offset (map bare es) ≡ headers_text kind offset es
+pub headers_bare : (kind : Kind) (offset : ℕ) (es : List HeaderEntry) → headers_text kind offset (map bare es) ≡ headers_text kind offset es
 headers_bare kind offset [] = refl
 headers_bare kind offset (e ∷ es) =
     ap (λ xs. xs ++ headers_text kind (offset + e.text_len) (map bare es)) (entry_bare kind offset e) ∙ ap (λ xs. entry_text kind offset e ++ xs) (headers_bare kind (offset + e.text_len) es)
@@ -116,7 +116,7 @@ one_fits kind f n link m rising few bound ok small =
       short = short;
     }
 
-pub record Fits (kind : Kind) (f : Front) (at : ℕ) (slots : List Slot) (es : List Entry) : Type 0 where
+pub record Fits (kind : Kind) (f : Front) (at : ℕ) (slots : List Slot) (es : List HeaderEntry) : Type 0 where
   pub headers : HeadersFit kind f (map bare es)
   pub bodies : BodiesFit es
   pub room : RoomFor at slots
@@ -128,8 +128,8 @@ conference_fits links kind n f at offset (Gone ∷ slots) lt few bound all small
     let r = conference_fits links kind (n + 1) f at offset slots (omega arith) (omega arith) bound (All-drop (IsSlot kind) 1 (Gone ∷ slots) all) small in
     record { headers = r.headers; bodies = r.bodies; room = r.room }
 conference_fits links kind n f at offset (Held m ∷ slots) lt few bound all small =
-    let e : Entry = made n (links n) m in
-    let es : List Entry = entries_of links (n + 1) slots in
+    let e : HeaderEntry = made n (links n) m in
+    let es : List HeaderEntry = entries_of links (n + 1) slots in
     let text : List ℕ = entry_text kind offset e in
     let rest : List ℕ = headers_text kind (offset + length m.body) es in
     let len = length-append text rest in
@@ -151,8 +151,8 @@ slots_fit links kind n offset f [] headers bodies heads texts = All-nil (IsSlot 
 slots_fit links kind n offset f (Gone ∷ slots) headers bodies heads texts = All-cons (IsSlot kind) Gone slots tt (slots_fit links kind (n + 1) offset f slots headers bodies heads texts)
 slots_fit links kind n offset f (Held m ∷ slots) headers bodies heads texts =
     let h = headers.0 in
-    let e : Entry = made n (links n) m in
-    let es : List Entry = entries_of links (n + 1) slots in
+    let e : HeaderEntry = made n (links n) m in
+    let es : List HeaderEntry = entries_of links (n + 1) slots in
     let text : List ℕ = entry_text kind offset e in
     let rest : List ℕ = headers_text kind (offset + length m.body) es in
     let subs : All IsByte (subfields_text (subfields_of m)) = all_right (header_text (message_header kind offset e)) (subfields_text (subfields_of m)) (all_left text rest heads) in
@@ -174,15 +174,15 @@ slots_fit links kind n offset f (Held m ∷ slots) headers bodies heads texts =
     } in
     All-cons (IsSlot kind) (Held m) slots ok (slots_fit links kind (n + 1) (offset + length m.body) (behind f (bare (made n (links n) m))) slots headers.1 bodies.1 (all_right text rest heads) (all_right m.body (bodies_text es) texts))
 
-pub rising_of : (kind : Kind) (f : Front) (hs : List Entry) → HeadersFit kind f hs → Rising (f.last + 1) hs
+pub rising_of : (kind : Kind) (f : Front) (hs : List HeaderEntry) → HeadersFit kind f hs → Rising (f.last + 1) hs
 rising_of kind f [] fits = tt
 rising_of kind f (h ∷ hs) fits = let lt = fits.0.rising in (omega arith, rising_of kind (behind f h) hs fits.1)
 
-pub bodiless_of : (kind : Kind) (f : Front) (hs : List Entry) → HeadersFit kind f hs → Bodiless hs
+pub bodiless_of : (kind : Kind) (f : Front) (hs : List HeaderEntry) → HeadersFit kind f hs → Bodiless hs
 bodiless_of kind f [] fits = tt
 bodiless_of kind f (h ∷ hs) fits = (fits.0.bodiless, bodiless_of kind (behind f h) hs fits.1)
 
-pub linked_of : (links : ℕ → Link) (es : List Entry) → LinksFit links (map bare es) → BodiesFit es → Linked links es
+pub linked_of : (links : ℕ → Link) (es : List HeaderEntry) → LinksFit links (map bare es) → BodiesFit es → Linked links es
 linked_of links [] fits bodies = tt
 linked_of links (e ∷ es) fits bodies = ((fits.0, bodies.0.1), linked_of links es fits.1 bodies.1)
 

@@ -22,8 +22,8 @@ use Rattle.jam_layout.specs.Readers.{last_read, last_reads}
 use Rattle.jam_layout.specs.Sizes.{slot_header, slot_size}
 use Rattle.jam_layout.specs.Reader.{IsReader}
 use Rattle.jam_layout.specs.Valid.{Rise, IsConference}
-use Rattle.jam_layout.specs.declared.conference.Conference.{Conference}
-use Rattle.jam_layout.specs.declared.entry.Entry.{Entry}
+use Rattle.jam_layout.specs.declared.conference.ConferenceContents.{ConferenceContents}
+use Rattle.jam_layout.specs.declared.entry.HeaderEntry.{HeaderEntry}
 use Rattle.jam_layout.specs.declared.reader.Reader.{Reader}
 use Rattle.jam_layout.specs.declared.shape.Shape.{Shape}
 use Rattle.jam_layout.proofs.BaseLaws.{base_length}
@@ -46,7 +46,7 @@ readers_length (r ∷ readers) (p ∷ pointers) same =
     omega (arith, length-append (last_text (last_read r p)) (last_reads readers pointers), last_length (last_read r p), readers_length readers pointers (omega (arith, same)))
 
 -- ---- slots
-abbrev entry_at : (ℕ → Link) → ℕ → Message → Entry
+abbrev entry_at : (ℕ → Link) → ℕ → Message → HeaderEntry
 entry_at links n m = record { number = n; text_len = length m.body; link = links n; message = m }
 
 -- the headers, the bodies and the index of slots have together what each of the slots has
@@ -56,8 +56,8 @@ parts_length kind links offset n at [] = refl
 parts_length kind links offset n at (Gone ∷ slots) =
     omega (arith, parts_length kind links offset (n + 1) at slots, length-append (index_text no_pair) (index_records at slots), index_length no_pair, sum_by-cons slot_size Gone slots)
 parts_length kind links offset n at (Held m ∷ slots) =
-    let e : Entry = entry_at links n m in
-    let es : List Entry = entries_of links (n + 1) slots in
+    let e : HeaderEntry = entry_at links n m in
+    let es : List HeaderEntry = entries_of links (n + 1) slots in
     let later : ℕ = at + header_size m in
     let headers = length-append (entry_text kind offset e) (headers_text kind (offset + length m.body) es) in
     let bodies = length-append m.body (bodies_text es) in
@@ -70,19 +70,19 @@ headers_within kind links offset n most [] small = All-nil (λ slot. slot_header
 headers_within kind links offset n most (Gone ∷ slots) small =
     All-cons (λ slot. slot_header slot < most) Gone slots (omega (arith, small)) (headers_within kind links offset (n + 1) most slots small)
 headers_within kind links offset n most (Held m ∷ slots) small =
-    let e : Entry = entry_at links n m in
-    let es : List Entry = entries_of links (n + 1) slots in
+    let e : HeaderEntry = entry_at links n m in
+    let es : List HeaderEntry = entries_of links (n + 1) slots in
     let headers = length-append (entry_text kind offset e) (headers_text kind (offset + length m.body) es) in
     let long = entry_length kind offset e in
     All-cons (λ slot. slot_header slot < most) (Held m) slots (omega (arith, small, headers, long)) (headers_within kind links (offset + length m.body) (n + 1) most slots (omega (arith, small, headers)))
 
-abbrev links_in : Conference → ℕ → Link
+abbrev links_in : ConferenceContents → ℕ → Link
 links_in c = link_of c.slots
 
-jhr_length : (shape : Shape) (c : Conference) → length (layout shape c).jhr ≡ 1024 + length (headers_text shape.kind 0 (entries_in c))
+jhr_length : (shape : Shape) (c : ConferenceContents) → length (layout shape c).jhr ≡ 1024 + length (headers_text shape.kind 0 (entries_in c))
 jhr_length shape c = omega (arith, length-append (base_text (base_header shape c)) (headers_text shape.kind 0 (entries_in c)), base_length (base_header shape c))
 
-pub slots_small : (shape : Shape) (c : Conference) → IsConference shape c → sum_by slot_size c.slots < 2 ^ 33
+pub slots_small : (shape : Shape) (c : ConferenceContents) → IsConference shape c → sum_by slot_size c.slots < 2 ^ 33
 slots_small shape c ok =
     let fit = layout_fits shape c ok in
     let jhr = fit.jhr.1 in
@@ -90,7 +90,7 @@ slots_small shape c ok =
     let jdx = fit.jdx.1 in
     omega (arith, jhr, jdt, jdx, jhr_length shape c, parts_length shape.kind (links_in c) 0 1 1024 c.slots)
 
-pub size_is : (shape : Shape) (c : Conference) → IsConference shape c → files_size (layout shape c) ≡ 1024 + sum_by slot_size c.slots + 16 * length shape.readers
+pub size_is : (shape : Shape) (c : ConferenceContents) → IsConference shape c → files_size (layout shape c) ≡ 1024 + sum_by slot_size c.slots + 16 * length shape.readers
 size_is shape c ok = omega (arith, jhr_length shape c, parts_length shape.kind (links_in c) 0 1 1024 c.slots, readers_length shape.readers c.pointers ok.pointers.all)
 
 -- ---- readers

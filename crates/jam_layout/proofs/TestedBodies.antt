@@ -12,44 +12,44 @@ use Rattle.door_outside.specs.File.{jdt_file, jlr_file}
 use Rattle.jam_layout.specs.BaseTests.{texts_size, body_tests, reader_tests}
 use Rattle.jam_layout.specs.Bodies.{body_rules, with_body, bodies_at}
 use Rattle.jam_layout.specs.Readers.{reader_rules, pointers_at}
-use Rattle.jam_layout.specs.declared.entry.Entry.{Entry}
+use Rattle.jam_layout.specs.declared.entry.HeaderEntry.{HeaderEntry}
 use Rattle.jam_layout.specs.declared.reader.Reader.{Reader}
 use Rattle.jam_layout.proofs.TestedHeaders.{texts_more}
 
 -- ---- .JDT
 -- the messages with their bodies
-abbrev pub bodied : List Entry → List ℕ → List Entry
+abbrev pub bodied : List HeaderEntry → List ℕ → List HeaderEntry
 bodied [] bytes = []
 bodied (e ∷ entries) bytes = with_body e (take e.text_len bytes) ∷ bodied entries (drop e.text_len bytes)
 
 -- one past the last
-abbrev pub body_end : ℕ → List ℕ → List Entry → Tests
+abbrev pub body_end : ℕ → List ℕ → List HeaderEntry → Tests
 body_end place jdt entries = at_record (jdt_file place) (1 + length entries) ((Rest, not (eqb (length (drop (texts_size entries) jdt)) 0)) ∷ [])
 
-bodies_end : (place : ℕ) (jdt : List ℕ) (before : List Entry) (i : ℕ) (bytes : List ℕ) → i ≡ 1 + length before → bytes ≡ drop (texts_size before) jdt
+bodies_end : (place : ℕ) (jdt : List ℕ) (before : List HeaderEntry) (i : ℕ) (bytes : List ℕ) → i ≡ 1 + length before → bytes ≡ drop (texts_size before) jdt
     → bodies_at place i [] bytes ≡ by_tests (body_end place jdt (before ++ [])) []
 bodies_end place jdt before i bytes is e =
     rules_listed (jdt_file place) i ((Rest, not (eqb (length bytes) 0)) ∷ []) []
     ∙ ((λ k. by_tests (at_record (jdt_file place) (is k) ((Rest, not (eqb (length (e k)) 0)) ∷ [])) [])
-    ∙ ap (λ (all : List Entry). by_tests (body_end place jdt all) []) (sym (append-nil before)))
+    ∙ ap (λ (all : List HeaderEntry). by_tests (body_end place jdt all) []) (sym (append-nil before)))
 
-pub bodies_listed : (place : ℕ) (jdt : List ℕ) (entries before : List Entry) (i : ℕ) (bytes : List ℕ) → i ≡ 1 + length before → bytes ≡ drop (texts_size before) jdt
+pub bodies_listed : (place : ℕ) (jdt : List ℕ) (entries before : List HeaderEntry) (i : ℕ) (bytes : List ℕ) → i ≡ 1 + length before → bytes ≡ drop (texts_size before) jdt
     → bodies_at place i entries bytes ≡ by_tests (for_each (body_tests place jdt) before entries ++ body_end place jdt (before ++ entries)) (bodied entries bytes)
 bodies_listed place jdt [] before i bytes is e = bodies_end place jdt before i bytes is e
 bodies_listed place jdt (x ∷ entries) before i bytes is e =
-    let seen : List Entry = before ++ x ∷ [] in
+    let seen : List HeaderEntry = before ++ x ∷ [] in
     let rest : List ℕ = drop x.text_len bytes in
     let rules : Rules = body_rules x.text_len bytes in
     let body : List ℕ = take x.text_len bytes in
     let others : Tests = for_each (body_tests place jdt) seen entries ++ body_end place jdt (before ++ x ∷ entries) in
-    let next = λ (b : List ℕ). bodies_at place (i + 1) entries rest >>= λ (xs : List Entry). Ok (with_body x b ∷ xs) in
+    let next = λ (b : List ℕ). bodies_at place (i + 1) entries rest >>= λ (xs : List HeaderEntry). Ok (with_body x b ∷ xs) in
     let more : i + 1 ≡ 1 + length seen = omega (arith, length-append before (x ∷ [])) in
     let behind : rest ≡ drop (texts_size seen) jdt = ap (drop x.text_len) e ∙ (drop-drop x.text_len (texts_size before) jdt ∙ ap (λ n. drop n jdt) (sym (texts_more before x))) in
     let read : bodies_at place (i + 1) entries rest ≡ by_tests others (bodied entries rest) =
     bodies_listed place jdt entries seen (i + 1) rest more behind
-    ∙ ap (λ (all : List Entry). by_tests (for_each (body_tests place jdt) seen entries ++ body_end place jdt all) (bodied entries rest)) (append_assoc before (x ∷ []) entries) in
+    ∙ ap (λ (all : List HeaderEntry). by_tests (for_each (body_tests place jdt) seen entries ++ body_end place jdt all) (bodied entries rest)) (append_assoc before (x ∷ []) entries) in
     let tail : next body ≡ by_tests others (bodied (x ∷ entries) bytes) =
-    ap (λ (r : Result (List Entry) Damage). r >>= λ (xs : List Entry). Ok (with_body x body ∷ xs)) read ∙ value_listed others (bodied entries rest) (λ (xs : List Entry). with_body x body ∷ xs) in
+    ap (λ (r : Result (List HeaderEntry) Damage). r >>= λ (xs : List HeaderEntry). Ok (with_body x body ∷ xs)) read ∙ value_listed others (bodied entries rest) (λ (xs : List HeaderEntry). with_body x body ∷ xs) in
     let here : by_rules (jdt_file place) i rules body ≡ by_tests (body_tests place jdt before x) body =
     rules_listed (jdt_file place) i rules body ∙ (λ k. by_tests (at_record (jdt_file place) (is k) (body_rules x.text_len (e k))) body) in
     ap (λ (r : Result (List ℕ) Damage). r >>= next) here

@@ -19,20 +19,20 @@ use Rattle.jam_layout.specs.BaseTests.{header_end, header_entry, number_of_last,
 use Rattle.jam_layout.specs.Headers.{wrong_number, front_rules, field_rules, header_rules, behind, entry_of, values_of, step_of, header_at, start, entries_at}
 use Rattle.jam_layout.specs.Limits.{slot_limit}
 use Rattle.jam_layout.specs.SecondPass.{active_in, links_at, same_link, second_pass, slots_of, Numbered}
-use Rattle.jam_layout.specs.declared.entry.Entry.{Entry}
+use Rattle.jam_layout.specs.declared.entry.HeaderEntry.{HeaderEntry}
 use Rattle.jam_layout.specs.declared.entry.Front.{Front}
 use Rattle.jam_layout.proofs.TestedWalks.{values, values-map, walk_listed, walk_step}
 
 -- ---- the first pass
-last_more : (before : List Entry) (e : Entry) → number_of_last (before ++ e ∷ []) ≡ e.number
+last_more : (before : List HeaderEntry) (e : HeaderEntry) → number_of_last (before ++ e ∷ []) ≡ e.number
 last_more [] e = refl
 last_more (d ∷ []) e = refl
 last_more (d ∷ f ∷ before) e = last_more (f ∷ before) e
 
-pub texts_more : (before : List Entry) (e : Entry) → texts_size (before ++ e ∷ []) ≡ texts_size before + e.text_len
-texts_more before e = omega (arith, sum_by-append (λ (x : Entry). x.text_len) before (e ∷ []))
+pub texts_more : (before : List HeaderEntry) (e : HeaderEntry) → texts_size (before ++ e ∷ []) ≡ texts_size before + e.text_len
+texts_more before e = omega (arith, sum_by-append (λ (x : HeaderEntry). x.text_len) before (e ∷ []))
 
-front_more : (before : List Entry) (e : Entry) → behind (front_of before) e ≡ front_of (before ++ e ∷ [])
+front_more : (before : List HeaderEntry) (e : HeaderEntry) → behind (front_of before) e ≡ front_of (before ++ e ∷ [])
 front_more before e =
     let item : 1 + length before + 1 ≡ 1 + length (before ++ e ∷ []) = omega (arith, length-append before (e ∷ [])) in
     let last : e.number ≡ number_of_last (before ++ e ∷ []) = sym (last_more before e) in
@@ -58,10 +58,10 @@ unfolding entries_at
 headers_listed place kind bytes =
     let rs : List (List ℕ) = headers_in bytes in
     let tests : Tests = for_each (header_tests place kind) [] rs in
-    let found : List Entry × Front = (values (λ seen here. header_entry here) [] rs, front_of (map header_entry rs)) in
-    ap (λ (r : Result (List Entry × Front) Damage). r >>= λ (x : List Entry × Front). Ok x.0)
+    let found : List HeaderEntry × Front = (values (λ seen here. header_entry here) [] rs, front_of (map header_entry rs)) in
+    ap (λ (r : Result (List HeaderEntry × Front) Damage). r >>= λ (x : List HeaderEntry × Front). Ok x.0)
     (walk_listed (header_at place kind) (λ before. front_of (map header_entry before)) (λ seen here. header_entry here) header_end (header_tests place kind) (header_listed place kind) bytes 0 [])
-    ∙ (value_listed tests found (λ (x : List Entry × Front). x.0) ∙ ap (by_tests tests) (values-map header_entry [] rs))
+    ∙ (value_listed tests found (λ (x : List HeaderEntry × Front). x.0) ∙ ap (by_tests tests) (values-map header_entry [] rs))
 
 -- ---- numbers rise where the tests hold
 hold_parts : (a b : Tests) → Hold (a ++ b) → Hold a × Hold b
@@ -82,7 +82,7 @@ numbers_rise place kind before (x ∷ xs) held =
     (fits.0, fits.1, subst (λ (n : ℕ). Numbered n (map header_entry xs)) last (numbers_rise place kind (before ++ x ∷ []) xs both.1))
 
 -- ---- the second pass
-links_listed : (place : ℕ) (slots : List Slot) (entries before : List Entry) (i : ℕ) → i ≡ 1 + length before → links_at place slots i entries ≡ by_tests (for_each (link_tests place slots) before entries) (tt {0})
+links_listed : (place : ℕ) (slots : List Slot) (entries before : List HeaderEntry) (i : ℕ) → i ≡ 1 + length before → links_at place slots i entries ≡ by_tests (for_each (link_tests place slots) before entries) (tt {0})
 links_listed place slots [] before i is = refl
 links_listed place slots (e ∷ entries) before i is =
     let rules : Rules = (Links, not (same_link e.link (link_of slots e.number))) ∷ [] in
@@ -92,7 +92,7 @@ links_listed place slots (e ∷ entries) before i is =
     ∙ then_listed (link_tests place slots before e) (for_each (link_tests place slots) (before ++ e ∷ []) entries) (tt {0}) (λ (one : Unit {0}). links_at place slots (i + 1) entries) (tt {0})
     (λ held. links_listed place slots entries (before ++ e ∷ []) (i + 1) next)
 
-pub second_tested : (place active : ℕ) (entries : List Entry)
+pub second_tested : (place active : ℕ) (entries : List HeaderEntry)
     → IsTested (at_record (jhr_file place) 0 ((Active, not (eqb active (active_in entries))) ∷ []) ++ for_each (link_tests place (slots_of 1 entries)) [] entries) (second_pass place active entries)
 unfolding second_pass
 second_tested place active entries =

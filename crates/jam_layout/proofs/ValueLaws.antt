@@ -11,7 +11,7 @@ use Rattle.std.specs.Prelude.{decimal}
 use Rattle.std.specs.Str.{bytes_eq}
 use Rattle.jam_records.specs.Addresses.{point_text}
 use Rattle.jam_layout.specs.Address.{is_address, is_address_of, is_part}
-use Rattle.jam_layout.specs.Fields.{field, subfields_of, values_at, is_text, there, may_miss, right_values}
+use Rattle.jam_layout.specs.Fields.{value_subfields, subfields_of, values_at, is_text, there, may_miss, right_values}
 use Rattle.jam_layout.specs.InOrder.{FieldsFit}
 use Rattle.jam_layout.specs.Messages.{EmptyOr}
 use Rattle.jam_layout.specs.declared.fields.Values.{Values}
@@ -55,10 +55,10 @@ no_address : is_address [] ≡ false
 unfolding is_address
 no_address = no_parts 0 0 0 0
 
-field_is : (id : ℕ) (text : List ℕ) (v : Option (List ℕ)) → NotBlank v → text ≡ unwrap_or v [] → field id text ≡ optional id v
-field_is id text None n e = ap (field id) e
+field_is : (id : ℕ) (text : List ℕ) (v : Option (List ℕ)) → NotBlank v → text ≡ unwrap_or v [] → value_subfields id text ≡ optional id v
+field_is id text None n e = ap (value_subfields id) e
 field_is id text (Some []) n e = absurd n
-field_is id text (Some (b ∷ value)) n e = ap (field id) e
+field_is id text (Some (b ∷ value)) n e = ap (value_subfields id) e
 
 -- ---- seven parts
 abbrev pub join : List ℕ → List ℕ → List ℕ → List ℕ → List ℕ → List ℕ → List ℕ → List ℕ
@@ -110,13 +110,13 @@ is_right v r = and_from _ _ (and_from _ _ (and_from _ _ r.origin r.destination) 
 
 -- the subfields of the message are those of these values
 record SameFields (m : Message) (v : Values) : Type 0 where
-  origin : field 0 m.origin ≡ optional 0 v.origin
-  destination : field 1 m.destination ≡ optional 1 v.destination
-  from : field 2 m.from ≡ optional 2 v.from
-  to : field 3 m.to ≡ optional 3 v.to
-  msgid : field 4 m.msgid ≡ optional 4 v.msgid
-  replyid : field 5 m.replyid ≡ optional 5 v.replyid
-  subject : field 6 m.subject ≡ optional 6 v.subject
+  origin : value_subfields 0 m.origin ≡ optional 0 v.origin
+  destination : value_subfields 1 m.destination ≡ optional 1 v.destination
+  from : value_subfields 2 m.from ≡ optional 2 v.from
+  to : value_subfields 3 m.to ≡ optional 3 v.to
+  msgid : value_subfields 4 m.msgid ≡ optional 4 v.msgid
+  replyid : value_subfields 5 m.replyid ≡ optional 5 v.replyid
+  subject : value_subfields 6 m.subject ≡ optional 6 v.subject
 
 fields_are : (m : Message) (v : Values) → SameFields m v → subfields_of m ≡ fields_of v
 unfolding subfields_of
@@ -212,7 +212,7 @@ right_texts m v e has =
     }
 
 -- ---- what is written is read
-maybe_is : (id : ℕ) (value : List ℕ) → field id value ≡ optional id (maybe value)
+maybe_is : (id : ℕ) (value : List ℕ) → value_subfields id value ≡ optional id (maybe value)
 maybe_is id [] = refl
 maybe_is id (b ∷ value) = refl
 

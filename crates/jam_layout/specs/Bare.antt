@@ -8,7 +8,7 @@ use Rattle.jam_layout.specs.Layout.{layout, conference_of}
 use Rattle.jam_layout.specs.Outlines.{slot_bare, slot_with}
 use Rattle.jam_layout.specs.Valid.{IsConference}
 use Rattle.jam_layout.specs.declared.bare.BareConference.{BareConference}
-use Rattle.jam_layout.specs.declared.conference.Conference.{Conference}
+use Rattle.jam_layout.specs.declared.conference.ConferenceContents.{ConferenceContents}
 use Rattle.jam_layout.specs.declared.files.BaseFiles.{BaseFiles}
 use Rattle.jam_layout.specs.declared.shape.Shape.{Shape}
 
@@ -18,7 +18,7 @@ body_lengths [] = []
 body_lengths (Gone ∷ slots) = body_lengths slots
 body_lengths (Held m ∷ slots) = length m.body ∷ body_lengths slots
 
-abbrev pub bare_of : Conference → BareConference
+abbrev pub bare_of : ConferenceContents → BareConference
 bare_of c = record { conference = record c { slots = map slot_bare c.slots }; lengths = body_lengths c.slots }
 
 -- the bare conference of the files, or the first rule that they break
@@ -29,7 +29,7 @@ bare_in shape files = do
 
 -- It is what is left without bodies of the conference of that shape whose layout the files are.
 pub record IsBareOf (shape : Shape) (files : BaseFiles) (bare : BareConference) : Type 0 where
-  pub whole : Conference
+  pub whole : ConferenceContents
   pub bared : bare ≡ bare_of whole
   pub valid : IsConference shape whole
   pub stored : files ≡ layout shape whole
@@ -50,5 +50,5 @@ filled_slots lengths [] = []
 filled_slots lengths (s ∷ slots) = slot_with (first_length lengths s) s ∷ filled_slots (other_lengths lengths s) slots
 
 -- the outline of the conference
-abbrev pub filled : BareConference → Conference
+abbrev pub filled : BareConference → ConferenceContents
 filled bare = record bare.conference { slots = filled_slots bare.lengths bare.conference.slots }

@@ -18,7 +18,7 @@ use Rattle.jam_layout.specs.Bodies.{body_rules}
 use Rattle.jam_layout.specs.Index.{index_rules, no_pair, pair_of}
 use Rattle.jam_layout.specs.Readers.{reader_rules}
 use Rattle.jam_layout.specs.Layout.{base_rules}
-use Rattle.jam_layout.specs.declared.entry.Entry.{Entry}
+use Rattle.jam_layout.specs.declared.entry.HeaderEntry.{HeaderEntry}
 use Rattle.jam_layout.specs.declared.entry.Front.{Front}
 use Rattle.jam_layout.specs.declared.files.BaseFiles.{BaseFiles}
 use Rattle.jam_layout.specs.declared.reader.Reader.{Reader}
@@ -28,43 +28,43 @@ use Rattle.jam_layout.specs.declared.shape.Shape.{Shape}
 abbrev pub header_end : List ℕ → ℕ
 header_end here = 76 + (message_header_at here).subfield_len
 
-abbrev pub header_entry : List ℕ → Entry
+abbrev pub header_entry : List ℕ → HeaderEntry
 header_entry here = entry_of (message_header_at here) (values_of (message_header_at here) here)
 
 -- the number of the last message, or 0
-abbrev pub number_of_last : List Entry → ℕ
+abbrev pub number_of_last : List HeaderEntry → ℕ
 number_of_last [] = 0
 number_of_last (e ∷ []) = e.number
 number_of_last (e ∷ f ∷ entries) = number_of_last (f ∷ entries)
 
 -- how long the bodies are together, as the headers say
-abbrev pub texts_size : List Entry → ℕ
+abbrev pub texts_size : List HeaderEntry → ℕ
 texts_size entries = sum_by (λ e. e.text_len) entries
 
 -- what the headers before one say of it
-abbrev pub front_of : List Entry → Front
+abbrev pub front_of : List HeaderEntry → Front
 front_of before = record { item = 1 + length before; last = number_of_last before; offset = texts_size before }
 
 -- the index record of the message with a number, where the first header stands at a place in .JHR
-abbrev pub pair_for : ℕ → ℕ → List Entry → IndexRecord
+abbrev pub pair_for : ℕ → ℕ → List HeaderEntry → IndexRecord
 pair_for number at [] = no_pair
 pair_for number at (e ∷ entries) = if e.number == number then pair_of e.message at else pair_for number (at + header_size e.message) entries
 
 -- a message has a greater number
-abbrev pub has_greater : ℕ → List Entry → Bool
+abbrev pub has_greater : ℕ → List HeaderEntry → Bool
 has_greater number entries = list_any (λ e. nat_lt number e.number) entries
 
 -- ---- a record of each kind, behind those before
 abbrev pub header_tests : ℕ → Kind → List (List ℕ) → List ℕ → Tests
 header_tests place kind before here = at_record (jhr_file place) (1 + length before) (header_rules kind (front_of (map header_entry before)) here)
 
-abbrev pub link_tests : ℕ → List Slot → List Entry → Entry → Tests
+abbrev pub link_tests : ℕ → List Slot → List HeaderEntry → HeaderEntry → Tests
 link_tests place slots before e = at_record (jhr_file place) (1 + length before) ((Links, not (same_link e.link (link_of slots e.number))) ∷ [])
 
-abbrev pub body_tests : ℕ → List ℕ → List Entry → Entry → Tests
+abbrev pub body_tests : ℕ → List ℕ → List HeaderEntry → HeaderEntry → Tests
 body_tests place jdt before e = at_record (jdt_file place) (1 + length before) (body_rules e.text_len (drop (texts_size before) jdt))
 
-abbrev pub index_tests : ℕ → List Entry → List (List ℕ) → List ℕ → Tests
+abbrev pub index_tests : ℕ → List HeaderEntry → List (List ℕ) → List ℕ → Tests
 index_tests place entries before here = at_record (jdx_file place) (length before) (index_rules (pair_for (1 + length before) 1024 entries) here)
 
 abbrev pub reader_tests : ℕ → ℕ → List ℕ → List Reader → Reader → Tests

@@ -8,14 +8,14 @@ use Rattle.jam_layout.specs.Address.{is_address}
 use Rattle.jam_layout.specs.declared.fields.Values.{Values}
 
 -- a value that isn't empty has a subfield
-abbrev pub field : ℕ → List ℕ → List Subfield
-field id [] = []
-field id (b ∷ value) = record { lo = id; hi = 0; value = b ∷ value } ∷ []
+abbrev pub value_subfields : ℕ → List ℕ → List Subfield
+value_subfields id [] = []
+value_subfields id (b ∷ value) = record { lo = id; hi = 0; value = b ∷ value } ∷ []
 
 -- OADDRESS, DADDRESS, SENDERNAME, RECEIVERNAME, MSGID, REPLYID and SUBJECT, in rising id
 unfoldable pub subfields_of : Message → List Subfield
 subfields_of m =
-    field 0 m.origin ++ (field 1 m.destination ++ (field 2 m.from ++ (field 3 m.to ++ (field 4 m.msgid ++ (field 5 m.replyid ++ field 6 m.subject)))))
+    value_subfields 0 m.origin ++ (value_subfields 1 m.destination ++ (value_subfields 2 m.from ++ (value_subfields 3 m.to ++ (value_subfields 4 m.msgid ++ (value_subfields 5 m.replyid ++ value_subfields 6 m.subject)))))
 
 -- a whole subfield of this id is at the front
 abbrev pub has_field : ℕ → List ℕ → Bool

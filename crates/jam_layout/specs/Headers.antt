@@ -17,7 +17,7 @@ use Rattle.damage_rules.specs.Walk.{WalkStep, walk}
 use Rattle.jam_layout.specs.Fields.{values_at, right_values, subfields_of}
 use Rattle.jam_layout.specs.Limits.{slot_limit}
 use Rattle.jam_layout.specs.Marks.{attribute_of, marks_of, wrong_attribute}
-use Rattle.jam_layout.specs.declared.entry.Entry.{Entry}
+use Rattle.jam_layout.specs.declared.entry.HeaderEntry.{HeaderEntry}
 use Rattle.jam_layout.specs.declared.entry.Front.{Front}
 use Rattle.jam_layout.specs.declared.fields.Values.{Values}
 use Rattle.jam_layout.specs.declared.marks.Marks.{Marks}
@@ -99,7 +99,7 @@ message_of h v = record {
   deleted = (marks_of h.attribute).deleted;
 }
 
-unfoldable pub entry_of : MessageHeader → Values → Entry
+unfoldable pub entry_of : MessageHeader → Values → HeaderEntry
 entry_of h v = record {
   number = h.number;
   text_len = h.text_len;
@@ -108,21 +108,21 @@ entry_of h v = record {
 }
 
 -- what is known behind a header
-abbrev pub behind : Front → Entry → Front
+abbrev pub behind : Front → HeaderEntry → Front
 behind f e = record { item = f.item + 1; last = e.number; offset = f.offset + e.text_len }
 
 -- the entry of the header at the front, and what is behind it
-abbrev pub step_of : Front → MessageHeader → Values → WalkStep Front Entry
+abbrev pub step_of : Front → MessageHeader → Values → WalkStep Front HeaderEntry
 step_of f h v = record { value = entry_of h v; size = 76 + h.subfield_len; next = behind f (entry_of h v) }
 
-unfoldable pub header_at : ℕ → Kind → Front → List ℕ → Result (WalkStep Front Entry) Damage
+unfoldable pub header_at : ℕ → Kind → Front → List ℕ → Result (WalkStep Front HeaderEntry) Damage
 header_at place kind f bytes = by_rules (jhr_file place) f.item (header_rules kind f bytes) (step_of f (message_header_at bytes) (values_of (message_header_at bytes) bytes))
 
 -- before the first header
 abbrev pub start : Front
 start = record { item = 1; last = 0; offset = 0 }
 
-unfoldable pub entries_at : ℕ → Kind → List ℕ → Result (List Entry) Damage
+unfoldable pub entries_at : ℕ → Kind → List ℕ → Result (List HeaderEntry) Damage
 entries_at place kind bytes = do
   found ← walk (header_at place kind) start bytes
   Ok found.0
@@ -131,7 +131,7 @@ abbrev pub marks_in : Message → Marks
 marks_in m = record { local = m.local; private = m.private; seen = m.seen; deleted = m.deleted }
 
 -- the header of a message whose text is at an offset
-unfoldable pub message_header : Kind → ℕ → Entry → MessageHeader
+unfoldable pub message_header : Kind → ℕ → HeaderEntry → MessageHeader
 message_header kind offset e = record {
   subfield_len = length (subfields_text (subfields_of e.message));
   times_read = 0;
@@ -153,13 +153,13 @@ message_header kind offset e = record {
 }
 
 -- a header with its subfields, and its length
-abbrev pub entry_text : Kind → ℕ → Entry → List ℕ
+abbrev pub entry_text : Kind → ℕ → HeaderEntry → List ℕ
 entry_text kind offset e = header_text (message_header kind offset e) ++ subfields_text (subfields_of e.message)
 
 unfoldable pub header_size : Message → ℕ
 header_size m = 76 + length (subfields_text (subfields_of m))
 
 -- the headers, the first of which has its text at an offset
-abbrev pub headers_text : Kind → ℕ → List Entry → List ℕ
+abbrev pub headers_text : Kind → ℕ → List HeaderEntry → List ℕ
 headers_text kind offset [] = []
 headers_text kind offset (e ∷ entries) = entry_text kind offset e ++ headers_text kind (offset + e.text_len) entries

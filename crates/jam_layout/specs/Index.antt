@@ -14,7 +14,7 @@ use Rattle.door_outside.specs.File.{jdx_file}
 use Rattle.damage_rules.specs.Walk.{WalkStep, walk}
 use Rattle.jam_layout.specs.Headers.{header_size}
 use Rattle.jam_layout.specs.Limits.{slot_limit}
-use Rattle.jam_layout.specs.declared.entry.Entry.{Entry}
+use Rattle.jam_layout.specs.declared.entry.HeaderEntry.{HeaderEntry}
 
 -- no message has the number
 abbrev pub no_pair : IndexRecord
@@ -34,7 +34,7 @@ index_records at (Held m ∷ slots) = index_text (pair_of m at) ++ index_records
 pub record Pending : Type 0 where
   pub item : ℕ
   pub at : ℕ
-  pub entries : List Entry
+  pub entries : List HeaderEntry
 
 -- a record that there should be, its slot, and what is behind it
 pub record Expected : Type 0 where
@@ -42,10 +42,10 @@ pub record Expected : Type 0 where
   pub slot : Slot
   pub next : Pending
 
-abbrev pub none_here : ℕ → ℕ → List Entry → Expected
+abbrev pub none_here : ℕ → ℕ → List HeaderEntry → Expected
 none_here j at entries = record { pair = no_pair; slot = Gone; next = record { item = j + 1; at = at; entries = entries } }
 
-abbrev pub one_here : ℕ → ℕ → Entry → List Entry → Expected
+abbrev pub one_here : ℕ → ℕ → HeaderEntry → List HeaderEntry → Expected
 one_here j at e entries = record {
   pair = pair_of e.message at;
   slot = Held e.message;
@@ -53,12 +53,12 @@ one_here j at e entries = record {
 }
 
 -- the first of the messages has this number
-abbrev pub is_next : ℕ → List Entry → Bool
+abbrev pub is_next : ℕ → List HeaderEntry → Bool
 is_next number [] = false
 is_next number (e ∷ entries) = e.number == number
 
 -- record j is that of the message of number j + 1, if there is one
-unfoldable pub expected_of : ℕ → ℕ → List Entry → Expected
+unfoldable pub expected_of : ℕ → ℕ → List HeaderEntry → Expected
 expected_of j at [] = none_here j at []
 expected_of j at (e ∷ entries) = if e.number == j + 1 then one_here j at e entries else none_here j at (e ∷ entries)
 
@@ -77,7 +77,7 @@ slot_at place s bytes =
     by_rules (jdx_file place) s.item (index_rules (expected s).pair bytes) (record { value = (expected s).slot; size = 8; next = (expected s).next })
 
 -- the slots that hold these messages, the first of which has its header at a place
-unfoldable pub slots_at : ℕ → ℕ → List Entry → List ℕ → Result (List Slot) Damage
+unfoldable pub slots_at : ℕ → ℕ → List HeaderEntry → List ℕ → Result (List Slot) Damage
 slots_at place at entries bytes = do
   few ← by_rules (jdx_file place) 0 ((Count, nat_lt slot_limit (length bytes / 8)) ∷ []) (tt {0})
   found ← walk (slot_at place) (record { item = 0; at = at; entries = entries }) bytes

@@ -20,22 +20,22 @@ use Rattle.jam_layout.specs.Bodies.{bodies_at, bodies_text}
 use Rattle.jam_layout.specs.Index.{slots_at, index_records}
 use Rattle.jam_layout.specs.Readers.{pointers_at, last_reads}
 use Rattle.jam_layout.specs.Conference.{live_count}
-use Rattle.jam_layout.specs.declared.conference.Conference.{Conference}
-use Rattle.jam_layout.specs.declared.entry.Entry.{Entry}
+use Rattle.jam_layout.specs.declared.conference.ConferenceContents.{ConferenceContents}
+use Rattle.jam_layout.specs.declared.entry.HeaderEntry.{HeaderEntry}
 use Rattle.jam_layout.specs.declared.files.BaseFiles.{BaseFiles}
 use Rattle.jam_layout.specs.declared.shape.Shape.{Shape}
 
 -- the messages of slots, of which the first has number n, with their numbers and links
-abbrev pub entries_of : (ℕ → Link) → ℕ → List Slot → List Entry
+abbrev pub entries_of : (ℕ → Link) → ℕ → List Slot → List HeaderEntry
 entries_of links n [] = []
 entries_of links n (Gone ∷ slots) = entries_of links (n + 1) slots
 entries_of links n (Held m ∷ slots) = record { number = n; text_len = length m.body; link = links n; message = m } ∷ entries_of links (n + 1) slots
 
-abbrev pub entries_in : Conference → List Entry
+abbrev pub entries_in : ConferenceContents → List HeaderEntry
 entries_in c = entries_of (link_of c.slots) 1 c.slots
 
 -- DateCreated, ModCounter and ActiveMsgs; no password; message numbers from 1
-abbrev pub base_header : Shape → Conference → BaseHeader
+abbrev pub base_header : Shape → ConferenceContents → BaseHeader
 base_header shape c = record {
   created = shape.created;
   mod_counter = c.counter;
@@ -45,7 +45,7 @@ base_header shape c = record {
 }
 
 -- the four files of a conference
-abbrev pub layout : Shape → Conference → BaseFiles
+abbrev pub layout : Shape → ConferenceContents → BaseFiles
 layout shape c = record {
   jhr = base_text (base_header shape c) ++ headers_text shape.kind 0 (entries_in c);
   jdt = bodies_text (entries_in c);
@@ -72,7 +72,7 @@ base_rules shape bytes =
     ∷ []
 
 -- the conference of the files, or the first rule that they break: file by file, record by record, rule by rule
-unfoldable pub conference_of : Shape → BaseFiles → Result Conference Damage
+unfoldable pub conference_of : Shape → BaseFiles → Result ConferenceContents Damage
 conference_of shape files = do
   counter ← by_rules (jhr_file shape.place) 0 (base_rules shape files.jhr) (u32_at 8 files.jhr)
   headers ← entries_at shape.place shape.kind (drop 1024 files.jhr)

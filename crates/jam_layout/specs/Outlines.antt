@@ -6,7 +6,7 @@ use Rattle.jam_records.specs.declared.message.Message.{Message}
 use Rattle.jam_records.specs.declared.message.Slot.{Slot}
 use Rattle.jam_records.specs.declared.message.Slot.TheVariants.{Gone, Held}
 use Rattle.jam_layout.specs.Bodies.{body_size, message_with}
-use Rattle.jam_layout.specs.declared.conference.Conference.{Conference}
+use Rattle.jam_layout.specs.declared.conference.ConferenceContents.{ConferenceContents}
 
 -- the body that stands for all of a length: so many empty lines
 abbrev pub line_ends : ℕ → List ℕ
@@ -19,7 +19,7 @@ abbrev pub slot_outline : Slot → Slot
 slot_outline Gone = Gone
 slot_outline (Held m) = Held (message_outline m)
 
-abbrev pub outline : Conference → Conference
+abbrev pub outline : ConferenceContents → ConferenceContents
 outline c = record c { slots = map slot_outline c.slots }
 
 -- a slot with a body of so many line ends, where it holds a message
@@ -33,7 +33,7 @@ slot_bare Gone = Gone
 slot_bare (Held m) = Held (message_with m [])
 
 -- the conferences are the same but for bodies, and these are as long
-pub record SameButBodies (a b : Conference) : Type 0 where
+pub record SameButBodies (a b : ConferenceContents) : Type 0 where
   pub counter : a.counter ≡ b.counter
   pub slots : map slot_bare a.slots ≡ map slot_bare b.slots
   pub lengths : map body_size a.slots ≡ map body_size b.slots

@@ -3,7 +3,7 @@ use Rattle.std.specs.Prelude.{◌≡◌, ℕ, ◌≤◌, ◌<◌, ◌^◌, List,
 use Rattle.jam_records.specs.byte_lists.Byte.{IsByte}
 use Rattle.jam_records.specs.record_numbers.Numbers.{IsU32}
 use Rattle.jam_layout.specs.Limits.{slot_limit}
-use Rattle.jam_layout.specs.declared.conference.Conference.{Conference}
+use Rattle.jam_layout.specs.declared.conference.ConferenceContents.{ConferenceContents}
 use Rattle.jam_layout.specs.Messages.{IsSlot}
 use Rattle.jam_layout.specs.Reader.{IsReader}
 use Rattle.jam_layout.specs.declared.files.BaseFiles.{BaseFiles}
@@ -39,7 +39,7 @@ pub record PointersFit (count : ℕ) (readers : List Reader) (pointers : List �
   pub within : All (λ p. p ≤ count) pointers
 
 -- a conference of this shape
-pub record IsConference (shape : Shape) (c : Conference) : Type 0 where
+pub record IsConference (shape : Shape) (c : ConferenceContents) : Type 0 where
   pub counter : IsU32 c.counter
   pub few : length c.slots ≤ slot_limit
   pub slots : All (IsSlot shape.kind) c.slots

@@ -1,7 +1,7 @@
 ghost use Rattle.std.specs.Prelude.{◌≡◌, ◌+◌, ◌^◌, ◌<◌, length, IfOk};
 ghost use Rattle.jam_threads.specs.Threading.{AreThreads};
 
-use crate::conference::Conference;
+use crate::conference::ConferenceContents;
 use jam_records::List;
 use jam_threads::Threads;
 use std::alloc::{AllocError, Global};
@@ -11,7 +11,7 @@ use std::marker::Model;
 #[derive(Debug, Drop)]
 pub struct BareConference {
     /// The conference, in which each body is empty.
-    pub conference: Conference,
+    pub conference: ConferenceContents,
     /// How long the bodies of its messages are in bytes, in order.
     pub lengths: List<u32>,
 }

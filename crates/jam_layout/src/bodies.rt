@@ -4,7 +4,7 @@ ghost use Rattle.jam_layout.specs.Rules.{BaseGives};
 ghost use Rattle.door_outside.specs.File.{jdt_file};
 ghost use Rattle.jam_layout.specs.Bodies.{body_rules, lengths_at};
 
-use crate::entry::Entry;
+use crate::entry::HeaderEntry;
 use crate::error::BaseError;
 use crate::places::damaged;
 use door_outside::FileId;
@@ -31,7 +31,7 @@ fn check_body(place: u8, item: u32, text_len: u32, bytes: &[u8]) -> Result<(), B
 pub fn lengths_of(
     alloc: Global,
     place: u8,
-    entries: &[Entry],
+    entries: &[HeaderEntry],
     bytes: &[u8],
 ) -> Result<List<u32>, BaseError>
     requires place { place < 64 }

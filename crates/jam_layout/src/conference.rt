@@ -9,7 +9,7 @@ pub const SLOT_LIMIT: usize = 9999;
 
 /// What a conference holds.
 #[derive(Debug, Drop)]
-pub struct Conference {
+pub struct ConferenceContents {
     /// How often it was changed, up to 4,294,967,295 (ModCounter).
     pub counter: u32,
     /// Its slots. The one in place i, from 0, has the message number i + 1.
@@ -28,7 +28,7 @@ fn is_live(slot: &Slot) -> bool
     }
 }
 
-impl Conference {
+impl ConferenceContents {
     /// How many messages aren't deleted.
     pub fn live_count(&self) -> usize
         ensures { result ≡ live_count self.now.slots }
@@ -41,9 +41,9 @@ impl Conference {
     }
 }
 
-impl Duplicate for Conference {
-    fn duplicate(&self, alloc: Global) -> Result<Conference, AllocError> {
-        Ok(Conference {
+impl Duplicate for ConferenceContents {
+    fn duplicate(&self, alloc: Global) -> Result<ConferenceContents, AllocError> {
+        Ok(ConferenceContents {
             counter: self.counter,
             slots: self.slots.copy(alloc)?,
             pointers: self.pointers.copy(alloc)?,

@@ -3,7 +3,7 @@ use jam_threads::Link;
 
 /// A message with what its header says beside it.
 #[derive(Debug, Drop)]
-pub struct Entry {
+pub struct HeaderEntry {
     /// The message number.
     pub number: u32,
     /// The length of the body in bytes.

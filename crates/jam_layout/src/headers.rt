@@ -8,7 +8,7 @@ ghost use Rattle.door_outside.specs.File.{jhr_file};
 ghost use Rattle.jam_layout.specs.Headers.{wrong_fields as fields_wrong, wrong_number as number_wrong, wrong_text as text_wrong, wrong_crc as crc_wrong, values_of, front_rules, field_rules, length_rules, value_rules, message_of as message_in, entry_of as entry_in, behind, header_at, entries_at};
 
 use crate::conference::SLOT_LIMIT;
-use crate::entry::{Entry, Front};
+use crate::entry::{Front, HeaderEntry};
 use crate::error::BaseError;
 use crate::fields::{Values, read_values, right_values};
 use crate::marks::{Marks, wrong_attribute};
@@ -165,10 +165,10 @@ fn message_of(alloc: Global, header: &MessageHeader, values: Values) -> Message
 
 /// The entry of a header.
 #[tactic(auto, unfolding(crate::specs::Headers::entry_of))]
-fn entry_of(alloc: Global, header: &MessageHeader, values: Values) -> Entry
+fn entry_of(alloc: Global, header: &MessageHeader, values: Values) -> HeaderEntry
     ensures { result ≡ entry_in header.now values }
 {
-    Entry {
+    HeaderEntry {
         number: header.number,
         text_len: header.text_len,
         link: Link {
@@ -228,7 +228,7 @@ fn header_of(
     kind: Kind,
     front: Front,
     bytes: &[u8],
-) -> Result<(Entry, usize), BaseError>
+) -> Result<(HeaderEntry, usize), BaseError>
     requires { place < 64 }
     ensures gives { BaseGives (λ x. record { value = x.0; size = x.1; next = behind front x.0 }) result (header_at place kind front bytes.now) }
     ensures size { IfOk result (λ x. (76 ≤ x.1) × (x.1 ≤ length bytes.now)) }
@@ -246,7 +246,7 @@ pub fn entries_of(
     place: u8,
     kind: Kind,
     bytes: &[u8],
-) -> Result<List<Entry>, BaseError>
+) -> Result<List<HeaderEntry>, BaseError>
     requires place { place < 64 }
     requires short { length bytes.now < 2 ^ 31 }
     ensures { BaseGives (λ x. x) result (entries_at place kind bytes.now) }

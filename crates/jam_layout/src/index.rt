@@ -4,10 +4,10 @@ ghost use Rattle.jam_layout.specs.Rules.{BaseGives};
 ghost use Rattle.door_outside.specs.File.{jdx_file};
 ghost use Rattle.jam_layout.specs.Headers.{header_size as size_of_header};
 ghost use Rattle.jam_layout.specs.Index.{index_rules, is_next, slot_at, slots_at};
-ghost use Rattle.jam_layout.specs.declared.entry.Entry.{Entry};
+ghost use Rattle.jam_layout.specs.declared.entry.HeaderEntry.{HeaderEntry};
 
 use crate::conference::SLOT_LIMIT;
-use crate::entry::Entry;
+use crate::entry::HeaderEntry;
 use crate::error::BaseError;
 use crate::places::damaged;
 use crate::sizes::header_size;
@@ -36,7 +36,7 @@ fn check_pair(place: u8, item: u32, pair: IndexRecord, bytes: &[u8]) -> Result<(
 }
 
 /// Whether the first entry has this number.
-fn starts_with(pending: &VecDeque<Entry>, number: u32) -> bool
+fn starts_with(pending: &VecDeque<HeaderEntry>, number: u32) -> bool
     ensures { result ≡ is_next number pending.now.items }
 {
     match pending.front() {
@@ -46,8 +46,8 @@ fn starts_with(pending: &VecDeque<Entry>, number: u32) -> bool
 }
 
 /// Takes the message of the first entry out, where that has this number.
-fn take_next(pending: &mut VecDeque<Entry>, number: u32) -> Option<Message>
-    ensures some { IfSome result (λ m. (e : Entry) × (pending.old.items ≡ e ∷ pending.new.items) × (e.number ≡ number) × (m ≡ e.message)) }
+fn take_next(pending: &mut VecDeque<HeaderEntry>, number: u32) -> Option<Message>
+    ensures some { IfSome result (λ m. (e : HeaderEntry) × (pending.old.items ≡ e ∷ pending.new.items) × (e.number ≡ number) × (m ≡ e.message)) }
     ensures none { result ≡ None → (pending.new.items ≡ pending.old.items) × (is_next number pending.old.items ≡ false) }
 {
     if !starts_with(pending, number) {
@@ -65,7 +65,7 @@ fn slot_of(
     place: u8,
     item: u32,
     at: u32,
-    pending: &mut VecDeque<Entry>,
+    pending: &mut VecDeque<HeaderEntry>,
     bytes: &[u8],
 ) -> Result<(Slot, u32), BaseError>
     requires place { place < 64 }
@@ -97,7 +97,7 @@ fn slot_of(
 }
 
 /// Whether no entry is left.
-fn is_done(pending: &VecDeque<Entry>) -> bool
+fn is_done(pending: &VecDeque<HeaderEntry>) -> bool
     ensures { result ≡ (length pending.now.items == 0) }
 {
     pending.is_empty()
@@ -107,7 +107,7 @@ fn is_done(pending: &VecDeque<Entry>) -> bool
 fn slots_from(
     alloc: Global,
     place: u8,
-    pending: &mut VecDeque<Entry>,
+    pending: &mut VecDeque<HeaderEntry>,
     bytes: &[u8],
 ) -> Result<Slots, BaseError>
     requires place { place < 64 }
@@ -138,7 +138,7 @@ fn slots_from(
 pub fn slots_in(
     alloc: Global,
     place: u8,
-    entries: List<Entry>,
+    entries: List<HeaderEntry>,
     bytes: &[u8],
 ) -> Result<Slots, BaseError>
     requires place { place < 64 }

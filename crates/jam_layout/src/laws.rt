@@ -10,7 +10,7 @@ ghost use Rattle.jam_layout.specs.Layout.{layout, base_damage};
 ghost use Rattle.jam_layout.specs.Fields.{values_at};
 ghost use Rattle.jam_layout.specs.InOrder.{InOrder, FieldsFit, values_in};
 ghost use Rattle.jam_layout.specs.Outlines.{outline, SameButBodies};
-ghost use Rattle.jam_layout.specs.declared.conference.Conference.{Conference};
+ghost use Rattle.jam_layout.specs.declared.conference.ConferenceContents.{ConferenceContents};
 ghost use Rattle.jam_layout.specs.Valid.{IsShape, ShapeFits, BaseFilesFit, IsConference};
 ghost use Rattle.jam_layout.specs.declared.files.BaseFiles.{BaseFiles};
 ghost use Rattle.jam_layout.specs.declared.shape.Shape.{Shape};
@@ -19,9 +19,9 @@ ghost use Rattle.jam_layout.specs.declared.shape.Shape.{Shape};
 /// conference is unique. Shapes and files are those that the types and the conditions of `read_bare`
 /// allow, and each conference has a layout that these allow.
 pub fn unique_conference()
-    ensures undamaged { (shape : Shape) (files : BaseFiles) → IsShape shape → ShapeFits shape → BaseFilesFit files → (base_damage shape files ≡ None) ↔ ((c : Conference) × IsConference shape c × (files ≡ layout shape c)) }
-    ensures unique { (shape : Shape) (a b : Conference) → IsShape shape → ShapeFits shape → IsConference shape a → IsConference shape b → layout shape a ≡ layout shape b → a ≡ b }
-    ensures fit { (shape : Shape) (c : Conference) → IsConference shape c → BaseFilesFit (layout shape c) }
+    ensures undamaged { (shape : Shape) (files : BaseFiles) → IsShape shape → ShapeFits shape → BaseFilesFit files → (base_damage shape files ≡ None) ↔ ((c : ConferenceContents) × IsConference shape c × (files ≡ layout shape c)) }
+    ensures unique { (shape : Shape) (a b : ConferenceContents) → IsShape shape → ShapeFits shape → IsConference shape a → IsConference shape b → layout shape a ≡ layout shape b → a ≡ b }
+    ensures fit { (shape : Shape) (c : ConferenceContents) → IsConference shape c → BaseFilesFit (layout shape c) }
 {}
 
 /// Bytes are subfields of the ids 0 to 6, with HiID 0, in rising order and nothing else, exactly where the
@@ -36,10 +36,10 @@ pub fn rising_subfields()
 /// Two conferences have one outline exactly where they are the same but for bodies, and these are as long. The
 /// outline of a conference is one too. The files of both are the same but for .JDT, and that is as long.
 pub fn outlines()
-    ensures alike { (a b : Conference) → (outline a ≡ outline b) ↔ SameButBodies a b }
-    ensures conference { (shape : Shape) (c : Conference) → IsConference shape c → IsConference shape (outline c) }
-    ensures files { (shape : Shape) (c : Conference) → layout shape (outline c) ≡ record (layout shape c) { jdt = (layout shape (outline c)).jdt } }
-    ensures long { (shape : Shape) (c : Conference) → length (layout shape (outline c)).jdt ≡ length (layout shape c).jdt }
+    ensures alike { (a b : ConferenceContents) → (outline a ≡ outline b) ↔ SameButBodies a b }
+    ensures conference { (shape : Shape) (c : ConferenceContents) → IsConference shape c → IsConference shape (outline c) }
+    ensures files { (shape : Shape) (c : ConferenceContents) → layout shape (outline c) ≡ record (layout shape c) { jdt = (layout shape (outline c)).jdt } }
+    ensures long { (shape : Shape) (c : ConferenceContents) → length (layout shape (outline c)).jdt ≡ length (layout shape c).jdt }
 {}
 
 /// The damage of four files is the first of their rules that is broken, in the order of the files and their records, and

@@ -23,7 +23,7 @@ mod sizes;
 mod types;
 
 pub use bare::{BareConference, ThreadedConference};
-pub use conference::{Conference, SLOT_LIMIT};
+pub use conference::{ConferenceContents, SLOT_LIMIT};
 pub use error::BaseError;
 pub use files::BaseFiles;
 pub use jam_threads::{Link, Shared, SharedList, Threads};

@@ -6,14 +6,14 @@ ghost use Rattle.jam_records.specs.declared.damage.Damage.{Damage};
 ghost use Rattle.damage_rules.specs.Rules.{by_rules};
 ghost use Rattle.jam_layout.specs.Rules.{BaseGives};
 ghost use Rattle.door_outside.specs.File.{jhr_file};
-ghost use Rattle.jam_layout.specs.declared.conference.Conference.{Conference};
+ghost use Rattle.jam_layout.specs.declared.conference.ConferenceContents.{ConferenceContents};
 ghost use Rattle.jam_layout.specs.Bare.{bare_of, bare_in as bare_read, IsBareOf};
 ghost use Rattle.jam_layout.specs.Layout.{wrong_base as base_wrong, base_rules, layout, base_damage};
 ghost use Rattle.jam_layout.specs.Valid.{IsShape, ShapeFits, BaseFilesFit, IsConference};
 
 use crate::bare::{BareConference, ThreadedConference};
 use crate::bodies::lengths_of;
-use crate::conference::Conference;
+use crate::conference::ConferenceContents;
 use crate::error::BaseError;
 use crate::files::BaseFiles;
 use crate::headers::entries_of;
@@ -88,7 +88,7 @@ fn bare_in(alloc: Global, files: &BaseFiles, shape: &Shape) -> Result<ThreadedCo
     let slots = slots_in(alloc, shape.place, entries, files.jdx.as_slice())?;
     let count = slots.len() as u32;
     let pointers = pointers_of(alloc, shape.place, count, readers, files.jlr.as_slice())?;
-    let conference = Conference {
+    let conference = ConferenceContents {
         counter,
         slots,
         pointers,
@@ -118,7 +118,7 @@ pub fn read_bare(
     requires jdx { length files.now.jdx < 2 ^ 31 }
     requires jlr { length files.now.jlr < 2 ^ 31 }
     ensures ok { IfOk result (IsBareOf shape.now files.now) }
-    ensures only_ok { (c : Conference) → IsConference shape.now c → files.now ≡ layout shape.now c → UnlessMemory BaseError.OutOfMemory result (Ok (bare_of c)) }
+    ensures only_ok { (c : ConferenceContents) → IsConference shape.now c → files.now ≡ layout shape.now c → UnlessMemory BaseError.OutOfMemory result (Ok (bare_of c)) }
     ensures damaged { (d : Damage) → result ≡ Err (BaseError.Damaged d) → base_damage shape.now files.now ≡ Some d }
     ensures only_damaged { (d : Damage) → base_damage shape.now files.now ≡ Some d → UnlessMemory BaseError.OutOfMemory result (Err (BaseError.Damaged d)) }
 {

@@ -6,7 +6,7 @@ ghost use Rattle.jam_threads.specs.Threading.{AreThreads};
 ghost use Rattle.jam_layout.specs.Rules.{BaseGives};
 ghost use Rattle.jam_layout.specs.SecondPass.{slots_of, active_in, same_link as is_same_link, links_at, second_pass, Numbered};
 
-use crate::entry::Entry;
+use crate::entry::HeaderEntry;
 use crate::error::BaseError;
 use crate::places::damaged;
 use door_outside::FileId;
@@ -15,7 +15,7 @@ use jam_threads::{Link, Threads};
 use std::alloc::{AllocError, Global};
 
 /// The threads of the slots of the messages, up to the last.
-fn threads_of(alloc: Global, entries: &[Entry]) -> Result<Threads, AllocError>
+fn threads_of(alloc: Global, entries: &[HeaderEntry]) -> Result<Threads, AllocError>
     requires { Numbered 0 entries.now }
     ensures { IfOk result (AreThreads (slots_of 1 entries.now)) }
 {
@@ -31,7 +31,7 @@ fn threads_of(alloc: Global, entries: &[Entry]) -> Result<Threads, AllocError>
 }
 
 /// How many messages aren't deleted.
-fn active(entries: &[Entry]) -> usize
+fn active(entries: &[HeaderEntry]) -> usize
     ensures { result ≡ active_in entries.now }
 {
     entries
@@ -48,7 +48,7 @@ fn same_link(a: Link, b: Link) -> bool
 }
 
 /// Whether a header has the links of its message.
-fn has_links(entry: &Entry, threads: &Threads) -> bool
+fn has_links(entry: &HeaderEntry, threads: &Threads) -> bool
     requires { (slots : List Slot) × AreThreads slots threads.now × (1 ≤ entry.now.number) × (entry.now.number ≤ length slots) }
     ensures { (slots : List Slot) → AreThreads slots threads.now → result ≡ is_same_link entry.now.link (link_of slots entry.now.number) }
 {
@@ -56,7 +56,7 @@ fn has_links(entry: &Entry, threads: &Threads) -> bool
 }
 
 /// Tests the links of each header.
-fn check_links(place: u8, threads: &Threads, entries: &[Entry]) -> Result<(), BaseError>
+fn check_links(place: u8, threads: &Threads, entries: &[HeaderEntry]) -> Result<(), BaseError>
     requires place { place < 64 }
     requires count { length entries.now < 2 ^ 31 }
     requires threads { AreThreads (slots_of 1 entries.now) threads.now }
@@ -74,7 +74,12 @@ fn check_links(place: u8, threads: &Threads, entries: &[Entry]) -> Result<(), Ba
 /// Tests the count of messages that aren't deleted, and the links of each header, and answers the threads of the slots of
 /// the messages, up to the last.
 #[tactic(auto, unfolding(crate::specs::SecondPass::second_pass))]
-pub fn check(alloc: Global, place: u8, stated: u32, entries: &[Entry]) -> Result<Threads, BaseError>
+pub fn check(
+    alloc: Global,
+    place: u8,
+    stated: u32,
+    entries: &[HeaderEntry],
+) -> Result<Threads, BaseError>
     requires place { place < 64 }
     requires numbered { Numbered 0 entries.now }
     ensures gives { BaseGives (λ _. tt) result (second_pass place stated entries.now) }

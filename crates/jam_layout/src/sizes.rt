@@ -1,7 +1,7 @@
 ghost use Rattle.std.specs.Prelude.{◌≡◌, ◌+◌, ◌<◌, ◌^◌, ℕ, List, length};
 ghost use Rattle.jam_records.specs.Subfields.{subfields_text};
 ghost use Rattle.jam_records.specs.declared.message.Slot.TheVariants.{Held};
-ghost use Rattle.jam_layout.specs.Fields.{field};
+ghost use Rattle.jam_layout.specs.Fields.{value_subfields};
 ghost use Rattle.jam_layout.specs.Headers.{header_size as size_of_header};
 ghost use Rattle.jam_layout.specs.Sizes.{slot_size as size_of_slot};
 
@@ -9,7 +9,7 @@ use jam_records::{Bytes, Message};
 
 /// The length of the subfield of a value with so many bytes. An empty value has none.
 fn field_size(len: u64) -> u128
-    ensures size { (id : ℕ) (value : List ℕ) → length value ≡ len → result ≡ length (subfields_text (field id value)) }
+    ensures size { (id : ℕ) (value : List ℕ) → length value ≡ len → result ≡ length (subfields_text (value_subfields id value)) }
     ensures small { result < 2 ^ 65 }
 {
     if len == 0 { 0 } else { 8 + u128::from(len) }
@@ -17,7 +17,7 @@ fn field_size(len: u64) -> u128
 
 /// The length of the subfield of a text.
 fn text_size(text: &Bytes) -> u128
-    ensures size { (id : ℕ) → result ≡ length (subfields_text (field id text.now)) }
+    ensures size { (id : ℕ) → result ≡ length (subfields_text (value_subfields id text.now)) }
     ensures small { result < 2 ^ 65 }
 {
     field_size(text.as_slice().len() as u64)

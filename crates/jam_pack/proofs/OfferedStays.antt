@@ -15,7 +15,7 @@ use Rattle.board_ledger.specs.declared.user.User.{User}
 use Rattle.board_layout.specs.jam_base.Contents.{Contents, pointer_of}
 use Rattle.board_layout.specs.jam_base.Slots.{numbered}
 use Rattle.jam_layout.specs.Conference.{is_live}
-use Rattle.jam_layout.specs.declared.conference.Conference.{Conference}
+use Rattle.jam_layout.specs.declared.conference.ConferenceContents.{ConferenceContents}
 use Rattle.jam_records.specs.declared.message.Slot.{Slot}
 use Rattle.offered_packets.specs.Offered.{all_numbers, is_above, is_new, numbers_in, offered}
 use Rattle.offered_packets.specs.Sees.{is_allowed, sees}
@@ -59,8 +59,8 @@ one_packed [] place x here = tt
 one_packed (y ∷ bases) zero x here = (subst (λ (z : Contents). IsPacked z (with_packed x)) (sym (same_Some y x here)) (once_packed x), all_themselves bases)
 one_packed (y ∷ bases) (suc place) x here = (itself y, one_packed bases place x here)
 
-abbrev slots_at : List Conference → ℕ → List Slot
-slots_at conferences place = unwrap_or (option_map (λ (c : Conference). c.slots) (slice_get conferences place)) []
+abbrev slots_at : List ConferenceContents → ℕ → List Slot
+slots_at conferences place = unwrap_or (option_map (λ (c : ConferenceContents). c.slots) (slice_get conferences place)) []
 
 count_at : (xs ys : List Contents) (place : ℕ) → AllZip IsPacked xs ys → length (slots_at (conferences_in ys) place) ≡ length (slots_at (conferences_in xs) place)
 count_at [] [] place zip = refl
@@ -94,15 +94,15 @@ pointers_at id (x ∷ xs) (y ∷ ys) (suc place) zip = pointers_at id xs ys plac
 module _ (b c : Board) (ledger : c.ledger ≡ b.ledger) (was : conferences_in (contents_of b) ≡ b.conferences) (is : conferences_in (contents_of c) ≡ c.conferences) (zip : AllZip IsPacked (contents_of b) (contents_of c)) where
   same_count : (place : ℕ) → length (slots_in c place) ≡ length (slots_in b place)
   same_count place =
-      ap (λ (cs : List Conference). length (slots_at cs place)) (sym is)
-      ∙ (count_at (contents_of b) (contents_of c) place zip ∙ ap (λ (cs : List Conference). length (slots_at cs place)) was)
+      ap (λ (cs : List ConferenceContents). length (slots_at cs place)) (sym is)
+      ∙ (count_at (contents_of b) (contents_of c) place zip ∙ ap (λ (cs : List ConferenceContents). length (slots_at cs place)) was)
 
   same_sight : (id place number : ℕ) → sees c id place number ≡ sees b id place number
   unfolding sees
   same_sight id place number =
       (λ i. seen_in (ledger i) place (user_of id (record { ledger = ledger i; conferences = c.conferences })) number (slots_at (sym is i) place))
       ∙ (seen_at b.ledger place (user_of id b) number (contents_of b) (contents_of c) place zip
-      ∙ ap (λ (cs : List Conference). seen_in b.ledger place (user_of id b) number (slots_at cs place)) was)
+      ∙ ap (λ (cs : List ConferenceContents). seen_in b.ledger place (user_of id b) number (slots_at cs place)) was)
 
   same_place : (id place : ℕ) → pointer_at place id c ≡ pointer_at place id b
   same_place id place = pointers_at id (contents_of b) (contents_of c) place zip
@@ -131,5 +131,5 @@ offered_stays b place user limit ok = by (base_at place b) refl
         let was : conferences_in (contents_of b) ≡ b.conferences = conferences_back (shapes_of b.ledger) b.conferences ok.conferences in
         same_offered b (with_base place (Some (with_packed base)) b) refl was (ap conferences_in are)
         (subst (AllZip IsPacked (contents_of b)) (sym are) (one_packed (contents_of b) place base here))
-        (length-map bases (λ (x : Contents). x.conference) ∙ (length-set (contents_of b) place (with_packed base) ∙ (sym (length-map (contents_of b) (λ (x : Contents). x.conference)) ∙ ap (length {A = Conference}) was)))
+        (length-map bases (λ (x : Contents). x.conference) ∙ (length-set (contents_of b) place (with_packed base) ∙ (sym (length-map (contents_of b) (λ (x : Contents). x.conference)) ∙ ap (length {A = ConferenceContents}) was)))
         user limit

@@ -16,8 +16,8 @@ use Rattle.jam_layout.specs.Layout.{base_header, entries_of, entries_in}
 use Rattle.jam_records.specs.BaseHeaders.{base_text}
 use Rattle.jam_layout.specs.Sizes.{slot_header}
 use Rattle.jam_layout.specs.Valid.{IsConference}
-use Rattle.jam_layout.specs.declared.conference.Conference.{Conference}
-use Rattle.jam_layout.specs.declared.entry.Entry.{Entry}
+use Rattle.jam_layout.specs.declared.conference.ConferenceContents.{ConferenceContents}
+use Rattle.jam_layout.specs.declared.entry.HeaderEntry.{HeaderEntry}
 use Rattle.jam_layout.specs.declared.shape.Shape.{Shape}
 use Rattle.jam_layout.proofs.BaseLaws.{base_length}
 use Rattle.jam_layout.proofs.EntryLaws.{entry_length}
@@ -44,7 +44,7 @@ pub headers_length : (links : ℕ → Link) (kind : Kind) (offset n : ℕ) (slot
 headers_length links kind offset n [] = refl
 headers_length links kind offset n (Gone ∷ slots) = omega (arith, headers_length links kind offset (n + 1) slots, sum_by-cons slot_header Gone slots)
 headers_length links kind offset n (Held m ∷ slots) =
-    let e : Entry = entry_with n (links n) m in
+    let e : HeaderEntry = entry_with n (links n) m in
     let rest : List ℕ = headers_text kind (offset + length m.body) (entries_of links (n + 1) slots) in
     omega (arith, length-append (entry_text kind offset e) rest, entry_length kind offset e, headers_length links kind (offset + length m.body) (n + 1) slots, sum_by-cons slot_header (Held m) slots)
 
@@ -53,13 +53,13 @@ bodies_length [] = refl
 bodies_length (s ∷ slots) = omega (arith, length-append (body_piece s) (flat_map body_piece slots), bodies_length slots, sum_by-cons body_size s slots)
 
 -- the headers of a conference have fewer than 2^31 bytes, and so have its bodies
-pub headers_small : (shape : Shape) (c : Conference) → IsConference shape c → 1024 + sum_by slot_header c.slots < 2 ^ 31
+pub headers_small : (shape : Shape) (c : ConferenceContents) → IsConference shape c → 1024 + sum_by slot_header c.slots < 2 ^ 31
 headers_small shape c ok =
     let short = (layout_fits shape c ok).jhr.1 in
     let headers : List ℕ = headers_text shape.kind 0 (entries_in c) in
     omega (arith, short, length-append (base_text (base_header shape c)) headers, base_length (base_header shape c), headers_length (link_of c.slots) shape.kind 0 1 c.slots)
 
-pub bodies_small : (shape : Shape) (c : Conference) → IsConference shape c → sum_by body_size c.slots < 2 ^ 31
+pub bodies_small : (shape : Shape) (c : ConferenceContents) → IsConference shape c → sum_by body_size c.slots < 2 ^ 31
 bodies_small shape c ok =
     let short = (layout_fits shape c ok).jdt.1 in
     omega (arith, short, ap length (bodies_are (link_of c.slots) 1 c.slots), bodies_length c.slots)

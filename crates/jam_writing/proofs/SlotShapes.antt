@@ -17,7 +17,7 @@ use Rattle.jam_layout.specs.Headers.{headers_text, entry_text}
 use Rattle.jam_layout.specs.Index.{index_records, pair_of}
 use Rattle.jam_layout.specs.Layout.{base_header, entries_of, layout}
 use Rattle.jam_layout.specs.Sizes.{slot_header}
-use Rattle.jam_layout.specs.declared.conference.Conference.{Conference}
+use Rattle.jam_layout.specs.declared.conference.ConferenceContents.{ConferenceContents}
 use Rattle.jam_layout.specs.declared.shape.Shape.{Shape}
 use Rattle.jam_writing.specs.Pieces.{entry_with, header_piece, body_piece, body_size, index_piece}
 use Rattle.jam_writing.proofs.PieceLaws.{headers_more, index_more, bodies_are}
@@ -54,9 +54,9 @@ index-append at (s ∷ slots) more =
     ∙ ap (λ k. index_records at (s ∷ slots) ++ index_records k more) there)))
 
 -- ---- one message more
-module _ (shape : Shape) (c : Conference) (counter : ℕ) (m : Message) where
+module _ (shape : Shape) (c : ConferenceContents) (counter : ℕ) (m : Message) where
   -- the conference with the message at the end
-  abbrev more : Conference
+  abbrev more : ConferenceContents
   more = record c { counter = counter; slots = c.slots ++ Held m ∷ [] }
 
   -- .JHR has the header of the message at its end; the other headers have the links of the new slots

@@ -8,12 +8,12 @@ use Rattle.jam_records.specs.declared.message.Slot.TheVariants.{Gone, Held}
 use Rattle.jam_layout.specs.jam_threads.declared.link.Link.{Link}
 use Rattle.jam_layout.specs.Headers.{entry_text}
 use Rattle.jam_layout.specs.Index.{no_pair, pair_of}
-use Rattle.jam_layout.specs.declared.entry.Entry.{Entry}
+use Rattle.jam_layout.specs.declared.entry.HeaderEntry.{HeaderEntry}
 -- to .JDT: the body, and its length
 pub use Rattle.jam_layout.specs.Bodies.{body_piece, body_size}
 
 -- a message with its number and its links
-abbrev pub entry_with : ℕ → Link → Message → Entry
+abbrev pub entry_with : ℕ → Link → Message → HeaderEntry
 entry_with number link m = record { number = number; text_len = length m.body; link = link; message = m }
 
 -- to .JHR: the header with its subfields, whose text is at an offset

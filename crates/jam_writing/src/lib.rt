@@ -15,8 +15,8 @@ pub use bodies::write_bodies;
 pub use files::write_first;
 pub use header::add_header;
 pub use jam_layout::{
-    BareConference, BaseError, BaseFiles, Conference, Marks, Reader, Readers, SLOT_LIMIT, Shape,
-    ThreadedConference, laws, read_bare, typed,
+    BareConference, BaseError, BaseFiles, ConferenceContents, Marks, Reader, Readers, SLOT_LIMIT,
+    Shape, ThreadedConference, laws, read_bare, typed,
 };
 pub use jlr::{write_jlr, write_reader};
 pub use last::{write_last_headers, write_last_records};

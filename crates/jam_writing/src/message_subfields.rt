@@ -1,6 +1,6 @@
 ghost use Rattle.std.specs.Prelude.{◌≡◌, ◌++◌, ◌<◌, ◌^◌, length, OnOk};
 ghost use Rattle.jam_records.specs.Subfields.{subfields_text};
-ghost use Rattle.jam_layout.specs.Fields.{field, subfields_of};
+ghost use Rattle.jam_layout.specs.Fields.{value_subfields, subfields_of};
 
 use jam_records::{Bytes, Message, add_subfield};
 use std::alloc::AllocError;
@@ -8,8 +8,8 @@ use std::alloc::AllocError;
 /// Adds the subfield of a value. A value that is empty has none.
 #[tactic(auto, using(jam_layout::proofs::SizeLaws::field_length))]
 fn add_value(jhr: &mut Bytes, id: u16, value: &Bytes) -> Result<(), AllocError>
-    requires { length (subfields_text (field id value.now)) < 2 ^ 31 }
-    ensures { OnOk result (jhr.new ≡ jhr.old ++ subfields_text (field id value.now)) }
+    requires { length (subfields_text (value_subfields id value.now)) < 2 ^ 31 }
+    ensures { OnOk result (jhr.new ≡ jhr.old ++ subfields_text (value_subfields id value.now)) }
 {
     if value.as_slice().is_empty() {
         return Ok(());

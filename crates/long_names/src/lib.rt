@@ -13,4 +13,4 @@ mod writing;
 pub use line_field::LineField;
 pub use reading::{plain, reads_as_is};
 pub use value::{is_long, short_form};
-pub use writing::with_long;
+pub use writing::{goes_as_is, with_long};

@@ -1,4 +1,4 @@
-ghost use Rattle.std.specs.Prelude.{◌≡◌, ◌++◌, IfOk, OnOk};
+ghost use Rattle.std.specs.Prelude.{◌≡◌, ◌++◌, IfOk, IsTrue, OnOk};
 ghost use Rattle.long_names.specs.Plain.{in_field as in_field_of, short_header as short_header_of, as_line, long_lines, with_long as with_long_of};
 
 use crate::header::{add_lines, with_names};
@@ -62,6 +62,19 @@ fn lines_of(alloc: Global, header: &Header) -> Result<Lines, AllocError>
         header.subject.as_slice(),
     )?;
     Ok(lines)
+}
+
+/// Whether a message goes as it is: none of its values is long, and its text begins with no line that would be taken for
+/// one. It takes no memory.
+#[tactic(auto, unfolding(crate::specs::Plain::with_long))]
+pub fn goes_as_is(message: &QwkMessage) -> bool
+    ensures { IsTrue result → with_long_of message.now ≡ message.now }
+{
+    let header = &message.header;
+    !is_long(header.to.as_slice(), LineField::To.most())
+        && !is_long(header.from.as_slice(), LineField::From.most())
+        && !is_long(header.subject.as_slice(), LineField::Subject.most())
+        && !takes(header, past_empty(message.lines.as_slice()))
 }
 
 /// The message as it goes: with the short forms of its long values in the header, and with a line for each of them and

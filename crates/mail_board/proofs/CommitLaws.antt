@@ -5,7 +5,7 @@ use Rattle.board_layout.specs.Board.{Board}
 use Rattle.door_outside.specs.Disk.{Disk, Image, AllNow, Between}
 use Rattle.door_outside.proofs.Moments.{weaker}
 use Rattle.intent_journal.specs.Hosts.{IsCalm}
-use Rattle.intent_journal.specs.Patches.{Files, data_files, patched}
+use Rattle.intent_journal.specs.Patches.{HostFiles, data_files, patched}
 use Rattle.intent_journal.specs.Recovered.{recovered, OldOrPatched}
 use Rattle.intent_journal.specs.declared.patch.Patch.{Patch}
 use Rattle.intent_journal.proofs.Hosts.{calm_is_firm, calm_recovers}
@@ -13,14 +13,14 @@ use Rattle.mail_board.specs.Held.{BeforeOrNext, Rests}
 use Rattle.mail_board.proofs.DataLaws.{layout_moves, data_twice}
 
 -- before the first write
-pub calm_now : (P : Files → Type 0) (moves : (f g : Files) → data_files f ≡ data_files g → P f → P g) (next : Board) (disk : Disk) → IsCalm disk → P disk.files → AllNow disk (BeforeOrNext P next disk)
+pub calm_now : (P : HostFiles → Type 0) (moves : (f g : HostFiles) → data_files f ≡ data_files g → P f → P g) (next : Board) (disk : Disk) → IsCalm disk → P disk.files → AllNow disk (BeforeOrNext P next disk)
 calm_now P moves next disk calm holds = λ image left. record {
   said = disk.stays image left;
   files = inl (moves disk.files (recovered image.files) (sym (data_twice disk.files) ∙ sym (λ i. data_files ((calm_is_firm disk calm image left ∙ calm_recovers disk calm) i))) holds);
 }
 
 -- a commit, done or not
-module _ (P : Files → Type 0) (moves : (f g : Files) → data_files f ≡ data_files g → P f → P g) (next : Board) (intent : List Patch) (leads : Leads P next intent) (old : Disk) (holds : P old.files) where
+module _ (P : HostFiles → Type 0) (moves : (f g : HostFiles) → data_files f ≡ data_files g → P f → P g) (next : Board) (intent : List Patch) (leads : Leads P next intent) (old : Disk) (holds : P old.files) where
   each : (image : Image) → OldOrPatched intent old image → BeforeOrNext P next old image
   each image it = record {
     said = it.said;

@@ -16,10 +16,10 @@ use Rattle.board_ledger.specs.damage_rules.Rules.{by_rules, ◌>>=◌}
 use Rattle.board_ledger.proofs.damage_rules.KeptRules.{bind_ok, both_kept, kept_none, ok_is, rules_kept}
 use Rattle.door_outside.specs.File.{ledger_file, jhr_file, jdt_file, jdx_file, jlr_file}
 use Rattle.intent_journal.specs.Journal.{intent_of}
-use Rattle.intent_journal.specs.Patches.{Files, data_files, patched}
+use Rattle.intent_journal.specs.Patches.{HostFiles, data_files, patched}
 use Rattle.intent_journal.specs.Recovered.{recovered}
 use Rattle.jam_layout.specs.Layout.{conference_of, files_size}
-use Rattle.jam_layout.specs.declared.conference.Conference.{Conference}
+use Rattle.jam_layout.specs.declared.conference.ConferenceContents.{ConferenceContents}
 use Rattle.jam_records.specs.declared.damage.Damage.{Damage}
 use Rattle.jam_records.specs.declared.damage.DamageRule.TheVariants.{Rest, Size}
 use Rattle.board_ledger.specs.setup_file.declared.conference.Conference.{Conference as SetupConference}
@@ -57,14 +57,14 @@ bind_moves : {A B : Type 0} (r : Result A Damage) (p q : A → Result B Damage) 
 bind_moves (Ok x) p q same = same x refl
 bind_moves (Err d) p q same = refl
 
-module _ (f g : Files) (same : data_files f ≡ data_files g) where
+module _ (f g : HostFiles) (same : data_files f ≡ data_files g) where
   -- ---- the parts
   conferences_move : (l : Ledger) (place : ℕ) (cs : List SetupConference) → place + length cs ≤ 64 → conferences_of (shapes_from l place cs) f ≡ conferences_of (shapes_from l place cs) g
   conferences_move l place [] few = refl
   conferences_move l place (c ∷ cs) few =
       let here = place_moves place f g (omega arith) same in
       let others = conferences_move l (place + 1) cs (omega arith) in
-      λ i. conference_of (shape_of l place c.kind) (here i) >>= λ (one : Conference). others i >>= λ (more : List Conference). Ok (one ∷ more)
+      λ i. conference_of (shape_of l place c.kind) (here i) >>= λ (one : ConferenceContents). others i >>= λ (more : List ConferenceContents). Ok (one ∷ more)
 
   rest_moves : (file : ℕ) → 1 < file → file < 258 → is_rest file f ≡ is_rest file g
   rest_moves file low high = ap (λ (bytes : List ℕ). by_rules file 0 ((Rest, not (eqb (length bytes) 0)) ∷ []) (tt {0})) (at_file f g file same (is_data file low high))
@@ -92,7 +92,7 @@ module _ (f g : Files) (same : data_files f ≡ data_files g) where
   behind_moves l few =
       let bases = conferences_move l 0 l.setup.conferences (omega arith) in
       let rests = rests_move (length l.setup.conferences) (64 - length l.setup.conferences) (omega arith) in
-      λ i. bases i >>= λ (conferences : List Conference). rests i
+      λ i. bases i >>= λ (conferences : List ConferenceContents). rests i
       >>= λ empty. highs_of conferences (1 + length l.setup.conferences) l.users >>= λ within. Ok (record { ledger = l; conferences = conferences })
 
   text_moves : f ledger_file ≡ g ledger_file
@@ -124,5 +124,5 @@ module _ (f g : Files) (same : data_files f ≡ data_files g) where
   reading_moves = λ i. cond (eqb (size_moves i) 0) (Ok None) (some_board (board_moves i))
 
 -- the recovered files, and those that a recovery left
-pub recovered_reading : (old mid : Files) → data_files mid ≡ recovered old → board_in (recovered old) ≡ board_in mid
+pub recovered_reading : (old mid : HostFiles) → data_files mid ≡ recovered old → board_in (recovered old) ≡ board_in mid
 recovered_reading old mid done = reading_moves (recovered old) mid (data_twice (patched (intent_of old) old) ∙ sym done)

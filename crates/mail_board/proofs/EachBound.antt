@@ -6,16 +6,16 @@ use Rattle.std.proofs.lemmas.List.Sums.{sum_by-cons}
 use Rattle.board_layout.proofs.OneOutline.{alike_size}
 use Rattle.board_layout.specs.Board.{Board}
 use Rattle.jam_layout.specs.Outlines.{outline, slot_outline}
-use Rattle.jam_layout.specs.declared.conference.Conference.{Conference}
+use Rattle.jam_layout.specs.declared.conference.ConferenceContents.{ConferenceContents}
 use Rattle.mail_board.specs.Held.{AreAlike}
 use Rattle.mail_board.specs.Written.{KeepsBoundOf, slot_total}
 
-slots_outline : (conferences : List Conference) → sum_by (λ (c : Conference). length c.slots) (map outline conferences) ≡ sum_by (λ (c : Conference). length c.slots) conferences
+slots_outline : (conferences : List ConferenceContents) → sum_by (λ (c : ConferenceContents). length c.slots) (map outline conferences) ≡ sum_by (λ (c : ConferenceContents). length c.slots) conferences
 slots_outline [] = refl
 slots_outline (c ∷ conferences) = omega (
   arith,
-  sum_by-cons (λ (k : Conference). length k.slots) (outline c) (map outline conferences),
-  sum_by-cons (λ (k : Conference). length k.slots) c conferences,
+  sum_by-cons (λ (k : ConferenceContents). length k.slots) (outline c) (map outline conferences),
+  sum_by-cons (λ (k : ConferenceContents). length k.slots) c conferences,
   length-map c.slots slot_outline,
   slots_outline conferences,
 )

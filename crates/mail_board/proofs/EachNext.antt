@@ -22,7 +22,7 @@ use Rattle.board_layout.specs.jam_base.Contents.{Contents, with_deleted}
 use Rattle.board_layout.specs.jam_base.Outlined.{outlined}
 use Rattle.board_layout.specs.jam_base.Slots.{has_live}
 use Rattle.jam_layout.specs.Valid.{IsConference}
-use Rattle.jam_layout.specs.declared.conference.Conference.{Conference}
+use Rattle.jam_layout.specs.declared.conference.ConferenceContents.{ConferenceContents}
 use Rattle.jam_layout.specs.declared.shape.Shape.{Shape}
 use Rattle.jam_records.specs.declared.message.Message.{Message}
 use Rattle.offer_changes.proofs.OfferLaws.{offer_shapes}
@@ -93,7 +93,7 @@ module _ (a b : Board) (alike : AreAlike a b) where
         arith,
         past.0,
         within,
-        ap (length {A = Conference}) (conferences_back (shapes_of b.ledger) b.conferences was.conferences),
+        ap (length {A = ConferenceContents}) (conferences_back (shapes_of b.ledger) b.conferences was.conferences),
         length-map (contents_of b) (λ (base : Contents). base.conference),
       ))
     ]

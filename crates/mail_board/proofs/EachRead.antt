@@ -23,7 +23,7 @@ use Rattle.jam_layout.proofs.OutlineLaws.{conference_outline}
 use Rattle.jam_layout.specs.Messages.{IsSlot}
 use Rattle.jam_layout.specs.Outlines.{outline}
 use Rattle.jam_layout.specs.Valid.{IsConference}
-use Rattle.jam_layout.specs.declared.conference.Conference.{Conference}
+use Rattle.jam_layout.specs.declared.conference.ConferenceContents.{ConferenceContents}
 use Rattle.jam_layout.specs.declared.shape.Shape.{Shape}
 use Rattle.jam_records.specs.declared.message.Kind.{Kind}
 use Rattle.jam_records.specs.declared.message.Slot.{Slot}
@@ -179,7 +179,7 @@ module _ (b : Board) (own : board_outline b ≡ b) (id packet now : ℕ) where
       let bases : List Contents = all_read id u.name now (contents_of b) o.highs in
       let same : map outlined bases ≡ bases =
       all_read_outline id u.name now (contents_of b) o.highs ∙ ap (λ (xs : List Contents). all_read id u.name now xs o.highs) (own_bases b own) in
-      ap (λ (cs : List Conference). record { ledger = (read_offer id now u o b).ledger; conferences = cs }) (conferences_outlined bases ∙ ap conferences_in same)
+      ap (λ (cs : List ConferenceContents). record { ledger = (read_offer id now u o b).ledger; conferences = cs }) (conferences_outlined bases ∙ ap conferences_in same)
 
   own_found : (u : User) (found : Option OpenOffer) → board_outline (unwrap_or (option_map (λ o. read_offer id now u o b) found) b) ≡ unwrap_or (option_map (λ o. read_offer id now u o b) found) b
   own_found u None = own

@@ -10,7 +10,7 @@ use Rattle.board_layout.specs.Rules.{AreFoundOf, IsFoundOf, ReadSo}
 use Rattle.board_layout.specs.Valid.{IsBoard}
 use Rattle.board_layout.specs.declared.read.FoundBoard.{FoundBoard}
 use Rattle.board_ledger.specs.damage_rules.Rules.{Stops}
-use Rattle.intent_journal.specs.Patches.{Files}
+use Rattle.intent_journal.specs.Patches.{HostFiles}
 use Rattle.jam_records.specs.declared.damage.Damage.{Damage}
 use Rattle.mail_board.specs.Held.{AreAlike, StandsFor}
 use Rattle.mail_board.specs.Loading.{StandsFound}
@@ -24,15 +24,15 @@ stops_outlined None read stops = stops
 stops_outlined (Some d) read stops = ap outlined_read stops
 
 -- a board stands for itself
-pub own_stands : (b : Board) (files : Files) → IsBoard b → IsLayout b files → StandsFor b files
+pub own_stands : (b : Board) (files : HostFiles) → IsBoard b → IsLayout b files → StandsFor b files
 own_stands b files ok layout = record { board = b; valid = ok; alike = refl; layout = layout }
 
 -- a board that was found has the outline of the whole one
-pub found_alike : (files : Files) (found : FoundBoard) (whole : Board) → IsFoundOf files found whole → AreAlike whole found.board
+pub found_alike : (files : HostFiles) (found : FoundBoard) (whole : Board) → IsFoundOf files found whole → AreAlike whole found.board
 found_alike files found whole is = sym (ap board_outline is.alike ∙ outline_again whole)
 
 -- ---- what was read
-module _ (files : Files) (read : Result (Option Board) Damage) where
+module _ (files : HostFiles) (read : Result (Option Board) Damage) where
   pub none_found : ReadSo (AreFoundOf files) None read → AreEmpty files × (outlined_read read ≡ Ok None)
   none_found so = by so.whole so.is_read so.holds
     where

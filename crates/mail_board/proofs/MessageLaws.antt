@@ -14,7 +14,7 @@ use Rattle.board_layout.specs.Lookups.{held_in, message_at}
 use Rattle.board_layout.specs.Renewed.{contents_of}
 use Rattle.board_layout.specs.Valid.{IsBoard}
 use Rattle.door_outside.specs.File.{jdt_file}
-use Rattle.intent_journal.specs.Patches.{Files}
+use Rattle.intent_journal.specs.Patches.{HostFiles}
 use Rattle.board_layout.specs.jam_base.Contents.{Contents}
 use Rattle.board_layout.specs.jam_base.Outlined.{outlined}
 use Rattle.board_layout.specs.jam_base.Slots.{numbered}
@@ -89,7 +89,7 @@ module _ (held b : Board) (alike : AreAlike b held) (place number : ℕ) where
     pub message_there : (found : Message) → IsBoard b → Some found ≡ held_in (numbered other.0.conference.slots number) → Some found ≡ message_at b place number
     message_there found ok is = is ∙ sym (message_here b place number (Some other.0) ok other.1)
 
-    pub other_bodies : (files : Files) → IsBoard b → IsLayout b files → HasBodies base other.0 (files (jdt_file place))
+    pub other_bodies : (files : HostFiles) → IsBoard b → IsLayout b files → HasBodies base other.0 (files (jdt_file place))
     other_bodies files ok laid = record {
       valid = base_valid b place other.0 ok other.1;
       alike = other.2;

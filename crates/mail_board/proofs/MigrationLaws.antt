@@ -16,7 +16,7 @@ use Rattle.door_outside.specs.File.{ledger_file, jhr_file, jdt_file, jdx_file, j
 use Rattle.door_outside.proofs.Moments.{reads_have, weaker}
 use Rattle.intent_journal.specs.Hosts.{IsCalm}
 use Rattle.intent_journal.specs.Journal.{intent_of}
-use Rattle.intent_journal.specs.Patches.{Files, data_files, patched}
+use Rattle.intent_journal.specs.Patches.{HostFiles, data_files, patched}
 use Rattle.intent_journal.specs.Recovered.{recovered, Back, OldOrPatched}
 use Rattle.intent_journal.specs.declared.patch.Patch.{Patch}
 use Rattle.intent_journal.specs.declared.patch.Patch.TheVariants.{Whole}
@@ -31,7 +31,7 @@ use Rattle.mail_board.proofs.LoadLaws.{found_alike}
 abbrev pub ledger_patches : Ledger → List Patch
 ledger_patches l = Whole ledger_file (ledger_text l) ∷ []
 
-module _ (b : Board) (files : Files) where
+module _ (b : Board) (files : HostFiles) where
   other_stays : (file : ℕ) → 0 < file → patched (ledger_patches b.ledger) files file ≡ files file
   other_stays file above = cond-false (eqb file ledger_file) (ledger_text b.ledger) (files file) (ne_eqb file ledger_file (λ e. omega (arith, e, above)))
 
@@ -50,7 +50,7 @@ module _ (b : Board) (files : Files) where
   }
 
 -- ---- data files of what is recovered
-recovered_twice : (files : Files) → data_files (recovered files) ≡ recovered files
+recovered_twice : (files : HostFiles) → data_files (recovered files) ≡ recovered files
 recovered_twice files = data_twice (patched (intent_of files) files)
 
 -- ---- the commit of the ledger of a board that has the outline of the one that the files are of
@@ -97,7 +97,7 @@ module _ (held : Board) (old : Disk) (calm : IsCalm old) (stands : StandsOld hel
     }
 
 -- ---- what was found, in either version
-module _ (found : FoundBoard) (files : Files) (stands : StandsFound found files) where
+module _ (found : FoundBoard) (files : HostFiles) (stands : StandsFound found files) where
   pub found_first : found.is_old ≡ true → StandsOld found.board files
   found_first old = record {
     old = record { board = stands.whole; valid = stands.holds.valid; layout = subst (λ (is_old : Bool). IsLaidOutAs is_old stands.whole files) old stands.holds.stored };
@@ -117,7 +117,7 @@ module _ (old mid : Disk) (same : Back old (as_read mid)) where
   behind : (image : Image) → Opens mid image → Opens old image
   behind image it = record {
     said = it.said ∙ same.said;
-    files = subst (λ (files : Files). AreOpened files (recovered image.files)) same.files it.files;
+    files = subst (λ (files : HostFiles). AreOpened files (recovered image.files)) same.files it.files;
   }
 
   pub opens_same : (new : Disk) → AllNow new (Opens mid) → Opens old (as_read new)

@@ -11,7 +11,7 @@ use Rattle.door_outside.specs.Disk.{Disk, AllNow, Unchanged}
 use Rattle.door_outside.proofs.Moments.{now_unchanged}
 use Rattle.intent_journal.specs.Hosts.{IsCalm}
 use Rattle.intent_journal.specs.Journal.{IsClosed}
-use Rattle.intent_journal.specs.Patches.{Files, SameFiles}
+use Rattle.intent_journal.specs.Patches.{HostFiles, SameFiles}
 use Rattle.intent_journal.specs.declared.patch.Patch.{Patch}
 use Rattle.mail_board.specs.Changes.{changed, Fits}
 use Rattle.mail_board.specs.Held.{AreAlike, Holds, Rests, RestsOn, StandsFor}
@@ -51,8 +51,8 @@ module _ (held : Board) (disk : Disk) (rests : RestsOn held disk) where
 -- ---- a host of which nothing changed
 calm_still : (old new : Disk) → Unchanged old new → IsCalm old → IsCalm new
 calm_still old new same calm = record {
-  closed = subst (λ (files : Files). IsClosed (files 1)) (sym same.files) calm.closed;
-  kept = subst (λ (files : Files). AllNow new (λ image. SameFiles image.files files)) (sym same.files) (now_unchanged same calm.kept);
+  closed = subst (λ (files : HostFiles). IsClosed (files 1)) (sym same.files) calm.closed;
+  kept = subst (λ (files : HostFiles). AllNow new (λ image. SameFiles image.files files)) (sym same.files) (now_unchanged same calm.kept);
 }
 
 pub rests_still : (held : Board) (old new : Disk) → Unchanged old new → RestsOn held old → RestsOn held new

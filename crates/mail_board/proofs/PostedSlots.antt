@@ -13,7 +13,7 @@ use Rattle.board_layout.specs.Renewed.{contents_of}
 use Rattle.board_layout.specs.Valid.{IsBoard}
 use Rattle.board_ledger.specs.declared.ledger.Ledger.{Ledger}
 use Rattle.board_layout.specs.jam_base.Contents.{Contents, with_messages}
-use Rattle.jam_layout.specs.declared.conference.Conference.{Conference}
+use Rattle.jam_layout.specs.declared.conference.ConferenceContents.{ConferenceContents}
 use Rattle.jam_records.specs.declared.message.Message.{Message}
 use Rattle.post_changes.proofs.PlacePosts.{elsewhere, here, posted_slots}
 use Rattle.post_changes.specs.Posted.{ArePlaced, all_posted, posted_in, posted_with, posts_in, upload_record, with_record}
@@ -61,8 +61,8 @@ all_from (post ∷ posts) count placed =
     omega (arith, one_more post posts 0 count (omega arith) (omega (arith, inside)), all_from posts count (All-tail (λ (p : ℕ × Message). p.0 < count) post posts placed))
 
 -- ---- slots
-slots_of_all : List Conference → ℕ
-slots_of_all conferences = sum_by (λ (c : Conference). length c.slots) conferences
+slots_of_all : List ConferenceContents → ℕ
+slots_of_all conferences = sum_by (λ (c : ConferenceContents). length c.slots) conferences
 
 all_slots : (b : Board) (posts : List (ℕ × Message)) (place : ℕ) (bases : List Contents)
     → slots_of_all (conferences_in (all_posted b posts place bases)) ≡ slots_of_all (conferences_in bases) + posts_from place posts (length bases)
@@ -70,8 +70,8 @@ unfolding slots_of_all posts_from
 all_slots b posts place [] = refl
 all_slots b posts place (base ∷ bases) = omega (
   arith,
-  sum_by-cons (λ (c : Conference). length c.slots) (posted_in b posts place base).conference (conferences_in (all_posted b posts (place + 1) bases)),
-  sum_by-cons (λ (c : Conference). length c.slots) base.conference (conferences_in bases),
+  sum_by-cons (λ (c : ConferenceContents). length c.slots) (posted_in b posts place base).conference (conferences_in (all_posted b posts (place + 1) bases)),
+  sum_by-cons (λ (c : ConferenceContents). length c.slots) base.conference (conferences_in bases),
   posted_slots b posts place base,
   all_slots b posts (place + 1) bases,
 )
@@ -81,7 +81,7 @@ module _ (b : Board) (ok : IsBoard b) where
   conferences_are = conferences_back (shapes_of b.ledger) b.conferences ok.conferences
 
   bases_count : length (contents_of b) ≡ length b.conferences
-  bases_count = sym (length-map (contents_of b) (λ (base : Contents). base.conference)) ∙ ap (length {A = Conference}) conferences_are
+  bases_count = sym (length-map (contents_of b) (λ (base : Contents). base.conference)) ∙ ap (length {A = ConferenceContents}) conferences_are
 
   spread_slots_total : (l : Ledger) (posts : List (ℕ × Message)) → ArePlaced posts b → slot_total (posted_with l posts b) ≡ slot_total b + length posts
   unfolding slots_of_all
@@ -102,14 +102,14 @@ module _ (b : Board) (ok : IsBoard b) where
       at : (base : Contents) → base_at place b ≡ Some base → slot_total (appended place messages b) ≡ slot_total b + length messages
       at base there =
           let given : List Message = all_identified (msgid_in place b) (length base.conference.slots + 1) messages in
-          let conferences : List Conference = conferences_in (contents_of b) in
+          let conferences : List ConferenceContents = conferences_in (contents_of b) in
           let new : Contents = with_messages given base in
           omega (
             arith,
             ap slot_total (appended_there b place messages base ok there),
             ap slots_of_all (map-set (λ (c : Contents). c.conference) (contents_of b) place new),
-            sum_by-set (λ (c : Conference). length c.slots) conferences place new.conference base.conference (omega (arith, inside, bases_count, length-map (contents_of b) (λ (c : Contents). c.conference))),
-            ap (λ (c : Conference). length c.slots) (get_or-map (λ (c : Contents). c.conference) (contents_of b) place base base.conference (omega (arith, inside, bases_count))),
+            sum_by-set (λ (c : ConferenceContents). length c.slots) conferences place new.conference base.conference (omega (arith, inside, bases_count, length-map (contents_of b) (λ (c : Contents). c.conference))),
+            ap (λ (c : ConferenceContents). length c.slots) (get_or-map (λ (c : Contents). c.conference) (contents_of b) place base base.conference (omega (arith, inside, bases_count))),
             ap (λ (c : Contents). length c.conference.slots) (get_or_from_slice_get (contents_of b) place base base there),
             ap slots_of_all conferences_are,
             more_slots base given,

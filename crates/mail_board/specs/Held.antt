@@ -2,7 +2,7 @@
 use Rattle.std.specs.Prelude.{◌≡◌, ◌⊎◌, Bool, false, IsTrue}
 use Rattle.door_outside.specs.Disk.{Disk, Image, Unchanged}
 use Rattle.intent_journal.specs.Hosts.{IsCalm}
-use Rattle.intent_journal.specs.Patches.{Files}
+use Rattle.intent_journal.specs.Patches.{HostFiles}
 use Rattle.intent_journal.specs.Recovered.{recovered}
 use Rattle.board_layout.specs.Board.{Board}
 use Rattle.board_layout.specs.Layout.{IsLayout}
@@ -37,7 +37,7 @@ abbrev pub Holds : Board → Disk → Type 0
 Holds b disk = IsBoard b × Rests b disk
 
 -- the files are the layout of a valid board with the outline of this one
-pub record StandsFor (held : Board) (files : Files) : Type 0 where
+pub record StandsFor (held : Board) (files : HostFiles) : Type 0 where
   pub board : Board
   pub valid : IsBoard board
   pub alike : AreAlike board held
@@ -55,6 +55,6 @@ pub record Follows (next : Board) (held : HeldBoard) : Type 0 where
   pub sure : held.doubtful ≡ false
 
 -- nothing was said, and the files recover to such as P says, or to the layout of the next board
-pub record BeforeOrNext (P : Files → Type 0) (next : Board) (old : Disk) (image : Image) : Type 0 where
+pub record BeforeOrNext (P : HostFiles → Type 0) (next : Board) (old : Disk) (image : Image) : Type 0 where
   pub said : image.said ≡ old.said
   pub files : P (recovered image.files) ⊎ IsLayout next (recovered image.files)

@@ -2,7 +2,7 @@
 use Rattle.std.specs.Prelude.{◌≡◌, ◌⊎◌, false, Option, Some, None, option_map, Result, Ok, Err}
 use Rattle.std.specs.Result.{result_map_both}
 use Rattle.door_outside.specs.Disk.{Disk, Image}
-use Rattle.intent_journal.specs.Patches.{Files}
+use Rattle.intent_journal.specs.Patches.{HostFiles}
 use Rattle.intent_journal.specs.Recovered.{recovered}
 use Rattle.intent_journal.specs.declared.recovery.JournalError.{JournalError}
 use Rattle.intent_journal.specs.declared.recovery.JournalError.TheVariants as recovery
@@ -27,7 +27,7 @@ loaded_outline NotMade = None
 loaded_outline (Ready held) = Some (board_outline held.board)
 
 -- that of the board whose layout the files are, or none where all are empty, or their first damage
-abbrev pub outline_in : Files → Result (Option Board) Damage
+abbrev pub outline_in : HostFiles → Result (Option Board) Damage
 outline_in files = result_map_both (option_map board_outline) (λ damage. damage) (board_in files)
 
 -- it is in no doubt
@@ -41,35 +41,35 @@ IsValid NotMade = Unit {0}
 IsValid (Ready held) = IsBoard held.board
 
 -- what was loaded stands in the files
-abbrev pub StandsIn : Files → Loaded → Type 0
+abbrev pub StandsIn : HostFiles → Loaded → Type 0
 StandsIn files NotMade = AreEmpty files
 StandsIn files (Ready held) = StandsFor held.board files
 
 -- the old files are the layout of a valid board in version 1
-pub record AreOld (files : Files) : Type 0 where
+pub record AreOld (files : HostFiles) : Type 0 where
   pub board : Board
   pub valid : IsBoard board
   pub layout : IsOldLayout board files
 
 -- so they are of a board with the outline of this one
-pub record StandsOld (held : Board) (files : Files) : Type 0 where
+pub record StandsOld (held : Board) (files : HostFiles) : Type 0 where
   pub old : AreOld files
   pub alike : AreAlike old.board held
 
 -- what was found is the outline of a valid board, and the files are its layout, in version 1 where it is said to be old
-pub record StandsFound (found : FoundBoard) (files : Files) : Type 0 where
+pub record StandsFound (found : FoundBoard) (files : HostFiles) : Type 0 where
   pub whole : Board
   pub holds : IsFoundOf files found whole
 
 -- the old files are the layout of a valid board in version 1, and the new ones in version 2
-pub record IsMigration (old new : Files) : Type 0 where
+pub record IsMigration (old new : HostFiles) : Type 0 where
   pub board : Board
   pub valid : IsBoard board
   pub before : IsOldLayout board old
   pub after : IsLayout board new
 
 -- the new files are the old ones, or these migrated
-abbrev pub AreOpened : Files → Files → Type 0
+abbrev pub AreOpened : HostFiles → HostFiles → Type 0
 AreOpened old new = (new ≡ old) ⊎ IsMigration old new
 
 -- an image that recovers to the files of a disk, or to these migrated, and says nothing

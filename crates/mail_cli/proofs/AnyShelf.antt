@@ -2,23 +2,23 @@
 use Rattle.std.proofs.Common.{◌≡◌, ◌≢◌, inl, inr, ℕ, zero, suc, ◌<◌, List, [], ◌∷◌, Bool, true, false, drop, refl, sym, ◌∙◌, ap, subst, arith}
 use Rattle.std.proofs.lemmas.Bool.{true≢false}
 use Rattle.std.specs.Prelude.{Option, Result, Ok, Err, IsErrOf, IsTrue}
-use Rattle.board_commands.proofs.BoardActs.{KeepsState}
-use Rattle.board_commands.proofs.FindLaws.{kept_settled}
-use Rattle.board_commands.proofs.StateLaws.{some_state}
-use Rattle.board_commands.specs.Halts.{told}
-use Rattle.board_commands.specs.Keeping.{KeepsFiles, went}
-use Rattle.board_commands.specs.Kept.{IsKept, unread}
-use Rattle.board_commands.specs.State.{AreSpoiled, State, NotMade, Made, Old, Spoiled, IsSpoiled, Stores}
-use Rattle.board_commands.specs.WriteBound.{FilesKeepBound, WritesWithin}
-use Rattle.board_commands.specs.declared.halt.BoardHalt.{BoardHalt}
-use Rattle.board_commands.specs.declared.halt.BoardHalt.TheVariants as halt
-use Rattle.board_commands.specs.mail_board.declared.loading.Loaded.{Loaded}
-use Rattle.door_commands.proofs.OneCommand.{command_unique}
-use Rattle.door_commands.specs.Entries.{AreEntries}
-use Rattle.door_commands.specs.declared.command.Command.{Command}
-use Rattle.door_commands.specs.declared.command.Command.TheVariants as command
-use Rattle.door_commands.specs.declared.entry.Entry.{Entry}
-use Rattle.door_commands.specs.declared.entry.Entry.TheVariants.{Run}
+use Rattle.cmd_board.proofs.BoardActs.{KeepsState}
+use Rattle.cmd_board.proofs.FindLaws.{kept_settled}
+use Rattle.cmd_board.proofs.StateLaws.{some_state}
+use Rattle.cmd_board.specs.Halts.{told}
+use Rattle.cmd_board.specs.Keeping.{KeepsFiles, went}
+use Rattle.cmd_board.specs.Kept.{IsKept}
+use Rattle.cmd_board.specs.State.{AreSpoiled, State, NotMade, Made, Old, Spoiled, IsSpoiled, Stores}
+use Rattle.cmd_board.specs.WriteBound.{FilesKeepBound, WritesWithin}
+use Rattle.cmd_board.specs.declared.halt.BoardHalt.{BoardHalt}
+use Rattle.cmd_board.specs.declared.halt.BoardHalt.TheVariants as halt
+use Rattle.cmd_board.specs.mail_board.declared.loading.Loaded.{Loaded}
+use Rattle.cmd_entries.proofs.OneCommand.{command_unique, never_both}
+use Rattle.cmd_entries.specs.Entries.{AreEntries}
+use Rattle.cmd_entries.specs.declared.command.Command.{Command}
+use Rattle.cmd_entries.specs.declared.command.Command.TheVariants as command
+use Rattle.cmd_entries.specs.declared.entry.Entry.{Entry}
+use Rattle.cmd_entries.specs.declared.entry.Entry.TheVariants.{Run}
 use Rattle.door_outside.specs.Disk.{Disk}
 use Rattle.door_outside.specs.Shelf as Shelf
 use Rattle.door_outside.specs.declared.fault.VoiceFault.{VoiceFault}
@@ -34,37 +34,36 @@ use Rattle.entry_runs.specs.declared.status.Status.TheVariants as status
 use Rattle.entry_runs.specs.declared.stop.Stop.{Stop}
 use Rattle.entry_runs.specs.declared.stop.Stop.TheVariants as stops
 use Rattle.intent_journal.specs.Hosts.{IsFirm}
-use Rattle.intent_journal.specs.Patches.{Files}
+use Rattle.intent_journal.specs.Patches.{HostFiles}
 use Rattle.intent_journal.specs.Recovered.{recovered}
-use Rattle.mail_cli.specs.Run.{AreTouching, BeginsTouching, IsAnswered, LeavesFiles}
+use Rattle.mail_cli.specs.Run.{AreTouching, BeginsTouching, IsAnswered, FilesStay}
 use Rattle.mail_cli.specs.Step.{door}
 
 -- ---- a command that names no file of the shelf
 -- the files stand for some state, and any content may be put for that of the shelf
-pub at_some : (disk : Disk) (kept : Option Loaded) (shelf : Shelf.Files) → IsKept kept disk → IsAt Stores unread (here (some_state (recovered disk.files)).0 shelf) disk shelf
+pub at_some : (disk : Disk) (kept : Option Loaded) (shelf : Shelf.ShelfFiles) → IsKept kept disk → IsAt Stores (here (some_state (recovered disk.files)).0 shelf) disk shelf
 at_some disk kept shelf is = record {
   board = record {
-    ready = record { settled = kept_settled kept disk is; calm = λ read. absurd (cc read) };
+    settled = kept_settled kept disk is;
     stores = (some_state (recovered disk.files)).1;
-    fits = tt;
   };
   shelf_is = refl;
 }
 
-state_spoiled : (s : State) (files : Files) → Stores s files → AreSpoiled files → IsSpoiled s
+state_spoiled : (s : State) (files : HostFiles) → Stores s files → AreSpoiled files → IsSpoiled s
 state_spoiled NotMade files stores spoiled = absurd (spoiled.some stores)
 state_spoiled (Made b) files stores spoiled = absurd (spoiled.other b stores.0 (inl stores.1))
 state_spoiled (Old b) files stores spoiled = absurd (spoiled.other b stores.0 (inr stores.1))
 state_spoiled (Spoiled held) files stores spoiled = tt
 
-files_spoiled : (s : State) (files : Files) → Stores s files → IsSpoiled s → AreSpoiled files
+files_spoiled : (s : State) (files : HostFiles) → Stores s files → IsSpoiled s → AreSpoiled files
 files_spoiled NotMade files stores spoiled = absurd spoiled
 files_spoiled (Made b) files stores spoiled = absurd spoiled
 files_spoiled (Old b) files stores spoiled = absurd spoiled
 files_spoiled (Spoiled held) files stores spoiled = stores.1
 
-pub performed_keeps : {act : Act State} {world : World State} {old new : Disk} {shelf later : Shelf.Files} (result : Result Class Stop) → KeepsState act → IsTrue act.reach.board → IsAt Stores unread world old shelf
-    → Performs Stores act unread world old new later result → KeepsFiles old new result
+pub performed_keeps : {act : Act State} {world : World State} {old new : Disk} {shelf later : Shelf.ShelfFiles} (result : Result Class Stop) → KeepsState act → IsTrue act.reach.board → IsAt Stores world old shelf
+    → Performs Stores act world old new later result → KeepsFiles old new result
 performed_keeps {world = world} {old = old} {new = new} (Ok class) keeps on at performs =
     let stepped = performs.ends.stepped in
     record {
@@ -83,7 +82,7 @@ answered_keeps {mid = mid} {new = new} class (Ok x) voiced keeps =
     record {
       firm = λ sound before. firm;
       rests = λ done. firm;
-      still_spoiled = λ after. keeps.still_spoiled (subst (λ (files : Files). AreSpoiled (recovered files)) voiced.files after);
+      still_spoiled = λ after. keeps.still_spoiled (subst (λ (files : HostFiles). AreSpoiled (recovered files)) voiced.files after);
       only_spoiled = keeps.only_spoiled;
     }
 answered_keeps {mid = mid} {new = new} class (Err fault) voiced keeps =
@@ -109,7 +108,7 @@ module _ {Host Value : Type 0} (disk : Host → Disk) (old : Disk) (mid new : Ho
   -- the bytes that it wrote
   voiced_between : {T E : Type 0} {spoken : List ℕ} {said : Result T E} → Voiced spoken (disk mid) (disk new) said → FilesKeepBound old (disk mid) → FilesKeepBound old (disk new)
   voiced_between voiced kept state next stores today after =
-      subst (WritesWithin state next old.wrote) (sym voiced.wrote) (kept state next stores today (subst (λ (files : Files). Stores next (recovered files)) voiced.files after))
+      subst (WritesWithin state next old.wrote) (sym voiced.wrote) (kept state next stores today (subst (λ (files : HostFiles). Stores next (recovered files)) voiced.files after))
 
   unsaid_between : new ≡ mid → FilesKeepBound old (disk mid) → FilesKeepBound old (disk new)
   unsaid_between same kept = subst (λ (host : Host). FilesKeepBound old (disk host)) (sym same) kept
@@ -123,13 +122,13 @@ module _ {Host Value : Type 0} (disk : Host → Disk) (old : Disk) (mid new : Ho
   said_between (Err halt.OutOfMemory) spoken sound kept = unsaid_between spoken.0 (kept (λ is. absurd (cc is)))
 
 -- ---- an entry of a run, whether it touches the board or not
-pub firm_on : (on : Bool) {mid new : Disk} {result : Result Class Stop} → (IsTrue on → KeepsFiles mid new result) → (on ≡ false → LeavesFiles mid new) → ¬ IsErrOf result stops.DiskFault → IsFirm mid → IsFirm new
+pub firm_on : (on : Bool) {mid new : Disk} {result : Result Class Stop} → (IsTrue on → KeepsFiles mid new result) → (on ≡ false → FilesStay mid new) → ¬ IsErrOf result stops.DiskFault → IsFirm mid → IsFirm new
 firm_on true keeps leaves sound firm = (keeps refl).firm sound firm
 firm_on false {mid} {new} keeps leaves sound firm = firm_then mid new (leaves refl).now (leaves refl).files firm
 
-pub spoiled_on : (on : Bool) {mid new : Disk} {class : Class} → (IsTrue on → KeepsFiles mid new (Ok class)) → (on ≡ false → LeavesFiles mid new) → AreSpoiled (recovered new.files) → AreSpoiled (recovered mid.files)
+pub spoiled_on : (on : Bool) {mid new : Disk} {class : Class} → (IsTrue on → KeepsFiles mid new (Ok class)) → (on ≡ false → FilesStay mid new) → AreSpoiled (recovered new.files) → AreSpoiled (recovered mid.files)
 spoiled_on true keeps leaves after = (keeps refl).still_spoiled after
-spoiled_on false keeps leaves after = subst (λ (files : Files). AreSpoiled (recovered files)) (leaves refl).files after
+spoiled_on false keeps leaves after = subst (λ (files : HostFiles). AreSpoiled (recovered files)) (leaves refl).files after
 
 done_sound : (result : Result Class Stop) → IsDone result → ¬ IsErrOf result stops.DiskFault
 done_sound (Ok class) done is = absurd (cc is)
@@ -140,7 +139,7 @@ done_sound (Err stops.OutOfMemory) done is = absurd done
 
 -- where the first entry touches the board, the host is firm from then on
 pub rests_on : (now : ℕ) {entries back : List Entry} {entry : Entry} (i : ℕ) {mid new : Disk} {result : Result Class Stop} → drop i entries ≡ entry ∷ back → (0 < i → BeginsTouching now entries → IsFirm mid)
-    → (IsTrue (touches (door now) entry) → KeepsFiles mid new result) → (touches (door now) entry ≡ false → LeavesFiles mid new) → IsDone result → BeginsTouching now entries → IsFirm new
+    → (IsTrue (touches (door now) entry) → KeepsFiles mid new result) → (touches (door now) entry ≡ false → FilesStay mid new) → IsDone result → BeginsTouching now entries → IsFirm new
 rests_on now {entries} {back} {entry} zero more early keeps leaves done begins =
     let same = sym begins.2 ∙ more in
     let one : begins.0 ≡ entry = cc in
@@ -167,4 +166,4 @@ pub begins_touching : (now : ℕ) (words : List (List ℕ)) (entries : List Entr
 begins_touching now words entries (read, inl (other, reads, single, is)) (c, taken, on) = (Run c, [], is ∙ ap (λ (x : Command). Run x ∷ []) (command_unique words other c reads taken), on)
 begins_touching now words entries (read, inr (inl (file, reads, lines))) (c, taken, on) =
     absurd (true≢false (sym (subst (λ (x : Command). IsTrue (touches (door now) (Run x))) (command_unique words c (command.Batch file) taken reads) on)))
-begins_touching now words entries (read, inr (inr (never, is))) (c, taken, on) = absurd (never c taken)
+begins_touching now words entries (read, inr (inr (never, is))) (c, taken, on) = absurd (never_both words c taken never)

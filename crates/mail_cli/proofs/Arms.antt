@@ -1,7 +1,7 @@
 -- What a command gives, as its arm of the dispatch has it.
 use Rattle.std.proofs.Common.{◌≡◌, ◌≢◌, inl, inr, ⊎_elim, ℕ, List, refl, sym, subst, arith}
 use Rattle.std.specs.Prelude.{Result, Ok, Err, IfOk, IsTrue, Option, Some, None, true}
-use Rattle.board_commands.specs.Kept.{IsKept}
+use Rattle.cmd_board.specs.Kept.{IsKept}
 use Rattle.board_layout.specs.Layout.{AreEmpty}
 use Rattle.door_outside.specs.Disk.{Disk}
 use Rattle.entry_runs.proofs.Voice.{calm_then, settled_then}
@@ -11,12 +11,12 @@ use Rattle.entry_runs.specs.Saying.{Spoken, Voiced}
 use Rattle.entry_runs.specs.declared.class.Class.{Class}
 use Rattle.entry_runs.specs.declared.class.Class.TheVariants.{Damaged}
 use Rattle.entry_runs.specs.declared.stop.Stop.{Stop}
-use Rattle.board_commands.specs.mail_board.Held.{StandsFor}
-use Rattle.board_commands.specs.mail_board.declared.loading.Loaded.{Loaded}
-use Rattle.board_commands.specs.mail_board.declared.loading.Loaded.TheVariants.{NotMade, Ready}
-use Rattle.board_commands.specs.shelf_files.Halts.{ShelfCauses, served}
-use Rattle.board_commands.specs.shelf_files.declared.halt.Halt.{Halt}
-use Rattle.board_commands.specs.shelf_files.declared.halt.Halt.TheVariants.{Refused, ShelfFault, OutOfMemory}
+use Rattle.cmd_board.specs.mail_board.Held.{StandsFor}
+use Rattle.cmd_board.specs.mail_board.declared.loading.Loaded.{Loaded}
+use Rattle.cmd_board.specs.mail_board.declared.loading.Loaded.TheVariants.{NotMade, Ready}
+use Rattle.cmd_board.specs.shelf_files.Halts.{ShelfCauses, served}
+use Rattle.cmd_board.specs.shelf_files.declared.halt.Halt.{Halt}
+use Rattle.cmd_board.specs.shelf_files.declared.halt.Halt.TheVariants.{Refused, ShelfFault, OutOfMemory}
 
 -- a command over the shelf leaves the other counts
 pub shelf_causes : {T : Type 0} (text : T → List ℕ) (disk voice : ℕ) {old new : ℕ} (result : Result T Halt) → ShelfCauses old new result

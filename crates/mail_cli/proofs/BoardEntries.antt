@@ -1,7 +1,7 @@
 -- What an entry does is what it is to a board.
 use Rattle.board_laws.proofs.Sequences.{AreCommands}
-use Rattle.door_commands.specs.declared.command.Command.TheVariants as command
-use Rattle.door_commands.specs.declared.entry.Entry.TheVariants.{Run, Wrong, Refuse}
+use Rattle.cmd_entries.specs.declared.command.Command.TheVariants as command
+use Rattle.cmd_entries.specs.declared.entry.Entry.TheVariants.{Run, Wrong, Refuse}
 use Rattle.mail_cli.specs.BoardEntry.{board_command, steps}
 
 pub are_commands : AreCommands board_command steps

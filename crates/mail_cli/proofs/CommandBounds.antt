@@ -2,17 +2,17 @@
 use Rattle.std.proofs.Common.{◌≡◌, inl, inr, ℕ, zero, suc, List, [], ◌∷◌, drop, refl, sym, ◌∙◌, ap, subst, arith}
 use Rattle.std.proofs.lemmas.List.{drop_all}
 use Rattle.std.specs.Prelude.{Result, Ok, Err}
-use Rattle.board_commands.specs.WriteBound.{KeepsWriteBound, WritesWithin}
-use Rattle.door_commands.proofs.OneCommand.{command_unique}
-use Rattle.door_commands.specs.Entries.{AreEntries, EntriesFrom, EntriesRead}
-use Rattle.board_commands.specs.shelf_files.ShelfFile.{file_within}
-use Rattle.board_commands.specs.shelf_files.declared.refusal.Refusal.{Refusal}
-use Rattle.door_commands.specs.Batch.{batch_limit}
-use Rattle.door_commands.specs.Words.{CommandReads}
-use Rattle.door_commands.specs.declared.command.Command.{Command}
-use Rattle.door_commands.specs.declared.command.Command.TheVariants as command
-use Rattle.door_commands.specs.declared.entry.Entry.{Entry}
-use Rattle.door_commands.specs.declared.entry.Entry.TheVariants.{Run}
+use Rattle.cmd_board.specs.WriteBound.{KeepsWriteBound, WritesWithin}
+use Rattle.cmd_entries.proofs.OneCommand.{command_unique, never_both}
+use Rattle.cmd_entries.specs.Entries.{AreEntries, EntriesFrom, EntriesRead}
+use Rattle.cmd_board.specs.shelf_files.ShelfFile.{file_within}
+use Rattle.cmd_board.specs.shelf_files.declared.refusal.Refusal.{Refusal}
+use Rattle.cmd_entries.specs.Batch.{batch_limit}
+use Rattle.cmd_entries.specs.Words.{CommandReads}
+use Rattle.cmd_entries.specs.declared.command.Command.{Command}
+use Rattle.cmd_entries.specs.declared.command.Command.TheVariants as command
+use Rattle.cmd_entries.specs.declared.entry.Entry.{Entry}
+use Rattle.cmd_entries.specs.declared.entry.Entry.TheVariants.{Run}
 use Rattle.door_outside.specs.Disk.{Disk}
 use Rattle.door_outside.specs.Shelf as Shelf
 use Rattle.entry_runs.specs.Entry.{Reply}
@@ -23,21 +23,21 @@ use Rattle.mail_cli.specs.CommandBound.{CommandFilesKeepBound, CommandKeepsBound
 use Rattle.mail_cli.specs.Step.{does}
 
 -- nothing was written
-pub unwritten : (now : ℕ) (words : List (List ℕ)) (disk : Disk) (shelf : Shelf.Files) → RunKeepsBound now words disk disk shelf
+pub unwritten : (now : ℕ) (words : List (List ℕ)) (disk : Disk) (shelf : Shelf.ShelfFiles) → RunKeepsBound now words disk disk shelf
 unwritten now words disk shelf c reads posts closed state stores today stepped step = omega arith
 
 module _ (now : ℕ) where
   -- the reply was said, which writes nothing
-  said_bound : (c : Command) (old : Disk) {mid new : Disk} (shelf : Shelf.Files) {text : List ℕ} {T E : Type 0} {result : Result T E} → Voiced text mid new result → CommandKeepsBound now c old mid shelf → CommandKeepsBound now c old new shelf
+  said_bound : (c : Command) (old : Disk) {mid new : Disk} (shelf : Shelf.ShelfFiles) {text : List ℕ} {T E : Type 0} {result : Result T E} → Voiced text mid new result → CommandKeepsBound now c old mid shelf → CommandKeepsBound now c old new shelf
   said_bound c old {mid} {new} shelf voiced kept posts closed state stores today stepped step =
       subst (λ (n : ℕ). WritesWithin state stepped.world.state old.wrote n) (sym voiced.wrote) (kept posts closed state stores today stepped step)
 
-  pub spoken_bound : (c : Command) {Host : Type 0} (disk : Host → Disk) (old : Disk) {mid new : Host} (shelf : Shelf.Files) (answer : Result Reply Stop) (result : Result Class Stop) → Spoken disk answer mid new result
+  pub spoken_bound : (c : Command) {Host : Type 0} (disk : Host → Disk) (old : Disk) {mid new : Host} (shelf : Shelf.ShelfFiles) (answer : Result Reply Stop) (result : Result Class Stop) → Spoken disk answer mid new result
       → CommandKeepsBound now c old (disk mid) shelf → CommandKeepsBound now c old (disk new) shelf
   spoken_bound c disk old shelf (Ok reply) result spoken kept = said_bound c old shelf spoken.1 kept
   spoken_bound c disk old shelf (Err stop) result spoken kept = subst (λ host. CommandKeepsBound now c old (disk host) shelf) (sym spoken.0) kept
 
-  pub command_bound : (c : Command) (old new : Disk) (shelf : Shelf.Files) → CommandKeepsBound now c old new shelf → EntryKeepsBound now (Run c) old new shelf
+  pub command_bound : (c : Command) (old new : Disk) (shelf : Shelf.ShelfFiles) → CommandKeepsBound now c old new shelf → EntryKeepsBound now (Run c) old new shelf
   command_bound c old new shelf kept other is =
       let same : c ≡ other = cc in
       subst (λ (x : Command). CommandKeepsBound now x old new shelf) same kept
@@ -50,7 +50,7 @@ module _ (now : ℕ) where
       at zero here = let same : item ≡ one = cc in (refl, same)
       at (suc i) here = let never : [] ≡ item ∷ back = sym (drop_all (suc i) (one ∷ []) (omega arith)) ∙ here in absurd (cc never)
 
-  module _ {Host Files : Type 0} (disk : Host → Disk) (files : Files → Shelf.Files) (entries back : List Entry) (item : Entry) (index : ℕ) (more : drop index entries ≡ item ∷ back) {old mid : Host} {first later : Files} where
+  module _ {Host Files : Type 0} (disk : Host → Disk) (files : Files → Shelf.ShelfFiles) (entries back : List Entry) (item : Entry) (index : ℕ) (more : drop index entries ≡ item ∷ back) {old mid : Host} {first later : Files} where
     pub one_bound : (index ≡ 0 → (mid ≡ old) × (later ≡ first)) → (new : Host) → EntryKeepsBound now item (disk mid) (disk new) (files later) → OneKeepsBound now entries (disk old) (disk new) (files first)
     one_bound unbegun new kept c is =
         let here = alone entries back item index more (Run c) is in
@@ -63,11 +63,11 @@ module _ (now : ℕ) where
   entries_are : (words : List (List ℕ)) (read : List ℕ → Result (List ℕ) Refusal) (entries : List Entry) → EntriesFrom words read entries → (c : Command) → CommandReads words c → PostsMessages c → entries ≡ Run c ∷ []
   entries_are words read entries (inl (other, reads, single, is)) c taken posts = is ∙ ap (λ (x : Command). Run x ∷ []) (command_unique words other c reads taken)
   entries_are words read entries (inr (inl (file, reads, lines))) c taken posts = absurd (subst PostsMessages (command_unique words c (command.Batch file) taken reads) posts)
-  entries_are words read entries (inr (inr (never, is))) c taken posts = absurd (never c taken)
+  entries_are words read entries (inr (inr (never, is))) c taken posts = absurd (never_both words c taken never)
 
-  pub run_bound : (words : List (List ℕ)) (old new : Disk) (shelf later : Shelf.Files) (entries : List Entry) → later ≡ shelf → EntriesRead words shelf entries → OneKeepsBound now entries old new later → RunKeepsBound now words old new shelf
+  pub run_bound : (words : List (List ℕ)) (old new : Disk) (shelf later : Shelf.ShelfFiles) (entries : List Entry) → later ≡ shelf → EntriesRead words shelf entries → OneKeepsBound now entries old new later → RunKeepsBound now words old new shelf
   run_bound words old new shelf later entries same reads kept c taken posts closed =
-      subst (λ (files : Shelf.Files). KeepsWriteBound (does now c) old new files) same (kept c (entries_are words (λ file. file_within shelf file batch_limit) entries reads c taken posts) posts closed)
+      subst (λ (files : Shelf.ShelfFiles). KeepsWriteBound (does now c) old new files) same (kept c (entries_are words (λ file. file_within shelf file batch_limit) entries reads c taken posts) posts closed)
 
   -- ---- whatever the shelf holds
   pub unwritten_between : (words : List (List ℕ)) (disk : Disk) → RunFilesKeepBound words disk disk

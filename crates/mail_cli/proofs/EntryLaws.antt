@@ -2,37 +2,37 @@
 use Rattle.std.proofs.Common.{◌≡◌, ◌≢◌, ℕ, [], Option, refl, sym, subst}
 use Rattle.std.specs.Prelude.{IsTrue}
 use Rattle.std.proofs.lemmas.Bool.{true≢false}
-use Rattle.board_laws.proofs.adopt_commands.AdoptActs.{adopt_turns}
+use Rattle.board_laws.proofs.cmd_adopt.AdoptActs.{adopt_turns}
 use Rattle.board_layout.specs.Board.{Board}
 use Rattle.door_outside.specs.Shelf as Shelf
 use Rattle.entry_runs.specs.Door.{Act, AreLawful, IsLawful}
 use Rattle.entry_runs.proofs.ShelfLaws.{IsLawfulOnShelf, lawful_look, lawful_on_shelf, lawful_saying}
 use Rattle.entry_runs.specs.Entry.{ShelfAct, on_shelf}
-use Rattle.board_laws.proofs.exchange_commands.ExportActs.{ack_turns, keeps_exports, lawful_exports}
-use Rattle.board_laws.proofs.message_commands.MessageActs.{import_turns, kill_turns}
-use Rattle.board_laws.proofs.pack_commands.PackActs.{pack_turns}
-use Rattle.packet_commands.proofs.PacketLaws.{lawful_lists, lawful_reads, lawful_scans, lawful_shows}
-use Rattle.packet_commands.specs.List.{lists}
-use Rattle.packet_commands.specs.Read.{reads, shows}
-use Rattle.packet_commands.specs.Scan.{scans}
-use Rattle.reply_commands.proofs.ReplyLaws.{lawful_composes, lawful_replies}
-use Rattle.reply_commands.specs.Compose.{composes}
-use Rattle.reply_commands.specs.Reply.{replies}
-use Rattle.board_laws.proofs.message_commands.SampleActs.{sample_turns}
-use Rattle.board_commands.proofs.shelf_files.Replies.{some_refusal}
-use Rattle.board_commands.specs.shelf_files.Halts.{refused}
-use Rattle.board_laws.proofs.exchange_commands.UploadActs.{upload_turns}
-use Rattle.board_laws.proofs.toss_commands.TossActs.{toss_turns}
-use Rattle.door_commands.specs.Answers.{usage, usage_line}
-use Rattle.board_commands.proofs.BoardActs.{AreTurns, KeepsState, check_turns, enroll_turns, init_turns, keeps_state, lawful_on_board}
-use Rattle.board_commands.specs.State.{State, IsSpoiled, migrated}
-use Rattle.board_commands.specs.Turns.{Turn, on_board}
+use Rattle.board_laws.proofs.cmd_exchange.ExportActs.{ack_turns, keeps_exports, lawful_exports}
+use Rattle.board_laws.proofs.cmd_messages.MessageActs.{import_turns, kill_turns}
+use Rattle.board_laws.proofs.cmd_pack.PackActs.{pack_turns}
+use Rattle.cmd_packets.proofs.PacketLaws.{lawful_lists, lawful_reads, lawful_scans, lawful_shows}
+use Rattle.cmd_packets.specs.List.{lists}
+use Rattle.cmd_packets.specs.Read.{reads, shows}
+use Rattle.cmd_packets.specs.Scan.{scans}
+use Rattle.cmd_replies.proofs.ReplyLaws.{lawful_composes, lawful_replies}
+use Rattle.cmd_replies.specs.Compose.{composes}
+use Rattle.cmd_replies.specs.Reply.{replies}
+use Rattle.board_laws.proofs.cmd_messages.SampleActs.{sample_turns}
+use Rattle.cmd_board.proofs.shelf_files.Replies.{some_refusal}
+use Rattle.cmd_board.specs.shelf_files.Halts.{refused}
+use Rattle.board_laws.proofs.cmd_exchange.UploadActs.{upload_turns}
+use Rattle.board_laws.proofs.cmd_toss.TossActs.{toss_turns}
+use Rattle.cmd_entries.specs.Answers.{usage, usage_line}
+use Rattle.cmd_board.proofs.BoardActs.{AreTurns, KeepsState, check_turns, enroll_turns, init_turns, keeps_state, lawful_on_board}
+use Rattle.cmd_board.specs.State.{State, IsSpoiled, migrated}
+use Rattle.cmd_board.specs.Turns.{Turn, on_board}
 use Rattle.mail_cli.specs.Step.{act, says, door, nothing}
-use Rattle.door_commands.specs.declared.command.Command.TheVariants as command
-use Rattle.door_commands.specs.declared.entry.Entry.{Entry}
-use Rattle.door_commands.specs.declared.entry.Entry.TheVariants.{Run, Wrong, Refuse}
-use Rattle.door_commands.specs.declared.entry.Usage.{Usage}
-use Rattle.door_commands.specs.declared.entry.Usage.TheVariants.{Words, Line}
+use Rattle.cmd_entries.specs.declared.command.Command.TheVariants as command
+use Rattle.cmd_entries.specs.declared.entry.Entry.{Entry}
+use Rattle.cmd_entries.specs.declared.entry.Entry.TheVariants.{Run, Wrong, Refuse}
+use Rattle.cmd_entries.specs.declared.entry.Usage.{Usage}
+use Rattle.cmd_entries.specs.declared.entry.Usage.TheVariants.{Words, Line}
 
 some_usage : (words : Usage) → usage_line words ≢ []
 some_usage Words is = absurd (cc is)
@@ -50,7 +50,7 @@ record Suits (act : Act State) : Type 0 where
   pub migrates : (state : State) → IsTrue act.reach.board → act.migrated state ≡ migrated state
 
 -- a command that reaches the board alone
-by_turns : {turns : Shelf.Files → Option Board → Turn → Type 0} → AreTurns turns → Suits (on_board turns)
+by_turns : {turns : Shelf.ShelfFiles → Option Board → Turn → Type 0} → AreTurns turns → Suits (on_board turns)
 by_turns {turns = turns} laws = record { lawful = lawful_on_board turns laws; keeps = keeps_state turns laws; migrates = λ state on. refl }
 
 -- a command that reaches the shelf alone leaves the state, and answers no damage

@@ -8,23 +8,23 @@ use Rattle.std.specs.Prelude.{slice_get, ◌||◌}
 use Rattle.door_outside.specs.Disk.{Disk, Image}
 use Rattle.door_outside.specs.Shelf as Shelf
 use Rattle.entry_runs.specs.Door.{World, here, Step, any_touches, touches}
-use Rattle.entry_runs.specs.Runs.{Outcome, Runs, Stepped}
-use Rattle.entry_runs.specs.Promise.{Before, IsHeld, IsUntouched, Leaves, Stopped}
+use Rattle.entry_runs.specs.Runs.{RunOutcome, Runs, Stepped}
+use Rattle.entry_runs.specs.Promise.{Before, IsHeld, IsUntouched, EndsAs, Stopped}
 use Rattle.entry_runs.specs.declared.status.Status.{Status}
 use Rattle.entry_runs.specs.declared.stop.Stop.{Stop}
 use Rattle.entry_runs.specs.declared.stop.Stop.TheVariants.{DiskFault, ShelfFault, VoiceFault, OutOfMemory}
-use Rattle.intent_journal.specs.Patches.{Files}
+use Rattle.intent_journal.specs.Patches.{HostFiles}
 use Rattle.intent_journal.specs.Recovered.{recovered}
-use Rattle.board_commands.proofs.BoardActs.{migrated_once}
-use Rattle.board_commands.specs.State.{State, Stores, migrated}
+use Rattle.cmd_board.proofs.BoardActs.{migrated_once}
+use Rattle.cmd_board.specs.State.{State, Stores, migrated}
 use Rattle.board_laws.specs.History.{Deed, IsHistory, after, left_by}
-use Rattle.door_commands.specs.declared.command.Command.TheVariants as command
-use Rattle.door_commands.specs.declared.entry.Entry.{Entry}
-use Rattle.door_commands.specs.declared.entry.Entry.TheVariants.{Run, Wrong, Refuse}
+use Rattle.cmd_entries.specs.declared.command.Command.TheVariants as command
+use Rattle.cmd_entries.specs.declared.entry.Entry.{Entry}
+use Rattle.cmd_entries.specs.declared.entry.Entry.TheVariants.{Run, Wrong, Refuse}
 use Rattle.mail_cli.proofs.EntryLaws.{lawful, one_migration}
 use Rattle.mail_cli.specs.BoardEntry.{steps}
 use Rattle.mail_cli.specs.Histories.{Continues, HoldsAsThen, HoldsFront, RunBreaksSo, RunContinues, RunEndsSo, StandFor, reached}
-use Rattle.mail_cli.specs.Run.{RunLeaves, RunSurvives}
+use Rattle.mail_cli.specs.Run.{RunEnds, RunSurvives}
 use Rattle.mail_cli.specs.Step.{act, door}
 
 -- ---- one deed more
@@ -90,14 +90,14 @@ module _ (start : State) where
   to_state : {now : ℕ} {deeds : List (Deed Entry)} {entries : List Entry} {one other : State} → one ≡ other → Continues now start deeds entries one → Continues now start deeds entries other
   to_state {now} {deeds} {entries} same on = subst (Continues now start deeds entries) same on
 
-  pub runs_continue : (now : ℕ) (deeds : List (Deed Entry)) → IsHistory steps start deeds → (shelf : Shelf.Files) (entries : List Entry) (outcome : Outcome (World State))
+  pub runs_continue : (now : ℕ) (deeds : List (Deed Entry)) → IsHistory steps start deeds → (shelf : Shelf.ShelfFiles) (entries : List Entry) (outcome : RunOutcome (World State))
       → Runs (Step (door now)) (here (reached start deeds) shelf) entries outcome → Continues now start deeds entries outcome.world.state
-  runs_continue now deeds history shelf [] outcome runs = none_more now deeds outcome.world.state history (sym (ap (λ (o : Outcome (World State)). o.world.state) runs))
+  runs_continue now deeds history shelf [] outcome runs = none_more now deeds outcome.world.state history (sym (ap (λ (o : RunOutcome (World State)). o.world.state) runs))
   runs_continue now deeds history shelf (entry ∷ entries) outcome runs =
       let stepped = runs.0 in
       let deed : Deed Entry = record { entry = entry; now = now; shelf = shelf; stepped = stepped } in
       let leads : reached start (deeds ++ deed ∷ []) ≡ stepped.world.state = one_reached deeds deed in
-      to_state (sym (ap (λ (o : Outcome (World State)). o.world.state) runs.4))
+      to_state (sym (ap (λ (o : RunOutcome (World State)). o.world.state) runs.4))
       (and_more now deeds deed entries runs.1.world.state refl
       (runs_continue now (deeds ++ deed ∷ []) (one_more deeds deed history runs.2) stepped.world.shelf entries runs.1
       (subst (λ (s : State). Runs (Step (door now)) (here s stepped.world.shelf) entries runs.1) (sym leads) runs.3)))
@@ -121,46 +121,46 @@ all_migrated start begins deeds history (suc n) = by (all_migrated start begins 
     by was (Some d) is = next_migrated d.now d.entry (here (after start deeds n) d.shelf) d.stepped (history n d is) was
 
 -- a run leaves a board in such files, where it found one in such
-run_migrated : (now : ℕ) (entries : List Entry) (world : World State) (outcome : Outcome (World State)) → migrated world.state ≡ world.state → Runs (Step (door now)) world entries outcome → migrated outcome.world.state ≡ outcome.world.state
+run_migrated : (now : ℕ) (entries : List Entry) (world : World State) (outcome : RunOutcome (World State)) → migrated world.state ≡ world.state → Runs (Step (door now)) world entries outcome → migrated outcome.world.state ≡ outcome.world.state
 run_migrated now [] world outcome was runs =
-    let same : outcome.world.state ≡ world.state = ap (λ (o : Outcome (World State)). o.world.state) runs in
+    let same : outcome.world.state ≡ world.state = ap (λ (o : RunOutcome (World State)). o.world.state) runs in
     ap migrated same ∙ (was ∙ sym same)
 run_migrated now (entry ∷ entries) world outcome was runs =
-    let same : outcome.world.state ≡ runs.1.world.state = ap (λ (o : Outcome (World State)). o.world.state) runs.4 in
+    let same : outcome.world.state ≡ runs.1.world.state = ap (λ (o : RunOutcome (World State)). o.world.state) runs.4 in
     ap migrated same ∙ (run_migrated now entries runs.0.world runs.1 (next_migrated now entry world runs.0 runs.2 was) runs.3 ∙ sym same)
 
 -- ---- one entry more
-abbrev pub with_one : Outcome (World State) → Stepped (World State) → Outcome (World State)
+abbrev pub with_one : RunOutcome (World State) → Stepped (World State) → RunOutcome (World State)
 with_one outcome stepped = record { world = stepped.world; replies = outcome.replies ++ stepped.reply; classes = outcome.classes ++ stepped.class ∷ [] }
 
 module _ (Does : World State → Entry → Stepped (World State) → Type 0) where
-  pub runs_more : (start : World State) (front : List Entry) (entry : Entry) (outcome : Outcome (World State)) (stepped : Stepped (World State)) → Runs Does start front outcome → Does outcome.world entry stepped
+  pub runs_more : (start : World State) (front : List Entry) (entry : Entry) (outcome : RunOutcome (World State)) (stepped : Stepped (World State)) → Runs Does start front outcome → Does outcome.world entry stepped
       → Runs Does start (front ++ entry ∷ []) (with_one outcome stepped)
   runs_more start [] entry outcome stepped runs step = (
     stepped,
     record { world = stepped.world; replies = []; classes = [] },
-    subst (λ (w : World State). Does w entry stepped) (ap (λ (o : Outcome (World State)). o.world) runs) step,
+    subst (λ (w : World State). Does w entry stepped) (ap (λ (o : RunOutcome (World State)). o.world) runs) step,
     refl,
     (λ i. record {
       world = stepped.world;
-      replies = (ap (λ (o : Outcome (World State)). o.replies ++ stepped.reply) runs ∙ sym (append-nil stepped.reply)) i;
-      classes = ap (λ (o : Outcome (World State)). o.classes ++ stepped.class ∷ []) runs i;
+      replies = (ap (λ (o : RunOutcome (World State)). o.replies ++ stepped.reply) runs ∙ sym (append-nil stepped.reply)) i;
+      classes = ap (λ (o : RunOutcome (World State)). o.classes ++ stepped.class ∷ []) runs i;
     }),
   )
   runs_more start (e ∷ front) entry outcome stepped runs step = (
     runs.0,
     with_one runs.1 stepped,
     runs.2,
-    runs_more runs.0.world front entry runs.1 stepped runs.3 (subst (λ (w : World State). Does w entry stepped) (ap (λ (o : Outcome (World State)). o.world) runs.4) step),
+    runs_more runs.0.world front entry runs.1 stepped runs.3 (subst (λ (w : World State). Does w entry stepped) (ap (λ (o : RunOutcome (World State)). o.world) runs.4) step),
     (λ i. record {
       world = stepped.world;
-      replies = (ap (λ (o : Outcome (World State)). o.replies ++ stepped.reply) runs.4 ∙ append_assoc runs.0.reply runs.1.replies stepped.reply) i;
-      classes = ap (λ (o : Outcome (World State)). o.classes ++ stepped.class ∷ []) runs.4 i;
+      replies = (ap (λ (o : RunOutcome (World State)). o.replies ++ stepped.reply) runs.4 ∙ append_assoc runs.0.reply runs.1.replies stepped.reply) i;
+      classes = ap (λ (o : RunOutcome (World State)). o.classes ++ stepped.class ∷ []) runs.4 i;
     }),
   )
 
 module _ (start : State) where
-  pub stopped_continues : (now : ℕ) (deeds : List (Deed Entry)) → IsHistory steps start deeds → (shelf : Shelf.Files) (front : List Entry) (entry : Entry) (outcome : Outcome (World State)) (stepped : Stepped (World State))
+  pub stopped_continues : (now : ℕ) (deeds : List (Deed Entry)) → IsHistory steps start deeds → (shelf : Shelf.ShelfFiles) (front : List Entry) (entry : Entry) (outcome : RunOutcome (World State)) (stepped : Stepped (World State))
       → Runs (Step (door now)) (here (reached start deeds) shelf) front outcome → Step (door now) outcome.world entry stepped → Continues now start deeds (front ++ entry ∷ []) stepped.world.state
   stopped_continues now deeds history shelf front entry outcome stepped runs step =
       runs_continue start now deeds history shelf (front ++ entry ∷ []) (with_one outcome stepped) (runs_more (Step (door now)) (here (reached start deeds) shelf) front entry outcome stepped runs step)
@@ -195,9 +195,9 @@ or_false : (a b : Bool) → (a || b) ≡ false → (a ≡ false) × (b ≡ false
 or_false true b is = absurd (true≢false is)
 or_false false b is = (refl, is)
 
-pub all_moved : (now : ℕ) (entries : List Entry) (start : World State) (outcome : Outcome (World State)) (state : State) → any_touches (door now) entries ≡ false → Runs (Step (door now)) start entries outcome
-    → (next : Outcome (World State)) × Runs (Step (door now)) (here state start.shelf) entries next × (next.world.state ≡ state) × (outcome.replies ≡ next.replies)
-all_moved now [] start outcome state off runs = (record { world = here state start.shelf; replies = []; classes = [] }, refl, refl, ap (λ (o : Outcome (World State)). o.replies) runs)
+pub all_moved : (now : ℕ) (entries : List Entry) (start : World State) (outcome : RunOutcome (World State)) (state : State) → any_touches (door now) entries ≡ false → Runs (Step (door now)) start entries outcome
+    → (next : RunOutcome (World State)) × Runs (Step (door now)) (here state start.shelf) entries next × (next.world.state ≡ state) × (outcome.replies ≡ next.replies)
+all_moved now [] start outcome state off runs = (record { world = here state start.shelf; replies = []; classes = [] }, refl, refl, ap (λ (o : RunOutcome (World State)). o.replies) runs)
 all_moved now (entry ∷ entries) start outcome state off runs =
     let parts = or_false (touches (door now) entry) (any_touches (door now) entries) off in
     let one : Stepped (World State) = record { world = here state runs.0.world.shelf; reply = runs.0.reply; class = runs.0.class } in
@@ -205,10 +205,10 @@ all_moved now (entry ∷ entries) start outcome state off runs =
       record { world = rest.0.world; replies = one.reply ++ rest.0.replies; classes = one.class ∷ rest.0.classes },
       (one, rest.0, moved now entry start runs.0 state parts.0 runs.2, rest.1, refl),
       rest.2,
-      ap (λ (o : Outcome (World State)). o.replies) runs.4 ∙ ap (λ (replies : List ℕ). runs.0.reply ++ replies) rest.3,
+      ap (λ (o : RunOutcome (World State)). o.replies) runs.4 ∙ ap (λ (replies : List ℕ). runs.0.reply ++ replies) rest.3,
     )
 
-pub untouched_continues : (start : State) (now : ℕ) (deeds : List (Deed Entry)) → IsHistory steps start deeds → (state : State) (shelf : Shelf.Files) (entries : List Entry) (outcome : Outcome (World State)) → any_touches (door now) entries ≡ false
+pub untouched_continues : (start : State) (now : ℕ) (deeds : List (Deed Entry)) → IsHistory steps start deeds → (state : State) (shelf : Shelf.ShelfFiles) (entries : List Entry) (outcome : RunOutcome (World State)) → any_touches (door now) entries ≡ false
     → Runs (Step (door now)) (here state shelf) entries outcome → Continues now start deeds entries (reached start deeds)
 untouched_continues start now deeds history state shelf entries outcome off runs =
     let next = all_moved now entries (here state shelf) outcome (reached start deeds) off runs in
@@ -216,17 +216,17 @@ untouched_continues start now deeds history state shelf entries outcome off runs
 
 -- ---- entries on the migrated board
 -- what they make of it they make of the board before
-all_unmigrated : (now : ℕ) (entries : List Entry) (state : State) (shelf : Shelf.Files) (outcome : Outcome (World State)) → Runs (Step (door now)) (here (migrated state) shelf) entries outcome
-    → (other : Outcome (World State)) × Runs (Step (door now)) (here state shelf) entries other × (migrated other.world.state ≡ outcome.world.state)
-all_unmigrated now [] state shelf outcome runs = (record { world = here state shelf; replies = []; classes = [] }, refl, sym (ap (λ (o : Outcome (World State)). o.world.state) runs))
+all_unmigrated : (now : ℕ) (entries : List Entry) (state : State) (shelf : Shelf.ShelfFiles) (outcome : RunOutcome (World State)) → Runs (Step (door now)) (here (migrated state) shelf) entries outcome
+    → (other : RunOutcome (World State)) × Runs (Step (door now)) (here state shelf) entries other × (migrated other.world.state ≡ outcome.world.state)
+all_unmigrated now [] state shelf outcome runs = (record { world = here state shelf; replies = []; classes = [] }, refl, sym (ap (λ (o : RunOutcome (World State)). o.world.state) runs))
 all_unmigrated now (entry ∷ entries) state shelf outcome runs = by (all_unmigrated now entries state) (touches (door now) entry) refl
   where
     last : runs.1.world.state ≡ outcome.world.state
-    last = sym (ap (λ (o : Outcome (World State)). o.world.state) runs.4)
+    last = sym (ap (λ (o : RunOutcome (World State)). o.world.state) runs.4)
 
-    by : ((later : Shelf.Files) (rest : Outcome (World State)) → Runs (Step (door now)) (here (migrated state) later) entries rest → (other : Outcome (World State)) × Runs (Step (door now)) (here state later) entries other × (migrated other.world.state ≡ rest.world.state))
+    by : ((later : Shelf.ShelfFiles) (rest : RunOutcome (World State)) → Runs (Step (door now)) (here (migrated state) later) entries rest → (other : RunOutcome (World State)) × Runs (Step (door now)) (here state later) entries other × (migrated other.world.state ≡ rest.world.state))
         → (touched : Bool) → touches (door now) entry ≡ touched
-        → (other : Outcome (World State)) × Runs (Step (door now)) (here state shelf) (entry ∷ entries) other × (migrated other.world.state ≡ outcome.world.state)
+        → (other : RunOutcome (World State)) × Runs (Step (door now)) (here state shelf) (entry ∷ entries) other × (migrated other.world.state ≡ outcome.world.state)
     by rest true on =
         let step : Step (door now) (here state shelf) entry runs.0 =
         ((lawful now entry).same_migrated (here state shelf) runs.0).0 (subst (λ (s : State). Step (door now) (here s shelf) entry runs.0) (sym (one_migration now entry state on)) runs.2) in
@@ -244,7 +244,7 @@ all_unmigrated now (entry ∷ entries) state shelf outcome runs = by (all_unmigr
           more.2 ∙ last,
         )
 
-pub migrated_continues : (start : State) (now : ℕ) (deeds : List (Deed Entry)) → IsHistory steps start deeds → (shelf : Shelf.Files) (entries : List Entry) (outcome : Outcome (World State))
+pub migrated_continues : (start : State) (now : ℕ) (deeds : List (Deed Entry)) → IsHistory steps start deeds → (shelf : Shelf.ShelfFiles) (entries : List Entry) (outcome : RunOutcome (World State))
     → Runs (Step (door now)) (here (migrated (reached start deeds)) shelf) entries outcome → (state : State) × Continues now start deeds entries state × (migrated state ≡ outcome.world.state)
 migrated_continues start now deeds history shelf entries outcome runs =
     let other = all_unmigrated now entries (reached start deeds) shelf outcome runs in
@@ -254,7 +254,7 @@ migrated_continues start now deeds history shelf entries outcome runs =
 abbrev pub IsEither : State → State → Type 0
 IsEither state other = (other ≡ state) ⊎ (other ≡ migrated state)
 
-pub from_either : (start : State) (now : ℕ) (deeds : List (Deed Entry)) → IsHistory steps start deeds → (state : State) → IsEither (reached start deeds) state → (shelf : Shelf.Files) (entries : List Entry) (outcome : Outcome (World State))
+pub from_either : (start : State) (now : ℕ) (deeds : List (Deed Entry)) → IsHistory steps start deeds → (state : State) → IsEither (reached start deeds) state → (shelf : Shelf.ShelfFiles) (entries : List Entry) (outcome : RunOutcome (World State))
     → Runs (Step (door now)) (here state shelf) entries outcome → (other : State) × Continues now start deeds entries other × IsEither other outcome.world.state
 from_either start now deeds history state (inl same) shelf entries outcome runs =
     (outcome.world.state, runs_continue start now deeds history shelf entries outcome (subst (λ (s : State). Runs (Step (door now)) (here s shelf) entries outcome) same runs), inl refl)
@@ -262,7 +262,7 @@ from_either start now deeds history state (inr same) shelf entries outcome runs 
     let more = migrated_continues start now deeds history shelf entries outcome (subst (λ (s : State). Runs (Step (door now)) (here s shelf) entries outcome) same runs) in
     (more.0, more.1, inr (sym more.2))
 
-pub stand_for : (state other : State) (files : Files) → IsEither state other → StandFor other files → StandFor state files
+pub stand_for : (state other : State) (files : HostFiles) → IsEither state other → StandFor other files → StandFor state files
 stand_for state other files (inl same) stands = subst (λ (s : State). StandFor s files) same stands
 stand_for state other files (inr same) stands = inr (⊎_elim
     (λ still. subst (λ (s : State). Stores s files) same still)
@@ -270,8 +270,8 @@ stand_for state other files (inr same) stands = inr (⊎_elim
     stands)
 
 -- ---- one run
-module _ (now : ℕ) (start : State) (deeds : List (Deed Entry)) (history : IsHistory steps start deeds) (state : State) (is : IsEither (reached start deeds) state) (shelf : Shelf.Files) where
-  holds_front : (front back entries : List Entry) (outcome : Outcome (World State)) (files : Files) → entries ≡ front ++ back
+module _ (now : ℕ) (start : State) (deeds : List (Deed Entry)) (history : IsHistory steps start deeds) (state : State) (is : IsEither (reached start deeds) state) (shelf : Shelf.ShelfFiles) where
+  holds_front : (front back entries : List Entry) (outcome : RunOutcome (World State)) (files : HostFiles) → entries ≡ front ++ back
       → Runs (Step (door now)) (here state shelf) front outcome → StandFor outcome.world.state files → HoldsFront now start deeds entries files
   holds_front front back entries outcome files split runs stands =
       let on = from_either start now deeds history state is shelf front outcome runs in
@@ -285,20 +285,20 @@ module _ (now : ℕ) (start : State) (deeds : List (Deed Entry)) (history : IsHi
       }
 
   -- and an entry more
-  holds_stopped : (front back entries : List Entry) (entry : Entry) (outcome : Outcome (World State)) (stepped : Stepped (World State)) (files : Files) → entries ≡ front ++ entry ∷ back
+  holds_stopped : (front back entries : List Entry) (entry : Entry) (outcome : RunOutcome (World State)) (stepped : Stepped (World State)) (files : HostFiles) → entries ≡ front ++ entry ∷ back
       → Runs (Step (door now)) (here state shelf) front outcome → Step (door now) outcome.world entry stepped → Stores stepped.world.state files → HoldsFront now start deeds entries files
   holds_stopped front back entries entry outcome stepped files split runs step stores =
       holds_front (front ++ entry ∷ []) back entries (with_one outcome stepped) files (split ∙ sym (append_assoc front (entry ∷ []) back)) (runs_more (Step (door now)) (here state shelf) front entry outcome stepped runs step) (inl stores)
 
   -- it was stopped before an entry, which may have migrated the board
-  holds_before : (front back entries : List Entry) (entry : Entry) (outcome : Outcome (World State)) (files : Files) → entries ≡ front ++ entry ∷ back
+  holds_before : (front back entries : List Entry) (entry : Entry) (outcome : RunOutcome (World State)) (files : HostFiles) → entries ≡ front ++ entry ∷ back
       → Runs (Step (door now)) (here state shelf) front outcome → Before Stores (act now entry) outcome.world.state files → HoldsFront now start deeds entries files
   holds_before front back entries entry outcome files split runs before = holds_front front (entry ∷ back) entries outcome files split runs (⊎_elim
       (λ still. inl still)
       (λ moved_on. inr (subst (λ (s : State). Stores s files) (one_migration now entry outcome.world.state moved_on.0) moved_on.1))
       before)
 
-  cut_front : (front back entries : List Entry) (entry : Entry) (outcome : Outcome (World State)) (stop : Stop) (so_far : List ℕ) (disk : Disk) (later : Shelf.Files) → entries ≡ front ++ entry ∷ back
+  cut_front : (front back entries : List Entry) (entry : Entry) (outcome : RunOutcome (World State)) (stop : Stop) (so_far : List ℕ) (disk : Disk) (later : Shelf.ShelfFiles) → entries ≡ front ++ entry ∷ back
       → Runs (Step (door now)) (here state shelf) front outcome → Stopped Stores (act now entry) stop outcome.world so_far disk later → HoldsFront now start deeds entries (recovered disk.files)
   cut_front front back entries entry outcome DiskFault so_far disk later split runs stopped = ⊎_elim
       (λ still. holds_before front back entries entry outcome (recovered disk.files) split runs still)
@@ -310,7 +310,7 @@ module _ (now : ℕ) (start : State) (deeds : List (Deed Entry)) (history : IsHi
       holds_stopped front back entries entry outcome stopped.0.stepped (recovered disk.files) split runs stopped.0.step stopped.1
   cut_front front back entries entry outcome OutOfMemory so_far disk later split runs stopped = holds_before front back entries entry outcome (recovered disk.files) split runs stopped.0
 
-  leaves_front : (result : Status) (entries : List Entry) (old new : Disk) (later : Shelf.Files) → Leaves (door now) result (here state shelf) entries old new later → HoldsFront now start deeds entries (recovered new.files)
+  leaves_front : (result : Status) (entries : List Entry) (old new : Disk) (later : Shelf.ShelfFiles) → EndsAs (door now) result (here state shelf) entries old new later → HoldsFront now start deeds entries (recovered new.files)
   leaves_front result entries old new later (inl whole) = holds_front whole.taken whole.left entries whole.outcome (recovered new.files) whole.split whole.runs (inl whole.stores)
   leaves_front result entries old new later (inr cut) = cut_front cut.front cut.back entries cut.entry cut.outcome cut.stop (old.said ++ cut.outcome.replies) new later cut.split cut.runs cut.stopped
 
@@ -320,7 +320,7 @@ module _ (now : ℕ) (start : State) (deeds : List (Deed Entry)) (history : IsHi
       (λ it. inr (subst (λ (s : State). Stores s (recovered image.files)) (one_migration now it.next held.reply.outcome.world.state it.touched) it.stores))
       held.stores)
 
-untouched_holds : (now : ℕ) (state : State) (shelf : Shelf.Files) (entries : List Entry) (old : Disk) (image : Image) → IsUntouched (door now) (here state shelf) entries old image → HoldsAsThen now entries old image
+untouched_holds : (now : ℕ) (state : State) (shelf : Shelf.ShelfFiles) (entries : List Entry) (old : Disk) (image : Image) → IsUntouched (door now) (here state shelf) entries old image → HoldsAsThen now entries old image
 untouched_holds now state shelf entries old image it = record {
   before = it.files.before;
   could_be = it.files.could_be;
@@ -330,13 +330,13 @@ untouched_holds now state shelf entries old image it = record {
     split = it.reply.split;
     state = reached start deeds;
     continues = untouched_continues start now deeds history state shelf it.reply.front it.reply.outcome it.off_board it.reply.runs;
-    stores = subst (λ (files : Files). StandFor (reached start deeds) (recovered files)) (sym it.files.files) stands;
+    stores = subst (λ (files : HostFiles). StandFor (reached start deeds) (recovered files)) (sym it.files.files) stands;
   };
 }
 
-module _ (now : ℕ) (words : List (List ℕ)) (old new : Disk) (shelf : Shelf.Files) (start : State) (deeds : List (Deed Entry)) (history : IsHistory steps start deeds)
+module _ (now : ℕ) (words : List (List ℕ)) (old new : Disk) (shelf : Shelf.ShelfFiles) (start : State) (deeds : List (Deed Entry)) (history : IsHistory steps start deeds)
     (state : State) (is : IsEither (reached start deeds) state) (stores : Stores state (recovered old.files)) where
-  ends_so : (result : Status) (later : Shelf.Files) → RunLeaves now words result old new shelf later → RunEndsSo now words start deeds new shelf
+  ends_so : (result : Status) (later : Shelf.ShelfFiles) → RunEnds now words result old new shelf later → RunEndsSo now words start deeds new shelf
   ends_so result later leaves = ⊎_elim
       (λ read. (read.0, inl read.1, leaves_front now start deeds history state is shelf result read.0 old new later read.2))
       (λ unread. (
@@ -357,7 +357,7 @@ module _ (now : ℕ) (words : List (List ℕ)) (old new : Disk) (shelf : Shelf.F
             (all.2.each image left)),
       )
 
-pub run_continues : (now : ℕ) (words : List (List ℕ)) (result : Status) (old new : Disk) (shelf later : Shelf.Files) → RunLeaves now words result old new shelf later → RunSurvives now words old new shelf
+pub run_continues : (now : ℕ) (words : List (List ℕ)) (result : Status) (old new : Disk) (shelf later : Shelf.ShelfFiles) → RunEnds now words result old new shelf later → RunSurvives now words old new shelf
     → RunContinues now words old new shelf
 run_continues now words result old new shelf later leaves survives start deeds history (inl stores) =
     (ends_so now words old new shelf start deeds history (reached start deeds) (inl refl) stores result later leaves, breaks_so now words old new shelf start deeds history (reached start deeds) (inl refl) stores survives)

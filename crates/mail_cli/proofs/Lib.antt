@@ -9,3 +9,4 @@ pub mod Staying
 pub mod Wrongs
 pub mod SomeOutcomes
 pub mod CommandBounds
+pub mod Promises

@@ -5,13 +5,13 @@ use Rattle.std.proofs.lemmas.List.Elements.{All-nil, All-cons}
 use Rattle.std.specs.List.{All}
 use Rattle.std.specs.Prelude.{Result, Ok, Err, IsTrue, true, false}
 use Rattle.std.specs.Str.Lines.{lines}
-use Rattle.board_laws.specs.adopt_commands.Adopt.{adopt_turn}
-use Rattle.board_commands.specs.Check.{checked}
-use Rattle.board_commands.specs.Damages.{damaged}
-use Rattle.board_commands.specs.Enroll.{Enrolls, enroll_turn, is_net_flag}
-use Rattle.board_commands.specs.Init.{BreaksSetup, Inits, SetupOf}
-use Rattle.board_commands.specs.State.{State, NotMade, Made, Old, Spoiled, Stores, state_of}
-use Rattle.board_commands.specs.Turns.{Turn, on_board}
+use Rattle.board_laws.specs.cmd_adopt.Adopt.{adopt_turn}
+use Rattle.cmd_board.specs.Check.{checked}
+use Rattle.cmd_board.specs.Damages.{damaged}
+use Rattle.cmd_board.specs.Enroll.{Enrolls, enroll_turn, is_net_flag}
+use Rattle.cmd_board.specs.Init.{BreaksSetup, Inits, SetupOf}
+use Rattle.cmd_board.specs.State.{State, NotMade, Made, Old, Spoiled, Stores, state_of}
+use Rattle.cmd_board.specs.Turns.{Turn, on_board}
 use Rattle.board_layout.proofs.BoardLaws.{undamaged}
 use Rattle.board_layout.specs.Board.{Board}
 use Rattle.board_layout.specs.Damage.{board_damage}
@@ -19,11 +19,11 @@ use Rattle.board_layout.specs.Layout.{AreFileBytes}
 use Rattle.board_layout.specs.OldLayout.{IsStoredIn}
 use Rattle.board_layout.specs.Lookups.{place_of}
 use Rattle.byte_lists.specs.Byte.{IsByte}
-use Rattle.door_commands.specs.Answers.{usage}
-use Rattle.door_commands.specs.Entries.{EntryCanRun}
-use Rattle.door_commands.specs.declared.command.Command.TheVariants as command
-use Rattle.door_commands.specs.declared.entry.Entry.{Entry}
-use Rattle.door_commands.specs.declared.entry.Entry.TheVariants.{Run, Wrong, Refuse}
+use Rattle.cmd_entries.specs.Answers.{usage}
+use Rattle.cmd_entries.specs.Entries.{EntryCanRun}
+use Rattle.cmd_entries.specs.declared.command.Command.TheVariants as command
+use Rattle.cmd_entries.specs.declared.entry.Entry.{Entry}
+use Rattle.cmd_entries.specs.declared.entry.Entry.TheVariants.{Run, Wrong, Refuse}
 use Rattle.board_laws.specs.door_export.Folder.{folder_names}
 use Rattle.door_outside.specs.Shelf as Shelf
 use Rattle.door_outside.specs.Shelf.{fetched, held}
@@ -33,10 +33,10 @@ use Rattle.board_laws.specs.door_upload.Upload.{Upload, UploadRefusal, UploadsFo
 use Rattle.entry_runs.specs.Door.{Act, World, here}
 use Rattle.entry_runs.specs.Entry.{Reply, looks, on_shelf}
 use Rattle.entry_runs.specs.Runs.{Stepped}
-use Rattle.board_laws.specs.exchange_commands.Ack.{ack_turn}
-use Rattle.board_laws.specs.exchange_commands.Export.{export_handing}
-use Rattle.board_laws.specs.exchange_commands.Handing.{Handing, on_board_then_shelf}
-use Rattle.board_laws.specs.exchange_commands.Upload.{Uploads, UploadsFile, UploadsRead}
+use Rattle.board_laws.specs.cmd_exchange.Ack.{ack_turn}
+use Rattle.board_laws.specs.cmd_exchange.Export.{export_handing}
+use Rattle.board_laws.specs.cmd_exchange.Handing.{Handing, on_board_then_shelf}
+use Rattle.board_laws.specs.cmd_exchange.Upload.{Uploads, UploadsFile, UploadsRead}
 use Rattle.fts_packet.specs.Packet.{FtsReads}
 use Rattle.fts_packet.specs.declared.fault.FtsError.{FtsError}
 use Rattle.fts_packet.specs.declared.fault.FtsError.TheVariants as fts
@@ -45,26 +45,26 @@ use Rattle.import_sheet.specs.Sheet.{SheetReads}
 use Rattle.import_sheet.specs.declared.fault.SheetError.{SheetError}
 use Rattle.import_sheet.specs.declared.fault.SheetError.TheVariants.{Line}
 use Rattle.import_sheet.specs.declared.sheet.Sheet.{Sheet}
-use Rattle.intent_journal.specs.Patches.{Files, data_files}
+use Rattle.intent_journal.specs.Patches.{HostFiles, data_files}
 use Rattle.jam_records.specs.declared.damage.Damage.{Damage}
-use Rattle.board_commands.proofs.mail_board.DataLaws.{data_twice, layout_moves, old_layout_moves}
-use Rattle.board_commands.specs.mail_board.Readers.{user_id}
+use Rattle.cmd_board.proofs.mail_board.DataLaws.{data_twice, layout_moves, old_layout_moves}
+use Rattle.cmd_board.specs.mail_board.Readers.{user_id}
 use Rattle.mail_cli.specs.Step.{act}
-use Rattle.board_laws.specs.message_commands.Import.{Imports, ImportsAt}
-use Rattle.board_laws.specs.message_commands.Kill.{kill_turn}
-use Rattle.board_laws.specs.pack_commands.Pack.{pack_turn}
-use Rattle.board_laws.specs.message_commands.Sample.{sample_turn}
+use Rattle.board_laws.specs.cmd_messages.Import.{Imports, ImportsAt}
+use Rattle.board_laws.specs.cmd_messages.Kill.{kill_turn}
+use Rattle.board_laws.specs.cmd_pack.Pack.{pack_turn}
+use Rattle.board_laws.specs.cmd_messages.Sample.{sample_turn}
 use Rattle.offline_reader.specs.Listing.{folder_listing, listing}
 use Rattle.offline_writer.specs.Drafts.{entry_drafts, reply_draft}
 use Rattle.long_names.specs.Value.{is_long, most_of}
 use Rattle.long_names.specs.declared.line_field.LineField.{LineField}
 use Rattle.long_names.specs.declared.line_field.LineField.TheVariants.{To, Subject}
 use Rattle.offline_writer.specs.Fitting.{FitsField, FitsQwk, IsFirstUnfit}
-use Rattle.packet_commands.specs.List.{ListAnswers}
-use Rattle.packet_commands.specs.Packets.{ControlOf, FolderOf, PacketOf, control_refusal}
-use Rattle.packet_commands.specs.Read.{ReadAnswers, ShowAnswers, shown_in}
-use Rattle.packet_commands.specs.Scan.{ScanAnswers, count_line}
-use Rattle.packet_commands.specs.declared.folder.Packet.{Packet}
+use Rattle.cmd_packets.specs.List.{ListAnswers}
+use Rattle.cmd_packets.specs.Packets.{ControlOf, FolderOf, PacketOf, control_refusal}
+use Rattle.cmd_packets.specs.Read.{ReadAnswers, ShowAnswers, shown_in}
+use Rattle.cmd_packets.specs.Scan.{ScanAnswers, count_line}
+use Rattle.cmd_packets.specs.declared.folder.Packet.{Packet}
 use Rattle.qwk_blocks.specs.Packet.{FirstFault, PacketReads}
 use Rattle.qwk_blocks.specs.Text.{IsLine, joined_lines}
 use Rattle.qwk_blocks.specs.declared.fault.QwkFault.{QwkFault}
@@ -81,25 +81,25 @@ use Rattle.rep_packet.specs.Rep.{RepFault, RepReads}
 use Rattle.rep_packet.specs.declared.fault.RepError.{RepError}
 use Rattle.rep_packet.specs.declared.fault.RepError.TheVariants as rep
 use Rattle.rep_packet.specs.declared.rep.Rep.{Rep}
-use Rattle.reply_commands.specs.Compose.{ComposeMakes, ConferenceIn, SheetMakes, composed_line}
-use Rattle.reply_commands.specs.RepFile.{DraftsFit, Enlarges, EnlargesRep, EnlargedBy, IsForBoard, RepFrom, RepIn, RepOf, no_replies, rep_refusal}
-use Rattle.reply_commands.specs.Reply.{AnswerMakes, MessageIn, ReplyMakes, TextOf, reply_line}
-use Rattle.reply_commands.specs.Steps.{Then}
-use Rattle.reply_commands.specs.Writing.{added_in, with_rep, writes}
-use Rattle.reply_commands.specs.declared.enlarging.Enlarged.{Enlarged}
-use Rattle.reply_commands.specs.declared.putting.Added.{Added}
+use Rattle.cmd_replies.specs.Compose.{ComposeMakes, ConferenceIn, SheetMakes, composed_line}
+use Rattle.cmd_replies.specs.RepFile.{DraftsFit, Enlarges, EnlargesRep, EnlargedBy, IsForBoard, RepFrom, RepIn, RepOf, no_replies, rep_refusal}
+use Rattle.cmd_replies.specs.Reply.{AnswerMakes, MessageIn, ReplyMakes, TextOf, reply_line}
+use Rattle.cmd_replies.specs.Steps.{Then}
+use Rattle.cmd_replies.specs.Writing.{added_in, with_rep, writes}
+use Rattle.cmd_replies.specs.declared.enlarging.Enlarged.{Enlarged}
+use Rattle.cmd_replies.specs.declared.putting.Added.{Added}
 use Rattle.setup_file.proofs.Single.{reads_or_fault}
 use Rattle.setup_file.specs.Reads.{SetupReads}
 use Rattle.setup_file.specs.declared.error.SetupRule.{SetupRule}
-use Rattle.setup_file.specs.declared.setup.Setup.{Setup}
-use Rattle.board_commands.specs.shelf_files.Halts.{refused, replied}
-use Rattle.board_commands.specs.shelf_files.ShelfFile.{ReadAs, file_limit, file_within, packet_limit, rep_limit}
-use Rattle.board_commands.specs.shelf_files.Sheets.{SheetBreaks, SheetOf, sheet_refusal}
-use Rattle.board_commands.specs.shelf_files.declared.refusal.Refusal.{Refusal}
-use Rattle.board_commands.specs.shelf_files.declared.refusal.Refusal.TheVariants as refusal
+use Rattle.setup_file.specs.declared.fields.SetupFields.{SetupFields}
+use Rattle.cmd_board.specs.shelf_files.Halts.{refused, replied}
+use Rattle.cmd_board.specs.shelf_files.ShelfFile.{ReadAs, file_limit, file_within, packet_limit, rep_limit}
+use Rattle.cmd_board.specs.shelf_files.Sheets.{SheetBreaks, SheetOf, sheet_refusal}
+use Rattle.cmd_board.specs.shelf_files.declared.refusal.Refusal.{Refusal}
+use Rattle.cmd_board.specs.shelf_files.declared.refusal.Refusal.TheVariants as refusal
 use Rattle.text_fields.specs.Split.{Lacks}
-use Rattle.board_laws.specs.toss_commands.PacketFiles.{FtsBreaks, FtsPacketOf, fts_refusal}
-use Rattle.board_laws.specs.toss_commands.Toss.{Tosses}
+use Rattle.board_laws.specs.cmd_toss.PacketFiles.{FtsBreaks, FtsPacketOf, fts_refusal}
+use Rattle.board_laws.specs.cmd_toss.Toss.{Tosses}
 
 -- ---- what the shelf's files are read as
 module _ {Value Fault : Type 0} (Reads : List ℕ → Value → Type 0) (Breaks : List ℕ → Fault → Type 0) (refuses : Fault → Refusal)
@@ -111,10 +111,10 @@ module _ {Value Fault : Type 0} (Reads : List ℕ → Value → Type 0) (Breaks 
     | inr fault ↦ (Err (refuses fault.0), (fault.0, fault.1, refl))
   ]
 
-some_packet : (shelf : Shelf.Files) (name : List ℕ) → (read : Result (List QwkMessage) Refusal) × PacketOf shelf name read
+some_packet : (shelf : Shelf.ShelfFiles) (name : List ℕ) → (read : Result (List QwkMessage) Refusal) × PacketOf shelf name read
 some_packet shelf name = some_read PacketReads FirstFault (λ (fault : QwkFault). refusal.Broken fault) packet_or_fault (file_within shelf name packet_limit)
 
-some_control : (shelf : Shelf.Files) (name : List ℕ) → (read : Result Control Refusal) × ControlOf shelf name read
+some_control : (shelf : Shelf.ShelfFiles) (name : List ℕ) → (read : Result Control Refusal) × ControlOf shelf name read
 some_control shelf name = some_read ControlReads ControlFault control_refusal control_or_fault (file_within shelf name file_limit)
 
 sheet_breaks : (bytes : List ℕ) → ((sheets : List Sheet) × SheetReads bytes sheets) ⊎ ((fault : SheetError) × SheetBreaks bytes fault)
@@ -123,19 +123,19 @@ sheet_breaks bytes = elim (sheet_or_fault bytes) [ inl sheets ↦ inl sheets | i
 type2_breaks : (bytes : List ℕ) → ((messages : List FtsMessage) × FtsReads bytes messages) ⊎ ((error : FtsError) × FtsBreaks bytes error)
 type2_breaks bytes = elim (type2_or_fault bytes) [ inl messages ↦ inl messages | inr fault ↦ inr (fts.Fault fault.0 fault.1, fault.2) ]
 
-some_type2 : (shelf : Shelf.Files) (name : List ℕ) → (read : Result (List FtsMessage) Refusal) × FtsPacketOf shelf name read
+some_type2 : (shelf : Shelf.ShelfFiles) (name : List ℕ) → (read : Result (List FtsMessage) Refusal) × FtsPacketOf shelf name read
 some_type2 shelf name = some_read FtsReads FtsBreaks fts_refusal type2_breaks (file_within shelf name file_limit)
 
-some_sheet : (shelf : Shelf.Files) (name : List ℕ) → (read : Result (List Sheet) Refusal) × SheetOf shelf name read
+some_sheet : (shelf : Shelf.ShelfFiles) (name : List ℕ) → (read : Result (List Sheet) Refusal) × SheetOf shelf name read
 some_sheet shelf name = some_read SheetReads SheetBreaks sheet_refusal sheet_breaks (file_within shelf name file_limit)
 
-setup_breaks : (bytes : List ℕ) → ((setup : Setup) × SetupReads bytes setup) ⊎ ((fault : ℕ × SetupRule) × BreaksSetup bytes fault)
+setup_breaks : (bytes : List ℕ) → ((setup : SetupFields) × SetupReads bytes setup) ⊎ ((fault : ℕ × SetupRule) × BreaksSetup bytes fault)
 setup_breaks bytes = elim (reads_or_fault (lines bytes)) [ inl setup ↦ inl setup | inr fault ↦ inr ((fault.0, fault.1), fault.2) ]
 
-some_setup : (shelf : Shelf.Files) (name : List ℕ) → (read : Result Setup Refusal) × SetupOf shelf name read
+some_setup : (shelf : Shelf.ShelfFiles) (name : List ℕ) → (read : Result SetupFields Refusal) × SetupOf shelf name read
 some_setup shelf name = some_read SetupReads BreaksSetup (λ (fault : ℕ × SetupRule). refusal.Setup fault.0 fault.1) setup_breaks (file_within shelf name file_limit)
 
-some_folder : (shelf : Shelf.Files) (folder : List ℕ) → (read : Result Packet Refusal) × FolderOf shelf folder read
+some_folder : (shelf : Shelf.ShelfFiles) (folder : List ℕ) → (read : Result Packet Refusal) × FolderOf shelf folder read
 some_folder shelf folder = control (some_control shelf (folder ++ codes "/CONTROL.DAT")).0 (some_control shelf (folder ++ codes "/CONTROL.DAT")).1
   where
     messages : (found : Control) → ControlOf shelf (folder ++ codes "/CONTROL.DAT") (Ok found) → (read : Result (List QwkMessage) Refusal) → PacketOf shelf (folder ++ codes "/MESSAGES.DAT") read
@@ -227,7 +227,7 @@ some_drafts drafts = elim (first_unfit drafts) [ inl all ↦ (Ok drafts, (refl, 
 some_rep_in : (bbsid bytes : List ℕ) → (read : Result Rep Refusal) × RepIn bbsid bytes read
 some_rep_in bbsid bytes = some_then (ReadAs RepReads RepFault rep_refusal (Ok bytes)) (IsForBoard bbsid) (some_read RepReads RepFault rep_refusal rep_or_fault (Ok bytes)) (λ found. (_, refl))
 
-some_rep : (shelf : Shelf.Files) (name bbsid : List ℕ) → (read : Result Rep Refusal) × RepOf shelf name bbsid read
+some_rep : (shelf : Shelf.ShelfFiles) (name bbsid : List ℕ) → (read : Result Rep Refusal) × RepOf shelf name bbsid read
 some_rep shelf name bbsid = from (fetched rep_limit (held shelf name))
   where
     from : (found : Fetched) → (read : Result Rep Refusal) × RepFrom name bbsid found read
@@ -235,10 +235,10 @@ some_rep shelf name bbsid = from (fetched rep_limit (held shelf name))
     from fetch.TooLarge = (Err (refusal.TooLarge name), refl)
     from (fetch.Whole bytes) = some_rep_in bbsid bytes
 
-some_enlarged : (shelf : Shelf.Files) (name bbsid : List ℕ) (drafts : List QwkMessage) → (made : Result Enlarged Refusal) × Enlarges shelf name bbsid drafts made
+some_enlarged : (shelf : Shelf.ShelfFiles) (name bbsid : List ℕ) (drafts : List QwkMessage) → (made : Result Enlarged Refusal) × Enlarges shelf name bbsid drafts made
 some_enlarged shelf name bbsid drafts = some_then (DraftsFit drafts) (EnlargesRep shelf name bbsid) (some_drafts drafts) (λ made. some_then (RepOf shelf name bbsid) (EnlargedBy name made) (some_rep shelf name bbsid) (λ old. (_, refl)))
 
-some_composed : (folder : List ℕ) (conference : ℕ) (sheet rep : List ℕ) (now : ℕ) (shelf : Shelf.Files) → (made : Result Enlarged Refusal) × ComposeMakes folder conference sheet rep now shelf made
+some_composed : (folder : List ℕ) (conference : ℕ) (sheet rep : List ℕ) (now : ℕ) (shelf : Shelf.ShelfFiles) → (made : Result Enlarged Refusal) × ComposeMakes folder conference sheet rep now shelf made
 some_composed folder conference sheet rep now shelf =
     some_then (ControlOf shelf (folder ++ codes "/CONTROL.DAT")) (λ control. Then (ConferenceIn control conference) (λ number. SheetMakes control number sheet rep now shelf))
     (some_control shelf (folder ++ codes "/CONTROL.DAT")) (λ control.
@@ -246,7 +246,7 @@ some_composed folder conference sheet rep now shelf =
     some_then (SheetOf shelf sheet) (λ entries. Enlarges shelf rep control.bbsid (entry_drafts control number entries now)) (some_sheet shelf sheet) (λ entries.
     some_enlarged shelf rep control.bbsid (entry_drafts control number entries now))))
 
-some_replied : (folder : List ℕ) (place : ℕ) (text rep : List ℕ) (now : ℕ) (shelf : Shelf.Files) → (made : Result Enlarged Refusal) × ReplyMakes folder place text rep now shelf made
+some_replied : (folder : List ℕ) (place : ℕ) (text rep : List ℕ) (now : ℕ) (shelf : Shelf.ShelfFiles) → (made : Result Enlarged Refusal) × ReplyMakes folder place text rep now shelf made
 some_replied folder place text rep now shelf =
     some_then (FolderOf shelf folder) (λ packet. Then (MessageIn packet.messages place) (λ answered. AnswerMakes packet.control answered text rep now shelf)) (some_folder shelf folder) (λ packet.
     some_then (MessageIn packet.messages place) (λ answered. AnswerMakes packet.control answered text rep now shelf) (_, refl) (λ answered.
@@ -260,10 +260,10 @@ HasOutcome an_act world = (stepped : Stepped (World State)) × an_act.Step world
 abbrev stepped_to : World State → Reply → Stepped (World State)
 stepped_to world reply = record { world = world; reply = reply.text; class = reply.class }
 
-some_look : (answers : Shelf.Files → Reply → Type 0) → ((shelf : Shelf.Files) → (reply : Reply) × answers shelf reply) → (world : World State) → HasOutcome (on_shelf (looks answers)) world
+some_look : (answers : Shelf.ShelfFiles → Reply → Type 0) → ((shelf : Shelf.ShelfFiles) → (reply : Reply) × answers shelf reply) → (world : World State) → HasOutcome (on_shelf (looks answers)) world
 some_look answers some world = (stepped_to world (some world.shelf).0, ((refl, (some world.shelf).1), refl))
 
-some_write : (name : List ℕ) (Makes : Shelf.Files → Result Enlarged Refusal → Type 0) (text : Added → List ℕ) → ((shelf : Shelf.Files) → (made : Result Enlarged Refusal) × Makes shelf made)
+some_write : (name : List ℕ) (Makes : Shelf.ShelfFiles → Result Enlarged Refusal → Type 0) (text : Added → List ℕ) → ((shelf : Shelf.ShelfFiles) → (made : Result Enlarged Refusal) × Makes shelf made)
     → (world : World State) → HasOutcome (on_shelf (writes name Makes text)) world
 some_write name Makes text some world =
     let made : (made : Result Enlarged Refusal) × Makes world.shelf made = some world.shelf in (
@@ -278,7 +278,7 @@ HasDamage (Made b) = Unit {0}
 HasDamage (Old b) = Unit {0}
 HasDamage (Spoiled files) = (d : Damage) × (board_damage files ≡ Some d)
 
-some_turn : (turns : Shelf.Files → Option Board → Turn → Type 0) → ((shelf : Shelf.Files) (board : Option Board) → (turn : Turn) × turns shelf board turn) → (state : State) (shelf : Shelf.Files) → HasDamage state
+some_turn : (turns : Shelf.ShelfFiles → Option Board → Turn → Type 0) → ((shelf : Shelf.ShelfFiles) (board : Option Board) → (turn : Turn) × turns shelf board turn) → (state : State) (shelf : Shelf.ShelfFiles) → HasDamage state
     → HasOutcome (on_board turns) (here state shelf)
 some_turn turns some NotMade shelf has =
     let t : (turn : Turn) × turns shelf None turn = some shelf None in
@@ -291,8 +291,8 @@ some_turn turns some (Old b) shelf has =
     (stepped_to (here (state_of t.0.board) shelf) t.0.reply, (refl, (t.0, t.1, refl, refl)))
 some_turn turns some (Spoiled files) shelf has = (stepped_to (here (Spoiled files) shelf) (damaged has.0), (refl, (refl, (has.0, has.1, refl))))
 
-some_handing : (names : List (List ℕ)) (hands : Shelf.Files → Option Board → Handing → Type 0) → ((shelf : Shelf.Files) (board : Option Board) → (handing : Handing) × hands shelf board handing)
-    → (state : State) (shelf : Shelf.Files) → HasDamage state → HasOutcome (on_board_then_shelf names hands) (here state shelf)
+some_handing : (names : List (List ℕ)) (hands : Shelf.ShelfFiles → Option Board → Handing → Type 0) → ((shelf : Shelf.ShelfFiles) (board : Option Board) → (handing : Handing) × hands shelf board handing)
+    → (state : State) (shelf : Shelf.ShelfFiles) → HasDamage state → HasOutcome (on_board_then_shelf names hands) (here state shelf)
 some_handing names hands some NotMade shelf has =
     let h : (handing : Handing) × hands shelf None handing = some shelf None in
     (stepped_to (here (state_of h.0.board) h.0.shelf) h.0.reply, (h.0, h.1, refl, refl, refl))
@@ -305,11 +305,11 @@ some_handing names hands some (Old b) shelf has =
 some_handing names hands some (Spoiled files) shelf has = (stepped_to (here (Spoiled files) shelf) (damaged has.0), (refl, refl, (has.0, has.1, refl)))
 
 -- ---- turns that read the shelf
-some_init : (file : List ℕ) (now : ℕ) (shelf : Shelf.Files) (board : Option Board) → (turn : Turn) × Inits file now shelf board turn
+some_init : (file : List ℕ) (now : ℕ) (shelf : Shelf.ShelfFiles) (board : Option Board) → (turn : Turn) × Inits file now shelf board turn
 some_init file now shelf (Some b) = (_, refl)
-some_init file now shelf None = let s : (read : Result Setup Refusal) × SetupOf shelf file read = some_setup shelf file in (_, (s.0, s.1, refl))
+some_init file now shelf None = let s : (read : Result SetupFields Refusal) × SetupOf shelf file read = some_setup shelf file in (_, (s.0, s.1, refl))
 
-some_import : (conference : ℕ) (file : List ℕ) (now : ℕ) (shelf : Shelf.Files) (board : Option Board) → (turn : Turn) × Imports conference file now shelf board turn
+some_import : (conference : ℕ) (file : List ℕ) (now : ℕ) (shelf : Shelf.ShelfFiles) (board : Option Board) → (turn : Turn) × Imports conference file now shelf board turn
 some_import conference file now shelf None = (_, refl)
 some_import conference file now shelf (Some b) = at (place_of conference b)
   where
@@ -317,7 +317,7 @@ some_import conference file now shelf (Some b) = at (place_of conference b)
     at None = (_, refl)
     at (Some place) = let s : (read : Result (List Sheet) Refusal) × SheetOf shelf file read = some_sheet shelf file in (_, (s.0, s.1, refl))
 
-some_toss : (file : List ℕ) (now : ℕ) (shelf : Shelf.Files) (board : Option Board) → (turn : Turn) × Tosses file now shelf board turn
+some_toss : (file : List ℕ) (now : ℕ) (shelf : Shelf.ShelfFiles) (board : Option Board) → (turn : Turn) × Tosses file now shelf board turn
 some_toss file now shelf None = (_, refl)
 some_toss file now shelf (Some b) = let s : (read : Result (List FtsMessage) Refusal) × FtsPacketOf shelf file read = some_type2 shelf file in (_, (s.0, s.1, refl))
 
@@ -332,7 +332,7 @@ some_upload_of id bytes now b = elim (rep_or_fault bytes) [
     by rep.NoBoardId is = (Err NoBoardId, inr (inr (is, refl)))
     by rep.OutOfMemory is = absurd is
 
-some_upload : (name file : List ℕ) (now : ℕ) (shelf : Shelf.Files) (board : Option Board) → (turn : Turn) × Uploads name file now shelf board turn
+some_upload : (name file : List ℕ) (now : ℕ) (shelf : Shelf.ShelfFiles) (board : Option Board) → (turn : Turn) × Uploads name file now shelf board turn
 some_upload name file now shelf None = (_, refl)
 some_upload name file now shelf (Some b) = by (user_id name b)
   where
@@ -346,7 +346,7 @@ some_upload name file now shelf (Some b) = by (user_id name b)
 
 -- ---- entries
 -- a line for each command
-outcome_of : (now : ℕ) (entry : Entry) → EntryCanRun entry → (state : State) (shelf : Shelf.Files) → HasDamage state → HasOutcome (act now entry) (here state shelf)
+outcome_of : (now : ℕ) (entry : Entry) → EntryCanRun entry → (state : State) (shelf : Shelf.ShelfFiles) → HasDamage state → HasOutcome (act now entry) (here state shelf)
 outcome_of now (Run (command.Ack user packet)) can state shelf has = some_turn (λ shelf board turn. turn ≡ ack_turn user packet now board) (λ shelf board. (ack_turn user packet now board, refl)) state shelf has
 outcome_of now (Run (command.Adopt conference prefix)) can state shelf has =
     some_turn (λ shelf board turn. turn ≡ adopt_turn conference prefix shelf board) (λ shelf board. (adopt_turn conference prefix shelf board, refl)) state shelf has
@@ -377,7 +377,7 @@ outcome_of now (Wrong which) can state shelf has = some_look (λ shelf answer. a
 outcome_of now (Refuse why) can state shelf has = some_look (λ shelf answer. answer ≡ refused why) (λ shelf. (refused why, refl)) (here state shelf)
 
 -- files of bytes that are no board's have a damage
-spoiled_damage : (files damaged_files : Files) → AreFileBytes files → Stores (Spoiled damaged_files) files → (d : Damage) × (board_damage damaged_files ≡ Some d)
+spoiled_damage : (files damaged_files : HostFiles) → AreFileBytes files → Stores (Spoiled damaged_files) files → (d : Damage) × (board_damage damaged_files ≡ Some d)
 spoiled_damage files damaged_files bytes stores = by (board_damage (data_files files)) refl
   where
     data_bytes : AreFileBytes (data_files files)
@@ -390,11 +390,11 @@ spoiled_damage files damaged_files bytes stores = by (board_damage (data_files f
     by (Some d) is = (d, ap board_damage stores.0 ∙ is)
     by None is = let b = (undamaged (data_files files) data_bytes).0 is in absurd (stores.1.other b.0 b.1 (stands b.0 b.2))
 
-has_damage : (state : State) (files : Files) → AreFileBytes files → Stores state files → HasDamage state
+has_damage : (state : State) (files : HostFiles) → AreFileBytes files → Stores state files → HasDamage state
 has_damage NotMade files bytes stores = tt
 has_damage (Made b) files bytes stores = tt
 has_damage (Old b) files bytes stores = tt
 has_damage (Spoiled damaged_files) files bytes stores = spoiled_damage files damaged_files bytes stores
 
-pub some_outcome : (now : ℕ) (entry : Entry) → EntryCanRun entry → (files : Files) → AreFileBytes files → (world : World State) → Stores world.state files → (stepped : Stepped (World State)) × (act now entry).Step world stepped
+pub some_outcome : (now : ℕ) (entry : Entry) → EntryCanRun entry → (files : HostFiles) → AreFileBytes files → (world : World State) → Stores world.state files → (stepped : Stepped (World State)) × (act now entry).Step world stepped
 some_outcome now entry can files bytes world stores = outcome_of now entry can world.state world.shelf (has_damage world.state files bytes stores)

@@ -10,9 +10,9 @@ use Rattle.entry_runs.specs.declared.status.Status.{Status}
 use Rattle.entry_runs.specs.declared.status.Status.TheVariants as status
 use Rattle.entry_runs.specs.declared.stop.Stop.{Stop}
 use Rattle.entry_runs.specs.declared.stop.Stop.TheVariants.{DiskFault, ShelfFault, VoiceFault, OutOfMemory}
-use Rattle.door_commands.specs.Entries.{IsWrong, HasWrong, BeginsWrong}
+use Rattle.cmd_entries.specs.Entries.{IsWrong, HasWrong, BeginsWrong}
 use Rattle.mail_cli.specs.Run.{AnswersUsage}
-use Rattle.door_commands.specs.declared.entry.Entry.{Entry}
+use Rattle.cmd_entries.specs.declared.entry.Entry.{Entry}
 
 -- the entry that a run is at is wrong where the first is
 pub wrong_head : {entries back : List Entry} {entry : Entry} (i : ℕ) → drop i entries ≡ entry ∷ back → (0 < i → ¬ BeginsWrong entries) → BeginsWrong entries → IsWrong entry

@@ -2,9 +2,9 @@
 use Rattle.board_laws.specs.BoardCommand.{BoardCommand}
 use Rattle.board_laws.specs.BoardCommand as board
 use Rattle.board_laws.specs.History.{Steps}
-use Rattle.door_commands.specs.declared.command.Command.TheVariants as command
-use Rattle.door_commands.specs.declared.entry.Entry.{Entry}
-use Rattle.door_commands.specs.declared.entry.Entry.TheVariants.{Run, Wrong, Refuse}
+use Rattle.cmd_entries.specs.declared.command.Command.TheVariants as command
+use Rattle.cmd_entries.specs.declared.entry.Entry.{Entry}
+use Rattle.cmd_entries.specs.declared.entry.Entry.TheVariants.{Run, Wrong, Refuse}
 use Rattle.mail_cli.specs.Step.{act}
 
 abbrev pub board_command : Entry → BoardCommand

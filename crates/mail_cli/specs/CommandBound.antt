@@ -1,13 +1,13 @@
 -- How much a run of one command writes that posts messages.
 use Rattle.std.specs.Prelude.{◌≡◌, ℕ, List, [], ◌∷◌}
-use Rattle.board_commands.specs.WriteBound.{FilesKeepBound, KeepsWriteBound}
-use Rattle.door_commands.specs.Words.{CommandReads}
-use Rattle.door_commands.specs.declared.command.Command.{Command}
-use Rattle.door_commands.specs.declared.command.Command.TheVariants as command
-use Rattle.door_commands.specs.declared.entry.Entry.{Entry}
-use Rattle.door_commands.specs.declared.entry.Entry.TheVariants.{Run}
+use Rattle.cmd_board.specs.WriteBound.{FilesKeepBound, KeepsWriteBound}
+use Rattle.cmd_entries.specs.Words.{CommandReads}
+use Rattle.cmd_entries.specs.declared.command.Command.{Command}
+use Rattle.cmd_entries.specs.declared.command.Command.TheVariants as command
+use Rattle.cmd_entries.specs.declared.entry.Entry.{Entry}
+use Rattle.cmd_entries.specs.declared.entry.Entry.TheVariants.{Run}
 use Rattle.door_outside.specs.Disk.{Disk}
-use Rattle.door_outside.specs.Shelf.{Files}
+use Rattle.door_outside.specs.Shelf.{ShelfFiles}
 use Rattle.intent_journal.specs.Journal.{IsClosed}
 use Rattle.mail_cli.specs.Step.{does}
 
@@ -36,18 +36,18 @@ PostsMessages (command.Upload user file) = Unit {0}
 module _ (now : ℕ) where
   -- Where the command posts messages, and no change was under way at entry, it keeps the bound of what it does then. (The
   -- bound itself is of a ledger in today's version.)
-  abbrev pub CommandKeepsBound : Command → Disk → Disk → Files → Type 0
+  abbrev pub CommandKeepsBound : Command → Disk → Disk → ShelfFiles → Type 0
   CommandKeepsBound c old new shelf = PostsMessages c → IsClosed (old.files 1) → KeepsWriteBound (does now c) old new shelf
 
   -- so does an entry, and a list of one
-  abbrev pub EntryKeepsBound : Entry → Disk → Disk → Files → Type 0
+  abbrev pub EntryKeepsBound : Entry → Disk → Disk → ShelfFiles → Type 0
   EntryKeepsBound one old new shelf = (c : Command) → one ≡ Run c → CommandKeepsBound c old new shelf
 
-  abbrev pub OneKeepsBound : List Entry → Disk → Disk → Files → Type 0
+  abbrev pub OneKeepsBound : List Entry → Disk → Disk → ShelfFiles → Type 0
   OneKeepsBound entries old new shelf = (c : Command) → entries ≡ Run c ∷ [] → CommandKeepsBound c old new shelf
 
   -- and words that are one command
-  abbrev pub RunKeepsBound : List (List ℕ) → Disk → Disk → Files → Type 0
+  abbrev pub RunKeepsBound : List (List ℕ) → Disk → Disk → ShelfFiles → Type 0
   RunKeepsBound words old new shelf = (c : Command) → CommandReads words c → CommandKeepsBound c old new shelf
 
 -- Where the command posts messages, and no change was under way at entry, the bound is kept between the boards for which the

@@ -4,3 +4,4 @@ pub mod BoardEntry
 pub mod Histories
 pub mod Passages
 pub mod CommandBound
+pub mod Promises

@@ -1,32 +1,32 @@
 -- What an entry does.
 use Rattle.std.specs.Prelude.{◌≡◌, ℕ, Bool, true, false, List}
 use Rattle.std.specs.List.{list_any}
-use Rattle.board_laws.specs.adopt_commands.Adopt.{adopts}
+use Rattle.board_laws.specs.cmd_adopt.Adopt.{adopts}
 use Rattle.entry_runs.specs.Door.{Act, Door}
 use Rattle.entry_runs.specs.Entry.{Reply, ShelfAct, on_shelf, looks}
-use Rattle.board_commands.specs.Check.{checks}
-use Rattle.board_commands.specs.Enroll.{enrolls}
-use Rattle.board_commands.specs.Init.{inits}
-use Rattle.board_commands.specs.State.{State, Stores}
-use Rattle.board_laws.specs.exchange_commands.Ack.{acknowledges}
-use Rattle.board_laws.specs.exchange_commands.Export.{exports}
-use Rattle.board_laws.specs.message_commands.Import.{imports}
-use Rattle.board_laws.specs.message_commands.Kill.{kills}
-use Rattle.board_laws.specs.pack_commands.Pack.{packs}
-use Rattle.packet_commands.specs.List.{lists}
-use Rattle.packet_commands.specs.Read.{reads, shows}
-use Rattle.packet_commands.specs.Scan.{scans}
-use Rattle.reply_commands.specs.Compose.{composes}
-use Rattle.reply_commands.specs.Reply.{replies}
-use Rattle.board_laws.specs.message_commands.Sample.{samples}
-use Rattle.board_commands.specs.shelf_files.Halts.{refused}
-use Rattle.board_laws.specs.toss_commands.Toss.{tosses}
-use Rattle.board_laws.specs.exchange_commands.Upload.{uploads}
-use Rattle.door_commands.specs.Answers.{usage}
-use Rattle.door_commands.specs.declared.command.Command.{Command}
-use Rattle.door_commands.specs.declared.command.Command.TheVariants as command
-use Rattle.door_commands.specs.declared.entry.Entry.{Entry}
-use Rattle.door_commands.specs.declared.entry.Entry.TheVariants.{Run, Wrong, Refuse}
+use Rattle.cmd_board.specs.Check.{checks}
+use Rattle.cmd_board.specs.Enroll.{enrolls}
+use Rattle.cmd_board.specs.Init.{inits}
+use Rattle.cmd_board.specs.State.{State, Stores}
+use Rattle.board_laws.specs.cmd_exchange.Ack.{acknowledges}
+use Rattle.board_laws.specs.cmd_exchange.Export.{exports}
+use Rattle.board_laws.specs.cmd_messages.Import.{imports}
+use Rattle.board_laws.specs.cmd_messages.Kill.{kills}
+use Rattle.board_laws.specs.cmd_pack.Pack.{packs}
+use Rattle.cmd_packets.specs.List.{lists}
+use Rattle.cmd_packets.specs.Read.{reads, shows}
+use Rattle.cmd_packets.specs.Scan.{scans}
+use Rattle.cmd_replies.specs.Compose.{composes}
+use Rattle.cmd_replies.specs.Reply.{replies}
+use Rattle.board_laws.specs.cmd_messages.Sample.{samples}
+use Rattle.cmd_board.specs.shelf_files.Halts.{refused}
+use Rattle.board_laws.specs.cmd_toss.Toss.{tosses}
+use Rattle.board_laws.specs.cmd_exchange.Upload.{uploads}
+use Rattle.cmd_entries.specs.Answers.{usage}
+use Rattle.cmd_entries.specs.declared.command.Command.{Command}
+use Rattle.cmd_entries.specs.declared.command.Command.TheVariants as command
+use Rattle.cmd_entries.specs.declared.entry.Entry.{Entry}
+use Rattle.cmd_entries.specs.declared.entry.Entry.TheVariants.{Run, Wrong, Refuse}
 
 -- what a batch does by itself: nothing, since its commands are the entries
 abbrev pub nothing : ShelfAct

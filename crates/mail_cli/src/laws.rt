@@ -3,12 +3,12 @@ ghost use Rattle.std.specs.Prelude.{◌≡◌, ℕ, List, [], ◌∷◌, ◌++�
 ghost use Rattle.door_outside.specs.Shelf as Shelf;
 ghost use Rattle.entry_runs.specs.Door.{World, AreLawful, Step, any_touches, here};
 ghost use Rattle.entry_runs.specs.Promise.{Before, IsMigrating};
-ghost use Rattle.entry_runs.specs.Runs.{Outcome, Runs, Stepped};
-ghost use Rattle.intent_journal.specs.Patches.{Files};
-ghost use Rattle.board_commands.specs.State.{State, IsSpoiled, Stores, migrated};
+ghost use Rattle.entry_runs.specs.Runs.{RunOutcome, Runs, Stepped};
+ghost use Rattle.intent_journal.specs.Patches.{HostFiles};
+ghost use Rattle.cmd_board.specs.State.{State, IsSpoiled, Stores, migrated};
 ghost use Rattle.board_laws.specs.History.{Deed, IsBeginning, IsHistory, after};
 ghost use Rattle.board_layout.specs.Layout.{AreFileBytes};
-ghost use Rattle.door_commands.specs.Entries.{EntryCanRun};
+ghost use Rattle.cmd_entries.specs.Entries.{EntryCanRun};
 ghost use Rattle.board_laws.specs.Kept.{StaysMade, StaysOffered};
 ghost use Rattle.board_laws.specs.Once.{ChangesOnce, SaysAgain};
 ghost use Rattle.board_laws.specs.Passed.{IsPassed, PacketsRise};
@@ -16,7 +16,7 @@ ghost use Rattle.mail_cli.specs.BoardEntry.{board_command, steps};
 ghost use Rattle.mail_cli.specs.Histories.{Continues, reached};
 ghost use Rattle.mail_cli.specs.Passages.{AreJoined, Begun, HaveBrought, KeepPromises, Passage};
 ghost use Rattle.mail_cli.specs.Step.{act, door};
-ghost use Rattle.door_commands.specs.declared.entry.Entry.{Entry};
+ghost use Rattle.cmd_entries.specs.declared.entry.Entry.{Entry};
 
 /// From a world at a moment an entry does one thing at most: one world after it, one reply and one class.
 pub fn one_outcome()
@@ -26,7 +26,7 @@ pub fn one_outcome()
 /// An entry that can run does one thing at least, from each world for whose state files of bytes stand. So from there
 /// it does exactly one thing. No case was left to want of memory.
 pub fn some_outcome()
-    ensures { (now : ℕ) (entry : Entry) → EntryCanRun entry → (files : Files) → AreFileBytes files → (world : World State) → Stores world.state files
+    ensures { (now : ℕ) (entry : Entry) → EntryCanRun entry → (files : HostFiles) → AreFileBytes files → (world : World State) → Stores world.state files
         → (stepped : Stepped (World State)) × (act now entry).Step world stepped }
 {}
 
@@ -45,16 +45,16 @@ pub fn one_migration()
 /// A board in files of today's version isn't migrated. Where an entry was stopped before it changed the board, and
 /// where a crash came between two entries, the files stand for the board itself. And the board stays in such files.
 pub fn today_stays()
-    ensures stopped { (now : ℕ) (entry : Entry) (state : State) (files : Files) → migrated state ≡ state → Before Stores (act now entry) state files → Stores state files }
-    ensures held { (now : ℕ) (outcome : Outcome (World State)) (left : List Entry) (files : Files) → migrated outcome.world.state ≡ outcome.world.state
+    ensures stopped { (now : ℕ) (entry : Entry) (state : State) (files : HostFiles) → migrated state ≡ state → Before Stores (act now entry) state files → Stores state files }
+    ensures held { (now : ℕ) (outcome : RunOutcome (World State)) (left : List Entry) (files : HostFiles) → migrated outcome.world.state ≡ outcome.world.state
         → IsMigrating (door now) outcome left files → Stores outcome.world.state files }
     ensures stays { (start : State) → migrated start ≡ start → (deeds : List (Deed Entry)) → IsHistory steps start deeds → (n : ℕ) → migrated (after start deeds n) ≡ after start deeds n }
 {}
 
 /// Any files stand for exactly one state of the board.
 pub fn one_state()
-    ensures some { (files : Files) → (state : State) × Stores state files }
-    ensures one { (files : Files) (a b : State) → Stores a files → Stores b files → a ≡ b }
+    ensures some { (files : HostFiles) → (state : State) × Stores state files }
+    ensures one { (files : HostFiles) (a b : State) → Stores a files → Stores b files → a ≡ b }
 {}
 
 /// Once a board is made, there is one after all further entries. And what is offered to a user is offered again, in
@@ -91,13 +91,13 @@ pub fn once()
 /// Entries that touch no board go on so behind any history, whatever the state. So where a crash leaves files as it
 /// could have left them before the run, they go on behind the history of those.
 pub fn runs_are_histories()
-    ensures runs { (start : State) (now : ℕ) (deeds : List (Deed Entry)) → IsHistory steps start deeds → (shelf : Shelf.Files) (entries : List Entry) (outcome : Outcome (World State))
+    ensures runs { (start : State) (now : ℕ) (deeds : List (Deed Entry)) → IsHistory steps start deeds → (shelf : Shelf.ShelfFiles) (entries : List Entry) (outcome : RunOutcome (World State))
         → Runs (Step (door now)) (here (reached start deeds) shelf) entries outcome → Continues now start deeds entries outcome.world.state }
-    ensures stopped { (start : State) (now : ℕ) (deeds : List (Deed Entry)) → IsHistory steps start deeds → (shelf : Shelf.Files) (front : List Entry) (entry : Entry) (outcome : Outcome (World State)) (stepped : Stepped (World State))
+    ensures stopped { (start : State) (now : ℕ) (deeds : List (Deed Entry)) → IsHistory steps start deeds → (shelf : Shelf.ShelfFiles) (front : List Entry) (entry : Entry) (outcome : RunOutcome (World State)) (stepped : Stepped (World State))
         → Runs (Step (door now)) (here (reached start deeds) shelf) front outcome → Step (door now) outcome.world entry stepped → Continues now start deeds (front ++ entry ∷ []) stepped.world.state }
-    ensures from_migrated { (start : State) (now : ℕ) (deeds : List (Deed Entry)) → IsHistory steps start deeds → (shelf : Shelf.Files) (entries : List Entry) (outcome : Outcome (World State))
+    ensures from_migrated { (start : State) (now : ℕ) (deeds : List (Deed Entry)) → IsHistory steps start deeds → (shelf : Shelf.ShelfFiles) (entries : List Entry) (outcome : RunOutcome (World State))
         → Runs (Step (door now)) (here (migrated (reached start deeds)) shelf) entries outcome → (state : State) × Continues now start deeds entries state × (migrated state ≡ outcome.world.state) }
-    ensures untouched { (start : State) (now : ℕ) (deeds : List (Deed Entry)) → IsHistory steps start deeds → (state : State) (shelf : Shelf.Files) (entries : List Entry) (outcome : Outcome (World State)) → any_touches (door now) entries ≡ false
+    ensures untouched { (start : State) (now : ℕ) (deeds : List (Deed Entry)) → IsHistory steps start deeds → (state : State) (shelf : Shelf.ShelfFiles) (entries : List Entry) (outcome : RunOutcome (World State)) → any_touches (door now) entries ≡ false
         → Runs (Step (door now)) (here state shelf) entries outcome → Continues now start deeds entries (reached start deeds) }
 {}
 
@@ -116,7 +116,7 @@ pub fn never_spoiled()
 /// All this is so of runs that brought files to others. The clause `joins` of `run` says that they do, also where a
 /// crash came, beginning with none.
 pub fn runs_and_crashes()
-    ensures joined { (start : State) → IsBeginning start → (first last : Files) (passages : List Passage) → Stores start first → AreJoined first passages last → KeepPromises start passages last }
-    ensures brought { (start : State) → IsBeginning start → (first last : Files) (runs : List Begun) → Stores start first → (brought : HaveBrought first runs last) → KeepPromises start brought.passages last }
-    ensures none { (files : Files) → HaveBrought files [] files }
+    ensures joined { (start : State) → IsBeginning start → (first last : HostFiles) (passages : List Passage) → Stores start first → AreJoined first passages last → KeepPromises start passages last }
+    ensures brought { (start : State) → IsBeginning start → (first last : HostFiles) (runs : List Begun) → Stores start first → (brought : HaveBrought first runs last) → KeepPromises start brought.passages last }
+    ensures none { (files : HostFiles) → HaveBrought files [] files }
 {}

@@ -6,7 +6,7 @@ pub mod laws;
 mod perform;
 mod running;
 
-pub use board_commands::Refusal;
-pub use door_commands::{Command, Entry, Usage, Words};
+pub use cmd_board::Refusal;
+pub use cmd_entries::{Command, Entry, Usage, Words};
 pub use entry_runs::{Class, Status};
 pub use running::run;

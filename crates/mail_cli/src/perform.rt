@@ -1,27 +1,27 @@
 //! One entry of a run.
 ghost use Rattle.std.specs.Prelude.{◌≡◌, ◌≢◌, ◌↔◌, false, IsTrue, IfOk, IfErr, IsErrOf};
-ghost use Rattle.door_outside.specs.Shelf.{Files};
+ghost use Rattle.door_outside.specs.Shelf.{ShelfFiles};
 ghost use Rattle.entry_runs.specs.Door.{touches};
 ghost use Rattle.entry_runs.specs.Promise.{ended};
-ghost use Rattle.board_commands.specs.Causes.{HaveCauses};
-ghost use Rattle.board_commands.specs.Keeping.{KeepsFiles};
-ghost use Rattle.board_commands.specs.Kept.{AreSure, IsKept};
-ghost use Rattle.door_commands.specs.Entries.{CanRun, EntryCanRun, IsWrong};
+ghost use Rattle.cmd_board.specs.Causes.{HaveCauses};
+ghost use Rattle.cmd_board.specs.Keeping.{KeepsFiles};
+ghost use Rattle.cmd_board.specs.Kept.{AreSure, IsKept};
+ghost use Rattle.cmd_entries.specs.Entries.{CanRun, EntryCanRun, IsWrong};
 ghost use Rattle.mail_cli.specs.CommandBound.{CommandFilesKeepBound, CommandKeepsBound, EntryFilesKeepBound, EntryKeepsBound};
-ghost use Rattle.mail_cli.specs.Run.{LeavesFiles, PerformsEntry};
+ghost use Rattle.mail_cli.specs.Run.{FilesStay, PerformsEntry};
 ghost use Rattle.mail_cli.specs.Step.{does, door, entry_uses_shelf, uses_shelf};
-ghost use Rattle.door_commands.specs.declared.entry.Entry.TheVariants.{Run};
+ghost use Rattle.cmd_entries.specs.declared.entry.Entry.TheVariants.{Run};
 
-use board_commands::{EnrolledLine, Loaded, MadeLine, check, enroll, init, say_served, say_told};
 use board_laws::{
     AcknowledgedLine, ImportedLine, KilledLine, PackedLine, PacketLine, SampledLine, UploadedText,
     ack, adopt, export, import, kill, pack, sample, toss, upload,
 };
-use door_commands::{Command, Entry};
+use cmd_board::{EnrolledLine, Loaded, MadeLine, check, enroll, init, say_served, say_told};
+use cmd_entries::{Command, Entry};
+use cmd_packets::{CountLine, list, read, scan, show};
+use cmd_replies::{ComposedLine, RepliedLine, compose, reply};
 use door_outside::{Host, Shelf};
 use entry_runs::{AsText, Class, Stop};
-use packet_commands::{CountLine, list, read, scan, show};
-use reply_commands::{ComposedLine, RepliedLine, compose, reply};
 use std::alloc::Global;
 
 /// Carries out a command and says its reply.
@@ -39,16 +39,16 @@ fn perform_command<H: Host, S: Shelf>(
     ensures sure { AreSure kept.new }
     ensures kept { IsTrue H.tells → IsKept kept.new (H.disk host.new) }
     ensures performs { IsTrue H.tells → IsTrue S.tells → PerformsEntry now (Run command.now) (H.disk host.old) (H.disk host.new) (S.files shelf.old) (S.files shelf.new) result }
-    ensures performs_any { uses_shelf command.now ≡ false → IsTrue H.tells → (files : Files) → PerformsEntry now (Run command.now) (H.disk host.old) (H.disk host.new) files files result }
+    ensures performs_any { uses_shelf command.now ≡ false → IsTrue H.tells → (files : ShelfFiles) → PerformsEntry now (Run command.now) (H.disk host.old) (H.disk host.new) files files result }
     ensures keeps { IsTrue (does now command.now).reach.board → IsTrue H.tells → KeepsFiles (H.disk host.old) (H.disk host.new) result }
     ensures causes { HaveCauses H.disk_faults H.voice_faults S.faults host.old host.new shelf.old shelf.new (ended result) }
     ensures usage { IfOk result (λ class. class ≢ Class.Usage) }
     ensures damaged { IfOk result (λ class. class ≡ Class.Damaged → IsTrue (does now command.now).reach.board) }
-    ensures files_stay { (does now command.now).reach.board ≡ false → IsTrue H.tells → LeavesFiles (H.disk host.old) (H.disk host.new) }
+    ensures files_stay { (does now command.now).reach.board ≡ false → IsTrue H.tells → FilesStay (H.disk host.old) (H.disk host.new) }
     ensures disk_faults_stay { (does now command.now).reach.board ≡ false → H.disk_faults host.new ≡ H.disk_faults host.old }
     ensures shelf_stays { uses_shelf command.now ≡ false → shelf.new ≡ shelf.old }
     ensures wrote { IsTrue H.tells → IsTrue S.tells → CommandKeepsBound now command.now (H.disk host.old) (H.disk host.new) (S.files shelf.old) }
-    ensures wrote_any { uses_shelf command.now ≡ false → IsTrue H.tells → (files : Files) → CommandKeepsBound now command.now (H.disk host.old) (H.disk host.new) files }
+    ensures wrote_any { uses_shelf command.now ≡ false → IsTrue H.tells → (files : ShelfFiles) → CommandKeepsBound now command.now (H.disk host.old) (H.disk host.new) files }
     ensures wrote_between { IsTrue H.tells → ¬ IsErrOf result Stop.DiskFault → CommandFilesKeepBound command.now (H.disk host.old) (H.disk host.new) }
 {
     match command {
@@ -177,17 +177,17 @@ pub fn perform<H: Host, S: Shelf>(
     ensures sure { AreSure kept.new }
     ensures kept { IsTrue H.tells → IsKept kept.new (H.disk host.new) }
     ensures performs { IsTrue H.tells → IsTrue S.tells → PerformsEntry now entry.now (H.disk host.old) (H.disk host.new) (S.files shelf.old) (S.files shelf.new) result }
-    ensures performs_any { entry_uses_shelf entry.now ≡ false → IsTrue H.tells → (files : Files) → PerformsEntry now entry.now (H.disk host.old) (H.disk host.new) files files result }
+    ensures performs_any { entry_uses_shelf entry.now ≡ false → IsTrue H.tells → (files : ShelfFiles) → PerformsEntry now entry.now (H.disk host.old) (H.disk host.new) files files result }
     ensures keeps { IsTrue (touches (door now) entry.now) → IsTrue H.tells → KeepsFiles (H.disk host.old) (H.disk host.new) result }
     ensures causes { HaveCauses H.disk_faults H.voice_faults S.faults host.old host.new shelf.old shelf.new (ended result) }
     ensures usage { IfOk result (λ class. (class ≡ Class.Usage) ↔ IsWrong entry.now) }
     ensures wrong { IsWrong entry.now → IfErr result (λ stop. stop ≡ Stop.VoiceFault) }
     ensures damaged { IfOk result (λ class. class ≡ Class.Damaged → IsTrue (touches (door now) entry.now)) }
-    ensures files_stay { touches (door now) entry.now ≡ false → IsTrue H.tells → LeavesFiles (H.disk host.old) (H.disk host.new) }
+    ensures files_stay { touches (door now) entry.now ≡ false → IsTrue H.tells → FilesStay (H.disk host.old) (H.disk host.new) }
     ensures disk_faults_stay { touches (door now) entry.now ≡ false → H.disk_faults host.new ≡ H.disk_faults host.old }
     ensures shelf_stays { entry_uses_shelf entry.now ≡ false → shelf.new ≡ shelf.old }
     ensures wrote { IsTrue H.tells → IsTrue S.tells → EntryKeepsBound now entry.now (H.disk host.old) (H.disk host.new) (S.files shelf.old) }
-    ensures wrote_any { entry_uses_shelf entry.now ≡ false → IsTrue H.tells → (files : Files) → EntryKeepsBound now entry.now (H.disk host.old) (H.disk host.new) files }
+    ensures wrote_any { entry_uses_shelf entry.now ≡ false → IsTrue H.tells → (files : ShelfFiles) → EntryKeepsBound now entry.now (H.disk host.old) (H.disk host.new) files }
     ensures wrote_between { IsTrue H.tells → ¬ IsErrOf result Stop.DiskFault → EntryFilesKeepBound entry.now (H.disk host.old) (H.disk host.new) }
 {
     match entry {

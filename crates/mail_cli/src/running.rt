@@ -1,19 +1,20 @@
 //! The run that the program makes.
-ghost use Rattle.std.specs.Prelude.{◌≡◌, ◌≢◌, ◌⊎◌, ◌≤◌, IsTrue};
-ghost use Rattle.board_commands.specs.State.{AreSpoiled};
-ghost use Rattle.door_commands.specs.Words.{IsNoCommand};
-ghost use Rattle.door_outside.specs.Cause.{Rose};
-ghost use Rattle.door_outside.specs.Shelf.{Files};
+ghost use Rattle.std.specs.Prelude.{◌≡◌, ◌≢◌, IsTrue};
+ghost use Rattle.cmd_board.specs.Causes.{HaveCauses};
+ghost use Rattle.cmd_board.specs.State.{AreSpoiled};
+ghost use Rattle.cmd_entries.specs.Words.{IsNoCommand};
+ghost use Rattle.door_outside.specs.Shelf.{ShelfFiles};
 ghost use Rattle.entry_runs.specs.Promise.{counts};
 ghost use Rattle.intent_journal.specs.Hosts.{IsFirm, IsSettled};
 ghost use Rattle.intent_journal.specs.Recovered.{recovered};
 ghost use Rattle.mail_cli.specs.CommandBound.{RunFilesKeepBound, RunKeepsBound};
 ghost use Rattle.mail_cli.specs.Histories.{RunContinues};
 ghost use Rattle.mail_cli.specs.Passages.{IsOnePassage, RunJoins, begun};
-ghost use Rattle.mail_cli.specs.Run.{RunLeaves, RunSurvives, RunCompletes, AreTouching, HaveWrong, IsAnswered, TouchBoard, AnswersUsage, AlwaysLeaveBoard, LeaveBoard, LeavesFiles, NameNoFile, NeverSpoils, ReadTouching, ReadWrong};
+ghost use Rattle.mail_cli.specs.Promises.{RunPromises};
+ghost use Rattle.mail_cli.specs.Run.{RunEnds, RunSurvives, RunCompletes, AreTouching, HaveWrong, IsAnswered, TouchBoard, AnswersUsage, AlwaysOffBoard, ReadOffBoard, FilesStay, NameNoFile, NeverSpoils, ReadTouching, ReadWrong};
 
 use crate::entries::run_entries;
-use door_commands::{Unread, Words, entries_of};
+use cmd_entries::{Unread, Words, entries_of};
 use door_outside::{Host, Shelf};
 use entry_runs::Status;
 use std::alloc::Global;
@@ -33,7 +34,7 @@ pub fn run<H: Host, S: Shelf>(
     requires { IsTrue H.tells → IsSettled (H.disk host.old) }
 
     // The whole run, or the run cut short: what the files recover to, what was said, the shelf and the status.
-    ensures leaves { IsTrue H.tells → IsTrue S.tells → RunLeaves now words.now result (H.disk host.old) (H.disk host.new) (S.files shelf.old) (S.files shelf.new) }
+    ensures ends { IsTrue H.tells → IsTrue S.tells → RunEnds now words.now result (H.disk host.old) (H.disk host.new) (S.files shelf.old) (S.files shelf.new) }
 
     // A crash at any moment leaves the board after some of the entries, or that board migrated by the next, and a front of
     // these entries' replies said.
@@ -42,7 +43,7 @@ pub fn run<H: Host, S: Shelf>(
 
     // A host that is firm at entry is firm at exit, unless the disk failed. However it was at entry, it is firm at exit
     // where the words are a command that touches the board, and that was carried out, refused or answered. So it is
-    // where the run ends as damaged. (Of the entries of a batch that were read `leaves` says so.)
+    // where the run ends as damaged. (Of the entries of a batch that were read `ends` says so.)
     ensures firm { IsTrue H.tells → result ≢ Status.DiskFault → IsFirm (H.disk host.old) → IsFirm (H.disk host.new) }
     ensures rests { IsTrue H.tells → IsAnswered result → AreTouching now words.now → IsFirm (H.disk host.new) }
     ensures damaged_rests { IsTrue H.tells → result ≡ Status.Damaged → IsFirm (H.disk host.new) }
@@ -67,36 +68,23 @@ pub fn run<H: Host, S: Shelf>(
         (counts (H.disk_faults host.old) (H.voice_faults host.old) (S.faults shelf.old)) (counts (H.disk_faults host.new) (H.voice_faults host.new) (S.faults shelf.new))
         result (H.disk host.old) (H.disk host.new) (S.files shelf.old) (S.files shelf.new) }
 
-    // Words that name no file of the shelf do all this on every shelf, whatever it is taken to hold.
-    ensures leaves_any { IsTrue H.tells → NameNoFile words.now → (files : Files) → RunLeaves now words.now result (H.disk host.old) (H.disk host.new) files files }
-    ensures survives_any { IsTrue H.tells → NameNoFile words.now → (files : Files) → RunSurvives now words.now (H.disk host.old) (H.disk host.new) files }
-    ensures continues_any { IsTrue H.tells → NameNoFile words.now → (files : Files) → RunContinues now words.now (H.disk host.old) (H.disk host.new) files }
-    ensures passage_any { IsTrue H.tells → NameNoFile words.now → (files : Files) → IsOnePassage (begun now words.now files) (H.disk host.old) (H.disk host.new) result files }
-    ensures joins_any { IsTrue H.tells → NameNoFile words.now → (files : Files) → RunJoins (begun now words.now files) (H.disk host.old) (H.disk host.new) }
-    ensures unspoiled_any { IsTrue H.tells → NameNoFile words.now → NeverSpoils (H.disk host.old) (H.disk host.new) }
-    ensures completes_any { IsTrue H.tells → NameNoFile words.now → (files : Files) → RunCompletes now words.now
+    // Words that name no file of the shelf do all this on every shelf, whatever it is taken to hold, and write no more than
+    // the bound of `wrote`.
+    ensures any_shelf { IsTrue H.tells → NameNoFile words.now → (files : ShelfFiles) → RunPromises now words.now
         (counts (H.disk_faults host.old) (H.voice_faults host.old) (S.faults shelf.old)) (counts (H.disk_faults host.new) (H.voice_faults host.new) (S.faults shelf.new))
         result (H.disk host.old) (H.disk host.new) files files }
 
-    // A fault is answered only where its count rose, and any other status leaves the count: so want of memory hides
-    // no fault.
-    ensures disk_fault { result ≡ Status.DiskFault → Rose (H.disk_faults host.old) (H.disk_faults host.new) }
-    ensures shelf_fault { result ≡ Status.ShelfFault → Rose (S.faults shelf.old) (S.faults shelf.new) }
-    ensures voice_fault { result ≡ Status.VoiceFault → Rose (H.voice_faults host.old) (H.voice_faults host.new) }
-    ensures disk_kept { (result ≡ Status.DiskFault) ⊎ (H.disk_faults host.new ≡ H.disk_faults host.old) }
-    ensures shelf_kept { (result ≡ Status.ShelfFault) ⊎ (S.faults shelf.new ≡ S.faults shelf.old) }
-    ensures voice_kept { (result ≡ Status.VoiceFault) ⊎ (H.voice_faults host.new ≡ H.voice_faults host.old) }
-    ensures disk_later { H.disk_faults host.old ≤ H.disk_faults host.new }
-    ensures shelf_later { S.faults shelf.old ≤ S.faults shelf.new }
-    ensures voice_later { H.voice_faults host.old ≤ H.voice_faults host.new }
+    // No count falls. A fault is answered only where its count rose, and any other status leaves the count: so want of
+    // memory hides no fault.
+    ensures causes { HaveCauses H.disk_faults H.voice_faults S.faults host.old host.new shelf.old shelf.new result }
 
     // Where no entry touches the board, the data files stay byte for byte. Nothing of them could be left otherwise, and
     // no call of the disk fails. Two clauses say so whatever is read of a batch, and two of the batch as the shelf
     // tells it.
-    ensures files_stay { AlwaysLeaveBoard now words.now → IsTrue H.tells → LeavesFiles (H.disk host.old) (H.disk host.new) }
-    ensures disk_faults_stay { AlwaysLeaveBoard now words.now → H.disk_faults host.new ≡ H.disk_faults host.old }
-    ensures read_files_stay { IsTrue S.tells → LeaveBoard now words.now (S.files shelf.old) → IsTrue H.tells → LeavesFiles (H.disk host.old) (H.disk host.new) }
-    ensures read_disk_faults_stay { IsTrue S.tells → LeaveBoard now words.now (S.files shelf.old) → H.disk_faults host.new ≡ H.disk_faults host.old }
+    ensures files_stay { AlwaysOffBoard now words.now → IsTrue H.tells → FilesStay (H.disk host.old) (H.disk host.new) }
+    ensures disk_faults_stay { AlwaysOffBoard now words.now → H.disk_faults host.new ≡ H.disk_faults host.old }
+    ensures read_files_stay { IsTrue S.tells → ReadOffBoard now words.now (S.files shelf.old) → IsTrue H.tells → FilesStay (H.disk host.old) (H.disk host.new) }
+    ensures read_disk_faults_stay { IsTrue S.tells → ReadOffBoard now words.now (S.files shelf.old) → H.disk_faults host.new ≡ H.disk_faults host.old }
 
     // A command that names no file of the shelf leaves the shelf and its count of faults, and so does no command.
     ensures shelf_stays { NameNoFile words.now → shelf.new ≡ shelf.old }
@@ -106,7 +94,6 @@ pub fn run<H: Host, S: Shelf>(
     // and 400 for each message that it posts and once more. On every shelf it keeps to the bound between the boards for
     // which the files at entry and at exit stand, unless the disk failed.
     ensures wrote { IsTrue H.tells → IsTrue S.tells → RunKeepsBound now words.now (H.disk host.old) (H.disk host.new) (S.files shelf.old) }
-    ensures wrote_any { IsTrue H.tells → NameNoFile words.now → (files : Files) → RunKeepsBound now words.now (H.disk host.old) (H.disk host.new) files }
     ensures wrote_between { IsTrue H.tells → result ≢ Status.DiskFault → RunFilesKeepBound words.now (H.disk host.old) (H.disk host.new) }
 
     // Words that are no command are answered so, and no others: those of the program, or of a line of a batch.

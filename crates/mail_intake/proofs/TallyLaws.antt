@@ -14,7 +14,7 @@ use Rattle.board_layout.specs.Valid.{IsBoard, board_limit}
 use Rattle.board_ledger.specs.declared.ledger.Ledger.{Ledger}
 use Rattle.board_layout.specs.jam_base.Contents.{Contents}
 use Rattle.board_layout.specs.jam_layout.Limits.{slot_limit}
-use Rattle.board_layout.specs.jam_layout.declared.conference.Conference.{Conference}
+use Rattle.board_layout.specs.jam_layout.declared.conference.ConferenceContents.{ConferenceContents}
 use Rattle.jam_records.specs.declared.message.Message.{Message}
 use Rattle.mail_intake.specs.Room.{is_full}
 use Rattle.mail_intake.specs.Tallies.{IsTally, MayTake}
@@ -55,13 +55,13 @@ counts_whole counts all bases index past so_far =
 pub no_tally : (b : Board) (t : Tally) (bases : List Contents) → IsBoard b → conferences_in bases ≡ b.conferences → t.posts ≡ [] → t.slots.items ≡ slot_counts bases → t.size ≡ board_size b → IsTally b t
 no_tally b t bases ok back none counts size =
     let empty : spread t.posts b ≡ b = ap (λ (ps : List (ℕ × Message)). spread ps b) none ∙ spread_none b ok in
-    let many : length bases ≡ length b.conferences = sym (length-map bases (λ (base : Contents). base.conference)) ∙ ap (length {A = Conference}) back in
+    let many : length bases ≡ length b.conferences = sym (length-map bases (λ (base : Contents). base.conference)) ∙ ap (length {A = ConferenceContents}) back in
     record {
       board = subst IsBoard (sym empty) ok;
       placed = subst (λ (ps : List (ℕ × Message)). ArePlaced ps b) (sym none) (All-nil (λ (p : ℕ × Message). p.0 < length b.conferences));
       count = ap (length {A = ℕ}) counts ∙ (length-map bases (λ (base : Contents). length base.conference.slots) ∙ many);
       slots = λ place within. ap (λ (ns : List ℕ). get_or ns place 0) counts
-          ∙ (counted_at bases place (omega (arith, many, within)) ∙ (ap (λ (cs : List Conference). length (slots_at cs place)) back ∙ sym (ap (λ (x : Board). length (slots_in x place)) empty)));
+          ∙ (counted_at bases place (omega (arith, many, within)) ∙ (ap (λ (cs : List ConferenceContents). length (slots_at cs place)) back ∙ sym (ap (λ (x : Board). length (slots_in x place)) empty)));
       size = size ∙ sym (ap board_size empty);
     }
 

@@ -50,7 +50,7 @@ impl Tally {
         ensures board { IsBoard board.now }
     {
         let conference = board.conference_of(place).number;
-        let bbsid = board.ledger().setup.bbsid.as_slice();
+        let bbsid = board.ledger().setup.bbsid().as_slice();
         let number = u64::from(self.slots[usize::from(place)]) + 1;
         let generated = generated_len(conference, bbsid, number);
         self.size.saturating_add(message_size(message, generated))

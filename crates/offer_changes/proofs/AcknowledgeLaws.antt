@@ -18,7 +18,7 @@ use Rattle.open_offers.specs.declared.offer.OpenOffer.{OpenOffer}
 use Rattle.board_ledger.specs.declared.user.User.{User}
 use Rattle.board_layout.specs.jam_base.Contents.{Contents}
 use Rattle.jam_layout.specs.Valid.{IsConference}
-use Rattle.jam_layout.specs.declared.conference.Conference.{Conference}
+use Rattle.jam_layout.specs.declared.conference.ConferenceContents.{ConferenceContents}
 use Rattle.jam_layout.specs.declared.shape.Shape.{Shape}
 use Rattle.offer_changes.proofs.LedgerLaws.{ledger_is, same_text, shapes_stay, text_stays, user_was, was_each}
 use Rattle.offer_changes.proofs.OpenOffers.{found_fits, found_itself, offers_less, others_all, others_fit}
@@ -75,7 +75,7 @@ module _ (b : Board) (id now : ℕ) (u : User) (o : OpenOffer) (here : slice_get
   offers_were = all_at (λ (v : User). offers_fit b.conferences v.offers ≡ true) b.ledger.users (id - 1) u here ok.highs
 
   pub highs_were : offer_in o.number u.offers ≡ Some o → highs_fit (conferences_in (contents_of b)) o.highs ≡ true
-  highs_were is = subst (λ (cs : List Conference). highs_fit cs o.highs ≡ true) (sym old_conferences) (found_fits b.conferences o.number u.offers o is offers_were)
+  highs_were is = subst (λ (cs : List ConferenceContents). highs_fit cs o.highs ≡ true) (sym old_conferences) (found_fits b.conferences o.number u.offers o is offers_were)
 
   -- what stands in a place
   pub base_read : (place : ℕ) (base : Contents) → slice_get (contents_of b) place ≡ Some base → slice_get (contents_of (read_offer id now u o b)) place ≡ Some (read_up_to id u.name now (get_or o.highs place 0) base)
@@ -100,7 +100,7 @@ module _ (b : Board) (id now : ℕ) (u : User) (o : OpenOffer) (here : slice_get
   -- ---- validity
   -- highs that fitted do on the bases that were read
   still_fit : (v : User) → offers_fit b.conferences v.offers ≡ true → offers_fit (conferences_in bases) v.offers ≡ true
-  still_fit v fit = all_offers id u.name now (contents_of b) o.highs v.offers ∙ subst (λ (cs : List Conference). offers_fit cs v.offers ≡ true) (sym old_conferences) fit
+  still_fit v fit = all_offers id u.name now (contents_of b) o.highs v.offers ∙ subst (λ (cs : List ConferenceContents). offers_fit cs v.offers ≡ true) (sym old_conferences) fit
 
   pub read_is : offer_in o.number u.offers ≡ Some o → now < 2 ^ 32 → IsBoard (read_offer id now u o b)
   read_is is small =

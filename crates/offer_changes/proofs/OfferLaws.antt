@@ -23,7 +23,7 @@ use Rattle.board_ledger.specs.declared.user.User.{User}
 use Rattle.intent_journal.specs.declared.patch.Patch.{Patch}
 use Rattle.jam_layout.specs.Layout.{files_size}
 use Rattle.jam_layout.specs.Valid.{IsConference}
-use Rattle.jam_layout.specs.declared.conference.Conference.{Conference}
+use Rattle.jam_layout.specs.declared.conference.ConferenceContents.{ConferenceContents}
 use Rattle.jam_layout.specs.declared.files.BaseFiles.{BaseFiles}
 use Rattle.jam_layout.specs.declared.shape.Shape.{Shape}
 use Rattle.record_numbers.specs.Numbers.{IsU32}
@@ -52,7 +52,7 @@ offer_right : (count : ℕ) (u : User) (highs : List ℕ) → IsUser count (with
 offer_right count u highs is = latest_has (IsOffer count u.members) u.offers (new_offer highs u) is.offers.each
 
 -- highs that fit are small
-small_highs : (highs : List ℕ) (shapes : List Shape) (conferences : List Conference) → AllZip IsConference shapes conferences → length highs ≡ length conferences → highs_fit conferences highs ≡ true → All IsU32 highs
+small_highs : (highs : List ℕ) (shapes : List Shape) (conferences : List ConferenceContents) → AllZip IsConference shapes conferences → length highs ≡ length conferences → highs_fit conferences highs ≡ true → All IsU32 highs
 small_highs [] shapes conferences all many fit = All-nil IsU32
 small_highs (high ∷ highs) [] [] all many fit = absurd (omega (arith, many))
 small_highs (high ∷ highs) [] (c ∷ conferences) all many fit = absurd all

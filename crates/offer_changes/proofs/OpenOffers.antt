@@ -9,7 +9,7 @@ use Rattle.std.proofs.lemmas.Option.{none-some, same_Some}
 use Rattle.open_offers.specs.Offers.{AreOffers, IsOffer, NumbersRise}
 use Rattle.open_offers.specs.declared.offer.OpenOffer.{OpenOffer}
 use Rattle.board_layout.specs.Valid.{highs_fit, offers_fit}
-use Rattle.jam_layout.specs.declared.conference.Conference.{Conference}
+use Rattle.jam_layout.specs.declared.conference.ConferenceContents.{ConferenceContents}
 use Rattle.offer_changes.specs.Changed.{latest, offer_in, other_offers}
 
 -- ---- the offer of a number
@@ -105,10 +105,10 @@ module _ (packet : ℕ) where
   }
 
 -- ---- their highs on a board
-abbrev HighsFit : List Conference → OpenOffer → Type 0
+abbrev HighsFit : List ConferenceContents → OpenOffer → Type 0
 HighsFit conferences o = highs_fit conferences o.highs ≡ true
 
-module _ (conferences : List Conference) where
+module _ (conferences : List ConferenceContents) where
   each_fits : (offers : List OpenOffer) → offers_fit conferences offers ≡ true → All (HighsFit conferences) offers
   each_fits offers fit = AllPass-from_list_all (λ o. highs_fit conferences o.highs) offers fit
 

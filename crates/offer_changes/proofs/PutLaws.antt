@@ -10,7 +10,7 @@ use Rattle.board_ledger.specs.Valid.{IsLedger}
 use Rattle.board_ledger.specs.declared.ledger.Ledger.{Ledger}
 use Rattle.board_ledger.specs.declared.user.User.{User}
 use Rattle.door_outside.specs.File.{ledger_file}
-use Rattle.intent_journal.specs.Patches.{Files}
+use Rattle.intent_journal.specs.Patches.{HostFiles}
 use Rattle.jam_layout.specs.declared.files.BaseFiles.{BaseFiles}
 use Rattle.offer_changes.specs.Changed.{with_user_replaced}
 
@@ -25,6 +25,6 @@ module _ (l : Ledger) (id : ℕ) (u v : User) (here : slice_get l.users (id - 1)
   pub user_joins : IsLedger (with_user_replaced id v l) → Joins [] (user_puts (id - 1) v l)
   user_joins next = begins_join (with_user_replaced id v l) (user_puts (id - 1) v l) user_begins next
 
-  pub gathered_user : (P : Files → Type 0) (old new : List BaseFiles) → ((files : Files) → P files → HasBases old files) → ((files : Files) → P files → files ledger_file ≡ ledger_text l)
+  pub gathered_user : (P : HostFiles → Type 0) (old new : List BaseFiles) → ((files : HostFiles) → P files → HasBases old files) → ((files : HostFiles) → P files → files ledger_file ≡ ledger_text l)
       → Gathered P (ledger_text (with_user_replaced id v l)) old new 0 (user_puts (id - 1) v l)
   gathered_user P old new has right = begins_gather P (ledger_text l) (ledger_text (with_user_replaced id v l)) old new (user_puts (id - 1) v l) (user_turns l (id - 1) u v here same) user_begins has right

@@ -22,8 +22,8 @@ use Rattle.jam_layout.specs.Headers.{entry_text, header_size, headers_text}
 use Rattle.jam_layout.specs.Layout.{base_header, entries_of, entries_in, files_size, layout}
 use Rattle.jam_layout.specs.Readers.{last_read, last_reads}
 use Rattle.jam_layout.specs.Sizes.{slot_header}
-use Rattle.jam_layout.specs.declared.conference.Conference.{Conference}
-use Rattle.jam_layout.specs.declared.entry.Entry.{Entry}
+use Rattle.jam_layout.specs.declared.conference.ConferenceContents.{ConferenceContents}
+use Rattle.jam_layout.specs.declared.entry.HeaderEntry.{HeaderEntry}
 use Rattle.jam_layout.specs.declared.files.BaseFiles.{BaseFiles}
 use Rattle.jam_layout.specs.declared.reader.Reader.{Reader}
 use Rattle.jam_layout.specs.declared.shape.Shape.{Shape}
@@ -65,11 +65,11 @@ headers_length : (kind : Kind) (links : ℕ → Link) (offset n : ℕ) (slots : 
 headers_length kind links offset n [] = refl
 headers_length kind links offset n (Gone ∷ slots) = omega (arith, headers_length kind links offset (n + 1) slots, sum_by-cons slot_header Gone slots)
 headers_length kind links offset n (Held m ∷ slots) =
-    let e : Entry = record { number = n; text_len = length m.body; link = links n; message = m } in
+    let e : HeaderEntry = record { number = n; text_len = length m.body; link = links n; message = m } in
     let rest : List ℕ = headers_text kind (offset + length m.body) (entries_of links (n + 1) slots) in
     omega (arith, length-append (entry_text kind offset e) rest, entry_length kind offset e, headers_length kind links (offset + length m.body) (n + 1) slots, sum_by-cons slot_header (Held m) slots)
 
-jhr_length : (shape : Shape) (c : Conference) → length (layout shape c).jhr ≡ 1024 + sum_by slot_header c.slots
+jhr_length : (shape : Shape) (c : ConferenceContents) → length (layout shape c).jhr ≡ 1024 + sum_by slot_header c.slots
 jhr_length shape c =
     omega (arith, length-append (base_text (base_header shape c)) (headers_text shape.kind 0 (entries_in c)), base_length (base_header shape c), headers_length shape.kind (link_of c.slots) 0 1 c.slots)
 

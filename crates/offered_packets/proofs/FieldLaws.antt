@@ -3,6 +3,7 @@ use Rattle.std.proofs.Common.{◌≡◌, ◌≢◌, ℕ, suc, ◌+◌, ◌-◌, 
 use Rattle.std.specs.List.{All, slice_split, onto_first}
 use Rattle.std.proofs.lemmas.Bool.{eq-eqb, ne_eqb, cases_eq, cases_Bool, cond-true, cond-false}
 use Rattle.std.proofs.lemmas.List.Elements.{All-map}
+use Rattle.std.proofs.lemmas.List.Folds.{map_fixed}
 use Rattle.std.proofs.lemmas.List.{length-map, append_assoc, append-nil}
 use Rattle.std.proofs.lemmas.List.Splits.{slice_split_at, slice_split_none, slice_split-cons_yes, slice_split-cons_no, length-slice_split}
 use Rattle.qwk_blocks.specs.Text.{joined_lines, IsLine}
@@ -47,6 +48,11 @@ line_more old new body left front rest line so_far s is then =
 pub lines_end : (lines : List (List ℕ)) (body left : List ℕ) → lines ++ shown_lines left ≡ shown_lines body → Lacks 0x0D left → lines ≡ shown_lines body
 lines_end lines body left so_far lacks =
     sym (append-nil lines) ∙ (ap (λ (xs : List (List ℕ)). lines ++ map shown_line xs) (sym (no_line left lacks)) ∙ so_far)
+
+-- a line that has no end of a line in it is shown as it is
+pub line_as_it_is : (line : List ℕ) → Lacks 0xE3 line → shown_line line ≡ line
+line_as_it_is line lacks =
+    map_fixed (λ b. cond (eqb b 0xE3) 0x3F b) line (λ k d within. cond-false (eqb (get_or line k d) 0xE3) 0x3F (get_or line k d) (ne_eqb (get_or line k d) 0xE3 (lacks k d within)))
 
 -- ---- lengths
 byte_shown : (b : ℕ) → cond (eqb b 0xE3) 0x3F b ≢ 0xE3

@@ -13,7 +13,7 @@ use Rattle.board_ledger.specs.declared.user.User.{User}
 use Rattle.board_layout.specs.jam_base.Contents.{Contents}
 use Rattle.board_layout.specs.jam_base.Slots.{has_live, numbered}
 use Rattle.board_layout.specs.jam_layout.Outlines.{message_outline, outline, slot_bare, slot_outline}
-use Rattle.board_layout.specs.jam_layout.declared.conference.Conference.{Conference}
+use Rattle.board_layout.specs.jam_layout.declared.conference.ConferenceContents.{ConferenceContents}
 use Rattle.board_layout.proofs.jam_layout.LinkLaws.{link_bare}
 use Rattle.board_layout.proofs.jam_layout.OutlineLaws.{one_outline}
 use Rattle.jam_records.specs.declared.message.Kind.TheVariants.{Local}
@@ -29,12 +29,12 @@ use Rattle.offered_packets.specs.declared.offered_message.OfferedMessage.{Offere
 use Rattle.long_names.specs.Plain.{in_capitals, with_long}
 
 -- ---- what is looked up
-slots_there : (c : Option Conference) → unwrap_or (option_map (λ c. c.slots) (option_map outline c)) [] ≡ map slot_outline (unwrap_or (option_map (λ c. c.slots) c) [])
+slots_there : (c : Option ConferenceContents) → unwrap_or (option_map (λ c. c.slots) (option_map outline c)) [] ≡ map slot_outline (unwrap_or (option_map (λ c. c.slots) c) [])
 slots_there None = refl
 slots_there (Some c) = refl
 
 pub outline_slots : (b : Board) (place : ℕ) → slots_in (board_outline b) place ≡ map slot_outline (slots_in b place)
-outline_slots b place = ap (λ (c : Option Conference). unwrap_or (option_map (λ c. c.slots) c) []) (slice_get-map outline b.conferences place) ∙ slots_there (slice_get b.conferences place)
+outline_slots b place = ap (λ (c : Option ConferenceContents). unwrap_or (option_map (λ c. c.slots) c) []) (slice_get-map outline b.conferences place) ∙ slots_there (slice_get b.conferences place)
 
 pub outline_count : (b : Board) (place : ℕ) → length (slots_in (board_outline b) place) ≡ length (slots_in b place)
 outline_count b place = ap length (outline_slots b place) ∙ length-map (slots_in b place) slot_outline
@@ -79,7 +79,7 @@ outline_highs b messages = ap (λ count. map (high_of messages) (range_with_len 
 -- slots have no body as their outlines have none
 bare_outline : (slots : List Slot) → map slot_bare (map slot_outline slots) ≡ map slot_bare slots
 bare_outline slots =
-    let c : Conference = record { counter = 0; slots = slots; pointers = [] } in
+    let c : ConferenceContents = record { counter = 0; slots = slots; pointers = [] } in
     let again = base_again (record { shape = record { place = 0; created = 0; kind = Local; readers = [] }; conference = c }) in
     (one_outline (outline c) c (ap (λ (base : Contents). base.conference) again)).slots
 

@@ -17,7 +17,7 @@ use Rattle.board_layout.specs.jam_layout.Limits.{slot_limit}
 use Rattle.board_layout.specs.jam_layout.Messages.{EmptyOr, IsMessage, IsSlot}
 use Rattle.board_layout.specs.jam_layout.Outlines.{message_outline}
 use Rattle.board_layout.specs.jam_layout.Valid.{IsConference}
-use Rattle.board_layout.specs.jam_layout.declared.conference.Conference.{Conference}
+use Rattle.board_layout.specs.jam_layout.declared.conference.ConferenceContents.{ConferenceContents}
 use Rattle.board_layout.specs.jam_layout.declared.shape.Shape.{Shape}
 use Rattle.jam_records.specs.declared.message.Kind.{Kind}
 use Rattle.jam_records.specs.declared.message.Kind.TheVariants.{Local}
@@ -115,7 +115,7 @@ stands_at slots number m e =
     ]
 
 -- any conference and any shape
-no_conference : Conference
+no_conference : ConferenceContents
 no_conference = record { counter = 0; slots = []; pointers = [] }
 
 no_shape : Shape
@@ -133,7 +133,7 @@ is_there b place number m ok e =
     let stands : StandsAt (slots_in b place) number m = stands_at (slots_in b place) number m e in
     elim (cases_lt place (length b.conferences)) [
       | inl inside ↦
-          let c : Conference = get_or b.conferences place no_conference in
+          let c : ConferenceContents = get_or b.conferences place no_conference in
           let shape : Shape = get_or (shapes_of b.ledger) place no_shape in
           let slots : slots_in b place ≡ c.slots = ap slots_of (slice_get-get_or b.conferences place no_conference inside) in
           let known : IsConference shape c = conference_fits (shapes_of b.ledger) b.conferences place no_shape no_conference ok.conferences inside in

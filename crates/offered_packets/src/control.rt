@@ -82,13 +82,14 @@ struct PacketTexts {
 fn board_texts(alloc: Global, setup: &Setup) -> Result<BoardTexts, AllocError>
     ensures { IfOk result (λ texts. (texts.name ≡ setup.now.board) × (texts.city ≡ setup.now.city) × (texts.phone ≡ setup.now.phone) × (texts.sysop ≡ setup.now.sysop) × (texts.serial ≡ five_digits_of setup.now.serial) × (texts.bbsid ≡ setup.now.bbsid)) }
 {
+    let fields = setup.fields();
     Ok(BoardTexts {
-        name: setup.board.copy(alloc)?,
-        city: setup.city.copy(alloc)?,
-        phone: setup.phone.copy(alloc)?,
-        sysop: setup.sysop.copy(alloc)?,
-        serial: Bytes::from_slice(alloc, &five_digits(setup.serial))?,
-        bbsid: setup.bbsid.copy(alloc)?,
+        name: fields.board.copy(alloc)?,
+        city: fields.city.copy(alloc)?,
+        phone: fields.phone.copy(alloc)?,
+        sysop: fields.sysop.copy(alloc)?,
+        serial: Bytes::from_slice(alloc, &five_digits(fields.serial))?,
+        bbsid: fields.bbsid.copy(alloc)?,
     })
 }
 
@@ -119,7 +120,7 @@ fn control_for(
     let setup = &board.ledger().setup;
     let about = board_texts(alloc, setup)?;
     let made = packet_texts(alloc, user, now)?;
-    let conferences = listed(alloc, setup.conferences.as_slice(), user)?;
+    let conferences = listed(alloc, setup.fields().conferences.as_slice(), user)?;
     Ok(Control {
         board: about.name,
         city: about.city,

@@ -41,12 +41,23 @@ fn shown_byte(b: u8) -> u8
     if b == LINE_END { b'?' } else { b }
 }
 
-/// A line of a body.
-fn shown_line(alloc: Global, line: &[u8]) -> Result<Bytes, AllocError>
+/// A line of a body, byte by byte.
+fn mapped_line(alloc: Global, line: &[u8]) -> Result<Bytes, AllocError>
     ensures { IfOk result (λ shown. shown ≡ line_of line.now) }
 {
     let bytes = line.iter().map(|b| shown_byte(*b)).collect(alloc)?;
     Ok(Bytes::from_vec(bytes))
+}
+
+/// A line of a body. One without a byte that would end it is copied at once.
+#[tactic(auto, using(crate::proofs::FieldLaws::line_as_it_is))]
+fn shown_line(alloc: Global, line: &[u8]) -> Result<Bytes, AllocError>
+    ensures { IfOk result (λ shown. shown ≡ line_of line.now) }
+{
+    match split_at_byte(line, LINE_END) {
+        None => Bytes::from_slice(alloc, line),
+        Some(_) => mapped_line(alloc, line),
+    }
 }
 
 /// The lines of a body, each of which ends with a carriage return.

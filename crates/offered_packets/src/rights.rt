@@ -11,7 +11,7 @@ pub fn is_sysop(ledger: &Ledger, user: &User) -> bool
     ensures { result ≡ is_sysop_of ledger.now user.now }
 {
     let name = user.name.as_slice();
-    name.eq_ignore_ascii_case(ledger.setup.sysop.as_slice())
+    name.eq_ignore_ascii_case(ledger.setup.fields().sysop.as_slice())
 }
 
 /// Whether the message is to the user or from the user, ignoring ASCII case.

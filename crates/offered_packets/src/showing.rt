@@ -11,7 +11,7 @@ use crate::fields::{shown_lines, shown_status, shown_text};
 use board_layout::StoredBoard;
 use byte_lists::Bytes;
 use jam_records::Message;
-use long_names::{LineField, with_long};
+use long_names::{LineField, goes_as_is, with_long};
 use qwk_blocks::{Header, QwkMessage};
 use qwk_moments::{date_field, time_field};
 use std::alloc::{AllocError, Global};
@@ -67,11 +67,22 @@ fn in_capitals(alloc: Global, name: &Bytes) -> Result<Bytes, AllocError>
     Ok(Bytes::from_vec(shown))
 }
 
-/// A message with its long names and subject as lines, and its To and From in ASCII capitals.
-fn as_it_goes(alloc: Global, whole: &QwkMessage) -> Result<QwkMessage, AllocError>
-    ensures { IfOk result (λ message. message ≡ in_capitals_of (with_long_of whole.now)) }
+/// A message with its long names and subject as lines. One that has none isn't copied.
+fn with_lines(alloc: Global, whole: QwkMessage) -> Result<QwkMessage, AllocError>
+    ensures { IfOk result (λ message. message ≡ with_long_of whole) }
 {
-    let mut message = with_long(alloc, whole)?;
+    if goes_as_is(&whole) {
+        Ok(whole)
+    } else {
+        with_long(alloc, &whole)
+    }
+}
+
+/// A message with its long names and subject as lines, and its To and From in ASCII capitals.
+fn as_it_goes(alloc: Global, whole: QwkMessage) -> Result<QwkMessage, AllocError>
+    ensures { IfOk result (λ message. message ≡ in_capitals_of (with_long_of whole)) }
+{
+    let mut message = with_lines(alloc, whole)?;
     message.header.to = in_capitals(alloc, &message.header.to)?;
     message.header.from = in_capitals(alloc, &message.header.from)?;
     Ok(message)
@@ -110,5 +121,5 @@ pub fn shown(
     let original = original_in(board, place, number);
     let header = whole_header(alloc, conference, number, original, logical, message)?;
     let lines = shown_lines(alloc, message.body.as_slice())?;
-    as_it_goes(alloc, &QwkMessage { header, lines })
+    as_it_goes(alloc, QwkMessage { header, lines })
 }

@@ -12,7 +12,7 @@ use Rattle.board_layout.specs.Renewed.{contents_of}
 use Rattle.board_layout.specs.Valid.{IsBoard}
 use Rattle.board_layout.specs.jam_base.Contents.{Contents}
 use Rattle.board_layout.proofs.jam_layout.SizeLaws.{size_by_length}
-use Rattle.board_layout.specs.jam_layout.declared.conference.Conference.{Conference}
+use Rattle.board_layout.specs.jam_layout.declared.conference.ConferenceContents.{ConferenceContents}
 use Rattle.jam_records.specs.declared.message.Message.{Message}
 use Rattle.netmail_rules.specs.Rules.{new_bytes}
 use Rattle.post_changes.specs.Posted.{posts_in, all_posted, spread}
@@ -99,7 +99,7 @@ module _ (b : Board) (posts : List (ℕ × Message)) (place : ℕ) (m : Message)
       let more : List (ℕ × Message) = posts ++ (place, m) ∷ [] in
       let back : conferences_in bases ≡ b.conferences = conferences_back (shapes_of b.ledger) b.conferences ok.conferences in
       let number : length (slots_at (conferences_in bases) place) + length (posts_in place posts) + 1 ≡ next_number (spread posts b) place =
-      omega (arith, ap (λ (cs : List Conference). length (slots_at cs place)) back, spread_count b posts place ok within) in
+      omega (arith, ap (λ (cs : List ConferenceContents). length (slots_at cs place)) back, spread_count b posts place ok within) in
       omega (
         arith,
         size_in b.ledger (all_posted b more 0 bases) (spread_shapes b more ok),

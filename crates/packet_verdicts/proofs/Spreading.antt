@@ -8,7 +8,7 @@ use Rattle.board_layout.specs.Board.{Board, conferences_in, shapes_in, shapes_of
 use Rattle.board_layout.specs.Renewed.{contents_of}
 use Rattle.board_layout.specs.Valid.{IsBoard}
 use Rattle.board_layout.specs.jam_base.Contents.{Contents, with_messages}
-use Rattle.board_layout.specs.jam_layout.declared.conference.Conference.{Conference}
+use Rattle.board_layout.specs.jam_layout.declared.conference.ConferenceContents.{ConferenceContents}
 use Rattle.jam_records.specs.declared.message.Message.{Message}
 use Rattle.jam_records.specs.declared.message.Slot.{Slot}
 use Rattle.jam_records.specs.declared.message.Slot.TheVariants.{Held}
@@ -21,8 +21,8 @@ use Rattle.post_changes.specs.slot_changes.Changed.{with_identified}
 use Rattle.post_changes.specs.slot_changes.Msgids.{all_identified, msgid_in}
 
 -- the slots of the conference in a place
-abbrev pub slots_at : List Conference → ℕ → List Slot
-slots_at conferences place = unwrap_or (option_map (λ (c : Conference). c.slots) (slice_get conferences place)) []
+abbrev pub slots_at : List ConferenceContents → ℕ → List Slot
+slots_at conferences place = unwrap_or (option_map (λ (c : ConferenceContents). c.slots) (slice_get conferences place)) []
 
 messages_slots : (base : Contents) (messages : List Message) → (with_messages messages base).conference.slots ≡ base.conference.slots ++ map Held messages
 messages_slots base [] = sym (append-nil base.conference.slots)
@@ -59,7 +59,7 @@ pub spread_slots : (b : Board) (posts : List (ℕ × Message)) (place : ℕ) →
     → slots_in (spread posts b) place ≡ slots_in b place ++ map Held (all_identified (msgid_in place b) (length (slots_in b place) + 1) (posts_in place posts))
 spread_slots b posts place ok within =
     subst
-    (λ (cs : List Conference). slots_in (spread posts b) place ≡ slots_at cs place ++ map Held (all_identified (msgid_in place b) (length (slots_at cs place) + 1) (posts_in place posts)))
+    (λ (cs : List ConferenceContents). slots_in (spread posts b) place ≡ slots_at cs place ++ map Held (all_identified (msgid_in place b) (length (slots_at cs place) + 1) (posts_in place posts)))
     (conferences_back (shapes_of b.ledger) b.conferences ok.conferences) (posted_slots b posts place 0 place (contents_of b) (omega arith) (omega (arith, as_many b ok, within)))
 
 pub spread_count : (b : Board) (posts : List (ℕ × Message)) (place : ℕ) → IsBoard b → place < length b.ledger.setup.conferences → length (slots_in (spread posts b) place) ≡ length (slots_in b place) + length (posts_in place posts)

@@ -32,8 +32,8 @@ pub(crate) fn user_view(
         user: user.name.copy(alloc)?,
         net: user.net,
         is_sysop: is_sysop(ledger, user),
-        sysop: ledger.setup.sysop.copy(alloc)?,
-        zones: ledger.setup.zones.copy(alloc)?,
+        sysop: ledger.setup.fields().sysop.copy(alloc)?,
+        zones: ledger.setup.fields().zones.copy(alloc)?,
         conference: None,
         reply: Bytes::new(alloc),
         room,
@@ -60,7 +60,7 @@ fn msgid_len(board: &StoredBoard, place: u8, number: u32) -> u32
     ensures { result ≡ length (msgid_in place board.now number) }
 {
     let conference = board.conference_of(place).number;
-    let bbsid = board.ledger().setup.bbsid.as_slice();
+    let bbsid = board.ledger().setup.bbsid().as_slice();
     generated_len(conference, bbsid, u64::from(number)) as u32
 }
 

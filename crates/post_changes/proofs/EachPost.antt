@@ -23,7 +23,7 @@ use Rattle.board_layout.specs.jam_base.Contents.{Contents, with_messages}
 use Rattle.board_layout.specs.jam_base.Outlined.{outlined, TurnsEach}
 use Rattle.board_layout.specs.jam_layout.Messages.{IsMessage}
 use Rattle.board_layout.specs.jam_layout.Valid.{IsConference}
-use Rattle.board_layout.specs.jam_layout.declared.conference.Conference.{Conference}
+use Rattle.board_layout.specs.jam_layout.declared.conference.ConferenceContents.{ConferenceContents}
 use Rattle.board_layout.specs.jam_layout.declared.shape.Shape.{Shape}
 use Rattle.jam_records.specs.declared.message.Kind.{Kind}
 use Rattle.jam_records.specs.declared.message.Message.{Message}
@@ -70,7 +70,7 @@ module _ (a b : Board) (alike : board_outline a ≡ board_outline b) (posts : Li
   pub posted_outline : (l : Ledger) → board_outline (posted_with l posts a) ≡ board_outline (posted_with l posts b)
   posted_outline l =
       let same : map outlined (contents_of a) ≡ map outlined (contents_of b) = sym (outline_contents a) ∙ (ap contents_of alike ∙ outline_contents b) in
-      ap (λ (cs : List Conference). record { ledger = l; conferences = cs })
+      ap (λ (cs : List ConferenceContents). record { ledger = l; conferences = cs })
       (conferences_outlined (all_posted a posts 0 (contents_of a)) ∙ (ap conferences_in (all_outline 0 (contents_of a) (contents_of b) same) ∙ sym (conferences_outlined (all_posted b posts 0 (contents_of b)))))
 
   one_base : (place : ℕ) (x y : Contents) → outlined x ≡ outlined y → IsBase x → IsBase (posted_in b posts place y) → IsBase (posted_in a posts place x)

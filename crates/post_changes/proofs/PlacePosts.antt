@@ -14,7 +14,7 @@ use Rattle.board_layout.specs.jam_base.Contents.{Contents, with_messages}
 use Rattle.board_layout.specs.jam_base.Outlined.{outlined}
 use Rattle.board_layout.specs.jam_layout.Limits.{slot_limit}
 use Rattle.board_layout.specs.jam_layout.Messages.{IsMessage}
-use Rattle.board_layout.specs.jam_layout.declared.conference.Conference.{Conference}
+use Rattle.board_layout.specs.jam_layout.declared.conference.ConferenceContents.{ConferenceContents}
 use Rattle.board_layout.specs.jam_layout.declared.shape.Shape.{Shape}
 use Rattle.jam_records.specs.declared.message.Message.{Message}
 use Rattle.post_changes.specs.Posted.{posted_in, posts_in}
@@ -66,7 +66,7 @@ copies_more msgid first copies left rest all m is same =
     ∙ (ap (λ (ms : List Message). copies ++ all_identified msgid (first + length copies) ms) (sym is) ∙ same))
 
 -- ---- the base of the place
-contents_few : (shapes : List Shape) (conferences : List Conference) → length (contents shapes conferences) ≤ length conferences
+contents_few : (shapes : List Shape) (conferences : List ConferenceContents) → length (contents shapes conferences) ≤ length conferences
 contents_few [] conferences = omega arith
 contents_few (shape ∷ shapes) [] = omega arith
 contents_few (shape ∷ shapes) (c ∷ conferences) = omega (arith, contents_few shapes conferences)

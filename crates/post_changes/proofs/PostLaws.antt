@@ -21,7 +21,7 @@ use Rattle.board_ledger.specs.declared.ledger.Ledger.{Ledger}
 use Rattle.board_ledger.specs.declared.user.User.{User}
 use Rattle.board_layout.specs.jam_base.Contents.{Contents}
 use Rattle.board_layout.specs.jam_layout.Valid.{IsConference}
-use Rattle.board_layout.specs.jam_layout.declared.conference.Conference.{Conference}
+use Rattle.board_layout.specs.jam_layout.declared.conference.ConferenceContents.{ConferenceContents}
 use Rattle.board_layout.specs.jam_layout.declared.shape.Shape.{Shape}
 use Rattle.jam_records.specs.declared.message.Message.{Message}
 use Rattle.post_changes.proofs.PlacePosts.{posted_shape, posted_slots}
@@ -71,7 +71,7 @@ module _ (b : Board) (posts : List (ℕ × Message)) (l : Ledger) (ok : IsBoard 
   old_conferences = conferences_back (shapes_of b.ledger) b.conferences ok.conferences
 
   pub contents_places : length (contents_of b) ≡ length b.conferences
-  contents_places = omega (arith, ap (length {A = Conference}) old_conferences, length-map (contents_of b) (λ (base : Contents). base.conference))
+  contents_places = omega (arith, ap (length {A = ConferenceContents}) old_conferences, length-map (contents_of b) (λ (base : Contents). base.conference))
 
   pub new_shapes : shapes_in (all_posted b posts 0 (contents_of b)) ≡ shapes_of l
   new_shapes = all_shapes b posts 0 (contents_of b) ∙ (old_shapes ∙ sym same)
@@ -112,4 +112,4 @@ module _ (b : Board) (posts : List (ℕ × Message)) (l : Ledger) (ok : IsBoard 
   }
     where
       still : (highs : List ℕ) → highs_fit b.conferences highs ≡ true → highs_fit (conferences_in (all_posted b posts 0 (contents_of b))) highs ≡ true
-      still highs fit = all_fit b posts 0 (contents_of b) highs (subst (λ (cs : List Conference). highs_fit cs highs ≡ true) (sym old_conferences) fit)
+      still highs fit = all_fit b posts 0 (contents_of b) highs (subst (λ (cs : List ConferenceContents). highs_fit cs highs ≡ true) (sym old_conferences) fit)

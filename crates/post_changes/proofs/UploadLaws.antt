@@ -12,7 +12,7 @@ use Rattle.board_ledger.specs.Valid.{IsLedger}
 use Rattle.board_ledger.specs.declared.ledger.Ledger.{Ledger}
 use Rattle.board_ledger.specs.declared.upload.UploadRecord.{UploadRecord}
 use Rattle.intent_journal.specs.door_outside.File.{ledger_file}
-use Rattle.intent_journal.specs.Patches.{Files}
+use Rattle.intent_journal.specs.Patches.{HostFiles}
 use Rattle.board_layout.specs.jam_layout.declared.files.BaseFiles.{BaseFiles}
 use Rattle.post_changes.proofs.RecordLaws.{record_length}
 use Rattle.post_changes.specs.Posted.{with_record}
@@ -29,6 +29,6 @@ module _ (l : Ledger) (r : UploadRecord) (was : IsLedger l) (ok : IsLedger (with
   pub upload_joins : Joins [] (upload_puts l r)
   upload_joins = begins_join (with_record r l) (upload_puts l r) upload_begins ok
 
-  pub gathered_upload : (P : Files → Type 0) (old new : List BaseFiles) → ((files : Files) → P files → HasBases old files) → ((files : Files) → P files → files ledger_file ≡ ledger_text l)
+  pub gathered_upload : (P : HostFiles → Type 0) (old new : List BaseFiles) → ((files : HostFiles) → P files → HasBases old files) → ((files : HostFiles) → P files → files ledger_file ≡ ledger_text l)
       → Gathered P (ledger_text (with_record r l)) old new 0 (upload_puts l r)
   gathered_upload P old new has right = begins_gather P (ledger_text l) (ledger_text (with_record r l)) old new (upload_puts l r) (upload_turns l r) upload_begins has right

@@ -58,7 +58,7 @@ pub(crate) fn place_posted(
     ensures costs { IfOk result (λ change. SpendsHere (length (posts_in place posts.now)) (files_in base.now) (files_in (base_after base.now change)) (patches_or_none change)) }
 {
     let conference = board.conference_of(place).number;
-    let bbsid = board.ledger().setup.bbsid.as_slice();
+    let bbsid = board.ledger().setup.bbsid().as_slice();
     let first = base.slot_count() + 1;
     let messages = copies_in(alloc, conference, bbsid, first, place, posts)?;
     if messages.as_slice().is_empty() {

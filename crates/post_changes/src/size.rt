@@ -38,7 +38,7 @@ fn place_size(board: &StoredBoard, place: u8, base: &Base, posts: &[Post]) -> u6
     ensures { result ≡ min (sum_by (λ message. slot_size (Held message)) (all_identified (msgid_in place board.now) (length base.now.conference.slots + 1) (posts_in place posts.now))) (2 ^ 64 - 1) }
 {
     let conference = board.conference_of(place).number;
-    let bbsid = board.ledger().setup.bbsid.as_slice();
+    let bbsid = board.ledger().setup.bbsid().as_slice();
     let first = u64::from(base.slot_count()) + 1;
     copies_size(conference, bbsid, first, place, posts)
 }

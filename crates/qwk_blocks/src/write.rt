@@ -10,14 +10,19 @@ use itoa::Buffer;
 use std::alloc::{AllocError, Global};
 use text_fields::{Bytes, Lines};
 
+/// A block of spaces.
+const SPACES: [u8; BLOCK] = [b' '; BLOCK];
+
 /// Adds spaces.
 fn add_spaces(out: &mut Bytes, count: usize) -> Result<(), AllocError>
     ensures { OnOk result (out.new ≡ out.old ++ replicate count 32) }
 {
-    for _ in 0..count {
-        out.add(b" ")?;
+    let mut left = count;
+    while left > BLOCK {
+        out.add(&SPACES)?;
+        left -= BLOCK;
     }
-    Ok(())
+    out.add(&SPACES[..left])
 }
 
 /// Adds a text, and spaces up to a width.

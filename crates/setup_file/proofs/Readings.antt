@@ -12,7 +12,7 @@ use Rattle.setup_file.specs.declared.conference.Conference.{Conference}
 use Rattle.setup_file.specs.declared.head.Head.{Head}
 use Rattle.setup_file.specs.declared.key.Key.{Key}
 use Rattle.setup_file.specs.declared.key.Key.TheVariants.{Board, City, Phone, Sysop, Bbsid, Serial}
-use Rattle.setup_file.specs.declared.setup.Setup.{Setup}
+use Rattle.setup_file.specs.declared.fields.SetupFields.{SetupFields}
 use Rattle.setup_file.proofs.Numbers.{number_at_most}
 use Rattle.setup_file.proofs.ZoneWords.{fits_numbers, fits_zones, fits_both}
 use Rattle.setup_file.proofs.RuleLists.{KeyPasses, key_passes, passes_key, ZonesPass, zones_pass, pass_zones, rule_by_key, rule_by_zones}
@@ -35,7 +35,7 @@ abbrev pub lines_of : First → List (List ℕ) → List (List ℕ)
 lines_of l own = l.board ∷ l.city ∷ l.phone ∷ l.sysop ∷ l.bbsid ∷ l.serial ∷ l.zones ∷ own
 
 -- what they say
-abbrev pub setup_of : First → List (List ℕ) → Setup
+abbrev pub setup_of : First → List (List ℕ) → SetupFields
 setup_of l own = record {
   board = value_behind (key_text Board) l.board;
   city = value_behind (key_text City) l.city;
@@ -137,7 +137,7 @@ kept_reads all l own e k some =
     }
 
 -- the lines of a reading
-abbrev pub first_of : (all : List (List ℕ)) (s : Setup) → SetupLinesRead all s → First
+abbrev pub first_of : (all : List (List ℕ)) (s : SetupFields) → SetupLinesRead all s → First
 first_of all s r = record {
   board = r.board_line;
   city = r.city_line;
@@ -151,7 +151,7 @@ first_of all s r = record {
 key_reads : (key : Key) (line value : List ℕ) → ValueReads (key_text key) line value → fits key value ≡ true → KeyPasses key line
 key_reads key line value r f = record { begins = r.begins; fit = ap (fits key) (sym r.rest) ∙ f }
 
-reads_passing : (all : List (List ℕ)) (s : Setup) (r : SetupLinesRead all s) → Passing (first_of all s r) r.conference_lines
+reads_passing : (all : List (List ℕ)) (s : SetupFields) (r : SetupLinesRead all s) → Passing (first_of all s r) r.conference_lines
 reads_passing all s r =
     let l : First = first_of all s r in
     let own : List (List ℕ) = r.conference_lines in
@@ -174,17 +174,17 @@ reads_passing all s r =
     }
 
 -- the lines of a setup break no rule
-pub reads_keep : (all : List (List ℕ)) (s : Setup) → SetupLinesRead all s → KeepRules [] (counted all)
+pub reads_keep : (all : List (List ℕ)) (s : SetupFields) → SetupLinesRead all s → KeepRules [] (counted all)
 reads_keep all s r = subst (KeepRules []) (sym r.whole) (keeping (first_of all s r) r.conference_lines (reads_passing all s r))
 
 -- and none is missing
-pub reads_many : (all : List (List ℕ)) (s : Setup) → SetupLinesRead all s → 8 ≤ length (counted all)
+pub reads_many : (all : List (List ℕ)) (s : SetupFields) → SetupLinesRead all s → 8 ≤ length (counted all)
 reads_many all s r =
     let own : List (List ℕ) = r.conference_lines in
     let count : length s.conferences ≡ length own = ap length (one_list own s.conferences r.conferences) ∙ conference_count own in
     omega (arith, ap length r.whole, count, r.valid.conferences.some)
 
-made : List ℕ → List ℕ → List ℕ → List ℕ → List ℕ → ℕ → List ℕ → List Conference → Setup
+made : List ℕ → List ℕ → List ℕ → List ℕ → List ℕ → ℕ → List ℕ → List Conference → SetupFields
 made board city phone sysop bbsid serial zones conferences = record {
   board = board;
   city = city;
@@ -196,25 +196,25 @@ made board city phone sysop bbsid serial zones conferences = record {
   conferences = conferences;
 }
 
-made_is : (s : Setup) → s ≡ made s.board s.city s.phone s.sysop s.bbsid s.serial s.zones s.conferences
+made_is : (s : SetupFields) → s ≡ made s.board s.city s.phone s.sysop s.bbsid s.serial s.zones s.conferences
 unfolding made
 made_is s = refl
 
-pub same_setup : (a b : Setup) → a.board ≡ b.board → a.city ≡ b.city → a.phone ≡ b.phone → a.sysop ≡ b.sysop → a.bbsid ≡ b.bbsid → a.serial ≡ b.serial → a.zones ≡ b.zones → a.conferences ≡ b.conferences → a ≡ b
+pub same_setup : (a b : SetupFields) → a.board ≡ b.board → a.city ≡ b.city → a.phone ≡ b.phone → a.sysop ≡ b.sysop → a.bbsid ≡ b.bbsid → a.serial ≡ b.serial → a.zones ≡ b.zones → a.conferences ≡ b.conferences → a ≡ b
 same_setup a b board city phone sysop bbsid serial zones conferences =
     let p : a ≡ made a.board a.city a.phone a.sysop a.bbsid a.serial a.zones a.conferences = made_is a in
     let q : b ≡ made b.board b.city b.phone b.sysop b.bbsid b.serial b.zones b.conferences = made_is b in
     cc
 
 -- a setup is what its lines say
-reads_setup : (all : List (List ℕ)) (s : Setup) (r : SetupLinesRead all s) → s ≡ setup_of (first_of all s r) r.conference_lines
+reads_setup : (all : List (List ℕ)) (s : SetupFields) (r : SetupLinesRead all s) → s ≡ setup_of (first_of all s r) r.conference_lines
 reads_setup all s r =
     let l : First = first_of all s r in
     same_setup s (setup_of l r.conference_lines) r.board.rest r.city.rest r.phone.rest r.sysop.rest r.bbsid.rest (r.serial.2.value ∙ ap number_of r.serial.1.rest)
     (r.zones.3 ∙ ap numbers_of_words r.zones.1.rest) (one_list r.conference_lines s.conferences r.conferences)
 
 -- what the lines in order say
-setup_in : List (List ℕ) → Setup
+setup_in : List (List ℕ) → SetupFields
 setup_in (board ∷ city ∷ phone ∷ sysop ∷ bbsid ∷ serial ∷ zones ∷ own) =
     setup_of (record { board = board; city = city; phone = phone; sysop = sysop; bbsid = bbsid; serial = serial; zones = zones }) own
 setup_in other = setup_of (record { board = []; city = []; phone = []; sysop = []; bbsid = []; serial = []; zones = [] }) []
@@ -223,11 +223,11 @@ in_lines : (l : First) (own : List (List ℕ)) → setup_of l own ≡ setup_in (
 unfolding setup_in
 in_lines l own = refl
 
-setup_is : (all : List (List ℕ)) (s : Setup) → SetupLinesRead all s → s ≡ setup_in (counted all)
+setup_is : (all : List (List ℕ)) (s : SetupFields) → SetupLinesRead all s → s ≡ setup_in (counted all)
 setup_is all s r = reads_setup all s r ∙ (in_lines (first_of all s r) r.conference_lines ∙ ap setup_in (sym r.whole))
 
 -- lines are those of one setup at most
-pub one_reading : (all : List (List ℕ)) (a b : Setup) → SetupLinesRead all a → SetupLinesRead all b → a ≡ b
+pub one_reading : (all : List (List ℕ)) (a b : SetupFields) → SetupLinesRead all a → SetupLinesRead all b → a ≡ b
 one_reading all a b x y = setup_is all a x ∙ sym (setup_is all b y)
 
 -- all lines were kept
@@ -235,7 +235,7 @@ all_kept : (all kept : List (List ℕ)) (number : ℕ) → Kept all [] number ke
 all_kept all kept number k = ap counted (k.whole ∙ append-nil k.before) ∙ k.counted
 
 -- what was read of the lines is a setup
-pub setup_reads : (all : List (List ℕ)) (l : First) (own : List (List ℕ)) (number : ℕ) (head : Head) (zones : List ℕ) (conferences : List Conference) (s : Setup) → Kept all [] number (lines_of l own) → 1 ≤ length own
+pub setup_reads : (all : List (List ℕ)) (l : First) (own : List (List ℕ)) (number : ℕ) (head : Head) (zones : List ℕ) (conferences : List Conference) (s : SetupFields) → Kept all [] number (lines_of l own) → 1 ≤ length own
     → HeadIs l.board l.city l.phone l.sysop l.bbsid l.serial head → zones ≡ numbers_of_words (value_behind zones_key l.zones) → conferences ≡ conferences_of_lines own → IsMadeOf head zones conferences s → SetupLinesRead all s
 setup_reads all l own number head zones conferences s k some t z q m =
     let digits : IsTrue (is_number head.serial.now) = ap is_number t.serial ∙ (passing l own k.keep).serial.fit in

@@ -14,7 +14,7 @@ use Rattle.setup_file.specs.declared.error.SetupError.{SetupError}
 use Rattle.setup_file.specs.declared.error.SetupError.TheVariants.{Line, OutOfMemory}
 use Rattle.setup_file.specs.declared.error.SetupRule.{SetupRule}
 use Rattle.setup_file.specs.declared.error.SetupRule.TheVariants.{Missing}
-use Rattle.setup_file.specs.declared.setup.Setup.{Setup}
+use Rattle.setup_file.specs.declared.fields.SetupFields.{SetupFields}
 use Rattle.text_fields.proofs.Numbered.{longer}
 use Rattle.setup_file.proofs.Lines.{counted_append, counted_at, counted_none}
 use Rattle.setup_file.proofs.KeptLines.{keep_at, keep_push}
@@ -69,13 +69,13 @@ line_once all m n q r f g = (fault_once all m n q r f g).number
 pub rule_once : (all : List (List ℕ)) (m n : ℕ) (q r : SetupRule) → LinesFault all m q → LinesFault all n r → q ≡ r
 rule_once all m n q r f g = (fault_once all m n q r f g).rule
 
-pub no_fault : (all : List (List ℕ)) (s : Setup) (n : ℕ) (r : SetupRule) → SetupLinesRead all s → LinesFault all n r → ⊥
+pub no_fault : (all : List (List ℕ)) (s : SetupFields) (n : ℕ) (r : SetupRule) → SetupLinesRead all s → LinesFault all n r → ⊥
 no_fault all s n r x (at_line before more line e counts k breaks is) = not_kept all before more line r e counts breaks (reads_keep all s x)
 no_fault all s n r x (at_end rule k few is) = omega (arith, reads_many all s x)
 
 -- a setup, or a first fault
 abbrev ReadsOrFault : List (List ℕ) → Type 0
-ReadsOrFault all = ((s : Setup) × SetupLinesRead all s) ⊎ ((n : ℕ) × (r : SetupRule) × LinesFault all n r)
+ReadsOrFault all = ((s : SetupFields) × SetupLinesRead all s) ⊎ ((n : ℕ) × (r : SetupRule) × LinesFault all n r)
 
 few_fault : (all : List (List ℕ)) → KeepRules [] (counted all) → length (counted all) < 8 → ReadsOrFault all
 few_fault all k few = inr (length all + 1, Missing, at_end refl k few refl)
@@ -140,15 +140,15 @@ pub reads_or_fault : (all : List (List ℕ)) → ReadsOrFault all
 reads_or_fault all = from_here all [] all refl tt
 
 -- what an answer for the lines says
-abbrev pub Answers : List (List ℕ) → Result Setup SetupError → Type 0
+abbrev pub Answers : List (List ℕ) → Result SetupFields SetupError → Type 0
 Answers all r = MatchResult r (SetupLinesRead all) (SetupFaultOrMemory (LinesFault all))
 
-pub only_ok : (all : List (List ℕ)) (r : Result Setup SetupError) → Answers all r → (a : Setup) → SetupLinesRead all a → UnlessMemory OutOfMemory r (Ok a)
+pub only_ok : (all : List (List ℕ)) (r : Result SetupFields SetupError) → Answers all r → (a : SetupFields) → SetupLinesRead all a → UnlessMemory OutOfMemory r (Ok a)
 only_ok all (Ok b) h a x = inl (ap Ok (one_reading all b a h x))
 only_ok all (Err (Line n q)) h a x = absurd (no_fault all a n q x h)
 only_ok all (Err OutOfMemory) h a x = inr refl
 
-pub is_fault : (all : List (List ℕ)) (r : Result Setup SetupError) → Answers all r → (n : ℕ) (q : SetupRule) → r ≡ Err (Line n q) → LinesFault all n q
+pub is_fault : (all : List (List ℕ)) (r : Result SetupFields SetupError) → Answers all r → (n : ℕ) (q : SetupRule) → r ≡ Err (Line n q) → LinesFault all n q
 is_fault all (Ok b) h n q e = cc
 is_fault all (Err (Line m p)) h n q e =
     let line : m ≡ n = cc in
@@ -156,7 +156,7 @@ is_fault all (Err (Line m p)) h n q e =
     subst (LinesFault all n) rule (subst (λ (k : ℕ). LinesFault all k p) line h)
 is_fault all (Err OutOfMemory) h n q e = cc
 
-pub only_fault : (all : List (List ℕ)) (r : Result Setup SetupError) → Answers all r → (n : ℕ) (q : SetupRule) → LinesFault all n q → UnlessMemory OutOfMemory r (Err (Line n q))
+pub only_fault : (all : List (List ℕ)) (r : Result SetupFields SetupError) → Answers all r → (n : ℕ) (q : SetupRule) → LinesFault all n q → UnlessMemory OutOfMemory r (Err (Line n q))
 only_fault all (Ok b) h n q f = absurd (no_fault all b n q h f)
 only_fault all (Err (Line m p)) h n q f =
     let line : m ≡ n = line_once all m n p q h f in

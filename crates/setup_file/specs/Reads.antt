@@ -8,7 +8,7 @@ use Rattle.setup_file.specs.Words.{words, is_number, number_of, numbers_of_words
 use Rattle.setup_file.specs.Rules.{key_text, zones_key, conference_key, number_word, kind_word, rights_word, name_behind}
 use Rattle.setup_file.specs.declared.conference.Conference.{Conference}
 use Rattle.setup_file.specs.declared.key.Key.TheVariants.{Board, City, Phone, Sysop, Bbsid, Serial}
-use Rattle.setup_file.specs.declared.setup.Setup.{Setup}
+use Rattle.setup_file.specs.declared.fields.SetupFields.{SetupFields}
 
 -- the lines that aren't skipped
 abbrev pub counted : List (List ℕ) → List (List ℕ)
@@ -49,7 +49,7 @@ abbrev pub ZonesRead : List ℕ → List ℕ → Type 0
 ZonesRead line zones = (value : List ℕ) × ValueReads zones_key line value × IsTrue (list_all is_number (words value)) × (zones ≡ numbers_of_words value)
 
 -- the lines that count are those of the setup, which is valid
-pub record SetupLinesRead (all : List (List ℕ)) (s : Setup) : Type 0 where
+pub record SetupLinesRead (all : List (List ℕ)) (s : SetupFields) : Type 0 where
   pub board_line : List ℕ
   pub city_line : List ℕ
   pub phone_line : List ℕ
@@ -69,5 +69,5 @@ pub record SetupLinesRead (all : List (List ℕ)) (s : Setup) : Type 0 where
   pub conferences : ConferencesRead conference_lines s.conferences
   pub valid : IsSetup s
 
-abbrev pub SetupReads : List ℕ → Setup → Type 0
+abbrev pub SetupReads : List ℕ → SetupFields → Type 0
 SetupReads bytes s = SetupLinesRead (lines bytes) s

@@ -13,7 +13,7 @@ use Rattle.setup_file.specs.declared.error.SetupRule.{SetupRule}
 use Rattle.setup_file.specs.declared.conference_line.Parts.{Parts}
 use Rattle.setup_file.specs.declared.head.Head.{Head}
 use Rattle.setup_file.specs.declared.key.Key.TheVariants.{Board, City, Phone, Sysop, Bbsid, Serial}
-use Rattle.setup_file.specs.declared.setup.Setup.{Setup}
+use Rattle.setup_file.specs.declared.fields.SetupFields.{SetupFields}
 pub use Rattle.text_fields.specs.Numbered.{IsNumbered, Ahead}
 
 abbrev pub AllSkipped : List (List ℕ) → Type 0
@@ -105,7 +105,7 @@ pub record ConferencesTaken (all kept : List (List ℕ)) (conferences : List Con
   pub whole : Kept all [] number (kept ++ own)
 
 -- the setup has these values of the first six lines, these zones and these conferences
-pub record IsMadeOf (head : Head) (zones : List ℕ) (conferences : List Conference) (s : Setup) : Type 0 where
+pub record IsMadeOf (head : Head) (zones : List ℕ) (conferences : List Conference) (s : SetupFields) : Type 0 where
   pub board : s.board ≡ head.board.now
   pub city : s.city ≡ head.city.now
   pub phone : s.phone ≡ head.phone.now

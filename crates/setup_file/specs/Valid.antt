@@ -4,7 +4,7 @@ use Rattle.setup_file.specs.Rising.{are_rising}
 use Rattle.setup_file.specs.Texts.{is_board_text, is_user_name, is_bbsid, is_conference_name}
 use Rattle.setup_file.specs.Zones.{are_zones}
 use Rattle.setup_file.specs.declared.conference.Conference.{Conference}
-use Rattle.setup_file.specs.declared.setup.Setup.{Setup}
+use Rattle.setup_file.specs.declared.fields.SetupFields.{SetupFields}
 
 -- its number is of its type, and its name is a conference's
 pub record IsSetupConference (c : Conference) : Type 0 where
@@ -22,7 +22,7 @@ pub record AreSetupConferences (conferences : List Conference) : Type 0 where
   pub order : IsTrue (are_rising (numbers_of conferences))
 
 -- a valid setup
-pub record IsSetup (s : Setup) : Type 0 where
+pub record IsSetup (s : SetupFields) : Type 0 where
   pub board : IsTrue (is_board_text s.board)
   pub city : IsTrue (is_board_text s.city)
   pub phone : IsTrue (is_board_text s.phone)

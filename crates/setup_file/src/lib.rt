@@ -5,6 +5,7 @@
 mod conference;
 mod conference_line;
 mod error;
+mod fields;
 mod head;
 mod key;
 pub mod laws;
@@ -18,6 +19,7 @@ mod zones_line;
 
 pub use conference::{Conference, Conferences};
 pub use error::{SetupError, SetupRule};
+pub use fields::SetupFields;
 pub use setup::Setup;
 pub use texts::{is_bbsid, is_board_text, is_conference_name, is_user_name};
 pub use zones::{Zones, are_zones};

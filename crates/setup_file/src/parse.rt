@@ -7,6 +7,7 @@ ghost use Rattle.setup_file.specs.State.{SetupFaultOrMemory, IsMadeOf};
 use crate::conference::Conferences;
 use crate::conference_line::conferences_of;
 use crate::error::SetupError;
+use crate::fields::SetupFields;
 use crate::head::{Head, head_of};
 use crate::setup::Setup;
 use crate::word::number_of;
@@ -23,16 +24,16 @@ fn serial_of(digits: &[u8]) -> u32
     number_of(digits).unwrap_or(0)
 }
 
-/// The setup of these values, zones and conferences.
-fn setup_of(
+/// The fields of these values, zones and conferences.
+fn fields_of(
     alloc: Global,
     head: Head<'_>,
     zones: Zones,
     conferences: Conferences,
-) -> Result<Setup, AllocError>
+) -> Result<SetupFields, AllocError>
     ensures { IfOk result (IsMadeOf head.entry zones conferences) }
 {
-    Ok(Setup {
+    Ok(SetupFields {
         board: Bytes::from_slice(alloc, head.board)?,
         city: Bytes::from_slice(alloc, head.city)?,
         phone: Bytes::from_slice(alloc, head.phone)?,
@@ -56,5 +57,6 @@ pub fn setup_in(alloc: Global, bytes: &[u8]) -> Result<Setup, SetupError>
     let (head, behind_head) = head_of(start)?;
     let (zones, behind_zones) = zones_of(alloc, behind_head)?;
     let conferences = conferences_of(alloc, behind_zones)?;
-    Ok(setup_of(alloc, head, zones, conferences)?)
+    let fields = fields_of(alloc, head, zones, conferences)?;
+    Ok(Setup::of(fields))
 }

@@ -1,7 +1,7 @@
 -- What is said of a command over the shelf is something, and one thing.
 use Rattle.std.proofs.Common.{◌≡◌, ◌≢◌, ℕ, List, [], refl, sym, ◌∙◌, ap, subst}
 use Rattle.std.specs.Prelude.{Result, Ok, Err, Some, None}
-use Rattle.door_outside.specs.Shelf.{Files, held}
+use Rattle.door_outside.specs.Shelf.{ShelfFiles, held}
 use Rattle.entry_runs.specs.Entry.{Reply, Serves, looks}
 use Rattle.entry_runs.proofs.ShelfLaws.{IsLawfulOnShelf, lawful_look}
 use Rattle.entry_runs.specs.declared.class.Class.TheVariants as class
@@ -74,7 +74,7 @@ undamaged_reply text (Ok value) is = absurd (cc is)
 undamaged_reply text (Err refusal) is = absurd (cc is)
 
 -- a command that looks at what the shelf is read as, and says what it makes of that, is lawful
-pub lawful_reading : {Value : Type 0} (Reads : Files → Value → Type 0) (reply : Value → Reply) → ((shelf : Files) (one other : Value) → Reads shelf one → Reads shelf other → one ≡ other)
+pub lawful_reading : {Value : Type 0} (Reads : ShelfFiles → Value → Type 0) (reply : Value → Reply) → ((shelf : ShelfFiles) (one other : Value) → Reads shelf one → Reads shelf other → one ≡ other)
     → ((value : Value) → (reply value).text ≢ []) → ((value : Value) → (reply value).class ≢ class.Damaged)
     → IsLawfulOnShelf (looks (λ shelf answer. (value : Value) × Reads shelf value × (answer ≡ reply value)))
 lawful_reading Reads reply one some undamaged = lawful_look _
@@ -90,9 +90,9 @@ refused_on P Q on ShelfFault comes = tt
 refused_on P Q on OutOfMemory comes = tt
 
 -- a command that only looked
-pub serves_look : {Value : Type 0} (answers : Files → Reply → Type 0) (text : Value → List ℕ) (old new : Files) → new ≡ old
+pub serves_look : {Value : Type 0} (answers : ShelfFiles → Reply → Type 0) (text : Value → List ℕ) (old new : ShelfFiles) → new ≡ old
     → (result : Result Value Halt) → Comes result (λ read. answers old (replied text read)) → Serves (looks answers) old new (served text result)
 serves_look answers text old new same (Ok value) comes = (same, comes)
 serves_look answers text old new same (Err (Refused why)) comes = (same, comes)
-serves_look answers text old new same (Err ShelfFault) comes = λ name other. ap (λ (files : Files). held files name) same
+serves_look answers text old new same (Err ShelfFault) comes = λ name other. ap (λ (files : ShelfFiles). held files name) same
 serves_look answers text old new same (Err OutOfMemory) comes = same

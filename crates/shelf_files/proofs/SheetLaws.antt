@@ -2,7 +2,7 @@
 use Rattle.std.proofs.Common.{◌≡◌, ℕ, List}
 use Rattle.std.specs.Prelude.{Result}
 use Rattle.std.specs.Str.Lines.{lines}
-use Rattle.door_outside.specs.Shelf.{Files}
+use Rattle.door_outside.specs.Shelf.{ShelfFiles}
 use Rattle.import_sheet.proofs.Single as Sheets
 use Rattle.import_sheet.specs.Sheet.{SheetReads}
 use Rattle.import_sheet.specs.declared.fault.SheetError.{SheetError}
@@ -22,6 +22,6 @@ sheet_no_fault : (bytes : List ℕ) (sheets : List Sheet) (e : SheetError) → S
 sheet_no_fault bytes sheets (Line m q) x y = Sheets.no_fault (lines bytes) sheets m q x y
 sheet_no_fault bytes sheets OutOfMemory x y = y
 
-pub sheet_unique : (shelf : Files) (name : List ℕ) (a b : Result (List Sheet) Refusal) → SheetOf shelf name a → SheetOf shelf name b → a ≡ b
+pub sheet_unique : (shelf : ShelfFiles) (name : List ℕ) (a b : Result (List Sheet) Refusal) → SheetOf shelf name a → SheetOf shelf name b → a ≡ b
 sheet_unique shelf name =
     read_unique SheetReads SheetBreaks sheet_refusal (λ (bytes : List ℕ). Sheets.sheets_once (lines bytes)) sheet_fault_once sheet_no_fault (file_within shelf name file_limit)

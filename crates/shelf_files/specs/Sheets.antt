@@ -1,6 +1,6 @@
 -- What a sheet on the shelf is read as.
 use Rattle.std.specs.Prelude.{ℕ, ◌≤◌, List, length, Result}
-use Rattle.door_outside.specs.Shelf.{Files}
+use Rattle.door_outside.specs.Shelf.{ShelfFiles}
 use Rattle.import_sheet.specs.Fault.{SheetFault}
 use Rattle.import_sheet.specs.Sheet.{SheetReads}
 use Rattle.import_sheet.specs.declared.fault.SheetError.{SheetError}
@@ -28,7 +28,7 @@ sheet_halt (Line line rule) = halt.Refused (refusal.Sheet line rule)
 sheet_halt OutOfMemory = halt.OutOfMemory
 
 -- the entries of a sheet
-abbrev pub SheetOf : Files → List ℕ → Result (List Sheet) Refusal → Type 0
+abbrev pub SheetOf : ShelfFiles → List ℕ → Result (List Sheet) Refusal → Type 0
 SheetOf shelf name read = ReadAs SheetReads SheetBreaks sheet_refusal (file_within shelf name file_limit) read
 
 -- what was read of the bytes of some file

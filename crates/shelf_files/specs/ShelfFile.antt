@@ -1,6 +1,6 @@
 -- What a file of the shelf is read as.
 use Rattle.std.specs.Prelude.{◌≡◌, ℕ, nat_le, if◌then◌else◌, List, length, Option, Some, None, Result, Ok, Err}
-use Rattle.door_outside.specs.Shelf.{Files, held}
+use Rattle.door_outside.specs.Shelf.{ShelfFiles, held}
 use Rattle.shelf_files.specs.declared.refusal.Refusal.{Refusal}
 use Rattle.shelf_files.specs.declared.refusal.Refusal.TheVariants.{NoFile, TooLarge}
 
@@ -25,7 +25,7 @@ abbrev pub within : List ℕ → ℕ → Option (List ℕ) → Result (List ℕ)
 within name most None = Err (NoFile name)
 within name most (Some file) = if nat_le (length file) most then Ok file else Err (TooLarge name)
 
-abbrev pub file_within : Files → List ℕ → ℕ → Result (List ℕ) Refusal
+abbrev pub file_within : ShelfFiles → List ℕ → ℕ → Result (List ℕ) Refusal
 file_within shelf name most = within name most (held shelf name)
 
 -- a file reads as a value, or its first fault refuses it

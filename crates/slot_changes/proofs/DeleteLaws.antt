@@ -18,7 +18,7 @@ use Rattle.jam_layout.specs.Fields.{subfields_of}
 use Rattle.jam_layout.specs.Headers.{header_size}
 use Rattle.jam_layout.specs.Sizes.{slot_size}
 use Rattle.jam_layout.specs.Valid.{IsConference}
-use Rattle.jam_layout.specs.declared.conference.Conference.{Conference}
+use Rattle.jam_layout.specs.declared.conference.ConferenceContents.{ConferenceContents}
 use Rattle.jam_layout.specs.declared.shape.Shape.{Shape}
 use Rattle.jam_records.specs.declared.message.Message.{Message}
 use Rattle.jam_records.specs.declared.message.Slot.{Slot}
@@ -88,7 +88,7 @@ deleted_size b place number ok = by (base_at place b) refl
 pub place_there : (b : Board) (place number : ℕ) → HasMessage place number b → place < length b.conferences
 place_there b place number has = by (base_at place b) refl has
   where
-    few : (shapes : List Shape) (conferences : List Conference) → length (contents shapes conferences) ≤ length conferences
+    few : (shapes : List Shape) (conferences : List ConferenceContents) → length (contents shapes conferences) ≤ length conferences
     few [] conferences = omega arith
     few (shape ∷ shapes) [] = omega arith
     few (shape ∷ shapes) (c ∷ conferences) = omega (arith, few shapes conferences)

@@ -7,11 +7,11 @@ use Rattle.board_changes.specs.Changed.{base_at}
 use Rattle.board_layout.specs.Board.{Board, shape_of, shapes_of}
 use Rattle.board_layout.specs.Renewed.{contents}
 use Rattle.board_layout.specs.jam_base.Contents.{Contents}
-use Rattle.jam_layout.specs.declared.conference.Conference.{Conference}
+use Rattle.jam_layout.specs.declared.conference.ConferenceContents.{ConferenceContents}
 use Rattle.jam_layout.specs.declared.shape.Shape.{Shape}
 use Rattle.board_ledger.specs.setup_file.declared.conference.Conference.{Conference as SetupConference}
 
-shape_there : (shapes : List Shape) (conferences : List Conference) (place : ℕ) (base : Contents) → slice_get (contents shapes conferences) place ≡ Some base → slice_get shapes place ≡ Some base.shape
+shape_there : (shapes : List Shape) (conferences : List ConferenceContents) (place : ℕ) (base : Contents) → slice_get (contents shapes conferences) place ≡ Some base → slice_get shapes place ≡ Some base.shape
 shape_there [] conferences place base is = absurd (none-some base is)
 shape_there (s ∷ shapes) [] place base is = absurd (none-some base is)
 shape_there (s ∷ shapes) (c ∷ conferences) zero base is = ap (λ (b : Contents). Some b.shape) (same_Some _ base is)

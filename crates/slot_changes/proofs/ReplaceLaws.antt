@@ -20,13 +20,13 @@ use Rattle.board_layout.specs.jam_base.Outlined.{outlined, TurnsEach}
 use Rattle.board_layout.specs.jam_base.declared.change.BaseChange.{BaseChange}
 use Rattle.jam_layout.specs.Messages.{IsSlot}
 use Rattle.jam_layout.specs.Valid.{IsConference, PointersFit}
-use Rattle.jam_layout.specs.declared.conference.Conference.{Conference}
+use Rattle.jam_layout.specs.declared.conference.ConferenceContents.{ConferenceContents}
 use Rattle.jam_layout.specs.declared.shape.Shape.{Shape}
 use Rattle.jam_records.specs.declared.message.Slot.{Slot}
 use Rattle.slot_changes.specs.Packed.{FitsSlots, HasSlots, replaced}
 
 -- ---- where there are slots
-contents_few : (shapes : List Shape) (conferences : List Conference) → length (contents shapes conferences) ≤ length conferences
+contents_few : (shapes : List Shape) (conferences : List ConferenceContents) → length (contents shapes conferences) ≤ length conferences
 contents_few [] conferences = omega arith
 contents_few (shape ∷ shapes) [] = omega arith
 contents_few (shape ∷ shapes) (c ∷ conferences) = omega (arith, contents_few shapes conferences)

@@ -14,8 +14,8 @@ use Rattle.jam_layout.specs.Headers.{entry_text, headers_text}
 use Rattle.jam_layout.specs.Layout.{base_header, entries_of, entries_in, files_size, layout}
 use Rattle.jam_layout.specs.Readers.{last_reads}
 use Rattle.jam_layout.specs.Sizes.{slot_header, slot_size}
-use Rattle.jam_layout.specs.declared.conference.Conference.{Conference}
-use Rattle.jam_layout.specs.declared.entry.Entry.{Entry}
+use Rattle.jam_layout.specs.declared.conference.ConferenceContents.{ConferenceContents}
+use Rattle.jam_layout.specs.declared.entry.HeaderEntry.{HeaderEntry}
 use Rattle.jam_layout.specs.declared.shape.Shape.{Shape}
 use Rattle.jam_records.specs.BaseHeaders.{base_text}
 use Rattle.jam_records.specs.declared.message.Kind.{Kind}
@@ -33,7 +33,7 @@ headers_length : (kind : Kind) (links : ℕ → Link) (offset n : ℕ) (slots : 
 headers_length kind links offset n [] = refl
 headers_length kind links offset n (Gone ∷ slots) = omega (arith, headers_length kind links offset (n + 1) slots, sum_by-cons slot_header Gone slots)
 headers_length kind links offset n (Held m ∷ slots) =
-    let e : Entry = entry_with n (links n) m in
+    let e : HeaderEntry = entry_with n (links n) m in
     let rest : List ℕ = headers_text kind (offset + length m.body) (entries_of links (n + 1) slots) in
     omega (arith, length-append (entry_text kind offset e) rest, entry_length kind offset e, headers_length kind links (offset + length m.body) (n + 1) slots, sum_by-cons slot_header (Held m) slots)
 
@@ -42,7 +42,7 @@ slot_parts [] = refl
 slot_parts (Gone ∷ slots) = omega (arith, slot_parts slots, sum_by-cons slot_size Gone slots, sum_by-cons slot_header Gone slots, sum_by-cons body_size Gone slots)
 slot_parts (Held m ∷ slots) = omega (arith, slot_parts slots, sum_by-cons slot_size (Held m) slots, sum_by-cons slot_header (Held m) slots, sum_by-cons body_size (Held m) slots)
 
-pub files_length : (shape : Shape) (c : Conference) → files_size (layout shape c) ≡ 1024 + (sum_by slot_size c.slots + length (last_reads shape.readers c.pointers))
+pub files_length : (shape : Shape) (c : ConferenceContents) → files_size (layout shape c) ≡ 1024 + (sum_by slot_size c.slots + length (last_reads shape.readers c.pointers))
 files_length shape c = omega (
   arith,
   length-append (base_text (base_header shape c)) (headers_text shape.kind 0 (entries_in c)),

@@ -93,6 +93,12 @@ texts_back m r =
     (and_from (is_empty_or (is_text 80) m.msgid && is_empty_or (is_text 80) m.replyid) (is_empty_or (is_text 72) m.subject)
     (and_from (is_empty_or (is_text 80) m.msgid) (is_empty_or (is_text 80) m.replyid) (empty_or_back (is_text 80) m.msgid r.msgid) (empty_or_back (is_text 80) m.replyid r.replyid)) (empty_or_back (is_text 72) m.subject r.subject))
 
+-- a message that is marked private, or stands in a net conference, is private enough
+pub private_enough : (private net : Bool) → ((private || net) || not net) ≡ true
+private_enough true net = refl
+private_enough false true = refl
+private_enough false false = refl
+
 pub tested_holds : (kind : Kind) (m : Message) → IsTyped m → has_right_texts m ≡ true → is_right_body m.body ≡ true → is_private_enough kind m ≡ true → MayHold kind m
 tested_holds kind m typed texts body private msgid ok =
     let r : RightTexts m = texts_right m texts in

@@ -75,7 +75,7 @@ pub fn appended(
 {
     let base = board.base_of(place);
     let conference = board.conference_of(place).number;
-    let bbsid = board.ledger().setup.bbsid.as_slice();
+    let bbsid = board.ledger().setup.bbsid().as_slice();
     let first = base.slot_count() + 1;
     let messages = all_identified(alloc, conference, bbsid, first, messages.as_slice())?;
     with_base(alloc, board, place, base.extended(alloc, messages)?)

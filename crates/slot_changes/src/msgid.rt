@@ -59,6 +59,6 @@ pub fn msgid_of(
     ensures { IfOk result (λ msgid. msgid ≡ msgid_in place board.now number) }
 {
     let conference = board.conference_of(place).number;
-    let bbsid = board.ledger().setup.bbsid.as_slice();
+    let bbsid = board.ledger().setup.bbsid().as_slice();
     generated(alloc, conference, bbsid, number)
 }

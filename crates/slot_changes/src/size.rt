@@ -35,7 +35,7 @@ pub fn size_with_messages(board: &StoredBoard, place: u8, messages: &Messages) -
     ensures { result ≡ min (board_size (appended_of place messages.now board.now)) (2 ^ 64 - 1) }
 {
     let conference = board.conference_of(place).number;
-    let bbsid = board.ledger().setup.bbsid.as_slice();
+    let bbsid = board.ledger().setup.bbsid().as_slice();
     let first = u64::from(board.base_of(place).slot_count()) + 1;
     let mut size = board.size();
     for (index, message) in messages.as_slice().iter().enumerate() {

@@ -11,6 +11,7 @@ use Rattle.board_ledger.specs.Ledger.{ledger_text}
 use Rattle.board_ledger.specs.declared.ledger.Ledger.{Ledger}
 use Rattle.board_layout.specs.jam_base.Contents.{Contents}
 use Rattle.board_ledger.specs.setup_file.declared.conference.Conference.{Conference as SetupConference}
+use Rattle.board_ledger.specs.setup_file.declared.fields.SetupFields.{SetupFields}
 use Rattle.board_changes.proofs.make.fresh_bases.Goals as goal
 
 -- the shape of the conference of a place
@@ -18,7 +19,7 @@ shape_here : (l : Ledger) (items : List SetupConference) (place : ℕ) (c : Setu
 shape_here l items place c same within is = shape_in l place c (subst (λ (xs : List SetupConference). slice_get xs place ≡ Some c) same (slice_get-get_or items place c within ∙ ap Some (sym is)))
 
 pub fresh_base-requires-clause-shape : goal.fresh_base-requires-clause-shape
-fresh_base-requires-clause-shape c = shape_here c.args.ledger.now c.as_slice-conference-items.result.now c.loop-place.place c.conference-item.result c.as_slice-conference-items.ensures (omega arith) c.conference-item.is
+fresh_base-requires-clause-shape c = shape_here c.args.ledger.now c.as_slice-conference-items.result.now c.loop-place.place c.conference-item.result (c.as_slice-conference-items.ensures ∙ ap (λ (s : SetupFields). s.conferences) c.fields.ensures.fields) (omega arith) c.conference-item.is
 
 pub loop-place-preserved : goal.loop-place-preserved
 loop-place-preserved c =
@@ -28,7 +29,7 @@ loop-place-preserved c =
     let bases : List Contents = c.loop-place.bases in
     let v = c.loop-place.invariant in
     let kind = c.conference-item.result.kind in
-    let here = shape_here l c.as_slice-conference-items.result.now place c.conference-item.result c.as_slice-conference-items.ensures (omega arith) c.conference-item.is in
+    let here = shape_here l c.as_slice-conference-items.result.now place c.conference-item.result (c.as_slice-conference-items.ensures ∙ ap (λ (s : SetupFields). s.conferences) c.fields.ensures.fields) (omega arith) c.conference-item.is in
     let made = c.in_ok-fresh_base.ensures.base in
     let added : c.add.new.self ≡ bases ++ base ∷ [] = c.in_ok-add.ensures.ok in
     record {

@@ -15,11 +15,11 @@ use Rattle.board_ledger.specs.declared.upload.UploadRecord.{UploadRecord}
 use Rattle.board_ledger.specs.declared.user.User.{User}
 use Rattle.board_layout.specs.jam_base.Contents.{Contents}
 use Rattle.board_layout.specs.jam_layout.declared.files.BaseFiles.{BaseFiles}
-use Rattle.board_ledger.specs.setup_file.declared.setup.Setup.{Setup}
+use Rattle.board_ledger.specs.setup_file.declared.fields.SetupFields.{SetupFields}
 use Rattle.board_changes.proofs.make.made.Goals as goal
 
 -- a ledger without users and upload records
-ledger_is : (setup : Setup) (created : ℕ) (users : List User) (uploads : List UploadRecord) → users ≡ [] → uploads ≡ [] → record { version = 2; setup = setup; created = created; users = users; uploads = uploads } ≡ new_ledger setup created
+ledger_is : (setup : SetupFields) (created : ℕ) (users : List User) (uploads : List UploadRecord) → users ≡ [] → uploads ≡ [] → record { version = 2; setup = setup; created = created; users = users; uploads = uploads } ≡ new_ledger setup created
 ledger_is setup created users uploads none nothing = λ i. record { version = 2; setup = setup; created = created; users = none i; uploads = nothing i }
 
 pub fresh_bases-requires-clause-gathered : goal.fresh_bases-requires-clause-gathered
@@ -31,7 +31,7 @@ fresh_bases-requires-clause-gathered c =
 pub fresh_bases-requires-clause-fit : goal.fresh_bases-requires-clause-fit
 fresh_bases-requires-clause-fit c =
     subst (λ (l : Ledger). FitJournal (ledger_text l) (layouts (shapes_of l) (empty_conferences (shapes_of l)))) (sym (ledger_is c.args.setup c.args.created c.new.result c.new-2.result c.new.ensures c.new-2.ensures))
-    (new_fits c.args.setup c.args.created c.requires)
+    (new_fits c.args.setup c.args.created c.fields-fields.ensures.valid)
 
 pub new-board-requires-clause-board : goal.new-board-requires-clause-board
 new-board-requires-clause-board c =
@@ -40,7 +40,7 @@ new-board-requires-clause-board c =
     let bases : List Contents = c.in_ok-bases.bases in
     let conferences : conferences_in bases ≡ empty_conferences (shapes_of (new_ledger c.args.setup c.args.created)) = c.in_ok-bases.ensures.conferences ∙ ap (λ (k : Ledger). empty_conferences (shapes_of k)) is in
     let board : board_with l bases ≡ made c.args.setup c.args.created = λ i. record { ledger = is i; conferences = conferences i } in
-    subst IsBoard (sym board) (new_is_board c.args.setup c.args.created c.requires (omega (arith, c.ranges.created.fits)))
+    subst IsBoard (sym board) (new_is_board c.args.setup c.args.created c.fields-fields.ensures.valid (omega (arith, c.ranges.created.fits)))
 
 pub new-board-requires-clause-outline : goal.new-board-requires-clause-outline
 new-board-requires-clause-outline c =
@@ -56,3 +56,12 @@ returns-clause-leads c =
     leads_made c.args.setup c.args.created c.fresh_bases.new.intent
     (subst (λ (l : Ledger). Gathered AreEmpty (ledger_text l) [] (layouts (shapes_of l) (empty_conferences (shapes_of l))) (length (shapes_of l)) c.fresh_bases.new.intent)
     (ledger_is c.args.setup c.args.created c.new.result c.new-2.result c.new.ensures c.new-2.ensures) c.in_ok-bases.ensures.gathers)
+
+pub returns-clause-valid : goal.returns-clause-valid
+returns-clause-valid c = new_is_board c.args.setup c.args.created c.fields-fields.ensures.valid (omega (arith, c.ranges.created.fits))
+
+pub returns-in_err-intent-clause-valid : goal.returns-in_err-intent-clause-valid
+returns-in_err-intent-clause-valid c = new_is_board c.args.setup c.args.created c.fields-fields.ensures.valid (omega (arith, c.ranges.created.fits))
+
+pub returns-in_err-bases-clause-valid : goal.returns-in_err-bases-clause-valid
+returns-in_err-bases-clause-valid c = new_is_board c.args.setup c.args.created c.fields-fields.ensures.valid (omega (arith, c.ranges.created.fits))

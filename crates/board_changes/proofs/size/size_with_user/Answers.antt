@@ -7,6 +7,7 @@ use Rattle.board_layout.specs.Board.{Board}
 use Rattle.board_layout.specs.Layout.{board_size}
 use Rattle.board_ledger.specs.declared.ledger.Ledger.{Ledger}
 use Rattle.board_ledger.specs.declared.user.User.{User}
+use Rattle.board_ledger.specs.setup_file.declared.fields.SetupFields.{SetupFields}
 use Rattle.board_changes.proofs.size.size_with_user.Goals as goal
 
 pub returns : goal.returns
@@ -15,7 +16,7 @@ returns c =
     let count : ℕ = length b.ledger.setup.conferences in
     let u : User = new_user c.args.name.now c.args.net c.args.members in
     let ok = c.ledger.ensures.board in
-    let len : c.len-count.result ≡ count = c.len-count.ensures ∙ ap (λ (l : Ledger). length l.setup.conferences) c.ledger.ensures.ledger in
+    let len : c.len-count.result ≡ count = c.len-count.ensures ∙ ap (λ (s : SetupFields). length s.conferences) c.fields.ensures.fields ∙ ap (λ (l : Ledger). length l.setup.conferences) c.ledger.ensures.ledger in
     let joined : c.joined_count-readers.result ≡ joined_count_of c.args.members 0 (length b.conferences) =
     c.joined_count-readers.ensures.count ∙ ap (joined_count_of c.args.members 0) (len ∙ sym (conferences_count b ok)) in
     let total : c.size.result + 16 * c.joined_count-readers.result + (31 + 16 * c.len-count.result) + length c.args.name.now ≡ board_size (with_member u b) =

@@ -2,9 +2,9 @@ use Rattle.std.proofs.Common.{◌≡◌, ◌∙◌, ◌+◌, List, length, Some,
 use Rattle.std.proofs.lemmas.Result.{err_from_is_err_and}
 use Rattle.board_ledger.specs.declared.ledger.Ledger.{Ledger}
 use Rattle.board_ledger.specs.damage_rules.Rules.{Stops}
-use Rattle.board_ledger.specs.intent_journal.Patches.{Files}
+use Rattle.board_ledger.specs.intent_journal.Patches.{HostFiles}
 use Rattle.jam_base.specs.Contents.{Contents}
-use Rattle.jam_base.specs.jam_layout.declared.conference.Conference.{Conference}
+use Rattle.jam_base.specs.jam_layout.declared.conference.ConferenceContents.{ConferenceContents}
 use Rattle.board_layout.specs.Board.{conferences_in}
 use Rattle.board_layout.specs.Damage.{highs_of}
 use Rattle.board_layout.specs.Rules.{damage_of_read}
@@ -23,9 +23,8 @@ pub returns-in_err-check_rests-clause-gives : goal.returns-in_err-check_rests-cl
 returns-in_err-check_rests-clause-gives g c =
     let p = err_from_is_err_and c.from_residual-in_err-check_rests.result c.from_residual-in_err-check_rests.ensures.1 in
     let l : Ledger = c.args.ledger.now in
-    let many = c.requires.setup.conferences.many in
-    let places : c.conference_count-places.result ≡ length l.setup.conferences = omega (arith, c.conference_count-places.ensures, many) in
-    let files : Files = (g.H.Host.disk c.args.host.now).files in
+    let places : c.conference_count-places.result ≡ length l.setup.conferences = c.conference_count-places.ensures in
+    let files : HostFiles = (g.H.Host.disk c.args.host.now).files in
     let e = damage_of_read c.in_err-check_rests.field-0.0 in
     rw (p.1, p.2) (λ tells.
     let read = c.in_ok-bases.ensures.gives tells in
@@ -37,23 +36,21 @@ returns-in_err-check_highs-clause-gives g c =
     let p = err_from_is_err_and c.from_residual-in_err-check_highs.result c.from_residual-in_err-check_highs.ensures.1 in
     let l : Ledger = c.args.ledger.now in
     let bases : List Contents = c.in_ok-bases.bases in
-    let many = c.requires.setup.conferences.many in
-    let places : c.conference_count-places.result ≡ length l.setup.conferences = omega (arith, c.conference_count-places.ensures, many) in
+    let places : c.conference_count-places.result ≡ length l.setup.conferences = c.conference_count-places.ensures in
     let first : 1 + c.from.result ≡ 1 + length l.setup.conferences = omega (arith, places, c.from.ensures) in
     let asked = highs_asked c.as_slice.result.now bases (1 + c.from.result) (1 + length l.setup.conferences) c.as_slice-2.result.now l.users c.as_slice.ensures first c.as_slice-2.ensures in
-    let files : Files = (g.H.Host.disk c.args.host.now).files in
+    let files : HostFiles = (g.H.Host.disk c.args.host.now).files in
     rw (p.1, p.2) (λ tells.
     let read = c.in_ok-bases.ensures.gives tells in
     let rest = sym (rest_asked _ _ _ files places (c.read_bases.ensures.unchanged tells).files) ∙ c.in_ok-check_rests.ensures.gives tells in
-    let whole = sym (highs_alike read.whole (1 + length l.setup.conferences) l.users) ∙ ap (λ (cs : List Conference). highs_of cs (1 + length l.setup.conferences) l.users) (sym read.holds.alike) in
+    let whole = sym (highs_alike read.whole (1 + length l.setup.conferences) l.users) ∙ ap (λ (cs : List ConferenceContents). highs_of cs (1 + length l.setup.conferences) l.users) (sym read.holds.alike) in
     highs_fail files l read.whole _ (Some c.in_err-check_highs.field-0.0) read.is_read rest (whole ∙ (sym asked ∙ sym c.in_err-check_highs.ensures)))
 
 pub returns-clause-highs : goal.returns-clause-highs
 returns-clause-highs g c =
     let l : Ledger = c.args.ledger.now in
     let bases : List Contents = c.in_ok-bases.bases in
-    let many = c.requires.setup.conferences.many in
-    let places : c.conference_count-places.result ≡ length l.setup.conferences = omega (arith, c.conference_count-places.ensures, many) in
+    let places : c.conference_count-places.result ≡ length l.setup.conferences = c.conference_count-places.ensures in
     let first : 1 + c.from.result ≡ 1 + length l.setup.conferences = omega (arith, places, c.from.ensures) in
     let asked = highs_asked c.as_slice.result.now bases (1 + c.from.result) (1 + length l.setup.conferences) c.as_slice-2.result.now l.users c.as_slice.ensures first c.as_slice-2.ensures in
     highs_take (conferences_in bases) (1 + length l.setup.conferences) l.users _ (sym asked ∙ sym c.in_ok-check_highs.ensures)
@@ -62,14 +59,13 @@ pub returns-clause-gives : goal.returns-clause-gives
 returns-clause-gives g c = λ tells.
     let l : Ledger = c.args.ledger.now in
     let bases : List Contents = c.in_ok-bases.bases in
-    let many = c.requires.setup.conferences.many in
-    let places : c.conference_count-places.result ≡ length l.setup.conferences = omega (arith, c.conference_count-places.ensures, many) in
+    let places : c.conference_count-places.result ≡ length l.setup.conferences = c.conference_count-places.ensures in
     let first : 1 + c.from.result ≡ 1 + length l.setup.conferences = omega (arith, places, c.from.ensures) in
     let asked = highs_asked c.as_slice.result.now bases (1 + c.from.result) (1 + length l.setup.conferences) c.as_slice-2.result.now l.users c.as_slice.ensures first c.as_slice-2.ensures in
-    let files : Files = (g.H.Host.disk c.args.host.now).files in
+    let files : HostFiles = (g.H.Host.disk c.args.host.now).files in
     let read = c.in_ok-bases.ensures.gives tells in
     let rest = sym (rest_asked _ _ _ files places (c.read_bases.ensures.unchanged tells).files) ∙ c.in_ok-check_rests.ensures.gives tells in
-    let whole = sym (highs_alike read.whole (1 + length l.setup.conferences) l.users) ∙ ap (λ (cs : List Conference). highs_of cs (1 + length l.setup.conferences) l.users) (sym read.holds.alike) in
+    let whole = sym (highs_alike read.whole (1 + length l.setup.conferences) l.users) ∙ ap (λ (cs : List ConferenceContents). highs_of cs (1 + length l.setup.conferences) l.users) (sym read.holds.alike) in
     let highs = whole ∙ (sym asked ∙ sym c.in_ok-check_highs.ensures) in
     record {
       whole = record { ledger = l; conferences = read.whole };

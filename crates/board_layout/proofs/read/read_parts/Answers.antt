@@ -6,7 +6,7 @@ use Rattle.board_ledger.specs.Valid.{IsLedger, today}
 use Rattle.board_ledger.proofs.VersionLaws.{today_valid}
 use Rattle.board_ledger.specs.declared.ledger.Ledger.{Ledger}
 use Rattle.board_ledger.specs.damage_rules.Rules.{Stops}
-use Rattle.board_ledger.specs.intent_journal.Patches.{Files}
+use Rattle.board_ledger.specs.intent_journal.Patches.{HostFiles}
 use Rattle.jam_base.specs.jam_layout.Valid.{IsConference}
 use Rattle.board_layout.specs.Board.{Board, shapes_of}
 use Rattle.board_layout.specs.Damage.{parts_behind}
@@ -28,18 +28,18 @@ returns-in_err-bases-clause-gives g c =
     let p = err_from_is_err_and c.from_residual-in_err-bases.result c.from_residual-in_err-bases.ensures.1 in
     let e = damage_of_read c.in_err-bases.field-0.0 in
     let raw : Ledger = c.in_ok-ledger.ledger in
-    let files : Files = (g.H.Host.disk c.args.host.now).files in
+    let files : HostFiles = (g.H.Host.disk c.args.host.now).files in
     rw (p.1, p.2) (λ tells.
-    let failed = subst (λ (now : Files). Stops e (parts_behind (today raw) now)) (c.read_ledger.ensures.unchanged tells).files (c.in_err-bases.ensures.gives tells) in
+    let failed = subst (λ (now : HostFiles). Stops e (parts_behind (today raw) now)) (c.read_ledger.ensures.unchanged tells).files (c.in_err-bases.ensures.gives tells) in
     subst (Stops e) (sym (after_ledger files raw (c.in_ok-ledger.ensures.gives tells))) failed)
 
 pub returns-in-Some-clause-gives : goal.returns-in-Some-clause-gives
 returns-in-Some-clause-gives g c = λ tells.
     let raw : Ledger = c.in_ok-ledger.ledger in
-    let files : Files = (g.H.Host.disk c.args.host.now).files in
+    let files : HostFiles = (g.H.Host.disk c.args.host.now).files in
     let same = (c.read_ledger.ensures.unchanged tells).files in
     let read = c.in_ok-bases.ensures.gives tells in
-    let parts : ArePartsOf (today raw) files c.in_ok-bases.bases read.whole = subst (λ (now : Files). ArePartsOf (today raw) now c.in_ok-bases.bases read.whole) same read.holds in
+    let parts : ArePartsOf (today raw) files c.in_ok-bases.bases read.whole = subst (λ (now : HostFiles). ArePartsOf (today raw) now c.in_ok-bases.bases read.whole) same read.holds in
     let ledger : read.whole.ledger ≡ today raw = sym (ap (λ (b : Board). b.ledger) parts.alike) in
     let laid = laid_out raw read.whole ledger parts.valid files c.in_ok-ledger.ensures.ledger (c.in_ok-ledger.ensures.layout tells) parts.stored (c.requires tells) in
     record {
@@ -60,9 +60,9 @@ returns-in-Some-clause-gives g c = λ tells.
 pub returns-in-None-clause-gives : goal.returns-in-None-clause-gives
 returns-in-None-clause-gives g c = λ tells.
     let raw : Ledger = c.in_ok-ledger.ledger in
-    let files : Files = (g.H.Host.disk c.args.host.now).files in
+    let files : HostFiles = (g.H.Host.disk c.args.host.now).files in
     let read = c.in_ok-bases.ensures.gives tells in
-    let parts : ArePartsOf (today raw) files c.in_ok-bases.bases read.whole = subst (λ (now : Files). ArePartsOf (today raw) now c.in_ok-bases.bases read.whole) (c.read_ledger.ensures.unchanged tells).files read.holds in
+    let parts : ArePartsOf (today raw) files c.in_ok-bases.bases read.whole = subst (λ (now : HostFiles). ArePartsOf (today raw) now c.in_ok-bases.bases read.whole) (c.read_ledger.ensures.unchanged tells).files read.holds in
     let ledger : read.whole.ledger ≡ today raw = sym (ap (λ (b : Board). b.ledger) parts.alike) in
     let most = small raw read.whole ledger parts.valid files c.in_ok-ledger.ensures.ledger (c.in_ok-ledger.ensures.layout tells) parts.stored (c.requires tells) in
     absurd (omega (arith, c.in-None.ensures, ap board_size parts.alike, outline_size read.whole, most))

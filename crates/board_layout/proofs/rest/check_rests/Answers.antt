@@ -1,7 +1,7 @@
 use Rattle.std.proofs.Common.{◌≡◌, ◌∙◌, suc, ◌+◌, ◌-◌, sym, ap, subst, arith}
 use Rattle.std.proofs.lemmas.Result.{err_from_is_err_and}
 use Rattle.board_ledger.specs.damage_rules.Rules.{Stops}
-use Rattle.board_ledger.specs.intent_journal.Patches.{Files}
+use Rattle.board_ledger.specs.intent_journal.Patches.{HostFiles}
 use Rattle.board_layout.specs.Damage.{is_rest_place}
 use Rattle.board_layout.specs.Rules.{damage_of_read}
 use Rattle.door_outside.proofs.Disks.{unchanged_twice}
@@ -16,7 +16,7 @@ returns-in_err-check_place-clause-gives g c =
     let place = c.loop-place.place in
     let count : 64 - place ≡ suc (64 - (place + 1)) = omega arith in
     rw (p.1, p.2) (λ tells.
-    let here = subst (λ (files : Files). Stops e (is_rest_place place files)) (c.loop-place.invariant.unchanged tells).files (c.in_err-check_place.ensures.gives tells) in
+    let here = subst (λ (files : HostFiles). Stops e (is_rest_place place files)) (c.loop-place.invariant.unchanged tells).files (c.in_err-check_place.ensures.gives tells) in
     subst (Stops e) (c.loop-place.invariant.left tells) (one_place_fails place (64 - place) (64 - (place + 1)) (g.H.Host.disk c.args.host.now).files e count here))
 
 pub loop-place-preserved : goal.loop-place-preserved

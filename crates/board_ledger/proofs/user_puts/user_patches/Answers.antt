@@ -4,6 +4,7 @@ use Rattle.std.proofs.lemmas.Option.{slice_get_within}
 use Rattle.intent_journal.specs.Patches.{byte_count}
 use Rattle.intent_journal.specs.declared.patch.Patch.{Patch}
 use Rattle.intent_journal.specs.door_outside.File.{ledger_file}
+use Rattle.setup_file.specs.declared.fields.SetupFields.{SetupFields}
 use Rattle.board_ledger.specs.Ledger.{ledger_text}
 use Rattle.board_ledger.specs.OneFile.{TurnsFile}
 use Rattle.board_ledger.specs.UserPuts.{record_in, with_user_at}
@@ -46,7 +47,7 @@ returns-clause-puts c =
     let u = c.args.user.now in
     let there = room_there (slice_get l.users c.args.place) u c.requires.room in
     let same = as_long l c.args.place there.0 u there.1 there.2 c.requires.ledger c.requires.next in
-    let bytes : c.write.new.out ≡ record_in l u = c.in_ok-write.ensures ∙ (λ i. c.new-bytes.ensures i ++ user_text Second (c.len-conferences.ensures i) u) in
+    let bytes : c.write.new.out ≡ record_in l u = c.in_ok-write.ensures ∙ (λ i. c.new-bytes.ensures i ++ user_text Second ((c.len-conferences.ensures ∙ ap (λ (s : SetupFields). length s.conferences) c.fields.ensures.fields) i) u) in
     one_patch l c.args.place there.0 u there.1 same c.new-patches.result c.add.new.self c.ledger-file.result c.user_place-at.result c.write.new.out c.new-patches.ensures c.ledger-file.ensures c.user_place-at.ensures.place bytes c.in_ok-add.ensures.ok
 
 pub returns-clause-files : goal.returns-clause-files

@@ -2,6 +2,7 @@ use Rattle.std.proofs.Common.{◌≡◌, ℕ, List, [], ◌∷◌, ◌++◌, len
 use Rattle.std.specs.List.{flat_map}
 use Rattle.byteorder.specs.Endian.{little_bytes}
 use Rattle.jam_records.specs.record_numbers.Numbers.{u32s_text}
+use Rattle.setup_file.specs.declared.fields.SetupFields.{SetupFields}
 use Rattle.board_ledger.specs.Opening.{magic, fixed_text}
 use Rattle.board_ledger.specs.declared.ledger.Ledger.{Ledger}
 use Rattle.board_ledger.proofs.SetupBounds.{zones_few}
@@ -9,7 +10,7 @@ use Rattle.open_offers.proofs.WritingLaws.{on_ok}
 use Rattle.board_ledger.proofs.write.add_fixed.Goals as goal
 
 pub overflow_cast-counts-3 : goal.overflow_cast-counts-3
-overflow_cast-counts-3 c = omega (arith, c.len-3.ensures, zones_few c.args.ledger.now.setup.zones c.requires.setup.zones)
+overflow_cast-counts-3 c = omega (arith, c.len-3.ensures, zones_few c.args.ledger.now.setup.zones c.requires.setup.zones, ap (λ (s : SetupFields). length s.zones) c.fields-setup.ensures.fields)
 
 regroup : (out a b c : List ℕ) → ((out ++ a) ++ b) ++ c ≡ out ++ (a ++ (b ++ c))
 regroup out a b c = simp append_assoc
@@ -29,5 +30,6 @@ returns c =
     three_parts c.args.out.now c.add.new.self c.add-2.new.self c.add-3.new.self magic
     (flat_map (little_bytes 2) (2 ∷ length l.setup.conferences ∷ length l.users ∷ length l.setup.zones ∷ [])) (u32s_text (length l.uploads ∷ l.created ∷ l.setup.serial ∷ []))
     c.in_ok-add.ensures.ok
-    (c.in_ok-add-2.ensures.ok ∙ ap (λ x. c.add.new.self ++ x) (c.write_u16_into.ensures ∙ counted c.len.result c.len-2.result c.len-3.result l c.len.ensures c.len-2.ensures c.len-3.ensures))
-    (last ∙ ap (λ x. c.add-2.new.self ++ x) (c.write_u32_into.ensures ∙ ap (λ n. u32s_text (n ∷ l.created ∷ l.setup.serial ∷ [])) c.len-4.ensures)))
+    (c.in_ok-add-2.ensures.ok ∙ ap (λ x. c.add.new.self ++ x) (c.write_u16_into.ensures ∙ counted c.len.result c.len-2.result c.len-3.result l
+    (c.len.ensures ∙ ap (λ (s : SetupFields). length s.conferences) c.fields-setup.ensures.fields) c.len-2.ensures (c.len-3.ensures ∙ ap (λ (s : SetupFields). length s.zones) c.fields-setup.ensures.fields)))
+    (last ∙ ap (λ x. c.add-2.new.self ++ x) (c.write_u32_into.ensures ∙ (λ i. u32s_text (c.len-4.ensures i ∷ l.created ∷ (c.fields-setup.ensures.fields i).serial ∷ [])))))

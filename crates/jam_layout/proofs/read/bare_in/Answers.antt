@@ -2,7 +2,7 @@ use Rattle.std.proofs.Common.{◌∙◌, List, Ok, refl, sym, ap, subst, arith}
 use Rattle.std.proofs.lemmas.Result.{err_from_is_err_and}
 use Rattle.jam_threads.specs.Threading.{AreThreads}
 use Rattle.jam_layout.specs.SecondPass.{slots_of}
-use Rattle.jam_layout.specs.declared.entry.Entry.{Entry}
+use Rattle.jam_layout.specs.declared.entry.HeaderEntry.{HeaderEntry}
 use Rattle.jam_layout.proofs.BareSteps.{all_bare, index_read, Spread, spread_threads, no_counter, no_headers, no_links, no_pointers, no_slots, no_texts, texts_read}
 use Rattle.jam_layout.proofs.NumberedLaws.{few_entries}
 use Rattle.jam_layout.proofs.ReadingSteps.{failed, base_is, headers_is, lengths_is, numbered_list, pointers_is, room, second_is, slots_is}
@@ -110,5 +110,5 @@ with_threads-requires c =
     let second = sym (second_is c.args.shape.now c.args.files.now c.as_slice-headers.result.now c.u32_at.result c.as_slice.result.now c.in_ok-entries.entries c.as_slice-headers.ensures.same c.u32_at.ensures c.as_slice.ensures) ∙ c.in_ok-threads.ensures.gives in
     let texts = texts_read c.args.shape.now c.args.files.now c.in_ok-entries.entries c.in_ok-lengths.lengths c.as_slice-headers.ensures.bytes c.requires.jhr headers (sym (lengths_is c.args.shape.now c.args.files.now c.as_slice-3.result.now c.as_slice-2.result.now c.in_ok-entries.entries c.as_slice-3.ensures.same c.as_slice-2.ensures) ∙ c.in_ok-lengths.ensures) in
     let index = index_read c.args.shape.now c.args.files.now c.in_ok-entries.entries c.in_ok-lengths.lengths c.in_ok-slots.slots _ texts c.as_slice-4.ensures.bytes second (sym (slots_is c.args.shape.now c.args.files.now c.as_slice-4.result.now c.in_ok-entries.entries c.in_ok-entries.entries c.as_slice-4.ensures.same refl) ∙ c.in_ok-slots.ensures) in
-    let made : AreThreads (slots_of 1 c.in_ok-entries.entries) c.in_ok-threads.threads = subst (λ (es : List Entry). AreThreads (slots_of 1 es) c.in_ok-threads.threads) c.as_slice.ensures c.in_ok-threads.ensures.threads in
-    spread_threads c.in_ok-entries.entries c.in_ok-slots.slots _ _ c.len-count.ensures (subst (λ (es : List Entry). Spread es c.in_ok-slots.slots) texts.bared index.spread) (c.in_ok-fill.ensures.added (slots_of 1 c.in_ok-entries.entries) made)
+    let made : AreThreads (slots_of 1 c.in_ok-entries.entries) c.in_ok-threads.threads = subst (λ (es : List HeaderEntry). AreThreads (slots_of 1 es) c.in_ok-threads.threads) c.as_slice.ensures c.in_ok-threads.ensures.threads in
+    spread_threads c.in_ok-entries.entries c.in_ok-slots.slots _ _ c.len-count.ensures (subst (λ (es : List HeaderEntry). Spread es c.in_ok-slots.slots) texts.bared index.spread) (c.in_ok-fill.ensures.added (slots_of 1 c.in_ok-entries.entries) made)

@@ -1,14 +1,14 @@
 use Rattle.std.proofs.Common.{rules, ◌≡◌, inl, inr, refl, sym, ◌∙◌, ap, length, arith}
 use Rattle.std.proofs.Math.Nat.{le_trans}
 use Rattle.std.proofs.lemmas.List.{drop_all}
-use Rattle.door_outside.specs.Shelf.{Files}
+use Rattle.door_outside.specs.Shelf.{ShelfFiles}
 use Rattle.entry_runs.proofs.Commands.{causes_on, causes_class}
 use Rattle.entry_runs.proofs.Running.{next_entry, at_next, starts, runs_on, ends_at, stops, ends, survives, survives_on, quiet_on}
 use Rattle.entry_runs.specs.Door.{touches}
 use Rattle.entry_runs.specs.Runs.{with_class}
 use Rattle.entry_runs.specs.declared.class.Class.TheVariants.{Done, Damaged}
-use Rattle.board_commands.proofs.StateLaws.{some_state}
-use Rattle.board_commands.specs.State.{State, Stores}
+use Rattle.cmd_board.proofs.StateLaws.{some_state}
+use Rattle.cmd_board.specs.State.{State, Stores}
 use Rattle.intent_journal.specs.Recovered.{recovered}
 use Rattle.mail_cli.specs.Step.{door, entry_uses_shelf}
 use Rattle.mail_cli.proofs.AnyShelf.{firm_on, rests_on, spoiled_on, stop_answered, stop_is}
@@ -23,11 +23,11 @@ loop-entry-init g c = record {
   sure = c.requires.sure;
   kept = c.requires.kept;
   running = λ tells shelf_tells state stores. starts (door c.args.now) c.args.entries.now (record {
-    board = record { ready = record { settled = c.requires.settled tells; calm = λ read. absurd (cc read) }; stores = stores; fits = tt };
+    board = record { settled = c.requires.settled tells; stores = stores };
     shelf_is = refl;
   });
   running_any = λ none tells files state stores. starts (door c.args.now) c.args.entries.now (record {
-    board = record { ready = record { settled = c.requires.settled tells; calm = λ read. absurd (cc read) }; stores = stores; fits = tt };
+    board = record { settled = c.requires.settled tells; stores = stores };
     shelf_is = refl;
   });
   firm = λ tells firm. firm;
@@ -45,8 +45,8 @@ loop-entry-init g c = record {
   wrote_between = λ tells below. absurd (omega (arith, below));
 }
 
-pub returns-in-Err-clause-leaves : goal.returns-in-Err-clause-leaves
-returns-in-Err-clause-leaves g c tells shelf_tells state stores =
+pub returns-in-Err-clause-ends : goal.returns-in-Err-clause-ends
+returns-in-Err-clause-ends g c tells shelf_tells state stores =
     let more = next_entry c.args.entries.now c.loop-entry.entry-index c.entry-item.result (omega arith) c.entry-item.is in
     let running = at_next (door c.args.now) more (c.loop-entry.invariant.running tells shelf_tells state stores) in
     rw c.status.ensures (inr (stops (door c.args.now) (lawful c.args.now) running (c.in-Err.ensures.performs tells shelf_tells running.outcome.world running.at)))
@@ -108,8 +108,8 @@ returns-in-Err-clause-shelf_stays g c none =
     let more = next_entry c.args.entries.now c.loop-entry.entry-index c.entry-item.result (omega arith) c.entry-item.is in
     c.perform.ensures.shelf_stays (none_at entry_uses_shelf c.args.entries.now _ c.entry-item.result c.loop-entry.entry-index more none) ∙ c.loop-entry.invariant.shelf none
 
-pub returns-then-is_last-clause-leaves : goal.returns-then-is_last-clause-leaves
-returns-then-is_last-clause-leaves g c tells shelf_tells state stores =
+pub returns-then-is_last-clause-ends : goal.returns-then-is_last-clause-ends
+returns-then-is_last-clause-ends g c tells shelf_tells state stores =
     let more = next_entry c.args.entries.now c.loop-entry.entry-index c.entry-item.result (omega arith) c.entry-item.is in
     let running = at_next (door c.args.now) more (c.loop-entry.invariant.running tells shelf_tells state stores) in
     rw c.after-status.ensures (inl (ends_at (door c.args.now) (lawful c.args.now) running (c.in-Ok.ensures.performs tells shelf_tells running.outcome.world running.at) (sym c.is_last.ensures ∙ c.if-is_last.true)))
@@ -180,8 +180,8 @@ returns-then-is_last-clause-shelf_stays g c none =
     let more = next_entry c.args.entries.now c.loop-entry.entry-index c.entry-item.result (omega arith) c.entry-item.is in
     c.perform.ensures.shelf_stays (none_at entry_uses_shelf c.args.entries.now _ c.entry-item.result c.loop-entry.entry-index more none) ∙ c.loop-entry.invariant.shelf none
 
-pub returns-clause-leaves : goal.returns-clause-leaves
-returns-clause-leaves g c tells shelf_tells state stores =
+pub returns-clause-ends : goal.returns-clause-ends
+returns-clause-ends g c tells shelf_tells state stores =
     inl (ends (door c.args.now) (lawful c.args.now) (drop_all c.loop-entry.entry-index c.args.entries.now (omega arith)) (c.loop-entry.invariant.running tells shelf_tells state stores))
 
 pub returns-clause-survives : goal.returns-clause-survives
@@ -266,7 +266,7 @@ loop-entry-preserved g c = record {
   wrote_any = λ none tells files below.
       let more = next_entry c.args.entries.now c.loop-entry.entry-index c.entry-item.result (omega arith) c.entry-item.is in
       let off = none_at entry_uses_shelf c.args.entries.now _ c.entry-item.result c.loop-entry.entry-index more none in
-      one_bound c.args.now g.H.Host.disk (λ (shelf : Files). shelf) c.args.entries.now _ c.entry-item.result c.loop-entry.entry-index more (λ first. ((c.loop-entry.invariant.unbegun first).0, refl)) c.perform.new.host (c.perform.ensures.wrote_any off tells files);
+      one_bound c.args.now g.H.Host.disk (λ (shelf : ShelfFiles). shelf) c.args.entries.now _ c.entry-item.result c.loop-entry.entry-index more (λ first. ((c.loop-entry.invariant.unbegun first).0, refl)) c.perform.new.host (c.perform.ensures.wrote_any off tells files);
   wrote_between = λ tells below.
       let more = next_entry c.args.entries.now c.loop-entry.entry-index c.entry-item.result (omega arith) c.entry-item.is in
       one_between c.args.now g.H.Host.disk c.args.entries.now _ c.entry-item.result c.loop-entry.entry-index more (λ first. (c.loop-entry.invariant.unbegun first).0) c.perform.new.host (c.in-Ok.ensures.wrote_between tells (λ fault. absurd (cc fault)));
@@ -286,8 +286,8 @@ pub returns-clause-wrote : goal.returns-clause-wrote
 returns-clause-wrote g c tells shelf_tells = λ other is. c.loop-entry.invariant.wrote tells shelf_tells (omega (arith, ap length is)) other is
 
 -- ---- where no entry names a file of the shelf
-pub returns-in-Err-clause-leaves_any : goal.returns-in-Err-clause-leaves_any
-returns-in-Err-clause-leaves_any g c none tells files state stores =
+pub returns-in-Err-clause-ends_any : goal.returns-in-Err-clause-ends_any
+returns-in-Err-clause-ends_any g c none tells files state stores =
     let more = next_entry c.args.entries.now c.loop-entry.entry-index c.entry-item.result (omega arith) c.entry-item.is in
     let off = none_at entry_uses_shelf c.args.entries.now _ c.entry-item.result c.loop-entry.entry-index more none in
     let running = at_next (door c.args.now) more (c.loop-entry.invariant.running_any none tells files state stores) in
@@ -312,10 +312,10 @@ pub returns-in-Err-clause-wrote_any : goal.returns-in-Err-clause-wrote_any
 returns-in-Err-clause-wrote_any g c none tells files =
     let more = next_entry c.args.entries.now c.loop-entry.entry-index c.entry-item.result (omega arith) c.entry-item.is in
     let off = none_at entry_uses_shelf c.args.entries.now _ c.entry-item.result c.loop-entry.entry-index more none in
-    one_bound c.args.now g.H.Host.disk (λ (shelf : Files). shelf) c.args.entries.now _ c.entry-item.result c.loop-entry.entry-index more (λ first. ((c.loop-entry.invariant.unbegun first).0, refl)) c.perform.new.host (c.perform.ensures.wrote_any off tells files)
+    one_bound c.args.now g.H.Host.disk (λ (shelf : ShelfFiles). shelf) c.args.entries.now _ c.entry-item.result c.loop-entry.entry-index more (λ first. ((c.loop-entry.invariant.unbegun first).0, refl)) c.perform.new.host (c.perform.ensures.wrote_any off tells files)
 
-pub returns-then-is_last-clause-leaves_any : goal.returns-then-is_last-clause-leaves_any
-returns-then-is_last-clause-leaves_any g c none tells files state stores =
+pub returns-then-is_last-clause-ends_any : goal.returns-then-is_last-clause-ends_any
+returns-then-is_last-clause-ends_any g c none tells files state stores =
     let more = next_entry c.args.entries.now c.loop-entry.entry-index c.entry-item.result (omega arith) c.entry-item.is in
     let off = none_at entry_uses_shelf c.args.entries.now _ c.entry-item.result c.loop-entry.entry-index more none in
     let running = at_next (door c.args.now) more (c.loop-entry.invariant.running_any none tells files state stores) in
@@ -340,10 +340,10 @@ pub returns-then-is_last-clause-wrote_any : goal.returns-then-is_last-clause-wro
 returns-then-is_last-clause-wrote_any g c none tells files =
     let more = next_entry c.args.entries.now c.loop-entry.entry-index c.entry-item.result (omega arith) c.entry-item.is in
     let off = none_at entry_uses_shelf c.args.entries.now _ c.entry-item.result c.loop-entry.entry-index more none in
-    one_bound c.args.now g.H.Host.disk (λ (shelf : Files). shelf) c.args.entries.now _ c.entry-item.result c.loop-entry.entry-index more (λ first. ((c.loop-entry.invariant.unbegun first).0, refl)) c.perform.new.host (c.perform.ensures.wrote_any off tells files)
+    one_bound c.args.now g.H.Host.disk (λ (shelf : ShelfFiles). shelf) c.args.entries.now _ c.entry-item.result c.loop-entry.entry-index more (λ first. ((c.loop-entry.invariant.unbegun first).0, refl)) c.perform.new.host (c.perform.ensures.wrote_any off tells files)
 
-pub returns-clause-leaves_any : goal.returns-clause-leaves_any
-returns-clause-leaves_any g c none tells files state stores =
+pub returns-clause-ends_any : goal.returns-clause-ends_any
+returns-clause-ends_any g c none tells files state stores =
     inl (ends (door c.args.now) (lawful c.args.now) (drop_all c.loop-entry.entry-index c.args.entries.now (omega arith)) (c.loop-entry.invariant.running_any none tells files state stores))
 
 pub returns-clause-survives_any : goal.returns-clause-survives_any

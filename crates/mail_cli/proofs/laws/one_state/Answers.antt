@@ -1,4 +1,4 @@
-use Rattle.board_commands.proofs.StateLaws.{one_state, some_state}
+use Rattle.cmd_board.proofs.StateLaws.{one_state, some_state}
 use Rattle.mail_cli.proofs.laws.one_state.Goals as goal
 
 pub returns-clause-some : goal.returns-clause-some

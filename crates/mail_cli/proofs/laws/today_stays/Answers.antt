@@ -1,5 +1,5 @@
 use Rattle.std.proofs.Common.{◌∙◌, subst}
-use Rattle.board_commands.specs.State.{State, Stores}
+use Rattle.cmd_board.specs.State.{State, Stores}
 use Rattle.entry_runs.proofs.Migrations.{before_itself}
 use Rattle.mail_cli.proofs.EntryLaws as EntryLaws
 use Rattle.mail_cli.proofs.Histories.{all_migrated}

@@ -2,9 +2,9 @@ use Rattle.std.proofs.Common.{◌≡◌, false, Ok, refl}
 use Rattle.entry_runs.proofs.Commands.{serves}
 use Rattle.entry_runs.proofs.Entries.{performs_spoken}
 use Rattle.entry_runs.specs.Entry.{on_shelf}
-use Rattle.board_commands.specs.shelf_files.Halts.{refused}
-use Rattle.door_commands.specs.Answers.{usage}
-use Rattle.board_commands.specs.State.{Stores}
+use Rattle.cmd_board.specs.shelf_files.Halts.{refused}
+use Rattle.cmd_entries.specs.Answers.{usage}
+use Rattle.cmd_board.specs.State.{Stores}
 use Rattle.mail_cli.proofs.CommandBounds.{command_bound, entry_between}
 use Rattle.mail_cli.proofs.Staying.{said_only}
 use Rattle.mail_cli.specs.Step.{says, uses_shelf}

@@ -1,14 +1,14 @@
 use Rattle.std.proofs.Common.{refl}
-use Rattle.door_commands.specs.declared.command.Command.TheVariants as command
-use Rattle.door_commands.specs.declared.entry.Entry.TheVariants.{Run}
+use Rattle.cmd_entries.specs.declared.command.Command.TheVariants as command
+use Rattle.cmd_entries.specs.declared.entry.Entry.TheVariants.{Run}
 use Rattle.entry_runs.proofs.Commands.{serves}
 use Rattle.entry_runs.proofs.Entries.{performs_as_said}
-use Rattle.board_commands.specs.State.{Stores}
-use Rattle.packet_commands.specs.List.{lists}
-use Rattle.packet_commands.specs.Read.{reads, shows}
-use Rattle.packet_commands.specs.Scan.{count_line, scans}
-use Rattle.reply_commands.specs.Compose.{composed_line, composes}
-use Rattle.reply_commands.specs.Reply.{replies, reply_line}
+use Rattle.cmd_board.specs.State.{Stores}
+use Rattle.cmd_packets.specs.List.{lists}
+use Rattle.cmd_packets.specs.Read.{reads, shows}
+use Rattle.cmd_packets.specs.Scan.{count_line, scans}
+use Rattle.cmd_replies.specs.Compose.{composed_line, composes}
+use Rattle.cmd_replies.specs.Reply.{replies, reply_line}
 use Rattle.mail_cli.proofs.AnyShelf.{at_some, performed_keeps, said_between, said_keeps}
 use Rattle.mail_cli.proofs.Arms.{may_be_damaged, never_damaged, shelf_causes, spoken_kept}
 use Rattle.mail_cli.proofs.CommandBounds.{spoken_bound}

@@ -1,17 +1,28 @@
 use Rattle.std.proofs.Common.{rules, ◌≡◌, inl, inr, refl, sym, ◌∙◌, subst, arith}
-use Rattle.door_commands.proofs.Entering.{begins_wrong}
-use Rattle.door_commands.specs.Entries.{AreEntries, BeginsWrong, EntriesRead}
+use Rattle.cmd_entries.proofs.Entering.{begins_wrong}
+use Rattle.cmd_entries.specs.Entries.{AreEntries, BeginsWrong, EntriesRead}
 use Rattle.entry_runs.specs.declared.status.Status.TheVariants as status
 use Rattle.entry_runs.specs.declared.stop.Stop.TheVariants as stop
 use Rattle.mail_cli.proofs.AnyShelf.{begins_touching}
 use Rattle.mail_cli.proofs.CommandBounds.{run_between, run_bound, unwritten, unwritten_between}
 use Rattle.mail_cli.proofs.Histories.{run_continues}
 use Rattle.mail_cli.proofs.Passages.{read_passage, run_joins, run_spoils_none, unread_passage}
-use Rattle.mail_cli.proofs.Reading.{read_causes, read_completes, read_kept, read_leaves, read_survives, unread_leaves, unread_survives}
+use Rattle.mail_cli.proofs.Promises.{faulty_causes, read_promises, starved_causes, unread_promises}
+use Rattle.mail_cli.proofs.Reading.{read_causes, read_completes, read_kept, read_ends, read_survives, unread_ends, unread_survives}
 use Rattle.mail_cli.proofs.Staying.{names_no_batch, none_uses_shelf, nothing_done, read_anywhere}
 use Rattle.mail_cli.proofs.running.run.Goals as goal
 
 -- ---- the entries weren't read
+pub returns-in-Err-ShelfFault-clause-ends : goal.returns-in-Err-ShelfFault-clause-ends
+returns-in-Err-ShelfFault-clause-ends g c tells shelf_tells =
+    unread_ends c.args.now c.args.words.now stop.ShelfFault status.ShelfFault (g.H.Host.disk c.args.host.now) (g.S.Shelf.files c.args.shelf.now) (g.S.Shelf.files c.entries_of.new.shelf)
+    (inl refl) refl (c.entries_of.ensures.unchanged shelf_tells)
+
+pub returns-in-Err-OutOfMemory-clause-ends : goal.returns-in-Err-OutOfMemory-clause-ends
+returns-in-Err-OutOfMemory-clause-ends g c tells shelf_tells =
+    unread_ends c.args.now c.args.words.now stop.OutOfMemory status.OutOfMemory (g.H.Host.disk c.args.host.now) (g.S.Shelf.files c.args.shelf.now) (g.S.Shelf.files c.entries_of.new.shelf)
+    (inr refl) refl (c.entries_of.ensures.unchanged shelf_tells)
+
 pub returns-in-Err-ShelfFault-clause-survives : goal.returns-in-Err-ShelfFault-clause-survives
 returns-in-Err-ShelfFault-clause-survives g c tells shelf_tells = unread_survives c.args.now c.args.words.now _ _ (c.requires tells)
 
@@ -21,14 +32,14 @@ returns-in-Err-OutOfMemory-clause-survives g c tells shelf_tells = unread_surviv
 pub returns-in-Err-ShelfFault-clause-continues : goal.returns-in-Err-ShelfFault-clause-continues
 returns-in-Err-ShelfFault-clause-continues g c tells shelf_tells =
     run_continues c.args.now c.args.words.now status.ShelfFault _ _ _ _
-    (unread_leaves c.args.now c.args.words.now stop.ShelfFault status.ShelfFault (g.H.Host.disk c.args.host.now) (g.S.Shelf.files c.args.shelf.now) (g.S.Shelf.files c.entries_of.new.shelf)
+    (unread_ends c.args.now c.args.words.now stop.ShelfFault status.ShelfFault (g.H.Host.disk c.args.host.now) (g.S.Shelf.files c.args.shelf.now) (g.S.Shelf.files c.entries_of.new.shelf)
     (inl refl) refl (c.entries_of.ensures.unchanged shelf_tells))
     (unread_survives c.args.now c.args.words.now (g.H.Host.disk c.args.host.now) (g.S.Shelf.files c.args.shelf.now) (c.requires tells))
 
 pub returns-in-Err-OutOfMemory-clause-continues : goal.returns-in-Err-OutOfMemory-clause-continues
 returns-in-Err-OutOfMemory-clause-continues g c tells shelf_tells =
     run_continues c.args.now c.args.words.now status.OutOfMemory _ _ _ _
-    (unread_leaves c.args.now c.args.words.now stop.OutOfMemory status.OutOfMemory (g.H.Host.disk c.args.host.now) (g.S.Shelf.files c.args.shelf.now) (g.S.Shelf.files c.entries_of.new.shelf)
+    (unread_ends c.args.now c.args.words.now stop.OutOfMemory status.OutOfMemory (g.H.Host.disk c.args.host.now) (g.S.Shelf.files c.args.shelf.now) (g.S.Shelf.files c.entries_of.new.shelf)
     (inr refl) refl (c.entries_of.ensures.unchanged shelf_tells))
     (unread_survives c.args.now c.args.words.now (g.H.Host.disk c.args.host.now) (g.S.Shelf.files c.args.shelf.now) (c.requires tells))
 
@@ -87,12 +98,12 @@ pub returns-in-Err-OutOfMemory-clause-firm : goal.returns-in-Err-OutOfMemory-cla
 returns-in-Err-OutOfMemory-clause-firm g c tells sound firm = firm
 
 -- ---- they were
-pub returns-clause-leaves : goal.returns-clause-leaves
-returns-clause-leaves g c tells shelf_tells =
+pub returns-clause-ends : goal.returns-clause-ends
+returns-clause-ends g c tells shelf_tells =
     let same : c.as_slice.result.now ≡ c.in-Ok.entries = search rules in
     let reads = subst (EntriesRead c.args.words.now (g.S.Shelf.files c.args.shelf.now)) (sym same) (c.in-Ok.ensures.reads shelf_tells) in
-    read_leaves c.args.now c.args.words.now c.as_slice.result.now (g.H.Host.disk c.args.host.now) (g.H.Host.disk c.run_entries.new.host) (g.S.Shelf.files c.args.shelf.now) (g.S.Shelf.files c.entries_of.new.shelf)
-    (c.entries_of.ensures.unchanged shelf_tells) reads c.run_entries.result (g.S.Shelf.files c.run_entries.new.shelf) (c.run_entries.ensures.leaves tells shelf_tells)
+    read_ends c.args.now c.args.words.now c.as_slice.result.now (g.H.Host.disk c.args.host.now) (g.H.Host.disk c.run_entries.new.host) (g.S.Shelf.files c.args.shelf.now) (g.S.Shelf.files c.entries_of.new.shelf)
+    (c.entries_of.ensures.unchanged shelf_tells) reads c.run_entries.result (g.S.Shelf.files c.run_entries.new.shelf) (c.run_entries.ensures.ends tells shelf_tells)
 
 pub returns-clause-survives : goal.returns-clause-survives
 returns-clause-survives g c tells shelf_tells =
@@ -108,7 +119,7 @@ returns-clause-completes g c tells shelf_tells =
     let kept = read_kept c.in-Ok.entries c.in-Ok.ensures.causes in
     read_completes c.args.now c.args.words.now c.as_slice.result.now (g.H.Host.disk c.args.host.now) (g.H.Host.disk c.run_entries.new.host) (g.S.Shelf.files c.args.shelf.now) (g.S.Shelf.files c.entries_of.new.shelf)
     (c.entries_of.ensures.unchanged shelf_tells) reads _ _ c.run_entries.result (g.S.Shelf.files c.run_entries.new.shelf)
-    (read_causes _ _ _ _ _ c.run_entries.result kept c.run_entries.ensures.causes) (c.run_entries.ensures.leaves tells shelf_tells)
+    (read_causes _ _ _ _ _ c.run_entries.result kept c.run_entries.ensures.causes) (c.run_entries.ensures.ends tells shelf_tells)
 
 pub returns-clause-no_command : goal.returns-clause-no_command
 returns-clause-no_command g c none =
@@ -120,8 +131,8 @@ returns-clause-continues g c tells shelf_tells =
     let same : c.as_slice.result.now ≡ c.in-Ok.entries = search rules in
     let reads = subst (EntriesRead c.args.words.now (g.S.Shelf.files c.args.shelf.now)) (sym same) (c.in-Ok.ensures.reads shelf_tells) in
     run_continues c.args.now c.args.words.now c.run_entries.result (g.H.Host.disk c.args.host.now) (g.H.Host.disk c.run_entries.new.host) (g.S.Shelf.files c.args.shelf.now) (g.S.Shelf.files c.run_entries.new.shelf)
-    (read_leaves c.args.now c.args.words.now c.as_slice.result.now (g.H.Host.disk c.args.host.now) (g.H.Host.disk c.run_entries.new.host) (g.S.Shelf.files c.args.shelf.now) (g.S.Shelf.files c.entries_of.new.shelf)
-    (c.entries_of.ensures.unchanged shelf_tells) reads c.run_entries.result (g.S.Shelf.files c.run_entries.new.shelf) (c.run_entries.ensures.leaves tells shelf_tells))
+    (read_ends c.args.now c.args.words.now c.as_slice.result.now (g.H.Host.disk c.args.host.now) (g.H.Host.disk c.run_entries.new.host) (g.S.Shelf.files c.args.shelf.now) (g.S.Shelf.files c.entries_of.new.shelf)
+    (c.entries_of.ensures.unchanged shelf_tells) reads c.run_entries.result (g.S.Shelf.files c.run_entries.new.shelf) (c.run_entries.ensures.ends tells shelf_tells))
     (read_survives c.args.now c.args.words.now c.as_slice.result.now (g.H.Host.disk c.args.host.now) (g.H.Host.disk c.run_entries.new.host) (g.S.Shelf.files c.args.shelf.now) (g.S.Shelf.files c.entries_of.new.shelf)
     (c.entries_of.ensures.unchanged shelf_tells) reads (c.run_entries.ensures.survives tells shelf_tells))
 
@@ -130,21 +141,21 @@ returns-clause-passage g c tells shelf_tells =
     let same : c.as_slice.result.now ≡ c.in-Ok.entries = search rules in
     let reads = subst (EntriesRead c.args.words.now (g.S.Shelf.files c.args.shelf.now)) (sym same) (c.in-Ok.ensures.reads shelf_tells) in
     read_passage c.args.now c.args.words.now c.as_slice.result.now c.run_entries.result (g.H.Host.disk c.args.host.now) (g.H.Host.disk c.run_entries.new.host) (g.S.Shelf.files c.args.shelf.now)
-    (g.S.Shelf.files c.entries_of.new.shelf) (g.S.Shelf.files c.run_entries.new.shelf) (c.entries_of.ensures.unchanged shelf_tells) reads (c.run_entries.ensures.leaves tells shelf_tells) (c.run_entries.ensures.survives tells shelf_tells)
+    (g.S.Shelf.files c.entries_of.new.shelf) (g.S.Shelf.files c.run_entries.new.shelf) (c.entries_of.ensures.unchanged shelf_tells) reads (c.run_entries.ensures.ends tells shelf_tells) (c.run_entries.ensures.survives tells shelf_tells)
 
 pub returns-clause-joins : goal.returns-clause-joins
 returns-clause-joins g c tells shelf_tells =
     let same : c.as_slice.result.now ≡ c.in-Ok.entries = search rules in
     let reads = subst (EntriesRead c.args.words.now (g.S.Shelf.files c.args.shelf.now)) (sym same) (c.in-Ok.ensures.reads shelf_tells) in
     run_joins (read_passage c.args.now c.args.words.now c.as_slice.result.now c.run_entries.result (g.H.Host.disk c.args.host.now) (g.H.Host.disk c.run_entries.new.host) (g.S.Shelf.files c.args.shelf.now)
-    (g.S.Shelf.files c.entries_of.new.shelf) (g.S.Shelf.files c.run_entries.new.shelf) (c.entries_of.ensures.unchanged shelf_tells) reads (c.run_entries.ensures.leaves tells shelf_tells) (c.run_entries.ensures.survives tells shelf_tells)) (c.run_entries.ensures.later tells shelf_tells)
+    (g.S.Shelf.files c.entries_of.new.shelf) (g.S.Shelf.files c.run_entries.new.shelf) (c.entries_of.ensures.unchanged shelf_tells) reads (c.run_entries.ensures.ends tells shelf_tells) (c.run_entries.ensures.survives tells shelf_tells)) (c.run_entries.ensures.later tells shelf_tells)
 
 pub returns-clause-unspoiled : goal.returns-clause-unspoiled
 returns-clause-unspoiled g c tells shelf_tells =
     let same : c.as_slice.result.now ≡ c.in-Ok.entries = search rules in
     let reads = subst (EntriesRead c.args.words.now (g.S.Shelf.files c.args.shelf.now)) (sym same) (c.in-Ok.ensures.reads shelf_tells) in
     run_spoils_none (read_passage c.args.now c.args.words.now c.as_slice.result.now c.run_entries.result (g.H.Host.disk c.args.host.now) (g.H.Host.disk c.run_entries.new.host) (g.S.Shelf.files c.args.shelf.now)
-    (g.S.Shelf.files c.entries_of.new.shelf) (g.S.Shelf.files c.run_entries.new.shelf) (c.entries_of.ensures.unchanged shelf_tells) reads (c.run_entries.ensures.leaves tells shelf_tells) (c.run_entries.ensures.survives tells shelf_tells))
+    (g.S.Shelf.files c.entries_of.new.shelf) (g.S.Shelf.files c.run_entries.new.shelf) (c.entries_of.ensures.unchanged shelf_tells) reads (c.run_entries.ensures.ends tells shelf_tells) (c.run_entries.ensures.survives tells shelf_tells))
 
 pub returns-clause-rests : goal.returns-clause-rests
 returns-clause-rests g c tells answered touching =
@@ -212,131 +223,33 @@ returns-clause-wrote g c tells shelf_tells =
     (c.entries_of.ensures.unchanged shelf_tells) reads (c.run_entries.ensures.wrote tells shelf_tells)
 
 -- ---- words that name no file of the shelf
-pub returns-in-Err-ShelfFault-clause-leaves_any : goal.returns-in-Err-ShelfFault-clause-leaves_any
-returns-in-Err-ShelfFault-clause-leaves_any g c tells none files =
-    unread_leaves c.args.now c.args.words.now stop.ShelfFault status.ShelfFault (g.H.Host.disk c.args.host.now) files files (inl refl) refl refl
+pub returns-in-Err-ShelfFault-clause-any_shelf : goal.returns-in-Err-ShelfFault-clause-any_shelf
+returns-in-Err-ShelfFault-clause-any_shelf g c tells none files =
+    unread_promises c.args.now c.args.words.now stop.ShelfFault status.ShelfFault (g.H.Host.disk c.args.host.now) files (inl refl) refl (c.requires tells) (faulty_causes _ _ c.in-Err-ShelfFault.field-0-is c.in-Err-ShelfFault.ensures.causes)
 
-pub returns-in-Err-ShelfFault-clause-survives_any : goal.returns-in-Err-ShelfFault-clause-survives_any
-returns-in-Err-ShelfFault-clause-survives_any g c tells none files = unread_survives c.args.now c.args.words.now _ _ (c.requires tells)
+pub returns-in-Err-OutOfMemory-clause-any_shelf : goal.returns-in-Err-OutOfMemory-clause-any_shelf
+returns-in-Err-OutOfMemory-clause-any_shelf g c tells none files =
+    unread_promises c.args.now c.args.words.now stop.OutOfMemory status.OutOfMemory (g.H.Host.disk c.args.host.now) files (inr refl) refl (c.requires tells) (starved_causes _ _ c.in-Err-OutOfMemory.field-0-is c.in-Err-OutOfMemory.ensures.causes)
 
-pub returns-in-Err-ShelfFault-clause-continues_any : goal.returns-in-Err-ShelfFault-clause-continues_any
-returns-in-Err-ShelfFault-clause-continues_any g c tells none files =
-    run_continues c.args.now c.args.words.now status.ShelfFault _ _ _ _
-    (unread_leaves c.args.now c.args.words.now stop.ShelfFault status.ShelfFault (g.H.Host.disk c.args.host.now) files files (inl refl) refl refl)
-    (unread_survives c.args.now c.args.words.now (g.H.Host.disk c.args.host.now) files (c.requires tells))
-
-pub returns-in-Err-ShelfFault-clause-passage_any : goal.returns-in-Err-ShelfFault-clause-passage_any
-returns-in-Err-ShelfFault-clause-passage_any g c tells none files = unread_passage c.args.now c.args.words.now stop.ShelfFault status.ShelfFault (g.H.Host.disk c.args.host.now) files files (inl refl) refl refl (c.requires tells)
-
-pub returns-in-Err-ShelfFault-clause-joins_any : goal.returns-in-Err-ShelfFault-clause-joins_any
-returns-in-Err-ShelfFault-clause-joins_any g c tells none files = run_joins (unread_passage c.args.now c.args.words.now stop.ShelfFault status.ShelfFault (g.H.Host.disk c.args.host.now) files files (inl refl) refl refl (c.requires tells)) (omega arith)
-
-pub returns-in-Err-ShelfFault-clause-unspoiled_any : goal.returns-in-Err-ShelfFault-clause-unspoiled_any
-returns-in-Err-ShelfFault-clause-unspoiled_any g c tells none =
-    let files = g.S.Shelf.files c.args.shelf.now in
-    run_spoils_none (unread_passage c.args.now c.args.words.now stop.ShelfFault status.ShelfFault (g.H.Host.disk c.args.host.now) files files (inl refl) refl refl (c.requires tells))
-
-pub returns-in-Err-ShelfFault-clause-wrote_any : goal.returns-in-Err-ShelfFault-clause-wrote_any
-returns-in-Err-ShelfFault-clause-wrote_any g c tells none files = unwritten c.args.now c.args.words.now (g.H.Host.disk c.args.host.now) files
-
-pub returns-in-Err-OutOfMemory-clause-leaves_any : goal.returns-in-Err-OutOfMemory-clause-leaves_any
-returns-in-Err-OutOfMemory-clause-leaves_any g c tells none files =
-    unread_leaves c.args.now c.args.words.now stop.OutOfMemory status.OutOfMemory (g.H.Host.disk c.args.host.now) files files (inr refl) refl refl
-
-pub returns-in-Err-OutOfMemory-clause-survives_any : goal.returns-in-Err-OutOfMemory-clause-survives_any
-returns-in-Err-OutOfMemory-clause-survives_any g c tells none files = unread_survives c.args.now c.args.words.now _ _ (c.requires tells)
-
-pub returns-in-Err-OutOfMemory-clause-continues_any : goal.returns-in-Err-OutOfMemory-clause-continues_any
-returns-in-Err-OutOfMemory-clause-continues_any g c tells none files =
-    run_continues c.args.now c.args.words.now status.OutOfMemory _ _ _ _
-    (unread_leaves c.args.now c.args.words.now stop.OutOfMemory status.OutOfMemory (g.H.Host.disk c.args.host.now) files files (inr refl) refl refl)
-    (unread_survives c.args.now c.args.words.now (g.H.Host.disk c.args.host.now) files (c.requires tells))
-
-pub returns-in-Err-OutOfMemory-clause-passage_any : goal.returns-in-Err-OutOfMemory-clause-passage_any
-returns-in-Err-OutOfMemory-clause-passage_any g c tells none files = unread_passage c.args.now c.args.words.now stop.OutOfMemory status.OutOfMemory (g.H.Host.disk c.args.host.now) files files (inr refl) refl refl (c.requires tells)
-
-pub returns-in-Err-OutOfMemory-clause-joins_any : goal.returns-in-Err-OutOfMemory-clause-joins_any
-returns-in-Err-OutOfMemory-clause-joins_any g c tells none files = run_joins (unread_passage c.args.now c.args.words.now stop.OutOfMemory status.OutOfMemory (g.H.Host.disk c.args.host.now) files files (inr refl) refl refl (c.requires tells)) (omega arith)
-
-pub returns-in-Err-OutOfMemory-clause-unspoiled_any : goal.returns-in-Err-OutOfMemory-clause-unspoiled_any
-returns-in-Err-OutOfMemory-clause-unspoiled_any g c tells none =
-    let files = g.S.Shelf.files c.args.shelf.now in
-    run_spoils_none (unread_passage c.args.now c.args.words.now stop.OutOfMemory status.OutOfMemory (g.H.Host.disk c.args.host.now) files files (inr refl) refl refl (c.requires tells))
-
-pub returns-in-Err-OutOfMemory-clause-wrote_any : goal.returns-in-Err-OutOfMemory-clause-wrote_any
-returns-in-Err-OutOfMemory-clause-wrote_any g c tells none files = unwritten c.args.now c.args.words.now (g.H.Host.disk c.args.host.now) files
-
-pub returns-clause-leaves_any : goal.returns-clause-leaves_any
-returns-clause-leaves_any g c tells none files =
+pub returns-clause-any_shelf : goal.returns-clause-any_shelf
+returns-clause-any_shelf g c tells none files =
     let same : c.as_slice.result.now ≡ c.in-Ok.entries = search rules in
     let some = subst (AreEntries c.args.words.now) (sym same) c.in-Ok.ensures.some in
-    let reads = read_anywhere c.args.words.now c.as_slice.result.now none some files in
-    let off = none_uses_shelf c.args.words.now c.as_slice.result.now none some in
-    read_leaves c.args.now c.args.words.now c.as_slice.result.now (g.H.Host.disk c.args.host.now) (g.H.Host.disk c.run_entries.new.host) files files refl reads c.run_entries.result files (c.run_entries.ensures.leaves_any off tells files)
-
-pub returns-clause-survives_any : goal.returns-clause-survives_any
-returns-clause-survives_any g c tells none files =
-    let same : c.as_slice.result.now ≡ c.in-Ok.entries = search rules in
-    let some = subst (AreEntries c.args.words.now) (sym same) c.in-Ok.ensures.some in
-    let reads = read_anywhere c.args.words.now c.as_slice.result.now none some files in
-    let off = none_uses_shelf c.args.words.now c.as_slice.result.now none some in
-    read_survives c.args.now c.args.words.now c.as_slice.result.now (g.H.Host.disk c.args.host.now) (g.H.Host.disk c.run_entries.new.host) files files refl reads (c.run_entries.ensures.survives_any off tells files)
-
-pub returns-clause-continues_any : goal.returns-clause-continues_any
-returns-clause-continues_any g c tells none files =
-    let same : c.as_slice.result.now ≡ c.in-Ok.entries = search rules in
-    let some = subst (AreEntries c.args.words.now) (sym same) c.in-Ok.ensures.some in
-    let reads = read_anywhere c.args.words.now c.as_slice.result.now none some files in
-    let off = none_uses_shelf c.args.words.now c.as_slice.result.now none some in
-    run_continues c.args.now c.args.words.now c.run_entries.result (g.H.Host.disk c.args.host.now) (g.H.Host.disk c.run_entries.new.host) files files
-    (read_leaves c.args.now c.args.words.now c.as_slice.result.now (g.H.Host.disk c.args.host.now) (g.H.Host.disk c.run_entries.new.host) files files refl reads c.run_entries.result files (c.run_entries.ensures.leaves_any off tells files))
-    (read_survives c.args.now c.args.words.now c.as_slice.result.now (g.H.Host.disk c.args.host.now) (g.H.Host.disk c.run_entries.new.host) files files refl reads (c.run_entries.ensures.survives_any off tells files))
-
-pub returns-clause-passage_any : goal.returns-clause-passage_any
-returns-clause-passage_any g c tells none files =
-    let same : c.as_slice.result.now ≡ c.in-Ok.entries = search rules in
-    let some = subst (AreEntries c.args.words.now) (sym same) c.in-Ok.ensures.some in
-    let reads = read_anywhere c.args.words.now c.as_slice.result.now none some files in
-    let off = none_uses_shelf c.args.words.now c.as_slice.result.now none some in
-    read_passage c.args.now c.args.words.now c.as_slice.result.now c.run_entries.result (g.H.Host.disk c.args.host.now) (g.H.Host.disk c.run_entries.new.host) files files files refl reads
-    (c.run_entries.ensures.leaves_any off tells files) (c.run_entries.ensures.survives_any off tells files)
-
-pub returns-clause-joins_any : goal.returns-clause-joins_any
-returns-clause-joins_any g c tells none files =
-    let same : c.as_slice.result.now ≡ c.in-Ok.entries = search rules in
-    let some = subst (AreEntries c.args.words.now) (sym same) c.in-Ok.ensures.some in
-    let reads = read_anywhere c.args.words.now c.as_slice.result.now none some files in
-    let off = none_uses_shelf c.args.words.now c.as_slice.result.now none some in
-    run_joins (read_passage c.args.now c.args.words.now c.as_slice.result.now c.run_entries.result (g.H.Host.disk c.args.host.now) (g.H.Host.disk c.run_entries.new.host) files files files refl reads
-    (c.run_entries.ensures.leaves_any off tells files) (c.run_entries.ensures.survives_any off tells files)) (c.run_entries.ensures.later_any off tells)
-
-pub returns-clause-unspoiled_any : goal.returns-clause-unspoiled_any
-returns-clause-unspoiled_any g c tells none =
-    let files = g.S.Shelf.files c.args.shelf.now in
-    let same : c.as_slice.result.now ≡ c.in-Ok.entries = search rules in
-    let some = subst (AreEntries c.args.words.now) (sym same) c.in-Ok.ensures.some in
-    let reads = read_anywhere c.args.words.now c.as_slice.result.now none some files in
-    let off = none_uses_shelf c.args.words.now c.as_slice.result.now none some in
-    run_spoils_none (read_passage c.args.now c.args.words.now c.as_slice.result.now c.run_entries.result (g.H.Host.disk c.args.host.now) (g.H.Host.disk c.run_entries.new.host) files files files refl reads
-    (c.run_entries.ensures.leaves_any off tells files) (c.run_entries.ensures.survives_any off tells files))
-
-pub returns-clause-completes_any : goal.returns-clause-completes_any
-returns-clause-completes_any g c tells none files =
-    let same : c.as_slice.result.now ≡ c.in-Ok.entries = search rules in
-    let some = subst (AreEntries c.args.words.now) (sym same) c.in-Ok.ensures.some in
-    let reads = read_anywhere c.args.words.now c.as_slice.result.now none some files in
     let off = none_uses_shelf c.args.words.now c.as_slice.result.now none some in
     let kept = read_kept c.in-Ok.entries c.in-Ok.ensures.causes in
-    read_completes c.args.now c.args.words.now c.as_slice.result.now (g.H.Host.disk c.args.host.now) (g.H.Host.disk c.run_entries.new.host) files files refl reads _ _ c.run_entries.result files
-    (read_causes _ _ _ _ _ c.run_entries.result kept c.run_entries.ensures.causes) (c.run_entries.ensures.leaves_any off tells files)
+    read_promises c.args.now c.args.words.now c.as_slice.result.now c.run_entries.result (g.H.Host.disk c.args.host.now) (g.H.Host.disk c.run_entries.new.host) files
+    (read_anywhere c.args.words.now c.as_slice.result.now none some files) (read_causes _ _ _ _ _ c.run_entries.result kept c.run_entries.ensures.causes)
+    (c.run_entries.ensures.ends_any off tells files) (c.run_entries.ensures.survives_any off tells files) (c.run_entries.ensures.later_any off tells) (c.run_entries.ensures.wrote_any off tells files)
 
-pub returns-clause-wrote_any : goal.returns-clause-wrote_any
-returns-clause-wrote_any g c tells none files =
-    let same : c.as_slice.result.now ≡ c.in-Ok.entries = search rules in
-    let some = subst (AreEntries c.args.words.now) (sym same) c.in-Ok.ensures.some in
-    let reads = read_anywhere c.args.words.now c.as_slice.result.now none some files in
-    let off = none_uses_shelf c.args.words.now c.as_slice.result.now none some in
-    run_bound c.args.now c.args.words.now (g.H.Host.disk c.args.host.now) (g.H.Host.disk c.run_entries.new.host) files files c.as_slice.result.now refl reads (c.run_entries.ensures.wrote_any off tells files)
+-- ---- counts of faults
+pub returns-in-Err-ShelfFault-clause-causes : goal.returns-in-Err-ShelfFault-clause-causes
+returns-in-Err-ShelfFault-clause-causes g c = faulty_causes _ _ c.in-Err-ShelfFault.field-0-is c.in-Err-ShelfFault.ensures.causes
+
+pub returns-in-Err-OutOfMemory-clause-causes : goal.returns-in-Err-OutOfMemory-clause-causes
+returns-in-Err-OutOfMemory-clause-causes g c = starved_causes _ _ c.in-Err-OutOfMemory.field-0-is c.in-Err-OutOfMemory.ensures.causes
+
+pub returns-clause-causes : goal.returns-clause-causes
+returns-clause-causes g c = read_causes _ _ _ _ _ c.run_entries.result (read_kept c.in-Ok.entries c.in-Ok.ensures.causes) c.run_entries.ensures.causes
 
 -- ---- what is written, whatever the shelf holds
 pub returns-in-Err-ShelfFault-clause-wrote_between : goal.returns-in-Err-ShelfFault-clause-wrote_between

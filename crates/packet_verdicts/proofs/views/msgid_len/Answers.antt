@@ -11,5 +11,5 @@ conference_of-requires c = omega (arith, conferences_count c.args.board.now c.re
 pub overflow_cast-result : goal.overflow_cast-result
 overflow_cast-result c =
     let len : length (msgid_in c.args.place c.args.board.now c.args.number) ≡ length (generated c.conference_of.result.now.number c.as_slice-bbsid.result.now c.args.number) =
-    λ i. length (generated (option_map_or (λ x. x.number) (c.conference_of.ensures i) 0) (sym (c.as_slice-bbsid.ensures.same ∙ ap (λ l. l.setup.bbsid) c.ledger.ensures.ledger) i) c.args.number) in
+    λ i. length (generated (option_map_or (λ x. x.number) (c.conference_of.ensures i) 0) (sym (c.as_slice-bbsid.ensures.same ∙ c.bbsid.ensures ∙ ap (λ l. l.setup.bbsid) c.ledger.ensures.ledger) i) c.args.number) in
     omega (arith, c.generated_len.ensures, len, ap (λ n. length (generated c.conference_of.result.now.number c.as_slice-bbsid.result.now n)) c.from.ensures, short_id c.args.board.now c.args.place c.args.number c.requires.board c.requires.place c.requires.number)

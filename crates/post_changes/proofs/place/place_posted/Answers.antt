@@ -31,7 +31,7 @@ extended-requires-clause-messages c =
     let base : Contents = c.args.base.now in
     let messages : List Message = posts_in c.args.place c.args.posts.now in
     let are = copies_are b c.args.place c.conference_of.result.now base c.as_slice-bbsid.result.now c.ledger.result.now c.slot_count-first.result messages messages c.in_ok-messages.messages
-    c.conference_of.ensures c.as_slice-bbsid.ensures.same c.ledger.ensures.ledger c.slot_count-first.ensures refl c.in_ok-messages.ensures in
+    c.conference_of.ensures (c.as_slice-bbsid.ensures.same ∙ c.bbsid.ensures) c.ledger.ensures.ledger c.slot_count-first.ensures refl c.in_ok-messages.ensures in
     subst (All (IsMessage base.shape.kind)) (sym are) (posted_messages b c.args.posts.now c.args.place base c.requires.next)
 
 pub extended-requires-clause-few : goal.extended-requires-clause-few
@@ -49,7 +49,7 @@ returns-then-is_empty-clause-base c =
     let base : Contents = c.args.base.now in
     let messages : List Message = posts_in c.args.place c.args.posts.now in
     let are = copies_are b c.args.place c.conference_of.result.now base c.as_slice-bbsid.result.now c.ledger.result.now c.slot_count-first.result messages messages c.in_ok-messages.messages
-    c.conference_of.ensures c.as_slice-bbsid.ensures.same c.ledger.ensures.ledger c.slot_count-first.ensures refl c.in_ok-messages.ensures in
+    c.conference_of.ensures (c.as_slice-bbsid.ensures.same ∙ c.bbsid.ensures) c.ledger.ensures.ledger c.slot_count-first.ensures refl c.in_ok-messages.ensures in
     let none : c.as_slice.result.now ≡ [] = nil_from_length c.as_slice.result.now (eqb-true (length c.as_slice.result.now) 0 (sym c.is_empty.ensures ∙ c.if-is_empty.true)) in
     sym (own_base b c.args.place base c.ledger.ensures.outline c.requires.base) ∙ ap outlined (none_posted b c.args.posts.now c.args.place base c.in_ok-messages.messages are (sym c.as_slice.ensures ∙ none))
 
@@ -59,7 +59,7 @@ returns-clause-base c =
     let base : Contents = c.args.base.now in
     let messages : List Message = posts_in c.args.place c.args.posts.now in
     let are = copies_are b c.args.place c.conference_of.result.now base c.as_slice-bbsid.result.now c.ledger.result.now c.slot_count-first.result messages messages c.in_ok-messages.messages
-    c.conference_of.ensures c.as_slice-bbsid.ensures.same c.ledger.ensures.ledger c.slot_count-first.ensures refl c.in_ok-messages.ensures in
+    c.conference_of.ensures (c.as_slice-bbsid.ensures.same ∙ c.bbsid.ensures) c.ledger.ensures.ledger c.slot_count-first.ensures refl c.in_ok-messages.ensures in
     some_posted b c.args.posts.now c.args.place base c.in_ok-messages.messages c.in_ok-extended.field-0.base are c.in_ok-extended.ensures.base
 
 pub returns-clause-changes : goal.returns-clause-changes
@@ -83,7 +83,7 @@ returns-then-is_empty-clause-each c =
     let base : Contents = c.args.base.now in
     let messages : List Message = posts_in c.args.place c.args.posts.now in
     let are = copies_are b c.args.place c.conference_of.result.now base c.as_slice-bbsid.result.now c.ledger.result.now c.slot_count-first.result messages messages c.in_ok-messages.messages
-    c.conference_of.ensures c.as_slice-bbsid.ensures.same c.ledger.ensures.ledger c.slot_count-first.ensures refl c.in_ok-messages.ensures in
+    c.conference_of.ensures (c.as_slice-bbsid.ensures.same ∙ c.bbsid.ensures) c.ledger.ensures.ledger c.slot_count-first.ensures refl c.in_ok-messages.ensures in
     let none : c.as_slice.result.now ≡ [] = nil_from_length c.as_slice.result.now (eqb-true (length c.as_slice.result.now) 0 (sym c.is_empty.ensures ∙ c.if-is_empty.true)) in
     posted_each b c.args.posts.now c.args.place base c.in_ok-messages.messages [] are (nothing_each base c.in_ok-messages.messages (sym c.as_slice.ensures ∙ none))
 
@@ -93,5 +93,5 @@ returns-clause-each c =
     let base : Contents = c.args.base.now in
     let messages : List Message = posts_in c.args.place c.args.posts.now in
     let are = copies_are b c.args.place c.conference_of.result.now base c.as_slice-bbsid.result.now c.ledger.result.now c.slot_count-first.result messages messages c.in_ok-messages.messages
-    c.conference_of.ensures c.as_slice-bbsid.ensures.same c.ledger.ensures.ledger c.slot_count-first.ensures refl c.in_ok-messages.ensures in
+    c.conference_of.ensures (c.as_slice-bbsid.ensures.same ∙ c.bbsid.ensures) c.ledger.ensures.ledger c.slot_count-first.ensures refl c.in_ok-messages.ensures in
     posted_each b c.args.posts.now c.args.place base c.in_ok-messages.messages c.in_ok-extended.field-0.patches are c.in_ok-extended.ensures.each

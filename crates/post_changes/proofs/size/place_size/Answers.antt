@@ -22,5 +22,5 @@ returns c =
     let bbsid : List ℕ = c.as_slice-bbsid.result.now in
     let first : ℕ = c.from-first.result + 1 in
     let are = copies_are b c.args.place c.conference_of.result.now base bbsid c.ledger.result.now c.from-first.result messages messages (all_identified (generated conference bbsid) first messages)
-    c.conference_of.ensures c.as_slice-bbsid.ensures.same c.ledger.ensures.ledger (c.from-first.ensures ∙ c.slot_count.ensures) refl refl in
+    c.conference_of.ensures (c.as_slice-bbsid.ensures.same ∙ c.bbsid.ensures) c.ledger.ensures.ledger (c.from-first.ensures ∙ c.slot_count.ensures) refl refl in
     c.copies_size.ensures ∙ ap (λ (ms : List Message). min (sum_by message_size ms) 18446744073709551615) are

@@ -1,5 +1,9 @@
 use Rattle.std.proofs.Common.{◌≡◌, ◌++◌, replicate}
 use Rattle.qwk_blocks.proofs.write.add_spaces.Given as goal
 
-abbrev pub invariant-loop : goal.invariant-loop
-invariant-loop l = l.out ≡ l.fn.out ++ replicate l.counter 32
+-- the spaces so far, and those that are left
+abbrev pub invariant-loop-left : goal.invariant-loop-left
+invariant-loop-left l = l.out ++ replicate l.left 32 ≡ l.fn.out ++ replicate l.count 32
+
+abbrev pub decreases-loop-left : goal.decreases-loop-left
+decreases-loop-left l = l.left

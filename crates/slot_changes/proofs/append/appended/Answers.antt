@@ -45,7 +45,7 @@ extended-requires-clause-messages c =
     let b : Board = c.args.board.now in
     let base : Contents = c.base_of-base.result.now in
     let are = copies_are b c.args.place c.conference_of.result.now base c.as_slice-bbsid.result.now c.ledger.result.now c.slot_count-first.result c.as_slice.result.now c.args.messages.now c.in_ok-messages.messages
-    c.conference_of.ensures c.as_slice-bbsid.ensures.same c.ledger.ensures.ledger c.slot_count-first.ensures c.as_slice.ensures c.in_ok-messages.ensures in
+    c.conference_of.ensures (c.as_slice-bbsid.ensures.same ∙ c.bbsid.ensures) c.ledger.ensures.ledger c.slot_count-first.ensures c.as_slice.ensures c.in_ok-messages.ensures in
     subst (All (IsMessage base.shape.kind)) (sym are) (appended_messages b c.args.place c.args.messages.now base c.base_of-base.ensures.board c.base_of-base.ensures.base c.requires.next)
 
 pub extended-requires-clause-few : goal.extended-requires-clause-few
@@ -64,7 +64,7 @@ with_base-requires-clause-next c =
     let b : Board = c.args.board.now in
     let base : Contents = c.base_of-base.result.now in
     let are = copies_are b c.args.place c.conference_of.result.now base c.as_slice-bbsid.result.now c.ledger.result.now c.slot_count-first.result c.as_slice.result.now c.args.messages.now c.in_ok-messages.messages
-    c.conference_of.ensures c.as_slice-bbsid.ensures.same c.ledger.ensures.ledger c.slot_count-first.ensures c.as_slice.ensures c.in_ok-messages.ensures in
+    c.conference_of.ensures (c.as_slice-bbsid.ensures.same ∙ c.bbsid.ensures) c.ledger.ensures.ledger c.slot_count-first.ensures c.as_slice.ensures c.in_ok-messages.ensures in
     subst IsBoard (sym (next_is b c.args.place base c.in_ok-extended.field-0.base c.args.messages.now c.in_ok-messages.messages c.base_of-base.ensures.board c.base_of-base.ensures.outline c.base_of-base.ensures.base c.in_ok-extended.ensures.base are)) (outline_valid (appended c.args.place c.args.messages.now b) c.requires.next)
 
 pub returns-clause-becomes : goal.returns-clause-becomes
@@ -72,7 +72,7 @@ returns-clause-becomes c =
     let b : Board = c.args.board.now in
     let base : Contents = c.base_of-base.result.now in
     let are = copies_are b c.args.place c.conference_of.result.now base c.as_slice-bbsid.result.now c.ledger.result.now c.slot_count-first.result c.as_slice.result.now c.args.messages.now c.in_ok-messages.messages
-    c.conference_of.ensures c.as_slice-bbsid.ensures.same c.ledger.ensures.ledger c.slot_count-first.ensures c.as_slice.ensures c.in_ok-messages.ensures in
+    c.conference_of.ensures (c.as_slice-bbsid.ensures.same ∙ c.bbsid.ensures) c.ledger.ensures.ledger c.slot_count-first.ensures c.as_slice.ensures c.in_ok-messages.ensures in
     subst (λ (next : Board). IfOk c.with_base.result (Becomes b next))
     (next_is b c.args.place base c.in_ok-extended.field-0.base c.args.messages.now c.in_ok-messages.messages c.base_of-base.ensures.board c.base_of-base.ensures.outline c.base_of-base.ensures.base c.in_ok-extended.ensures.base are) c.with_base.ensures.becomes
 
@@ -82,7 +82,7 @@ returns-clause-costs c =
     let base : Contents = c.base_of-base.result.now in
     let made : BaseChange = c.in_ok-extended.field-0 in
     let are = copies_are b c.args.place c.conference_of.result.now base c.as_slice-bbsid.result.now c.ledger.result.now c.slot_count-first.result c.as_slice.result.now c.args.messages.now c.in_ok-messages.messages
-    c.conference_of.ensures c.as_slice-bbsid.ensures.same c.ledger.ensures.ledger c.slot_count-first.ensures c.as_slice.ensures c.in_ok-messages.ensures in
+    c.conference_of.ensures (c.as_slice-bbsid.ensures.same ∙ c.bbsid.ensures) c.ledger.ensures.ledger c.slot_count-first.ensures c.as_slice.ensures c.in_ok-messages.ensures in
     let next = next_is b c.args.place base made.base c.args.messages.now c.in_ok-messages.messages c.base_of-base.ensures.board c.base_of-base.ensures.outline c.base_of-base.ensures.base c.in_ok-extended.ensures.base are in
     let many : length c.in_ok-messages.messages ≡ length c.args.messages.now =
     omega (arith, ap length c.in_ok-messages.ensures, identified_count (generated c.conference_of.result.now.number c.as_slice-bbsid.result.now) (c.slot_count-first.result + 1) c.as_slice.result.now, ap length c.as_slice.ensures) in
@@ -96,7 +96,7 @@ returns-clause-each c =
     let base : Contents = c.base_of-base.result.now in
     let made : BaseChange = c.in_ok-extended.field-0 in
     let are = copies_are b c.args.place c.conference_of.result.now base c.as_slice-bbsid.result.now c.ledger.result.now c.slot_count-first.result c.as_slice.result.now c.args.messages.now c.in_ok-messages.messages
-    c.conference_of.ensures c.as_slice-bbsid.ensures.same c.ledger.ensures.ledger c.slot_count-first.ensures c.as_slice.ensures c.in_ok-messages.ensures in
+    c.conference_of.ensures (c.as_slice-bbsid.ensures.same ∙ c.bbsid.ensures) c.ledger.ensures.ledger c.slot_count-first.ensures c.as_slice.ensures c.in_ok-messages.ensures in
     one_ok (λ (change : BoardChange). (f : Contents → Contents) → IsSomeAnd (base_at c.args.place b) (MadeBy f made) → KeepsEach b (with_changed c.args.place f) → LeadsEach b (with_changed c.args.place f) change.intent)
     (λ (change : BoardChange). LeadsEach b (appended c.args.place c.args.messages.now) change.intent) c.with_base.result
     (λ change leads. appended_leads b c.args.place c.args.messages.now base c.base_of-base.ensures.board c.base_of-base.ensures.base made c.in_ok-messages.messages change.intent c.requires.next c.in_ok-extended.ensures.base are c.in_ok-extended.ensures.each leads)

@@ -22,7 +22,7 @@ returns c =
     let size : ℕ = c.loop-index.size in
     let v = c.loop-index.invariant in
     let are = copies_are b c.args.place c.conference_of.result.now base bbsid c.ledger.result.now c.from-first.result messages messages (all_identified (generated conference bbsid) first messages)
-    c.conference_of.ensures c.as_slice-bbsid.ensures.same c.ledger.ensures.ledger (c.from-first.ensures ∙ c.slot_count.ensures) refl refl in
+    c.conference_of.ensures (c.as_slice-bbsid.ensures.same ∙ c.bbsid.ensures) c.ledger.ensures.ledger (c.from-first.ensures ∙ c.slot_count.ensures) refl refl in
     let none : drop c.loop-index.index c.as_slice-message-items.result.now ≡ [] = drop_all c.loop-index.index c.as_slice-message-items.result.now (omega arith) in
     let all : size ≡ min (size + 0) 18446744073709551615 = omega (arith, v.small) in
     let whole : c.size-size.result + sum_by message_size (all_identified (generated conference bbsid) first messages) ≡ board_size (appended c.args.place messages b) = omega (arith, c.size-size.ensures, ap (sum_by message_size) are, appended_size b c.args.place messages base c.ledger.ensures.board c.base_of.ensures.base) in

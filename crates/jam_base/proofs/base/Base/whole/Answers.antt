@@ -3,7 +3,7 @@ use Rattle.jam_writing.proofs.jam_layout.OutlineLaws.{files_outline}
 use Rattle.jam_writing.specs.jam_layout.Index.{index_records}
 use Rattle.jam_writing.specs.jam_layout.Layout.{layout}
 use Rattle.jam_writing.specs.jam_layout.Outlines.{slot_outline}
-use Rattle.jam_writing.specs.jam_layout.declared.conference.Conference.{Conference}
+use Rattle.jam_writing.specs.jam_layout.declared.conference.ConferenceContents.{ConferenceContents}
 use Rattle.jam_writing.specs.jam_layout.declared.files.BaseFiles.{BaseFiles}
 use Rattle.jam_records.specs.declared.message.Slot.{Slot}
 use Rattle.jam_threads.specs.Links.{link_of}
@@ -17,7 +17,7 @@ use Rattle.jam_base.proofs.base.Base.whole.Goals as goal
 pub returns : goal.returns
 returns c =
     let base : Contents = c.args.self.now in
-    let real : Conference = record base.conference { slots = c.args.slots.now } in
+    let real : ConferenceContents = record base.conference { slots = c.args.slots.now } in
     let same : layout base.shape base.conference ≡ layout base.shape (record real { slots = map slot_outline c.args.slots.now }) = ap (λ (xs : List Slot). layout base.shape (record base.conference { slots = xs })) (sym c.requires) in
     let files = files_outline base.shape real in
     let jhr : c.in_ok-jhr.jhr ≡ (layout base.shape real).jhr =

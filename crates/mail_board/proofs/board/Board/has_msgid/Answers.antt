@@ -1,7 +1,7 @@
 use Rattle.std.proofs.Common.{false, List, sym, ap, ◌∙◌, arith}
 use Rattle.std.specs.List.{list_any}
 use Rattle.std.specs.Option.{option_map_or}
-use Rattle.jam_layout.specs.declared.conference.Conference.{Conference}
+use Rattle.jam_layout.specs.declared.conference.ConferenceContents.{ConferenceContents}
 use Rattle.jam_records.specs.declared.message.Slot.{Slot}
 use Rattle.jam_layout.specs.jam_threads.Children.{has_msgid}
 use Rattle.mail_board.proofs.MsgidTests.{any_all, any_here, none_next}
@@ -16,10 +16,10 @@ pub returns-then-holds_msgid : goal.returns-then-holds_msgid
 returns-then-holds_msgid c =
     let slots : List Slot = c.base-base.result.now.conference.slots in
     sym (any_here (has_msgid c.args.msgid.now) slots c.loop-before.before (omega (arith, c.slot_count-before-end.ensures)) c.holds_msgid.result c.holds_msgid.ensures c.if-holds_msgid.true)
-    ∙ ap (λ o. option_map_or (λ (k : Conference). list_any (has_msgid c.args.msgid.now) k.slots) o false) c.base-base.ensures
+    ∙ ap (λ o. option_map_or (λ (k : ConferenceContents). list_any (has_msgid c.args.msgid.now) k.slots) o false) c.base-base.ensures
 
 pub returns : goal.returns
 returns c =
     let slots : List Slot = c.base-base.result.now.conference.slots in
     sym c.loop-before.invariant ∙ (any_all (has_msgid c.args.msgid.now) slots c.loop-before.before (omega (arith, c.slot_count-before-end.ensures))
-    ∙ ap (λ o. option_map_or (λ (k : Conference). list_any (has_msgid c.args.msgid.now) k.slots) o false) c.base-base.ensures)
+    ∙ ap (λ o. option_map_or (λ (k : ConferenceContents). list_any (has_msgid c.args.msgid.now) k.slots) o false) c.base-base.ensures)

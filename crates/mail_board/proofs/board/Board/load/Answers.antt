@@ -3,7 +3,7 @@ use Rattle.board_layout.specs.Damage.{board_in}
 use Rattle.board_layout.specs.Rules.{AreFoundOf, ReadSo}
 use Rattle.board_layout.specs.declared.read.FoundBoard.{FoundBoard}
 use Rattle.intent_journal.specs.Hosts.{IsCalm}
-use Rattle.intent_journal.specs.Patches.{Files}
+use Rattle.intent_journal.specs.Patches.{HostFiles}
 use Rattle.intent_journal.specs.Recovered.{recovered}
 use Rattle.mail_board.proofs.LoadLaws.{none_found, some_found}
 use Rattle.mail_board.proofs.MigrationLaws.{opens_done, opens_same, writes_nothing}
@@ -12,20 +12,20 @@ use Rattle.mail_board.proofs.board.Board.load.Goals as goal
 -- ---- no board
 pub returns-in-None-clause-gives : goal.returns-in-None-clause-gives
 returns-in-None-clause-gives g c = λ tells.
-    let files : Files = (g.H.Host.disk c.recover_board.new.host).files in
+    let files : HostFiles = (g.H.Host.disk c.recover_board.new.host).files in
     let read = board_in (recovered (g.H.Host.disk c.args.host.now).files) in
     (none_found files read (subst (λ (found : Option FoundBoard). ReadSo (AreFoundOf files) found read) c.in-None.is (c.in_ok-recover_board.ensures.gives tells))).1
 
 pub returns-in-None-clause-stands : goal.returns-in-None-clause-stands
 returns-in-None-clause-stands g c = λ tells.
-    let files : Files = (g.H.Host.disk c.recover_board.new.host).files in
+    let files : HostFiles = (g.H.Host.disk c.recover_board.new.host).files in
     let read = board_in (recovered (g.H.Host.disk c.args.host.now).files) in
     (none_found files read (subst (λ (found : Option FoundBoard). ReadSo (AreFoundOf files) found read) c.in-None.is (c.in_ok-recover_board.ensures.gives tells))).0
 
 -- ---- a board
 pub migrate-requires-clause-stands : goal.migrate-requires-clause-stands
 migrate-requires-clause-stands g c = λ tells.
-    let files : Files = (g.H.Host.disk c.recover_board.new.host).files in
+    let files : HostFiles = (g.H.Host.disk c.recover_board.new.host).files in
     let read = board_in (recovered (g.H.Host.disk c.args.host.now).files) in
     (some_found files read c.in-Some.found (subst (λ (found : Option FoundBoard). ReadSo (AreFoundOf files) found read) c.in-Some.is (c.in_ok-recover_board.ensures.gives tells))).0
 
@@ -54,7 +54,7 @@ returns-in_ok-map_err-in-Some-clause-done g c = λ told tells.
 
 pub returns-in_ok-map_err-in-Some-clause-gives : goal.returns-in_ok-map_err-in-Some-clause-gives
 returns-in_ok-map_err-in-Some-clause-gives g c = λ tells.
-    let files : Files = (g.H.Host.disk c.recover_board.new.host).files in
+    let files : HostFiles = (g.H.Host.disk c.recover_board.new.host).files in
     let read = board_in (recovered (g.H.Host.disk c.args.host.now).files) in
     (some_found files read c.in-Some.found (subst (λ (found : Option FoundBoard). ReadSo (AreFoundOf files) found read) c.in-Some.is (c.in_ok-recover_board.ensures.gives tells))).1
 

@@ -1,7 +1,0 @@
-use Rattle.shelf_files.specs.ShelfFile.{file_within}
-use Rattle.door_commands.proofs.SomeEntries.{some_entries}
-use Rattle.door_commands.specs.Batch.{batch_limit}
-use Rattle.door_commands.proofs.laws.some_list.Goals as goal
-
-pub returns : goal.returns
-returns c words shelf = some_entries words (λ file. file_within shelf file batch_limit)

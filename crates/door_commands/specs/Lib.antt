@@ -1,5 +1,0 @@
-pub mod Words
-pub mod Writing
-pub mod Answers
-pub mod Batch
-pub mod Entries

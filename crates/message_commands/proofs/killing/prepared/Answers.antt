@@ -1,6 +1,0 @@
-use Rattle.std.proofs.Common.{refl}
-use Rattle.message_commands.proofs.KillLaws.{misfit_has}
-use Rattle.message_commands.proofs.killing.prepared.Goals as goal
-
-pub returns-then-not-fits-clause-change : goal.returns-then-not-fits-clause-change
-returns-then-not-fits-clause-change c = (refl, misfit_has c.args.board.now.board c.args.place c.args.number c.fits.result c.requires c.fits.ensures c.if-not-fits.true)

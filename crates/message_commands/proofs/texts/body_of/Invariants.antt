@@ -1,7 +1,0 @@
-use Rattle.std.proofs.Common.{◌≡◌}
-use Rattle.message_commands.specs.Sample.{numbered_line, repeated}
-use Rattle.message_commands.proofs.texts.body_of.Given as goal
-
--- so many lines so far
-abbrev pub invariant-loop : goal.invariant-loop
-invariant-loop l = l.body ≡ repeated (numbered_line l.seed l.number) l.counter

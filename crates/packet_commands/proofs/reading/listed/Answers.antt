@@ -1,6 +1,0 @@
-use Rattle.std.proofs.Common.{ap}
-use Rattle.shelf_files.specs.Halts.{done}
-use Rattle.packet_commands.proofs.reading.listed.Goals as goal
-
-pub returns-clause-text : goal.returns-clause-text
-returns-clause-text c = ap done c.in_ok-list_folder.ensures
